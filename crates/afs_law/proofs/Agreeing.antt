@@ -73,6 +73,7 @@ trusted_shown s h end one r j none f e found lasts body shows =
       expiry = e.expiry;
       grant = cur.held.grant;
       home = home_of s end past f e.index (seen.Status e.status) cur.held.grant.server k cur.held.server cur.held.whole.been (until (Client j) f e.expiry cur.reply past cur.held.grant);
+      used = λ y. absurd cc;
       granted = λ v y. granted_in _ v e.index cur.held.least y;
       lasts = subst (λ (t : ℕ). t < e.expiry) (sym k.clock) lasts;
       kept = cur.held.kept refl;

@@ -3,11 +3,11 @@ use Rattle.afs_law.proofs.Giving.{begin_lines, begun_not, gifts_later, gives_goe
 use Rattle.afs_law.proofs.Walking.{own_lines, back_again, lines_assoc, looked_begun, looked_given, looked_message}
 use Rattle.afs_law.proofs.Quiet.{quiet_grant, quiet_last, quiet_clock, reach_more}
 use Rattle.afs_law.proofs.Facts.{fids_of_gifts, AreApart, Held, IsNewest, IsNoRead, IsOpen, its_call, AreGifts}
-use Rattle.afs_law.proofs.Passing.{all_dropped_own, dropped_rest, all_dropped_onto, tried_idle, tried_kept, tried_new, PassesGrant, ran_over}
+use Rattle.afs_law.proofs.Passing.{late_over, dropped_rest, all_dropped_onto, tried_idle, tried_kept, tried_new, PassesGrant, ran_over}
 use Rattle.afs_law.specs.Grants.{IsDropped, IsWithdrawn}
 use Rattle.afs_law.specs.Ideal.{IsLast, clock_of, reach_over}
-use Rattle.afs_law.specs.Legal.{AreDropped, EndsAct, GoodRead, HasUsed, as_asked}
-use Rattle.afs_rows.specs.ClientRow.{entries_told, put_entries, status_look, takes_bulk, with_statuses, behind_batch, batch, call_by, gives_by, given, takes_given}
+use Rattle.afs_law.specs.Legal.{has_read, AreDropped, EndsAct, GoodRead, HasUsed, as_asked}
+use Rattle.afs_rows.specs.ClientRow.{Look, entries_told, put_entries, status_look, takes_bulk, with_statuses, behind_batch, batch, call_by, gives_by, given, takes_given}
 use Rattle.std.specs.List.{list_any}
 use Rattle.std.specs.Prelude.{⊤, length}
 use Rattle.std.proofs.Common.{append_assoc}
@@ -182,6 +182,7 @@ begun_answered s c past n act k h none is =
       asked = λ b z. absurd cc;
       late = λ b z. absurd cc;
       none = λ z. refl;
+      spared = λ b z. absurd cc;
       gave = λ b z. absurd cc;
       reached = walk_reached s c past n (h.floors n).held ls w.act w.cache tail [] W t ends;
     })
@@ -244,6 +245,7 @@ begun_calls s c past n act h none going =
       asked = λ b z. subst (λ (a : Going). CalledSince (last_key n v) (user_at s n) (its_call v.gifts a) (e ∷ past)) (some_of w.act b z) (inl (refl, inl (refl, carried_is y w.act kind.user)));
       late = λ b z. new_late s c past n y w.act e h refl refl;
       none = λ z. absurd cc;
+      spared = λ b z not. d.none none;
       gave = λ b z. gave;
       reached = walk_reached s c past n (h.floors n).held ls w.act w.cache [] ms W tt (ends_here n);
     })
@@ -255,7 +257,7 @@ begun_calls s c past n act h none going =
       safe = λ q above. safe_over call c.clock x.epoch x.last x.epoch (x.last + 1) x.running (Some w.act) w.cache (IsAged (view h.floors c n) head) (IsAged v head) head idle (λ z. (z.0, λ b k u r. next_not _ _ _ _ f.behind u r))
           (safe_cache call c.clock x.epoch x.last x.running x.cache w.cache (IsAged (view h.floors c n) head) head (λ f z u found lasts. z u (walked_found (most_reads (began (locations s) act)) c.clock (began (locations s) act) x.cache f u found) lasts) (f.safe q above));
     })
-    over (own_call h.floors c past n g y w.act (ls ++ []) d.known kind refl at (new_one s c past n y w.act h refl refl) gave) (λ a z k. begun_not n _ _ k) refl (tried_new n _ _ refl))
+    over (own_call h.floors c past n g y w.act (ls ++ []) d.known kind refl at (new_one s c past n y w.act h refl refl) gave (new_late s c past n y w.act e h refl refl)) (λ a z k. begun_not n _ _ k) refl (tried_new n _ _ refl))
 
 begins_by : (need : Need) (s : Script) (c : Cell) (past : List Entry) (n : ℕ) (act : Act) → Holds s c past → (c.clients n).running ≡ None → next (begun_walk s (c.clients n) c.clock act).act ≡ need
     → Goes s past (client_moves c n (goes_by (Client n) (unbusied (c.clients n)) (begin_lines n act) (begun_walk s (c.clients n) c.clock act) need))
@@ -329,52 +331,6 @@ ends_for (asks_for call) going unread = tt
 ends_for gives_back going unread = tt
 ends_for (answers code) going unread = absurd going
 
--- ---- its call ran since the act began: the key that it was sent under is of no act before
-
-more_by : (t x y : Bool) → cond t true x ≡ true → (x ≡ true → y ≡ true) → cond t true y ≡ true
-more_by true x y h w = refl
-more_by false x y h w = w h
-
-has_more : (k : Key) (a b : List Message) → has_sent k a ≡ true → has_sent k (a ++ b) ≡ true
-has_more k [] b h = absurd cc
-has_more k (m ∷ a) b h = more_by (is_called k m.head m.carried) (has_sent k a) (has_sent k (a ++ b)) h (λ y. has_more k a b y)
-
-sent_before : (k : Key) (newer older : List Entry) → has_sent k (sent_of older) ≡ true → has_sent k (sent_of (newer ++ older)) ≡ true
-sent_before k [] older h = h
-sent_before k (e ∷ newer) older h = has_more k (sent_of (newer ++ older)) e.sent (sent_before k newer older h)
-
-behind_by : (t a b : Bool) → a ≡ true → cond t (not a) b ≡ true → (t ≡ false) × (b ≡ true)
-behind_by true a b h l = let no_ : true ≡ false = sym l ∙ ap not h in absurd cc
-behind_by false a b h l = (refl, l)
-
-late_within : (n : Node) (k : Key) (newer : List Entry) (at : Entry) (older : List Entry) → has_sent k (sent_of older) ≡ true → is_late n k (newer ++ (at ∷ older)) ≡ true → AreWithin n (newer ++ at ∷ [])
-late_within n k [] at older h l = ((behind_by (has_begun n at.lines) (has_sent k (sent_of older)) (is_late n k older) h l).0, tt)
-late_within n k (e ∷ newer) at older h l =
-    let rest : List Entry = newer ++ (at ∷ older) in
-    let x = behind_by (has_begun n e.lines) (has_sent k (sent_of rest)) (is_late n k rest) (sent_before k newer (at ∷ older) (has_more k (sent_of older) at.sent h)) l in
-    (x.0, late_within n k newer at older h x.1)
-
-or_true : (t x : Bool) → x ≡ true → cond t true x ≡ true
-or_true true x h = refl
-or_true false x h = h
-
-sent_at : (k : Key) (sent : List Message) (place : ℕ) (m : Message) → message_at sent place ≡ Some m → is_called k m.head m.carried ≡ true → has_sent k sent ≡ true
-sent_at k [] place m e t = absurd cc
-sent_at k (o ∷ sent) zero m e t = absurd cc
-sent_at k (o ∷ sent) (suc zero) m e t = let one : o ≡ m = cc in subst (λ (x : Bool). cond x true (has_sent k sent) ≡ true) (sym (ap (λ (q : Message). is_called k q.head q.carried) one ∙ t)) refl
-sent_at k (o ∷ sent) (suc (suc place)) m e t = or_true (is_called k o.head o.carried) (has_sent k sent) (sent_at k sent (suc place) m e t)
-
-sent_given : (k : Key) (ls : List Line) (sent : List Message) (m : Message) → given_message ls sent ≡ Some m → is_called k m.head m.carried ≡ true → has_sent k sent ≡ true
-sent_given k [] sent m e t = absurd cc
-sent_given k (lines.Given place ∷ ls) sent m e t = sent_at k sent place m e t
-sent_given k (l ∷ ls) sent m e t = sent_given k ls sent m e t
-
-within : (n : Node) (m : Message) (code : ℤ) (call : FsCall) (past : List Entry) → (c : Cause m code call past []) → is_late n (answered_key m.head) past ≡ true → AreWithin n (c.ran.newer ++ c.ran.at ∷ [])
-within n m code call past c late =
-    let k : Key = answered_key m.head in
-    let is : is_called k c.ran.message.head c.ran.message.carried ≡ true = ap (is_called k c.ran.message.head) c.carries ∙ (ap (λ (l : Key). same_key l k) c.ran.key ∙ same_key-refl k) in
-    late_within n k c.ran.newer c.ran.at c.ran.older (sent_given k c.ran.at.lines (sent_of c.ran.older) c.ran.message c.ran.given is) (subst (λ (p : List Entry). is_late n k p ≡ true) c.ran.split late)
-
 -- its act is answered with its code
 pub good_code : (s : Script) (c : Cell) (past : List Entry) (n p : ℕ) (act : Going) (m : Message) (code : Code) (own : List Line) → (h : Holds s c past) → Due c h.floors past n p act m → code_told m.carried ≡ Some code.0 → (code.0 ≡ pos 0 → EndsAct (next act)) → given_message own (sent_of past) ≡ message_at (sent_of past) p
     → has_begun (Client n) own ≡ false → running s (Client n) (own ++ lines_of past) ≡ running s (Client n) (lines_of past) → GoodCode s (Client n) code past own
@@ -395,7 +351,6 @@ good_code s c past n p act m code own h d told ends by none still =
         own_user = own_user;
         before = none;
         called = subst (λ (u : List ℕ). CalledSince (answered_key m.head) u k.cause.call past) (sym own_user) (subst (λ (x : FsCall). CalledSince (answered_key m.head) (user_at s n) x past) (sym k.own) asked_now);
-        lately = within (Client n) m code.0 (asked act) past k.cause (subst (λ (k : Key). is_late (Client n) k past ≡ true) (sym d.key) ((h.clients n).late act d.running));
         ends = ends;
       });
     }
@@ -502,6 +457,7 @@ ended_facts s c past n cache held e h le idle cur old r =
       asked = λ b y. absurd cc;
       late = λ b y. absurd cc;
       none = λ y. refl;
+      spared = λ b y. absurd cc;
       gave = λ b y. absurd cc;
       reached = r;
     }
@@ -556,13 +512,13 @@ takes_refused s c past n p act head code h d =
     (ended_calls s c past n p act m (c.clients n).cache held h d (λ k is. refl)) (ended_reply s c past n (c.clients n).cache held e h) (nothing_new _ _) (λ a x z. absurd cc) refl (tried_idle n _ _ refl)
 
 -- the client calls again, with these promises to give back
-pub again_with : (s : Script) (c : Cell) (past : List Entry) (n p : ℕ) (gs : List Gift) (act : Going) (m : Message) → (h : Holds s c past) → AreGifts gs → AreDropped (Client n) (fids_of_gifts gs) (lines_of past) → Due c h.floors past n p act m → volume_changed (asked act) ≡ None → Goes s past (client_moves c n (calls_step (Client n) (with_gifts gs (c.clients n)) act (λ ls. lines.Given p ∷ ls)))
-again_with s c past n p gs act m h given gave d shut =
-    asks s c past n gs act (lines.Given p) h given refl gave ((h.own n).needs act d.running) (refl, tt) (told_passes s c past n p _ _ h d.heard) (λ g. told_file n p g (actors.Node (Client n)) _ past) (λ g. told_reach n p g (actors.Node (Client n)) _ past) (λ g o. (h.clients n).made act d.running g o (inl shut)) (λ b y. ap (λ (z : Going). volume_changed (asked z)) (some_of b act (sym y ∙ d.running)) ∙ shut) ((h.clients n).runs act d.running) (λ z. d.running)
+pub again_with : (s : Script) (c : Cell) (past : List Entry) (n p : ℕ) (gs : List Gift) (act : Going) (m : Message) → (h : Holds s c past) → AreGifts gs → AreDropped (Client n) (fids_of_gifts gs) (lines_of past) → ((next act ≡ gives_back → ⊥) → gs ≡ []) → Due c h.floors past n p act m → volume_changed (asked act) ≡ None → Goes s past (client_moves c n (calls_step (Client n) (with_gifts gs (c.clients n)) act (λ ls. lines.Given p ∷ ls)))
+again_with s c past n p gs act m h given gave spared d shut =
+    asks s c past n gs act (lines.Given p) h given refl gave spared ((h.own n).needs act d.running) (refl, tt) (told_passes s c past n p _ _ h d.heard) (λ g. told_file n p g (actors.Node (Client n)) _ past) (λ g. told_reach n p g (actors.Node (Client n)) _ past) (λ g o. (h.clients n).made act d.running g o (inl shut)) (λ b y. ap (λ (z : Going). volume_changed (asked z)) (some_of b act (sym y ∙ d.running)) ∙ shut) ((h.clients n).runs act d.running) (λ z. d.running)
 
 -- as they are
 pub again_goes : (s : Script) (c : Cell) (past : List Entry) (n p : ℕ) (act : Going) (m : Message) → (h : Holds s c past) → Due c h.floors past n p act m → volume_changed (asked act) ≡ None → Goes s past (client_moves c n (calls_again (Client n) (c.clients n) p act))
-again_goes s c past n p act m h d shut = again_with s c past n p (c.clients n).gifts act m h (h.own n).gifts ((h.clients n).gave act d.running) d shut
+again_goes s c past n p act m h d shut = again_with s c past n p (c.clients n).gifts act m h (h.own n).gifts ((h.clients n).gave act d.running) ((h.clients n).spared act d.running) d shut
 
 -- ---- what was fetched is read, and the act goes on
 
@@ -615,6 +571,10 @@ and_not false b e = refl
 used_reply : (p : Bool) (n : ℕ) (f : Fid) (rest : Bool) (o u : Option Message) → p ≡ true → cond (cond (p && (same_node (Client n) (Client n) && same_fid f f)) true rest) o u ≡ o
 used_reply p n f rest o u e = rw (e, same_node-refl (Client n), same_fid-refl f) refl
 
+-- the reply that is used is one to the act's call
+its_called : (s : Script) (c : Cell) (past : List Entry) (n p : ℕ) (act : Going) (m : Message) → (h : Holds s c past) → Due c h.floors past n p act m → CalledSince (answered_key m.head) (user_at s n) (its_call (c.clients n).gifts act) past
+its_called s c past n p act m h d = subst (λ (k : Key). CalledSince k (user_at s n) (its_call (c.clients n).gifts act) past) (sym d.key) ((h.clients n).asked act d.running)
+
 pub fetched_walks : (s : Script) (c : Cell) (past : List Entry) (n p : ℕ) (act : Going) (m : Message) (u : CacheEntry) (body : ReadBody) → (h : Holds s c past) → Due c h.floors past n p act m → volume_changed (asked act) ≡ None → is_promised body ≡ true → u.server ≡ the_server → Shows u.fid u.index body past (lines.Given p ∷ []) → IsFetched false n u.fid u.index u.status u.body u.expiry m past → c.clock < u.expiry
     → Walks s c past n c.server.lasting.boot (read_now n p u body) (with_read u.fid body act) (put_entry (c.clients n).capacity u (c.clients n).cache)
 fetched_walks s c past n p act m u body h d shut kind from shown a lt =
@@ -641,6 +601,16 @@ fetched_walks s c past n p act m u body h d shut kind from shown a lt =
             read_by s (is_promised body) (Client n) u.fid u.index Fetched body past (lines.Given p ∷ []) kind (record {
               whole = shown;
               not_older = a.reached;
+              used = λ y. record {
+                reply = m;
+                by = d.at;
+                is_reply = a.held.grant.is_reply;
+                told = a.held.grant.told;
+                to = a.held.grant.to;
+                before = refl;
+                call = its_call (c.clients n).gifts act;
+                called = its_called s c past n p act m h d;
+              };
               reply = m;
               by = d.at;
               expiry = u.expiry;
@@ -684,10 +654,55 @@ fetched_walks s c past n p act m u body h d shut kind from shown a lt =
 
 -- ---- behind reads of a reply the act goes on: it is answered, or calls
 
--- these lines were given this message, and begin no act
+-- lines of a client that is given a message and reads
+abbrev IsLook : ℕ → Line → Type 0
+IsLook n (lines.Given p) = ⊤
+IsLook n (lines.Read m f index source body) = m ≡ Client n
+IsLook n l = ⊥
+
+abbrev AreLooks : ℕ → List Line → Type 0
+AreLooks n [] = ⊤
+AreLooks n (l ∷ ls) = IsLook n l × AreLooks n ls
+
+pub looks_more : (n : ℕ) (a b : List Line) → AreLooks n a → AreLooks n b → AreLooks n (a ++ b)
+looks_more n [] b h k = k
+looks_more n (l ∷ a) b h k = (h.0, looks_more n a b h.1 k)
+
+pub looked_looks : (n : ℕ) (looks : List Look) → AreLooks n (looked (Client n) looks [])
+looked_looks n [] = tt
+looked_looks n (l ∷ looks) = (refl, looked_looks n looks)
+
+true_first : (t x : Bool) → x ≡ true → cond t true x ≡ true
+true_first true x e = refl
+true_first false x e = e
+
+read_on_top : (n : ℕ) (l : Line) (o : List Line) → has_read (Client n) o ≡ true → has_read (Client n) (l ∷ o) ≡ true
+read_on_top n (lines.Read m f index source body) o e = true_first (same_node m (Client n)) (has_read (Client n) o) e
+read_on_top n l o e = e
+
+read_kept : (n : ℕ) (ls o : List Line) → has_read (Client n) o ≡ true → has_read (Client n) (onto o ls) ≡ true
+read_kept n [] o e = e
+read_kept n (l ∷ ls) o e = read_kept n ls (l ∷ o) (read_on_top n l o e)
+
+-- where nothing is read the act stays as it was
+unread_runs : (s : Script) (n : ℕ) (ls o p : List Line) → AreLooks n ls → has_read (Client n) (onto o ls) ≡ false → running s (Client n) (onto p ls) ≡ running s (Client n) p
+unread_runs s n [] o p h e = refl
+unread_runs s n (lines.Given place ∷ ls) o p h e = unread_runs s n ls (lines.Given place ∷ o) (lines.Given place ∷ p) h.1 e
+unread_runs s n (lines.Read m f index source body ∷ ls) o p h e =
+    let here : has_read (Client n) (lines.Read m f index source body ∷ o) ≡ true = ap (λ (t : Bool). cond t true (has_read (Client n) o)) (ap (λ (q : Node). same_node q (Client n)) h.0 ∙ same_node-refl (Client n)) in
+    let no_ : true ≡ false = sym (read_kept n ls (lines.Read m f index source body ∷ o) here) ∙ e in
+    absurd cc
+unread_runs s n (l ∷ ls) o p h e = absurd h.0
+
+read_by_end : (t : Bool) (s : Script) (n k : ℕ) (ls p : List Line) (act a : Going) → has_read (Client n) (onto [] ls) ≡ t → AreLooks n ls → running s (Client n) p ≡ Some act → running s (Client n) (onto p ls) ≡ Some a → IsOpen (next act) → next a ≡ answers k → has_read (Client n) (onto [] ls) ≡ true
+read_by_end true s n k ls p act a e h was now going end = e
+read_by_end false s n k ls p act a e h was now going end = absurd (subst IsOpen (ap next (some_of act a (sym was ∙ (sym (unread_runs s n ls [] p h e) ∙ now))) ∙ end) going)
+
+-- these lines were given this message, read, and begin no act
 pub record IsUsed (n : ℕ) (m : Message) (F : List Line) (past : List Entry) : Type 0 where
   pub given : given_message (onto [] F) (sent_of past) ≡ Some m
   pub begun : has_begun (Client n) (onto [] F) ≡ false
+  pub looks : AreLooks n F
 
 onto_front_of : (a b : List Line) → onto [] (a ++ b) ≡ onto (onto [] a) b
 onto_front_of a b = onto_parts [] a b
@@ -708,7 +723,7 @@ used_reply_behind s c past n p act m h d not own by none = record {
   to = ap (λ (k : Key). k.node) d.key;
   before = none;
   call = its_call (c.clients n).gifts act;
-  called = subst (λ (k : Key). CalledSince k (user_at s n) (its_call (c.clients n).gifts act) past) (sym d.key) ((h.clients n).asked act d.running);
+  called = its_called s c past n p act m h d;
 }
 
 pub gone_answered : (s : Script) (c : Cell) (past : List Entry) (n p : ℕ) (act : Going) (m : Message) (front : List Line → List Line) (F : List Line) (w : Walked) (k : ℕ) → (h : Holds s c past) → Due c h.floors past n p act m → ((code : Code) → m.carried ≡ carried.Refusal code → ⊥) → ((ls : List Line) → front ls ≡ F ++ ls) → IsUsed n m F past
@@ -726,7 +741,7 @@ gone_answered s c past n p act m front F w k h d not same used W apart old is =
     let told : front (looked (Client n) w.looks tail) ≡ ls ++ tail = same (looked (Client n) w.looks tail) ∙ (ap (λ (os : List Line). F ++ os) (looked_more (Client n) w.looks tail) ∙ sym (append_assoc F (looked (Client n) w.looks []) tail)) in
     subst (λ (os : List Line). Goes s past (with_lines c n (ended x w.cache) [] os)) (sym told)
     (moves s c past n g (record { state = ended x w.cache; lines = ls ++ tail; sent = [] }) h (client_ended s x w.cache (h.own n) apart)
-    (walk_answered s c past n c.server.lasting.boot ls w.act w.cache k W is (inr (used_reply_behind s c past n p act m h d not (onto [] ls) (ap (λ (o : List Line). given_message o (sent_of past)) (onto_front_of F (looked (Client n) w.looks [])) ∙ (looked_message (Client n) w.looks (onto [] F) (sent_of past) ∙ used.given)) (ap (has_begun (Client n)) (onto_front_of F (looked (Client n) w.looks [])) ∙ (looked_begun (Client n) (Client n) w.looks (onto [] F) ∙ used.begun)))))
+    (walk_answered s c past n c.server.lasting.boot ls w.act w.cache k W is (inr ((used_reply_behind s c past n p act m h d not (onto [] ls) (ap (λ (o : List Line). given_message o (sent_of past)) (onto_front_of F (looked (Client n) w.looks [])) ∙ (looked_message (Client n) w.looks (onto [] F) (sent_of past) ∙ used.given)) (ap (has_begun (Client n)) (onto_front_of F (looked (Client n) w.looks [])) ∙ (looked_begun (Client n) (Client n) w.looks (onto [] F) ∙ used.begun))), read_by_end (has_read (Client n) (onto [] ls)) s n k ls (lines_of past) act w.act refl (looks_more n F (looked (Client n) w.looks []) used.looks (looked_looks n w.looks)) ((h.clients n).runs act d.running) W.runs ((h.own n).needs act d.running) is)))
     (quiet_passes s n (ls ++ tail) [] past q (W.dull tail t))
     (ended_facts s c past n w.cache held e h (le_refl _) (ap (running s (Client n)) (onto_last (lines_of past) ls (lines.Answer (Client n) (record { 0 = pos k }))) ∙ own_ended n (running s (Client n) (onto (lines_of past) ls)))
     (λ f v found lasts. walk_current s c past n c.server.lasting.boot ls w.act w.cache tail [] (view_after c n g (ended x w.cache)) f v W t ends (le_refl _) (inr refl) found lasts)
@@ -734,9 +749,9 @@ gone_answered s c past n p act m front F w k h d not same used W apart old is =
     (walk_reached s c past n c.server.lasting.boot ls w.act w.cache tail [] W t ends))
     (ended_calls s c past n p act m w.cache held h d (λ code z. absurd (not code z))) (ended_reply s c past n w.cache held e h) (nothing_new _ _) (λ b y z. absurd cc) refl (tried_idle n _ _ refl))
 
-pub gone_calls : (s : Script) (c : Cell) (past : List Entry) (n p : ℕ) (act : Going) (m : Message) (front : List Line → List Line) (F : List Line) (w : Walked) → (h : Holds s c past) → Due c h.floors past n p act m → volume_changed (asked act) ≡ None → ((ls : List Line) → front ls ≡ F ++ ls) → IsUsed n m F past
+pub gone_calls : (s : Script) (c : Cell) (past : List Entry) (n p : ℕ) (act : Going) (m : Message) (front : List Line → List Line) (F : List Line) (w : Walked) → (h : Holds s c past) → Due c h.floors past n p act m → volume_changed (asked act) ≡ None → (next act ≡ gives_back → ⊥) → ((ls : List Line) → front ls ≡ F ++ ls) → IsUsed n m F past
     → Walks s c past n c.server.lasting.boot (F ++ looked (Client n) w.looks []) w.act w.cache → AreApart w.cache → HasOld w.cache (lines_of past) → IsOpen (next w.act) → Goes s past (client_moves c n (goes_by (Client n) (c.clients n) front w (asks_for calls.GetTime)))
-gone_calls s c past n p act m front F w h d shut same used W apart old going =
+gone_calls s c past n p act m front F w h d shut reading same used W apart old going =
     let x : ClientState = c.clients n in
     let ls : List Line = F ++ looked (Client n) w.looks [] in
     let k = h.clients n in
@@ -748,8 +763,7 @@ gone_calls s c past n p act m front F w h d shut same used W apart old going =
     let g : Ghost = record { floor = c.server.lasting.boot; held = c.server.lasting.boot } in
     let v : View = view_after c n g y in
     let never : LastRan v → ⊥ = λ ran. next_not _ _ _ _ (k.behind_durable ran.seat ran.at) ran.epoch ran.number in
-    let begun : has_begun (Client n) (onto [] (ls ++ [])) ≡ false = ap (λ (os : List Line). has_begun (Client n) (onto [] os)) (append-nil ls) ∙ (ap (has_begun (Client n)) (onto_front_of F (looked (Client n) w.looks [])) ∙ (looked_begun (Client n) (Client n) w.looks (onto [] F) ∙ used.begun)) in
-    let gave : AreDropped (Client n) (fids_of_gifts x.gifts) (onto (lines_of past) (ls ++ [])) = all_dropped_own (Client n) (fids_of_gifts x.gifts) (ls ++ []) (lines_of past) begun (k.gave act d.running) in
+    let gave : AreDropped (Client n) (fids_of_gifts x.gifts) (onto (lines_of past) (ls ++ [])) = subst (λ (gs : List Gift). AreDropped (Client n) (fids_of_gifts gs) (onto (lines_of past) (ls ++ []))) (sym (k.spared act d.running reading)) tt in
     let at : running s (Client n) (onto (lines_of past) (ls ++ [])) ≡ Some w.act = ap (λ (os : List Line). running s (Client n) (onto (lines_of past) os)) (append-nil ls) ∙ W.runs in
     let over : (q : Message) → ReplyFact n (view h.floors c n) past q → ReplyFact n v (e ∷ past) q = λ q r. record {
       behind = up_to_next _ _ _ _ r.behind;
@@ -781,6 +795,7 @@ gone_calls s c past n p act m front F w h d shut same used W apart old going =
       asked = λ b z. subst (λ (x : Going). CalledSince (last_key n v) (user_at s n) (its_call v.gifts x) (e ∷ past)) (some_of w.act b z) (inl (refl, inl (refl, carried_is y w.act its.user)));
       late = λ b z. new_late s c past n y w.act e h refl refl;
       none = λ z. absurd cc;
+      spared = λ b z not. k.spared act d.running reading;
       gave = λ b z. gave;
       reached = walk_reached s c past n c.server.lasting.boot ls w.act w.cache [] ms W tt (ends_here n);
     })
@@ -794,31 +809,31 @@ gone_calls s c past n p act m front F w h d shut same used W apart old going =
         | inr same ↦ inl (ap volume_changed (r.own act d.running same.0 same.1) ∙ (asks_changed x.gifts act ∙ shut))
       ];
     })
-    over (own_call h.floors c past n g y w.act (ls ++ []) k.known its refl at (new_one s c past n y w.act h refl refl) gave) (λ b x z. inr (record { act = act; runs = d.running; read = shut })) refl (tried_new n _ _ refl))
+    over (own_call h.floors c past n g y w.act (ls ++ []) k.known its refl at (new_one s c past n y w.act h refl refl) gave (new_late s c past n y w.act e h refl refl)) (λ b x z. inr (record { act = act; runs = d.running; read = shut })) refl (tried_new n _ _ refl))
 
-gone_by : (need : Need) (s : Script) (c : Cell) (past : List Entry) (n p : ℕ) (act : Going) (m : Message) (front : List Line → List Line) (F : List Line) (w : Walked) → (h : Holds s c past) → Due c h.floors past n p act m → ((code : Code) → m.carried ≡ carried.Refusal code → ⊥) → volume_changed (asked act) ≡ None → ((ls : List Line) → front ls ≡ F ++ ls) → IsUsed n m F past
+gone_by : (need : Need) (s : Script) (c : Cell) (past : List Entry) (n p : ℕ) (act : Going) (m : Message) (front : List Line → List Line) (F : List Line) (w : Walked) → (h : Holds s c past) → Due c h.floors past n p act m → ((code : Code) → m.carried ≡ carried.Refusal code → ⊥) → volume_changed (asked act) ≡ None → (next act ≡ gives_back → ⊥) → ((ls : List Line) → front ls ≡ F ++ ls) → IsUsed n m F past
     → Walks s c past n c.server.lasting.boot (F ++ looked (Client n) w.looks []) w.act w.cache → AreApart w.cache → HasOld w.cache (lines_of past) → next w.act ≡ need → Goes s past (client_moves c n (goes_by (Client n) (c.clients n) front w need))
-gone_by (answers k) s c past n p act m front F w h d not shut same used W apart old e = gone_answered s c past n p act m front F w k h d not same used W apart old e
-gone_by (reads f) s c past n p act m front F w h d not shut same used W apart old e = gone_calls s c past n p act m front F w h d shut same used W apart old (subst IsOpen (sym e) tt)
-gone_by (reads_status f) s c past n p act m front F w h d not shut same used W apart old e = gone_calls s c past n p act m front F w h d shut same used W apart old (subst IsOpen (sym e) tt)
-gone_by (reads_statuses fs) s c past n p act m front F w h d not shut same used W apart old e = gone_calls s c past n p act m front F w h d shut same used W apart old (subst IsOpen (sym e) tt)
-gone_by (reads_rights f) s c past n p act m front F w h d not shut same used W apart old e = gone_calls s c past n p act m front F w h d shut same used W apart old (subst IsOpen (sym e) tt)
-gone_by (asks_for call) s c past n p act m front F w h d not shut same used W apart old e = gone_calls s c past n p act m front F w h d shut same used W apart old (subst IsOpen (sym e) tt)
-gone_by gives_back s c past n p act m front F w h d not shut same used W apart old e = gone_calls s c past n p act m front F w h d shut same used W apart old (subst IsOpen (sym e) tt)
+gone_by (answers k) s c past n p act m front F w h d not shut reading same used W apart old e = gone_answered s c past n p act m front F w k h d not same used W apart old e
+gone_by (reads f) s c past n p act m front F w h d not shut reading same used W apart old e = gone_calls s c past n p act m front F w h d shut reading same used W apart old (subst IsOpen (sym e) tt)
+gone_by (reads_status f) s c past n p act m front F w h d not shut reading same used W apart old e = gone_calls s c past n p act m front F w h d shut reading same used W apart old (subst IsOpen (sym e) tt)
+gone_by (reads_statuses fs) s c past n p act m front F w h d not shut reading same used W apart old e = gone_calls s c past n p act m front F w h d shut reading same used W apart old (subst IsOpen (sym e) tt)
+gone_by (reads_rights f) s c past n p act m front F w h d not shut reading same used W apart old e = gone_calls s c past n p act m front F w h d shut reading same used W apart old (subst IsOpen (sym e) tt)
+gone_by (asks_for call) s c past n p act m front F w h d not shut reading same used W apart old e = gone_calls s c past n p act m front F w h d shut reading same used W apart old (subst IsOpen (sym e) tt)
+gone_by gives_back s c past n p act m front F w h d not shut reading same used W apart old e = gone_calls s c past n p act m front F w h d shut reading same used W apart old (subst IsOpen (sym e) tt)
 
 -- from such reads on it reads from the cache
-gone_on : (s : Script) (c : Cell) (past : List Entry) (n p : ℕ) (act : Going) (m : Message) (front : List Line → List Line) (F : List Line) (k : ℕ) (a : Going) (cache : List CacheEntry) → (h : Holds s c past) → Due c h.floors past n p act m → ((code : Code) → m.carried ≡ carried.Refusal code → ⊥) → volume_changed (asked act) ≡ None → ((ls : List Line) → front ls ≡ F ++ ls) → IsUsed n m F past
+gone_on : (s : Script) (c : Cell) (past : List Entry) (n p : ℕ) (act : Going) (m : Message) (front : List Line → List Line) (F : List Line) (k : ℕ) (a : Going) (cache : List CacheEntry) → (h : Holds s c past) → Due c h.floors past n p act m → ((code : Code) → m.carried ≡ carried.Refusal code → ⊥) → volume_changed (asked act) ≡ None → (next act ≡ gives_back → ⊥) → ((ls : List Line) → front ls ≡ F ++ ls) → IsUsed n m F past
     → Walks s c past n c.server.lasting.boot F a cache → AreApart cache → HasOld cache (lines_of past) → Goes s past (client_moves c n (goes_on (Client n) (c.clients n) front (walked k c.clock a cache)))
-gone_on s c past n p act m front F k a cache h d not shut same used W apart old =
-    gone_by (next (walked k c.clock a cache).act) s c past n p act m front F (walked k c.clock a cache) h d not shut same used (walks_on k s c past n c.server.lasting.boot F a cache h W) (walked_apart k c.clock a cache apart) (old_within cache (walked k c.clock a cache).cache (lines_of past) (λ f u z. walked_found k c.clock a cache f u z) old) refl
+gone_on s c past n p act m front F k a cache h d not shut reading same used W apart old =
+    gone_by (next (walked k c.clock a cache).act) s c past n p act m front F (walked k c.clock a cache) h d not shut reading same used (walks_on k s c past n c.server.lasting.boot F a cache h W) (walked_apart k c.clock a cache apart) (old_within cache (walked k c.clock a cache).cache (lines_of past) (λ f u z. walked_found k c.clock a cache f u z) old) refl
 
-pub fetched_goes : (s : Script) (c : Cell) (past : List Entry) (n p : ℕ) (act : Going) (u : CacheEntry) (body : ReadBody) (m : Message) (t : Bool) → (h : Holds s c past) → Due c h.floors past n p act m → ((code : Code) → m.carried ≡ carried.Refusal code → ⊥) → volume_changed (asked act) ≡ None → is_promised body ≡ true → u.server ≡ the_server → Shows u.fid u.index body past (lines.Given p ∷ []) → IsFetched false n u.fid u.index u.status u.body u.expiry m past → nat_lt c.clock u.expiry ≡ t
+pub fetched_goes : (s : Script) (c : Cell) (past : List Entry) (n p : ℕ) (act : Going) (u : CacheEntry) (body : ReadBody) (m : Message) (t : Bool) → (h : Holds s c past) → Due c h.floors past n p act m → ((code : Code) → m.carried ≡ carried.Refusal code → ⊥) → volume_changed (asked act) ≡ None → (next act ≡ gives_back → ⊥) → is_promised body ≡ true → u.server ≡ the_server → Shows u.fid u.index body past (lines.Given p ∷ []) → IsFetched false n u.fid u.index u.status u.body u.expiry m past → nat_lt c.clock u.expiry ≡ t
     → Goes s past (client_moves c n (cond t (goes_on (Client n) (c.clients n) (read_lines (Client n) p (look_at Fetched u body)) (fetched_walk (c.clients n) c.clock act u body)) (calls_again (Client n) (c.clients n) p act)))
-fetched_goes s c past n p act u body m true h d not shut kind from shown a lasts =
-    gone_on s c past n p act m (read_lines (Client n) p (look_at Fetched u body)) (read_now n p u body) (most_reads act) (with_read u.fid body act) (put_entry (c.clients n).capacity u (c.clients n).cache) h d not shut (λ ls. refl) (record { given = d.at; begun = refl }) (fetched_walks s c past n p act m u body h d shut kind from shown a (ltb-true _ _ lasts))
+fetched_goes s c past n p act u body m true h d not shut reading kind from shown a lasts =
+    gone_on s c past n p act m (read_lines (Client n) p (look_at Fetched u body)) (read_now n p u body) (most_reads act) (with_read u.fid body act) (put_entry (c.clients n).capacity u (c.clients n).cache) h d not shut reading (λ ls. refl) (record { given = d.at; begun = refl; looks = (tt, (refl, tt)) }) (fetched_walks s c past n p act m u body h d shut kind from shown a (ltb-true _ _ lasts))
     (apart_put (c.clients n).capacity u (c.clients n).cache (h.own n).apart)
     (put_old (c.clients n).capacity u (c.clients n).cache past (kept_whole u.body (find_cached u.fid (c.clients n).cache) u.fid u.index u.status (c.clients n).cache past refl h.one (h.clients n).old a.held.whole) (h.clients n).old)
-fetched_goes s c past n p act u body m false h d not shut kind from shown a lasts = again_goes s c past n p act m h d shut
+fetched_goes s c past n p act u body m false h d not shut reading kind from shown a lasts = again_goes s c past n p act m h d shut
 
 not_same_by : (t : Bool) (f g : Fid) → same_fid f g ≡ t → (f ≡ g → ⊥) → t ≡ false
 not_same_by true f g e ne = absurd (ne (same_fid-true f g e))
@@ -897,6 +912,9 @@ pub record Reads (s : Script) (c : Cell) (past : List Entry) (n most : ℕ) (m :
   pub made : (g : Fid) → (reach_over (Client n) g past false (reach (Client n) g past) ls).made ≡ 0
   pub given : (tail : List Line) → given_message (ls ++ tail) (sent_of past) ≡ Some m
   pub own : given_message (onto [] ls) (sent_of past) ≡ Some m
+  pub begun : has_begun (Client n) (onto [] ls) ≡ false
+  pub call : FsCall
+  pub called : CalledSince (answered_key m.head) (user_at s n) call past
   pub dull : (k : Key) (boot : ℕ) → IsCallUnder the_server k boot (Some m) → ⊥
   pub apart : AreApart cache
   pub old : HasOld cache (lines_of past)
@@ -930,6 +948,9 @@ reads_none s c past n p act m at h d shut = record {
   made = λ g. (h.clients n).made act d.running g (no_scope (asked act) g shut) (inl shut);
   given = λ tail. d.at;
   own = d.at;
+  begun = refl;
+  call = its_call (c.clients n).gifts act;
+  called = its_called s c past n p act m h d;
   dull = λ k boot y. heard_dull s c past p m h d.heard k boot (subst (λ (o : Option Message). IsCallUnder the_server k boot o) (sym d.at) y);
   apart = (h.own n).apart;
   old = (h.clients n).old;
@@ -944,6 +965,7 @@ reads_good s c past n most m at ls a cache u h w same f lasts =
     record {
       whole = ((f.held.whole.is, subst (HasVersion u.fid u.index f.held.whole.is) (own_lines ls (lines_of past)) (p.version u.index f.held.whole.is (lines_of past) f.held.whole.told)), f.held.whole.been);
       not_older = subst (λ (o : List Line). (reach_over (Client n) u.fid past false (reach (Client n) u.fid past) o).seen ≤ u.index) (sym (back_again ls)) (w.low u.fid u.index f.reached (λ z. le_of_eq (sym same)));
+      used = λ y. record { reply = m; by = w.own; is_reply = f.held.grant.is_reply; told = f.held.grant.told; to = f.held.grant.to; before = w.begun; call = w.call; called = w.called };
       reply = m;
       by = w.own;
       expiry = u.expiry;
@@ -1007,6 +1029,9 @@ reads_next s c past n k m at ls a cache u h w le from same f lasts =
       made = λ g. ap (λ (r : Reach). r.made) (more g) ∙ w.made g;
       given = λ tail. ap (λ (o : List Line). given_message o (sent_of past)) (lines_assoc ls tail x) ∙ w.given (x ∷ tail);
       own = ap (λ (o : List Line). given_message o (sent_of past)) (onto_last [] ls x) ∙ w.own;
+      begun = ap (has_begun (Client n)) (onto_last [] ls x) ∙ w.begun;
+      call = w.call;
+      called = w.called;
       dull = w.dull;
       apart = apart_put k u cache w.apart;
       old = put_old k u cache past whole w.old;
@@ -1053,13 +1078,13 @@ reads_walks s c past n most m at ls a cache w = record {
   dull = λ tail t k boot y. w.dull k boot (subst (λ (o : Option Message). IsCallUnder the_server k boot o) (w.given tail) y);
 }
 
-pub several_goes : (t : Bool) (s : Script) (c : Cell) (past : List Entry) (n p : ℕ) (act : Going) (us : List CacheEntry) (at : Fid → ℕ) (m : Message) → (h : Holds s c past) → Due c h.floors past n p act m → ((code : Code) → m.carried ≡ carried.Refusal code → ⊥) → volume_changed (asked act) ≡ None → AllFetched n m at past us → list_any (λ e. not (is_trusted c.clock e)) us ≡ t
+pub several_goes : (t : Bool) (s : Script) (c : Cell) (past : List Entry) (n p : ℕ) (act : Going) (us : List CacheEntry) (at : Fid → ℕ) (m : Message) → (h : Holds s c past) → Due c h.floors past n p act m → ((code : Code) → m.carried ≡ carried.Refusal code → ⊥) → volume_changed (asked act) ≡ None → (next act ≡ gives_back → ⊥) → AllFetched n m at past us → list_any (λ e. not (is_trusted c.clock e)) us ≡ t
     → Goes s past (client_moves c n (cond t (calls_again (Client n) (c.clients n) p act) (goes_on (Client n) (c.clients n) (λ ls. lines.Given p ∷ looked (Client n) (map status_look us) ls) (walked (most_reads (with_statuses us act)) c.clock (with_statuses us act) (put_entries (c.clients n).capacity us (c.clients n).cache)))))
-several_goes true s c past n p act us at m h d not shut all last = again_goes s c past n p act m h d shut
-several_goes false s c past n p act us at m h d not shut all last =
+several_goes true s c past n p act us at m h d not shut reading all last = again_goes s c past n p act m h d shut
+several_goes false s c past n p act us at m h d not shut reading all last =
     let R = reads_all us s c past n (c.clients n).capacity m at (lines.Given p ∷ []) act (c.clients n).cache h (reads_none s c past n p act m at h d shut) d.fact.booted all last in
-    gone_on s c past n p act m (λ ls. lines.Given p ∷ looked (Client n) (map status_look us) ls) (lines.Given p ∷ looked (Client n) (map status_look us) []) (most_reads (with_statuses us act)) (with_statuses us act) (put_entries (c.clients n).capacity us (c.clients n).cache) h d not shut
-    (λ ls. ap (λ (o : List Line). lines.Given p ∷ o) (looked_more (Client n) (map status_look us) ls)) (record { given = looked_message (Client n) (map status_look us) (lines.Given p ∷ []) (sent_of past) ∙ d.at; begun = looked_begun (Client n) (Client n) (map status_look us) (lines.Given p ∷ []) }) (reads_walks s c past n c.server.lasting.boot m at (lines.Given p ∷ looked (Client n) (map status_look us) []) (with_statuses us act) (put_entries (c.clients n).capacity us (c.clients n).cache) R) R.apart R.old
+    gone_on s c past n p act m (λ ls. lines.Given p ∷ looked (Client n) (map status_look us) ls) (lines.Given p ∷ looked (Client n) (map status_look us) []) (most_reads (with_statuses us act)) (with_statuses us act) (put_entries (c.clients n).capacity us (c.clients n).cache) h d not shut reading
+    (λ ls. ap (λ (o : List Line). lines.Given p ∷ o) (looked_more (Client n) (map status_look us) ls)) (record { given = looked_message (Client n) (map status_look us) (lines.Given p ∷ []) (sent_of past) ∙ d.at; begun = looked_begun (Client n) (Client n) (map status_look us) (lines.Given p ∷ []); looks = (tt, looked_looks n (map status_look us)) }) (reads_walks s c past n c.server.lasting.boot m at (lines.Given p ∷ looked (Client n) (map status_look us) []) (with_statuses us act) (put_entries (c.clients n).capacity us (c.clients n).cache) R) R.apart R.old
 
 -- ---- an answered store
 
@@ -1267,10 +1292,10 @@ rights_passes s c past n p m f i text es h d = record {
 }
 
 -- the answer is good behind the drops
-rights_good : (s : Script) (n : ℕ) (a : Going) (past : List Entry) (es : List CacheEntry) (own : List Line) → running s (Client n) (own ++ lines_of past) ≡ Some a → next a ≡ answers 0 → HasUsed s (Client n) past own → AreGood s (actors.Node (Client n)) past own (dropped (Client n) es (last_line n zero_code))
-rights_good s n a past [] own runs done used = ((refl, record { act = a; runs = runs; cause = inr (inl (record { number = 0; is = refl; by = done; last = inr used })) }), tt)
-rights_good s n a past (u ∷ es) own runs done used =
-    (refl, rights_good s n a past es (lines.Drop (Client n) u.fid ∷ own) runs done (record { reply = used.reply; by = used.by; is_reply = used.is_reply; told = used.told; to = used.to; before = used.before; call = used.call; called = used.called }))
+rights_good : (s : Script) (n : ℕ) (a : Going) (past : List Entry) (es : List CacheEntry) (own : List Line) → running s (Client n) (own ++ lines_of past) ≡ Some a → next a ≡ answers 0 → HasUsed s (Client n) past own → has_read (Client n) own ≡ true → AreGood s (actors.Node (Client n)) past own (dropped (Client n) es (last_line n zero_code))
+rights_good s n a past [] own runs done used read = ((refl, record { act = a; runs = runs; cause = inr (inl (record { number = 0; is = refl; by = done; last = inr (used, read) })) }), tt)
+rights_good s n a past (u ∷ es) own runs done used read =
+    (refl, rights_good s n a past es (lines.Drop (Client n) u.fid ∷ own) runs done (record { reply = used.reply; by = used.by; is_reply = used.is_reply; told = used.told; to = used.to; before = used.before; call = used.call; called = used.called }) read)
 
 walked_done : (k clock : ℕ) (a : Going) (cache : List CacheEntry) (code : ℕ) → next a ≡ answers code → walked k clock a cache ≡ ClientRow.stays a cache
 walked_done zero clock a cache code e = refl
@@ -1325,7 +1350,7 @@ rights_goes s c past n p act m f i release text h d not_refused asks fits =
             was = inr fits.was;
           },
         ),
-        rights_good s n a past es (rights_read n f i text ∷ lines.Given p ∷ []) (own_read n f (seen.AccessList text) act (running s (Client n) (lines_of past)) ((h.clients n).runs act d.running)) done (used_reply_behind s c past n p act m h d not_refused (rights_read n f i text ∷ lines.Given p ∷ []) d.at refl),
+        rights_good s n a past es (rights_read n f i text ∷ lines.Given p ∷ []) (own_read n f (seen.AccessList text) act (running s (Client n) (lines_of past)) ((h.clients n).runs act d.running)) done (used_reply_behind s c past n p act m h d not_refused (rights_read n f i text ∷ lines.Given p ∷ []) d.at refl) (ap (λ (t : Bool). cond t true false) (same_node-refl (Client n))),
       ),
     )
     (rights_passes s c past n p m f i text es h d.heard)
@@ -1367,7 +1392,7 @@ resends_goes s c past n p act m boot h d le runs =
     (subst (λ (k : ℕ). ClientFacts s n (record (view h.floors c n) { known = k }) (e ∷ past)) (sym known) (client_kept s c past n boot e h le (λ f. told_file n p f (actors.Node (Client n)) ms past) (λ f. told_reach n p f (actors.Node (Client n)) ms past) (told_act n p (actors.Node (Client n)) ms past) (λ f. refl)))
     (λ head call f. call_known (view h.floors c n) (boot_of the_server x.boots) head call f)
     (reply_still n (view h.floors c n) e past (λ f. told_file n p f (actors.Node (Client n)) ms past) (λ f. told_reach n p f (actors.Node (Client n)) ms past) (λ f. refl) refl)
-    (own_call h.floors c past n (h.floors n) x act (lines.Given p ∷ []) (subst (λ (k : ℕ). k ≤ c.server.lasting.boot) (sym known) le) kind runs ((h.clients n).runs act runs) (same_one s c past n act ms h runs) (all_dropped_onto (Client n) (fids_of_gifts old.gifts) (lines.Given p ∷ []) (lines_of past) refl ((h.clients n).gave act runs))) (λ a x z. inl (x, (refl, refl))) refl (tried_kept n (c.clients n) _ (lines_of past) (lines.Given p ∷ []) refl refl refl refl (h.tried n))
+    (own_call h.floors c past n (h.floors n) x act (lines.Given p ∷ []) (subst (λ (k : ℕ). k ≤ c.server.lasting.boot) (sym known) le) kind runs ((h.clients n).runs act runs) (same_one s c past n act ms h runs) (all_dropped_onto (Client n) (fids_of_gifts old.gifts) (lines.Given p ∷ []) (lines_of past) refl (λ f. refl) ((h.clients n).gave act runs)) (late_over (Client n) (last_key n (view h.floors c n)) (step_entry n (lines.Given p ∷ []) ms) past refl ((h.clients n).late act runs))) (λ a x z. inl (x, (refl, refl))) refl (tried_kept n (c.clients n) _ (lines_of past) (lines.Given p ∷ []) refl refl refl refl (h.tried n))
 
 -- ---- the row, by its cases
 
@@ -1385,24 +1410,43 @@ fresh_of true None e q = absurd cc
 fresh_of true (Some id) e q = absurd cc
 fresh_of false o e q = refl
 
+-- a call that gives back what its client was promised
+abbrev IsGiving : FsCall → Type 0
+IsGiving (calls.GiveUpCallBacks fids callbacks) = ⊤
+IsGiving call = ⊥
+
+abbrev IsReading : FsCall → Type 0
+IsReading (calls.FetchData f position wanted) = ⊤
+IsReading (calls.FetchStatus f) = ⊤
+IsReading (calls.BulkStatus fids) = ⊤
+IsReading call = ⊥
+
+reading_not : (call : FsCall) → IsReading call → IsGiving call → ⊥
+reading_not (calls.GiveUpCallBacks fids callbacks) r g = absurd r
+reading_not call r g = absurd g
+
+-- an act that asks to read isn't one that gives back
+asks_not : (act : Going) (call : FsCall) → IsReading call → asked act ≡ call → next act ≡ gives_back → ⊥
+asks_not act call r asks gives = reading_not call r (subst IsGiving (sym (ap call_for gives) ∙ asks) tt)
+
 -- a reading reply is used
-pub entry_goes : (s : Script) (c : Cell) (past : List Entry) (n p : ℕ) (act : Going) (head : Head) (reply : FsReply) (u : CacheEntry) (body : ReadBody) → (h : Holds s c past) → Due c h.floors past n p act (record { head = head; carried = carried.Reply (tell.File reply) }) → is_spent (c.clients n) act ≡ false → volume_changed (asked act) ≡ None
+pub entry_goes : (s : Script) (c : Cell) (past : List Entry) (n p : ℕ) (act : Going) (head : Head) (reply : FsReply) (u : CacheEntry) (body : ReadBody) → (h : Holds s c past) → Due c h.floors past n p act (record { head = head; carried = carried.Reply (tell.File reply) }) → is_spent (c.clients n) act ≡ false → volume_changed (asked act) ≡ None → (next act ≡ gives_back → ⊥)
     → is_promised body ≡ true → u.server ≡ (c.clients n).callee → Shows u.fid u.index body past (lines.Given p ∷ []) → IsFetched (c.clients n).spoiled n u.fid u.index u.status u.body u.expiry (record { head = head; carried = carried.Reply (tell.File reply) }) past → Goes s past (client_moves c n (takes_entry (Client n) (c.clients n) c.clock p act u body))
-entry_goes s c past n p act head reply u body h d fresh shut kind at shown fits =
-    fetched_goes s c past n p act u body _ (nat_lt c.clock u.expiry) h d (λ code z. reply_not reply code z) shut kind (at ∙ (h.own n).callee act d.running) shown
+entry_goes s c past n p act head reply u body h d fresh shut reading kind at shown fits =
+    fetched_goes s c past n p act u body _ (nat_lt c.clock u.expiry) h d (λ code z. reply_not reply code z) shut reading kind (at ∙ (h.own n).callee act d.running) shown
     (subst (λ (sp : Bool). IsFetched sp n u.fid u.index u.status u.body u.expiry (record { head = head; carried = carried.Reply (tell.File reply) }) past) (fresh_of (c.clients n).spoiled (volume_changed (call_of (c.clients n) act)) fresh (asks_changed (c.clients n).gifts act ∙ shut)) fits) refl
 
 pub data_goes : (s : Script) (c : Cell) (past : List Entry) (n p : ℕ) (act : Going) (call : FsCall) (head : Head) (contents : List ℕ) (status : AfsFetchStatus) (callback : AfsCallBack) (sync : AfsVolSync) → (h : Holds s c past) → Due c h.floors past n p act (record { head = head; carried = carried.Reply (tell.File (replies.FetchData contents status callback sync)) })
     → is_spent (c.clients n) act ≡ false → call_of (c.clients n) act ≡ call → FitsData (c.clients n).spoiled n (spot (view h.floors c n)) (record { head = head; carried = carried.Reply (tell.File (replies.FetchData contents status callback sync)) }) past contents status callback call → Goes s past (client_moves c n (takes_data (Client n) (c.clients n) c.clock p act contents status callback sync call))
 data_goes s c past n p act (calls.FetchData f pp w) head contents status callback sync h d fresh same fits =
-    entry_goes s c past n p act head (replies.FetchData contents status callback sync) (entry_told (c.clients n).callee f status callback sync (Some (body_told status.file_type contents))) (seen.Contents (body_told status.file_type contents)) h d fresh (ap volume_changed (asks_just (c.clients n).gifts act (calls.FetchData f pp w) refl same)) refl refl
+    entry_goes s c past n p act head (replies.FetchData contents status callback sync) (entry_told (c.clients n).callee f status callback sync (Some (body_told status.file_type contents))) (seen.Contents (body_told status.file_type contents)) h d fresh (ap volume_changed (asks_just (c.clients n).gifts act (calls.FetchData f pp w) refl same)) (asks_not act (calls.FetchData f pp w) tt (asks_just (c.clients n).gifts act (calls.FetchData f pp w) refl same)) refl refl
     (fits.held.whole.holds.1, subst (λ (b : Body). HasVersion f status.sync_counter b (lines_of past)) (sym fits.held.whole.holds.0) fits.held.whole.told) fits
 data_goes s c past n p act call head contents status callback sync h d fresh same fits = plain_goes s c past n p act call _ (replies.FetchData contents status callback sync) h d refl same fits.0
 
 pub status_goes : (s : Script) (c : Cell) (past : List Entry) (n p : ℕ) (act : Going) (call : FsCall) (head : Head) (status : AfsFetchStatus) (callback : AfsCallBack) (sync : AfsVolSync) → (h : Holds s c past) → Due c h.floors past n p act (record { head = head; carried = carried.Reply (tell.File (replies.FetchStatus status callback sync)) })
     → is_spent (c.clients n) act ≡ false → call_of (c.clients n) act ≡ call → FitsShown (c.clients n).spoiled n (spot (view h.floors c n)) (record { head = head; carried = carried.Reply (tell.File (replies.FetchStatus status callback sync)) }) past status callback call → Goes s past (client_moves c n (takes_shown (Client n) (c.clients n) c.clock p act status callback sync call))
 status_goes s c past n p act (calls.FetchStatus f) head status callback sync h d fresh same fits =
-    entry_goes s c past n p act head (replies.FetchStatus status callback sync) (entry_told (c.clients n).callee f status callback sync None) (seen.Status (status_told status)) h d fresh (ap volume_changed (asks_just (c.clients n).gifts act (calls.FetchStatus f) refl same)) refl refl
+    entry_goes s c past n p act head (replies.FetchStatus status callback sync) (entry_told (c.clients n).callee f status callback sync None) (seen.Status (status_told status)) h d fresh (ap volume_changed (asks_just (c.clients n).gifts act (calls.FetchStatus f) refl same)) (asks_not act (calls.FetchStatus f) tt (asks_just (c.clients n).gifts act (calls.FetchStatus f) refl same)) refl refl
     ((fits.held.whole.is, fits.held.whole.told), fits.held.whole.been) fits
 status_goes s c past n p act call head status callback sync h d fresh same fits = plain_goes s c past n p act call _ (replies.FetchStatus status callback sync) h d refl same fits.0
 
@@ -1417,7 +1461,7 @@ pub bulk_goes : (s : Script) (c : Cell) (past : List Entry) (n p : ℕ) (act : G
     → is_spent (c.clients n) act ≡ false → call_of (c.clients n) act ≡ call → FitsBulk (c.clients n).spoiled n (spot (view h.floors c n)) (record { head = head; carried = carried.Reply (tell.File (replies.BulkStatus statuses callbacks sync)) }) past statuses callbacks call → Goes s past (client_moves c n (takes_bulk (Client n) (c.clients n) c.clock p act statuses callbacks sync call))
 bulk_goes s c past n p act (calls.BulkStatus fids) head statuses callbacks sync h d fresh same fits =
     let us : List CacheEntry = entries_told (c.clients n).callee sync fids statuses callbacks in
-    several_goes (list_any (λ e. not (is_trusted c.clock e)) us) s c past n p act us fits.at _ h d (λ code z. reply_not (replies.BulkStatus statuses callbacks sync) code z) (ap volume_changed (asks_just (c.clients n).gifts act (calls.BulkStatus fids) refl same))
+    several_goes (list_any (λ e. not (is_trusted c.clock e)) us) s c past n p act us fits.at _ h d (λ code z. reply_not (replies.BulkStatus statuses callbacks sync) code z) (ap volume_changed (asks_just (c.clients n).gifts act (calls.BulkStatus fids) refl same)) (asks_not act (calls.BulkStatus fids) tt (asks_just (c.clients n).gifts act (calls.BulkStatus fids) refl same))
     (told_fetched (c.clients n).spoiled n _ past fits.at (c.clients n).callee sync fids statuses callbacks (fresh_of (c.clients n).spoiled (volume_changed (call_of (c.clients n) act)) fresh (ap volume_changed same)) ((h.own n).callee act d.running) fits.all) refl
 bulk_goes s c past n p act call head statuses callbacks sync h d fresh same fits = plain_goes s c past n p act call _ (replies.BulkStatus statuses callbacks sync) h d refl same fits.0
 
@@ -1478,17 +1522,17 @@ not_true true w = absurd (w refl)
 not_true false w = refl
 
 -- the next ones are, or the act is done
-more_given : (gs : List Gift) (s : Script) (c : Cell) (past : List Entry) (n p : ℕ) (act : Going) (m : Message) (reply : FsReply) → (h : Holds s c past) → AreGifts gs → AreDropped (Client n) (fids_of_gifts gs) (lines_of past) → Due c h.floors past n p act m → m.carried ≡ carried.Reply (tell.File reply) → volume_changed (asked act) ≡ None → EndsAct (next act)
+more_given : (gs : List Gift) (s : Script) (c : Cell) (past : List Entry) (n p : ℕ) (act : Going) (m : Message) (reply : FsReply) → (h : Holds s c past) → AreGifts gs → AreDropped (Client n) (fids_of_gifts gs) (lines_of past) → ((next act ≡ gives_back → ⊥) → gs ≡ []) → Due c h.floors past n p act m → m.carried ≡ carried.Reply (tell.File reply) → volume_changed (asked act) ≡ None → EndsAct (next act)
     → Goes s past (client_moves c n (gives_by (Client n) (c.clients n) (given p) act gs))
-more_given [] s c past n p act m reply h some gave d is shut ends =
+more_given [] s c past n p act m reply h some gave spared d is shut ends =
     subst (λ (cs : List CacheEntry). Goes s past (client_moves c n (ends_step (Client n) (c.clients n) cs (given p) zero_code))) (all_left (c.clients n).cache)
     (subst (λ (es : List CacheEntry). Goes s past (client_moves c n (ends_step (Client n) (c.clients n) (filter (λ (e : CacheEntry). true) (c.clients n).cache) (λ ls. given p (dropped (Client n) es ls)) zero_code))) (none_dropped (c.clients n).cache)
     (takes_other s c past n p act calls.GetTime m reply h d is ends (λ f. not_true (is_in_scope (asked act) f) (no_scope (asked act) f shut))))
-more_given (g ∷ gs) s c past n p act m reply h some gave d is shut ends = again_with s c past n p (g ∷ gs) act m h some gave d shut
+more_given (g ∷ gs) s c past n p act m reply h some gave spared d is shut ends = again_with s c past n p (g ∷ gs) act m h some gave spared d shut
 
 given_goes : (s : Script) (c : Cell) (past : List Entry) (n p : ℕ) (act : Going) (call : FsCall) (m : Message) (reply : FsReply) → (h : Holds s c past) → Due c h.floors past n p act m → m.carried ≡ carried.Reply (tell.File reply) → call_of (c.clients n) act ≡ call → IsNoRead call → Goes s past (client_moves c n (takes_given (Client n) (c.clients n) p act call))
 given_goes s c past n p act (calls.GiveUpCallBacks fids callbacks) m reply h d is same unread =
-    more_given (behind_batch (c.clients n).gifts) s c past n p act m reply h (gifts_later (length (batch (c.clients n).gifts)) (c.clients n).gifts (h.own n).gifts) (dropped_rest (Client n) (length (batch (c.clients n).gifts)) (c.clients n).gifts (lines_of past) ((h.clients n).gave act d.running)) d is (sym (asks_changed (c.clients n).gifts act) ∙ ap volume_changed same)
+    more_given (behind_batch (c.clients n).gifts) s c past n p act m reply h (gifts_later (length (batch (c.clients n).gifts)) (c.clients n).gifts (h.own n).gifts) (dropped_rest (Client n) (length (batch (c.clients n).gifts)) (c.clients n).gifts (lines_of past) ((h.clients n).gave act d.running)) (λ not. ap behind_batch ((h.clients n).spared act d.running not)) d is (sym (asks_changed (c.clients n).gifts act) ∙ ap volume_changed same)
     (ends_by (c.clients n).gifts (next act) ((h.own n).needs act d.running) (subst IsNoRead (sym same) unread))
 given_goes s c past n p act call m reply h d is same unread = plain_goes s c past n p act call m reply h d is same unread
 

@@ -229,7 +229,7 @@ pub client_kept : (s : Script) (c : Cell) (past : List Entry) (n boot : ℕ) (e 
     → ClientFacts s n (record (view h.floors c n) { known = boot }) (e ∷ past)
 client_kept s c past n boot e h le p q t l =
     let d : ClientFacts s n (view h.floors c n) (e ∷ past) = client_still n (view h.floors c n) e past p q t l (h.clients n) in
-    record { behind = d.behind; behind_durable = d.behind_durable; lower = d.lower; kept = d.kept; stored = d.stored; known = le; floored = d.floored; holds = d.holds; waits = d.waits; idle = d.idle; made = d.made; current = d.current; runs = d.runs; old = d.old; asked = d.asked; late = d.late; none = d.none; gave = d.gave; reached = d.reached }
+    record { behind = d.behind; behind_durable = d.behind_durable; lower = d.lower; kept = d.kept; stored = d.stored; known = le; floored = d.floored; holds = d.holds; waits = d.waits; idle = d.idle; made = d.made; current = d.current; runs = d.runs; old = d.old; asked = d.asked; late = d.late; none = d.none; spared = d.spared; gave = d.gave; reached = d.reached }
 
 pub reply_still : (j : ℕ) (v : View) (e : Entry) (past : List Entry) → ((f : Fid) → PassesFile j f e past) → ((f : Fid) → PassesReach j f e past) → ((f : Fid) → last_version f (lines_of (e ∷ past)) ≡ last_version f (lines_of past)) → has_begun (Client j) e.lines ≡ false → (m : Message) → ReplyFact j v past m → ReplyFact j v (e ∷ past) m
 reply_still j v e past p q l b m = reply_over j v m e past (λ f. (p f).grant) q (λ f. stays j f e past (p f).grant (l f)) b
@@ -376,11 +376,11 @@ called_one n k user call S (e ∷ past) node (inr x) h = called_one n k user cal
 
 -- the message of a call that the client sends now
 pub own_call : {s : Script} → (fl : ℕ → Ghost) (c : Cell) (past : List Entry) (n : ℕ) (floor : Ghost) (x : ClientState) (act : Going) (ls : List Line) → boot_of the_server x.boots ≤ c.server.lasting.boot → IsClient s n x → x.running ≡ Some act → running s (Client n) (onto (lines_of past) ls) ≡ Some act
-    → call_under (called_key (call_head (Client n) x act)) (sent_of past ++ call_message (Client n) x act ∷ []) ≡ Some (x.user, call_of x act) → AreDropped (Client n) (fids_of_gifts x.gifts) (onto (lines_of past) ls) → Fresh s c n (views_after fl c n floor x) (step_entry n ls (call_message (Client n) x act ∷ []) ∷ past) (call_message (Client n) x act ∷ [])
-own_call {s} fl c past n floor x act ls le kind runs at one dropped =
+    → call_under (called_key (call_head (Client n) x act)) (sent_of past ++ call_message (Client n) x act ∷ []) ≡ Some (x.user, call_of x act) → AreDropped (Client n) (fids_of_gifts x.gifts) (onto (lines_of past) ls) → is_late (Client n) (called_key (call_head (Client n) x act)) (step_entry n ls (call_message (Client n) x act ∷ []) ∷ past) ≡ true → Fresh s c n (views_after fl c n floor x) (step_entry n ls (call_message (Client n) x act ∷ []) ∷ past) (call_message (Client n) x act ∷ [])
+own_call {s} fl c past n floor x act ls le kind runs at one dropped late =
     let to : x.callee ≡ the_server = kind.callee act runs in
     record {
-      good = ((call_good _ (call_head (Client n) x act) x.user (call_of x act), own_gift act x.gifts (call_head (Client n) x act) x.user (onto (lines_of past) ls) dropped), tt);
+      good = (record { sender = refl; reply = call_good _ (call_head (Client n) x act) x.user (call_of x act); gift = own_gift act x.gifts (call_head (Client n) x act) x.user (onto (lines_of past) ls) dropped; key = late }, tt);
       calls = (tt, tt);
       dones = (tt, tt);
       news = record {
@@ -480,10 +480,10 @@ same_one s c past n act ms h runs =
 abbrev pub with_gifts : List Gift → ClientState → ClientState
 with_gifts gs x = record x { gifts = gs }
 
-pub asks : (s : Script) (c : Cell) (past : List Entry) (n : ℕ) (gs : List Gift) (act : Going) (l : Line) → Holds s c past → AreGifts gs → has_begun (Client n) (l ∷ []) ≡ false → AreDropped (Client n) (fids_of_gifts gs) (lines_of past) → IsOpen (next act) → AreGood s (actors.Node (Client n)) past [] (l ∷ []) → Passes s n (l ∷ []) (call_message (Client n) (asking (with_gifts gs (c.clients n)) act) act ∷ []) past
+pub asks : (s : Script) (c : Cell) (past : List Entry) (n : ℕ) (gs : List Gift) (act : Going) (l : Line) → Holds s c past → AreGifts gs → has_begun (Client n) (l ∷ []) ≡ false → AreDropped (Client n) (fids_of_gifts gs) (lines_of past) → ((next act ≡ gives_back → ⊥) → gs ≡ []) → IsOpen (next act) → AreGood s (actors.Node (Client n)) past [] (l ∷ []) → Passes s n (l ∷ []) (call_message (Client n) (asking (with_gifts gs (c.clients n)) act) act ∷ []) past
     → ((f : Fid) → PassesFile n f (step_entry n (l ∷ []) (call_message (Client n) (asking (with_gifts gs (c.clients n)) act) act ∷ [])) past) → ((f : Fid) → PassesReach n f (step_entry n (l ∷ []) (call_message (Client n) (asking (with_gifts gs (c.clients n)) act) act ∷ [])) past)
     → ((f : Fid) → (InScope (asked act) f → ⊥) → (reach (Client n) f (step_entry n (l ∷ []) (call_message (Client n) (asking (with_gifts gs (c.clients n)) act) act ∷ []) ∷ past)).made ≡ 0) → ((a : Going) → (c.clients n).running ≡ Some a → volume_changed (asked a) ≡ None) → running s (Client n) (l ∷ lines_of past) ≡ Some act → (has_begun (Client n) (l ∷ []) ≡ false → (c.clients n).running ≡ Some act) → Goes s past (client_moves c n (calls_step (Client n) (with_gifts gs (c.clients n)) act (λ ls. l ∷ ls)))
-asks s c past n gs act l h given begun gave going good p q r none shut at went =
+asks s c past n gs act l h given begun gave spared going good p q r none shut at went =
     let d = h.clients n in
     let x : ClientState = asking (with_gifts gs (c.clients n)) act in
     let kind : IsClient s n x = client_asking s c past (with_gifts gs (c.clients n)) act h going (record { table = (h.own n).table; user = (h.own n).user; callee = λ a z. (h.own n).callee a z; needs = λ a z. (h.own n).needs a z; apart = (h.own n).apart; gifts = given }) in
@@ -522,7 +522,8 @@ asks s c past n gs act l h given begun gave going good p q r none shut at went =
       asked = λ b y. subst (λ (a : Going). CalledSince (last_key n v) (user_at s n) (its_call v.gifts a) (e ∷ past)) (some_of act b y) (inl (refl, inl (refl, carried_is x act kind.user)));
       late = λ b y. new_late s c past n x act e h refl refl;
       none = λ y. absurd cc;
-      gave = λ b y. all_dropped_onto (Client n) (fids_of_gifts gs) (l ∷ []) (lines_of past) begun gave;
+      spared = λ b y not. spared (λ z. not (ap next (sym (some_of act b y)) ∙ z));
+      gave = λ b y. all_dropped_onto (Client n) (fids_of_gifts gs) (l ∷ []) (lines_of past) begun (λ f. (q f).fetched) gave;
       reached = reached_still s c past n e h (λ f. (r f).both) last;
     })
     (λ head call f. record {
@@ -532,7 +533,7 @@ asks s c past n gs act l h given begun gave going good p q r none shut at went =
       own = λ b y z w. absurd (next_not _ _ _ _ f.behind z w);
       safe = λ q above. safe_over call c.clock (c.clients n).epoch (c.clients n).last (c.clients n).epoch ((c.clients n).last + 1) (c.clients n).running (Some act) (c.clients n).cache (IsAged (view h.floors c n) head) (IsAged v head) head shut (λ y. (y.0, λ b z w u. next_not _ _ _ _ f.behind w u)) (f.safe q above);
     })
-    over (own_call h.floors c past n g x act (l ∷ []) d.known kind refl at (new_one s c past n x act h refl refl) (all_dropped_onto (Client n) (fids_of_gifts gs) (l ∷ []) (lines_of past) begun gave)) (λ a x z. inr (record { act = act; runs = went z; read = shut act (went z) })) refl (tried_new n _ _ refl)
+    over (own_call h.floors c past n g x act (l ∷ []) d.known kind refl at (new_one s c past n x act h refl refl) (all_dropped_onto (Client n) (fids_of_gifts gs) (l ∷ []) (lines_of past) begun (λ f. (q f).fetched) gave) (new_late s c past n x act e h refl refl)) (λ a x z. inr (record { act = act; runs = went z; read = shut act (went z) })) refl (tried_new n _ _ refl)
 
 pub own_begun : (n : ℕ) (act : Going) (o : Option Going) → cond (same_node (Client n) (Client n)) (Some act) o ≡ Some act
 own_begun n act o = rw (same_node-refl (Client n)) refl

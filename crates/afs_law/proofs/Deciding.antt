@@ -28,7 +28,7 @@ use Rattle.afs_law.specs.Breaks.{HasStopped, last_number, AllOwes}
 use Rattle.afs_rows.specs.Callbacks.{retries, quits, Turn, replies_of, pumped, expired, turn_for, no_turn, repeats_by, key_answered, is_seat_of, alls, put_at, held_under, asked_again, is_ready, is_reply_to}
 use Rattle.afs_rows.specs.ClientRow.{boot_of}
 use Rattle.afs_law.specs.Ideal.{clock_of, volume_after}
-use Rattle.afs_law.specs.Legal.{EndsBoot, IsChanging, RanBefore, code_given, AreGood, IsNew, HasChange, versions_first, IsTold, answer_at, answer_on, GoodRestart, op_on, all_on, statuses_on}
+use Rattle.afs_law.specs.Legal.{IsBy, EndsBoot, IsChanging, RanBefore, code_given, AreGood, IsNew, HasChange, versions_first, IsTold, answer_at, answer_on, GoodRestart, op_on, all_on, statuses_on}
 use Rattle.afs_history.specs.declared.lines.Line.{Line}
 use Rattle.afs_law.specs.Past.{risen, server_boot, onto, lines_of, sent_of, given_message, called_key, IsCallUnder}
 use Rattle.afs_rows.specs.Runs.{Entry, message_at, Armed, unarmed, Luck, Blow, struck, lowered, Fall, at_rest, in_step, in_boot, settled, Outcome, comes_up, fails_early, fails_midway, is_full}
@@ -116,7 +116,7 @@ pub record JustRepeat (c : Cell) (msg reply : Message) : Type 0 where
 
 abbrev pub IsJust : Script → Cell → (ℕ → Ghost) → List Entry → Message → Decision → Type 0
 IsJust s c fl past msg drops = Idle c msg
-IsJust s c fl past msg (tells_boot head) = IdleCall c msg
+IsJust s c fl past msg (tells_boot head) = IdleCall c msg × (head.to ≡ the_server)
 IsJust s c fl past msg (repeats reply) = JustRepeat c msg reply
 IsJust s c fl past msg (refuses head code) = JustRefusal s c fl past msg head code
 IsJust s c fl past msg (shows head r) = JustReading s c fl past msg head r
@@ -302,7 +302,7 @@ admits_just s c past time n h user call (pairs.kept reply) H boot f from acts on
     record { call = record { idle = dull_old c n h user call (le_of_eq boot) (not_runs _ _ e (λ x. absurd cc)); user = user; call = call; is = refl }; kept = record { client = n; seat = l.seat; at = l.at; kept = l.reply } }
 admits_just s c past time n h user call pairs.in_progress H boot f from acts one e = dull_old c n h user call (le_of_eq boot) (not_runs _ _ e (λ x. absurd cc))
 admits_just s c past time n h user call pairs.older H boot f from acts one e = dull_old c n h user call (le_of_eq boot) (not_runs _ _ e (λ x. absurd cc))
-admits_just s c past time n h user call (pairs.wrong_boot boot') H boot f from acts one e = record { idle = dull_old c n h user call (le_of_eq boot) (not_runs _ _ e (λ x. absurd cc)); user = user; call = call; is = refl }
+admits_just s c past time n h user call (pairs.wrong_boot boot') H boot f from acts one e = (record { idle = dull_old c n h user call (le_of_eq boot) (not_runs _ _ e (λ x. absurd cc)); user = user; call = call; is = refl }, refl)
 
 pub dull_away : (c : Cell) (n : ℕ) (h : Head) (user : List ℕ) (call : FsCall) → h.boot ≤ c.server.lasting.boot → nat_eq h.boot c.server.lasting.boot ≡ false → Idle c (call_at n h user call)
 dull_away c n h user call le ne k b x (inl l) = let is : h.boot ≡ b = x.1.1 in absurd (omega arith)
@@ -312,7 +312,7 @@ pub booted_just : (s : Script) (c : Cell) (past : List Entry) (time : ℕ) (n : 
     → CallFact (view H.floors c n) (client_head n h) call → Origin s past (client_head n h) user call → IsActs s (view H.floors c) past (client_head n h) user call → IsOne (sent_of past) (client_head n h) user call
     → IsJust s c H.floors past (call_at n h user call) (admits c.server time (client_head n h) (read_call (client_head n h) user call) (cond b (pairs.paired h.epoch h.number (call_seat (Client n) c.server.seats)) (pairs.wrong_boot c.server.lasting.boot)))
 booted_just s c past time n h user call true H boot f from acts one = admits_just s c past time n h user call (pairs.paired h.epoch h.number (call_seat (Client n) c.server.seats)) H (eqb-true h.boot c.server.lasting.boot boot) f from acts one refl
-booted_just s c past time n h user call false H boot f from acts one = record { idle = dull_away c n h user call f.booted boot; user = user; call = call; is = refl }
+booted_just s c past time n h user call false H boot f from acts one = (record { idle = dull_away c n h user call f.booted boot; user = user; call = call; is = refl }, refl)
 
 -- the call of a client, by its header
 pub is_client_head : (n : ℕ) (h : Head) → h.from ≡ Client n → h.to ≡ the_server → h ≡ client_head n h
@@ -489,9 +489,9 @@ repeats_goes s c past armed p m reply None false H up at j k a b = quiet s c pas
 pub does_goes : (s : Script) (c : Cell) (past : List Entry) (armed : Armed) (p : ℕ) (m : Message) (d : Decision) (i : ℕ) → (H : Holds s c past) → c.down ≡ None → message_at c.sent p ≡ Some m → m.head.to ≡ Server i → IsJust s c H.floors past m d → Goes s past (server_does c armed p m d)
 does_goes s c past armed p m drops i H up at to j = turned_goes s c past armed p m.head m.carried i H up at to j
 does_goes s c past armed p m (tells_boot head) i H up at to j =
-    subst (λ (x : Message). Goes s past (server_does c armed p x (tells_boot head))) (sym j.is)
-    (quiet s c past armed p (called_at m.head j.user j.call) (turn_for the_server c.server c.clock (expired c.clock c.server.backs) (tells_boot head)) H up (at ∙ ap Some j.is) (subst (λ (x : Message). Dull c.server.seats c.server.lasting.boot x) j.is j.idle) tt tt
-    (λ e over held. record { notes = tt; sent = record { calls = (tt, tt); replies = (tt, tt); notices = (client_any head.from _ (le_refl _), tt); origins = (tt, tt); acts = (tt, tt); lasts = (tt, tt); ones = (tt, tt); to_clients = (tt, tt) }; outs = tt; held = held }) (λ e q. still_loads s c past e (boot_told c.server.lasting.boot head ∷ []) H up (given_plain p e _ q) (record { good = (((λ is nought k from. absurd is.1), tt), tt); calls = (tt, tt); dones = (tt, tt) })))
+    subst (λ (x : Message). Goes s past (server_does c armed p x (tells_boot head))) (sym j.0.is)
+    (quiet s c past armed p (called_at m.head j.0.user j.0.call) (turn_for the_server c.server c.clock (expired c.clock c.server.backs) (tells_boot head)) H up (at ∙ ap Some j.0.is) (subst (λ (x : Message). Dull c.server.seats c.server.lasting.boot x) j.0.is j.0.idle) tt tt
+    (λ e over held. record { notes = tt; sent = record { calls = (tt, tt); replies = (tt, tt); notices = (client_any head.from _ (le_refl _), tt); origins = (tt, tt); acts = (tt, tt); lasts = (tt, tt); ones = (tt, tt); to_clients = (tt, tt) }; outs = tt; held = held }) (λ e q. still_loads s c past e (boot_told c.server.lasting.boot head ∷ []) H up (given_plain p e _ q) (record { good = (record { sender = subst (λ (n : Node). IsBy n (e ∷ past)) (sym j.1) (ap (λ (y : Entry). y.actor) q); reply = λ is nought k from. absurd is.1; gift = tt; key = tt }, tt); calls = (tt, tt); dones = (tt, tt) })))
 does_goes s c past armed p m (repeats reply) i H up at to j =
     subst (λ (x : Message). Goes s past (server_does c armed p x (repeats reply))) (sym j.call.is)
     (repeats_goes s c past armed p (called_at m.head j.call.user j.call.call) reply (held_under (key_answered reply) (expired c.clock c.server.backs).held) (is_seat_of reply (call_seat reply.head.to c.server.lasting.kept)) H up (at ∙ ap Some j.call.is) (subst (λ (x : Message). Dull c.server.seats c.server.lasting.boot x) j.call.is j.call.idle) j.kept refl refl)
@@ -560,6 +560,7 @@ revived_client {s} fl c past j h =
       asked = h.asked;
       late = h.late;
       none = h.none;
+      spared = h.spared;
       gave = h.gave;
       reached = h.reached;
     }
@@ -689,7 +690,7 @@ rises_as s c past fall h e =
     let t : Turn = rising c in
     let sk : Skips t.lines = skips t.lines (rising_notes c) in
     let x : Entry = risen_entry b t.lines (pumped the_server b t).sent in
-    let pump : Pumps b c.server.lasting.kept (seats_of c) c.clock c.sent (x ∷ past) t = pumps b c.server.lasting.kept (seats_of c) c.clock c.sent x past t refl (sk.clock _ ∙ h.clock)
+    let pump : Pumps b c.server.lasting.kept (seats_of c) c.clock c.sent (x ∷ past) t = pumps b c.server.lasting.kept (seats_of c) c.clock c.sent x past t refl refl (sk.clock _ ∙ h.clock)
     (rise_loaded c.count c.down c.server.backs c.server.lasting.boot c.server.seats c.server.lasting.kept (seats_of c) c.clock c.sent x past (lines.Restart the_server b ∷ []) (λ z. absurd cc) (h.backs refl) h.clock refl refl refl refl (sk.given (sent_of past))) (record { good = tt; calls = tt; dones = tt }) (sk.boot _ ∙ rises_at s c past fall b h e) in
     record {
       replies = pump.good;
@@ -782,7 +783,7 @@ saved_up s c past fall n h user call time id st es shown H e w q is_cut =
     let y : Way = rises_to x t.lines (rising_notes c) ms in
     let k : Entry = saved_entry y key vs r in
     let given : given_message k.lines (sent_of past) ≡ None = given_on vs (lines.Restart the_server x ∷ t.lines) (sent_of past) ∙ sk.given (sent_of past) in
-    let pump : Pumps x (seat_placed (taken n h r) c.server.lasting.kept) (seats_of c) c.clock c.sent (k ∷ past) t = pumps x (seat_placed (taken n h r) c.server.lasting.kept) (seats_of c) c.clock c.sent k past t refl (saves_clock y key vs r past ∙ H.clock)
+    let pump : Pumps x (seat_placed (taken n h r) c.server.lasting.kept) (seats_of c) c.clock c.sent (k ∷ past) t = pumps x (seat_placed (taken n h r) c.server.lasting.kept) (seats_of c) c.clock c.sent k past t refl refl (saves_clock y key vs r past ∙ H.clock)
     (rise_loaded c.count c.down c.server.backs c.server.lasting.boot c.server.seats (seat_placed (taken n h r) c.server.lasting.kept) (seats_of c) c.clock c.sent k past (lines.Change the_server key (length vs) ∷ versioned vs (lines.Restart the_server x ∷ [])) (λ z. absurd cc) (H.backs refl) H.clock
     (ap (λ (ls : List Line). lines.Change the_server key (length vs) ∷ ls) (versioned_front vs (lines.Restart the_server x ∷ []) t.lines)) (versions_lines is_oweless vs (lines.Restart the_server x ∷ []) (λ z. refl) refl) (versions_lines is_tickless vs (lines.Restart the_server x ∷ []) (λ z. refl) refl) (versions_lines is_still vs (lines.Restart the_server x ∷ []) (λ z. refl) refl) given) (record { good = tt; calls = tt; dones = tt }) (saves_boot y key vs r past ∙ (sk.boot _ ∙ rises_at s c past fall x H e)) in
     record {
@@ -927,7 +928,7 @@ timed_goes s c past n b true H up at e =
     acts_alone s c past c.armed (retries the_server c.server.lasting.boot n b x) H up (tt, tt) (refl, tt) (λ k held. record { notes = (tt, tt); sent = news_break _ _ _ c.server.lasting.boot n (x.known n) b ((up_backed s c past H up).outs refl n b at).client; outs = tt; held = held })
     (λ k q. let old = up_backed s c past H up in record {
       backed = retries_backed x c.server.lasting.boot c.server.seats (seats_of c) c.clock c.sent k past n b at (ap (λ (y : Entry). y.lines) q) old;
-      sends = record { good = break_good (k ∷ past) c.server.lasting.boot n (x.known n) b; calls = resent x c.server.lasting.boot c.server.seats (seats_of c) c.clock c.sent past (k ∷ past) n (x.known n) b (put_at n (Some (record b { tries = b.tries + 1 })) x.calls) old at (λ y w. put_call n n (record b { tries = b.tries + 1 }) y x.calls _ w (λ u v. ap (λ (z : BackCall). z.breaks) (sym v)) (λ u. ap (λ (z : BackCall). z.breaks) (some_of y b (sym u ∙ at)))); dones = (tt, tt) };
+      sends = record { good = break_good (k ∷ past) c.server.lasting.boot n (x.known n) b (ap (λ (y : Entry). y.actor) q); calls = resent x c.server.lasting.boot c.server.seats (seats_of c) c.clock c.sent past (k ∷ past) n (x.known n) b (put_at n (Some (record b { tries = b.tries + 1 })) x.calls) old at (λ y w. put_call n n (record b { tries = b.tries + 1 }) y x.calls _ w (λ u v. ap (λ (z : BackCall). z.breaks) (sym v)) (λ u. ap (λ (z : BackCall). z.breaks) (some_of y b (sym u ∙ at)))); dones = (tt, tt) };
     })
 timed_goes s c past n b false H up at e =
     let x : Backs = expired c.clock c.server.backs in

@@ -1,4 +1,4 @@
-use Rattle.afs_law.proofs.Turning.{reply_gift}
+use Rattle.afs_law.proofs.Turning.{reply_key_good, reply_gift}
 use Rattle.afs_law.proofs.Facts.{last_key, fids_of_gifts, AreFetched, FitsBulk, its_call}
 use Rattle.afs_law.proofs.Passing.{late_over, all_dropped_onto, tried_kept, fetched_each, ran_over}
 use Rattle.std.specs.List.{list_any}
@@ -26,7 +26,7 @@ use Rattle.afs_rows.specs.ClientRow.{find_cached, is_named, names_act, is_waitin
 use Rattle.afs_rows.specs.Going.{Going, ClientState}
 use Rattle.afs_law.specs.Grants.{has_fetched, IsWithdrawn, IsDropped, since}
 use Rattle.afs_law.specs.Ideal.{last_version, HasVersion, Accepts, clock_of, reach, Reach, reach_over, change_key, changed_under, volume_after}
-use Rattle.afs_law.specs.Legal.{IsNew, AreGood, GoodReply, as_asked}
+use Rattle.afs_law.specs.Legal.{IsBy, IsNew, AreGood, GoodReply, as_asked}
 use Rattle.afs_history.specs.declared.lines.Line.{Line}
 use Rattle.afs_law.specs.Past.{server_boot, onto, lines_of, sent_of, running, has_begun}
 use Rattle.afs_rows.specs.Runs.{Entry}
@@ -186,8 +186,8 @@ client_none n j X e = subst (λ (m : Node). OfClient m X) (sym e) tt
 pub not_good : (past : List Entry) (m : Message) (n : ℕ) → m.head.from ≡ Client n → GoodReply past m
 not_good past m n e is nought i from = absurd cc
 
-pub reply_fresh : {s : Script} → (c : Cell) (n : ℕ) (views : ℕ → View) (past : List Entry) (m : Message) → SeatedIn c.down c.server.backs.calls c.server.backs.last_call c.server.lasting.boot past n m → Fresh s c n views past (m ∷ [])
-reply_fresh {s} c n views past m x = record {
+pub reply_fresh : {s : Script} → (c : Cell) (n : ℕ) (views : ℕ → View) (past : List Entry) (m : Message) → IsBy (Client n) past → SeatedIn c.down c.server.backs.calls c.server.backs.last_call c.server.lasting.boot past n m → Fresh s c n views past (m ∷ [])
+reply_fresh {s} c n views past m by x = record {
   news = record {
     calls = (no_call (ByClient (CallIn views)) m.head m.carried x.is_reply, tt);
     replies = (of_reply_any _ m.carried (client_none m.head.to 1 _ x.to), tt);
@@ -198,26 +198,26 @@ reply_fresh {s} c n views past m x = record {
     ones = (no_call (ByClient (IsOne (sent_of past))) m.head m.carried x.is_reply, tt);
     to_clients = (no_call ToClient m.head m.carried x.is_reply, tt);
   };
-  good = ((not_good past m n x.from, reply_gift m.head m.carried (lines_of past) x.is_reply), tt);
+  good = (record { sender = subst (λ (q : Node). IsBy q past) (sym x.from) by; reply = not_good past m n x.from; gift = reply_gift m.head m.carried (lines_of past) x.is_reply; key = reply_key_good m.head m.carried past x.is_reply }, tt);
   calls = (no_call (ByServer (BackIn c.down c.server.backs.calls c.server.backs.last_call c.server.lasting.boot)) m.head m.carried x.is_reply, tt);
   dones = (of_reply_any _ m.carried (server_any m.head.to _ (record { client = Client n; from = x.from; done = x.done })), tt);
 }
 
-pub notice_fresh : {s : Script} → (c : Cell) (n : ℕ) (views : ℕ → View) (past : List Entry) (boot : ℕ) (head : Head) → head.from ≡ the_server → Fresh s c n views past (boot_told boot head ∷ [])
-notice_fresh {s} c n views past boot head e = record {
+pub notice_fresh : {s : Script} → (c : Cell) (n : ℕ) (views : ℕ → View) (past : List Entry) (boot : ℕ) (head : Head) → IsBy head.to past → head.from ≡ the_server → Fresh s c n views past (boot_told boot head ∷ [])
+notice_fresh {s} c n views past boot head by e = record {
   news = record { calls = (tt, tt); replies = (tt, tt); notices = (client_none head.from 1 _ e, tt); origins = (tt, tt); acts = (tt, tt); lasts = (tt, tt); ones = (tt, tt); to_clients = (tt, tt) };
-  good = (((λ is nought i from. absurd is.1), tt), tt);
+  good = (record { sender = by; reply = λ is nought i from. absurd is.1; gift = tt; key = tt }, tt);
   calls = (tt, tt);
   dones = (tt, tt);
 }
 
 -- the client tells the server something, and that is all
-pub tells_goes : (s : Script) (c : Cell) (past : List Entry) (n p : ℕ) (m : Message) (ms : List Message) → (h : Holds s c past) → Heard c p m → ((e : Entry) → Plain e.lines → Fresh s c n (views_after h.floors c n (h.floors n) (c.clients n)) (e ∷ past) ms) → Goes s past (client_moves c n (told_step (c.clients n) p ms))
+pub tells_goes : (s : Script) (c : Cell) (past : List Entry) (n p : ℕ) (m : Message) (ms : List Message) → (h : Holds s c past) → Heard c p m → ((e : Entry) → e.actor ≡ actors.Node (Client n) → Plain e.lines → Fresh s c n (views_after h.floors c n (h.floors n) (c.clients n)) (e ∷ past) ms) → Goes s past (client_moves c n (told_step (c.clients n) p ms))
 tells_goes s c past n p m ms h heard fresh =
     let e : Entry = step_entry n (lines.Given p ∷ []) ms in
     moves s c past n (h.floors n) (told_step (c.clients n) p ms) h (h.own n) (refl, tt) (told_passes s c past n p m ms h heard)
     (client_still n (view h.floors c n) e past (λ f. told_file n p f (actors.Node (Client n)) ms past) (λ f. told_reach n p f (actors.Node (Client n)) ms past) (told_act n p (actors.Node (Client n)) ms past) (λ f. refl) (h.clients n))
-    (λ head call f. f) (reply_still n (view h.floors c n) e past (λ f. told_file n p f (actors.Node (Client n)) ms past) (λ f. told_reach n p f (actors.Node (Client n)) ms past) (λ f. refl) refl) (fresh e (record { up = refl; still = refl; oweless = refl; unchanging = refl })) (λ a x z. inl (x, (refl, refl))) refl (tried_kept n (c.clients n) _ (lines_of past) (lines.Given p ∷ []) refl refl refl refl (h.tried n))
+    (λ head call f. f) (reply_still n (view h.floors c n) e past (λ f. told_file n p f (actors.Node (Client n)) ms past) (λ f. told_reach n p f (actors.Node (Client n)) ms past) (λ f. refl) refl) (fresh e refl (record { up = refl; still = refl; oweless = refl; unchanging = refl })) (λ a x z. inl (x, (refl, refl))) refl (tried_kept n (c.clients n) _ (lines_of past) (lines.Given p ∷ []) refl refl refl refl (h.tried n))
 
 -- ---- what the client has dropped by then
 
@@ -263,7 +263,7 @@ answers_back s c past n p head user call y h heard to from b is none =
     let k = h.own n in
     moves_back s c past n (h.floors n) (replies_step (c.clients n) p head [] y) h (record { table = k.table; user = k.user; callee = λ a z. k.callee a z; needs = λ a z. k.needs a z; apart = k.apart; gifts = k.gifts }) (refl, tt) (told_passes s c past n p _ ms h heard)
     (client_still n (view h.floors c n) e past (λ f. told_file n p f (actors.Node (Client n)) ms past) (λ f. told_reach n p f (actors.Node (Client n)) ms past) (told_act n p (actors.Node (Client n)) ms past) (λ f. refl) (h.clients n))
-    (λ hd call f. f) (reply_still n (view h.floors c n) e past (λ f. told_file n p f (actors.Node (Client n)) ms past) (λ f. told_reach n p f (actors.Node (Client n)) ms past) (λ f. refl) refl) (reply_fresh c n _ (e ∷ past) reply seated) (λ a x z. inl (x, (refl, refl))) (seat_keeps c n (e ∷ past) (c.clients n) head y from seated) (tried_kept n (c.clients n) _ (lines_of past) (lines.Given p ∷ []) refl refl refl refl (h.tried n))
+    (λ hd call f. f) (reply_still n (view h.floors c n) e past (λ f. told_file n p f (actors.Node (Client n)) ms past) (λ f. told_reach n p f (actors.Node (Client n)) ms past) (λ f. refl) refl) (reply_fresh c n _ (e ∷ past) reply refl seated) (λ a x z. inl (x, (refl, refl))) (seat_keeps c n (e ∷ past) (c.clients n) head y from seated) (tried_kept n (c.clients n) _ (lines_of past) (lines.Given p ∷ []) refl refl refl refl (h.tried n))
 
 -- ---- breaks on fids
 
@@ -461,11 +461,12 @@ drops_goes s c past n p head user fs cbs h heard to from b =
       asked = λ act y. inr ((skips n fs).begins (Client n), d.asked act y);
       late = λ act y. late_over (Client n) (last_key n v) e past ((skips n fs).begins (Client n)) (d.late act y);
       none = d.none;
-      gave = λ act y. all_dropped_onto (Client n) (fids_of_gifts x.gifts) e.lines (lines_of past) ((skips n fs).begins (Client n)) (d.gave act y);
+      spared = d.spared;
+      gave = λ act y. all_dropped_onto (Client n) (fids_of_gifts x.gifts) e.lines (lines_of past) ((skips n fs).begins (Client n)) (λ f. (skips n fs).fetched (Client n) f) (d.gave act y);
       reached = reached_still s c past n e h (λ f. (broken_reach n n p fs (reply ∷ []) past f).both) last;
     })
     (λ hd call f. record { behind = f.behind; booted = f.booted; stale = f.stale; own = f.own; safe = λ q above. safe_cache call c.clock (c.clients n).epoch (c.clients n).last (c.clients n).running (c.clients n).cache st.state.cache (IsAged (view h.floors c n) hd) hd (λ g y u at lasts. y u (left_out (λ x. is_named x fs) g (c.clients n).cache u at).0 lasts) (f.safe q above) })
-    over (reply_fresh c n _ (e ∷ past) reply seated) (λ a x z. inl (x, (refl, refl))) (seat_keeps c n (e ∷ past) x head (done replies.CallBack) from seated) (tried_kept n (c.clients n) _ (lines_of past) (broken_lines n p fs) refl refl refl refl (h.tried n))
+    over (reply_fresh c n _ (e ∷ past) reply refl seated) (λ a x z. inl (x, (refl, refl))) (seat_keeps c n (e ∷ past) x head (done replies.CallBack) from seated) (tried_kept n (c.clients n) _ (lines_of past) (broken_lines n p fs) refl refl refl refl (h.tried n))
 
 -- ---- a break on all
 
@@ -597,11 +598,12 @@ drops_all_goes s c past n p head user h heard to from b =
       asked = λ act y. inr (refl, d.asked act y);
       late = λ act y. late_over (Client n) (last_key n v) e past refl (d.late act y);
       none = d.none;
-      gave = λ act y. all_dropped_onto (Client n) (fids_of_gifts x.gifts) e.lines (lines_of past) refl (d.gave act y);
+      spared = d.spared;
+      gave = λ act y. all_dropped_onto (Client n) (fids_of_gifts x.gifts) e.lines (lines_of past) refl (λ f. refl) (d.gave act y);
       reached = reached_still s c past n e h (λ f. (r f).both) (λ f. refl);
     })
     (λ hd call f. record { behind = f.behind; booted = f.booted; stale = f.stale; own = f.own; safe = λ q above. safe_cache call c.clock (c.clients n).epoch (c.clients n).last (c.clients n).running (c.clients n).cache st.state.cache (IsAged (view h.floors c n) hd) hd (λ g y u at lasts. y u (gone g u at).0 lasts) (f.safe q above) })
-    over (reply_fresh c n _ (e ∷ past) reply seated) (λ a x z. inl (x, (refl, refl))) (seat_keeps c n (e ∷ past) x head (done replies.InitCallBackState) from seated) (tried_kept n (c.clients n) _ (lines_of past) (lines.Given p ∷ lines.DropAll (Client n) head.from ∷ []) refl refl refl refl (h.tried n))
+    over (reply_fresh c n _ (e ∷ past) reply refl seated) (λ a x z. inl (x, (refl, refl))) (seat_keeps c n (e ∷ past) x head (done replies.InitCallBackState) from seated) (tried_kept n (c.clients n) _ (lines_of past) (lines.Given p ∷ lines.DropAll (Client n) head.from ∷ []) refl refl refl refl (h.tried n))
 
 -- ---- the row, by its cases
 
@@ -613,7 +615,7 @@ breaks_goes s c past n p head user calls.Probe h heard to from b = answers_back 
 breaks_goes s c past n p head user call h heard to from b = answers_back s c past n p head user call (refused_with not_served) h heard to from b (λ y. y) (λ w z. z)
 
 pub again_goes : (s : Script) (c : Cell) (past : List Entry) (n p : ℕ) (m r : Message) → (h : Holds s c past) → Heard c p m → LastSeat m.head.epoch m.head.number (back_seat (c.clients n)) r → Goes s past (client_moves c n (told_step (c.clients n) p (r ∷ [])))
-again_goes s c past n p m r h heard l = tells_goes s c past n p m (r ∷ []) h heard (λ e plain. reply_fresh c n _ (e ∷ past) r (old_seat s c past n e plain h l.seat r l.at l.reply))
+again_goes s c past n p m r h heard l = tells_goes s c past n p m (r ∷ []) h heard (λ e by plain. reply_fresh c n _ (e ∷ past) r by (old_seat s c past n e plain h l.seat r l.at l.reply))
 
 pub admits_goes : (s : Script) (c : Cell) (past : List Entry) (n p : ℕ) (head : Head) (user : List ℕ) (call : FsCall) (o : Admitted Message) → (h : Holds s c past) → Heard c p (record { head = head; carried = carried.Call user (ask.File call) }) → head.to ≡ Client n → head.from ≡ the_server
     → BackIn c.down c.server.backs.calls c.server.backs.last_call c.server.lasting.boot head user call → ((r : Message) → o ≡ pairs.kept r → pairs.paired head.epoch head.number (back_seat (c.clients n)) ≡ pairs.kept r) → Goes s past (client_moves c n (admits_call (Client n) (c.clients n) p head (whole head (carried.Call user (ask.File call))) o))
@@ -621,7 +623,7 @@ admits_goes s c past n p head user call pairs.runs h heard to from b e = breaks_
 admits_goes s c past n p head user call (pairs.kept r) h heard to from b e = again_goes s c past n p _ r h heard (kept_last head.epoch head.number (back_seat (c.clients n)) r (e r refl))
 admits_goes s c past n p head user call pairs.in_progress h heard to from b e = quiet s c past n p _ h heard
 admits_goes s c past n p head user call pairs.older h heard to from b e = quiet s c past n p _ h heard
-admits_goes s c past n p head user call (pairs.wrong_boot boot) h heard to from b e = tells_goes s c past n p _ _ h heard (λ e plain. notice_fresh c n _ (e ∷ past) (c.clients n).epoch head from)
+admits_goes s c past n p head user call (pairs.wrong_boot boot) h heard to from b e = tells_goes s c past n p _ _ h heard (λ e by plain. notice_fresh c n _ (e ∷ past) (c.clients n).epoch head (subst (λ (q : Node). IsBy q (e ∷ past)) (sym to) by) from)
 
 kept_pair : (t : Bool) (boot : ℕ) (o q : Admitted Message) (r : Message) → q ≡ o → cond t o (pairs.wrong_boot boot) ≡ pairs.kept r → q ≡ pairs.kept r
 kept_pair true boot o q r e k = e ∙ k

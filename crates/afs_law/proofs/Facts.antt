@@ -7,7 +7,7 @@ use Rattle.afs_law.proofs.Edits.{Ones, index_in, SoundIn, Tops}
 use Rattle.afs_law.proofs.Owing.{BackedIn}
 use Rattle.afs_rows.specs.Callbacks.{replies_of}
 use Rattle.afs_rows.specs.ClientRow.{boot_of, find_cached, body_told, server_at, status_told, call_by}
-use Rattle.afs_rows.specs.Going.{asked, answers, Going, Need, ClientState, next}
+use Rattle.afs_rows.specs.Going.{gives_back, asked, answers, Going, Need, ClientState, next}
 use Rattle.afs_law.specs.Grants.{until, fetch_reply, GrantOf, since, IsWithdrawn, IsDropped}
 use Rattle.afs_law.specs.Ideal.{last_version, IsLast, WasLast, HasBeen, HasVersion, Accepts, clock_of, user_of, reach, call_under, volume_after}
 use Rattle.afs_law.specs.Breaks.{HasStopped, HasTimeout}
@@ -455,6 +455,7 @@ pub record ClientFacts (s : Script) (j : ℕ) (v : View) (past : List Entry) : T
   pub asked : (act : Going) → v.running ≡ Some act → CalledSince (last_key j v) (user_of s (Client j)) (its_call v.gifts act) past
   pub late : (act : Going) → v.running ≡ Some act → is_late (Client j) (last_key j v) past ≡ true
   pub none : v.running ≡ None → v.gifts ≡ []
+  pub spared : (act : Going) → v.running ≡ Some act → (next act ≡ gives_back → ⊥) → v.gifts ≡ []
   pub gave : (act : Going) → v.running ≡ Some act → AreDropped (Client j) (fids_of_gifts v.gifts) (lines_of past)
   pub reached : (f : Fid) → Reached (Client j) f (index_in (last_version f (lines_of past))) past
 

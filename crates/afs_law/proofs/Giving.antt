@@ -253,6 +253,7 @@ gives_nothing s c past n act h none by =
       asked = λ b z. absurd cc;
       late = λ b z. absurd cc;
       none = λ z. refl;
+      spared = λ b z. absurd cc;
       gave = λ b z. absurd cc;
       reached = reached_still s c past n e h both (λ f. refl);
     })
@@ -267,9 +268,10 @@ gives_nothing s c past n act h none by =
     over (nothing_new _ _) (λ a z r. absurd cc) refl (tried_idle n _ _ refl)
 
 -- the server is told
-gives_some : (s : Script) (c : Cell) (past : List Entry) (n : ℕ) (act : Act) (fs : List Fid) (gs : List Gift) → (h : Holds s c past) → (c.clients n).running ≡ None → AreGifts gs → AreDropped (Client n) (fids_of_gifts gs) (onto (lines_of past) (gave n act fs)) → IsOpen (next (began (locations s) act))
+gives_some : (s : Script) (c : Cell) (past : List Entry) (n : ℕ) (act : Act) (fs : List Fid) (gs : List Gift) → (h : Holds s c past) → (c.clients n).running ≡ None → AreGifts gs → AreDropped (Client n) (fids_of_gifts gs) (onto (lines_of past) (gave n act fs)) → next (began (locations s) act) ≡ gives_back
     → Goes s past (client_moves c n (record { state = asking (left c n gs) (began (locations s) act); lines = gave n act fs; sent = call_message (Client n) (asking (left c n gs) (began (locations s) act)) (began (locations s) act) ∷ [] }))
-gives_some s c past n act fs gs h none given dropped going =
+gives_some s c past n act fs gs h none given dropped by =
+    let going : IsOpen (next (began (locations s) act)) = subst IsOpen (sym by) tt in
     let x : ClientState = c.clients n in
     let d = h.clients n in
     let a : Going = began (locations s) act in
@@ -313,6 +315,7 @@ gives_some s c past n act fs gs h none given dropped going =
       asked = λ b z. subst (λ (q : Going). CalledSince (last_key n v) (user_at s n) (its_call v.gifts q) (e ∷ past)) (some_of a b z) (inl (refl, inl (refl, carried_is y a kind.user)));
       late = λ b z. new_late s c past n y a e h refl refl;
       none = λ z. absurd cc;
+      spared = λ b z not. absurd (not (ap next (sym (some_of a b z)) ∙ by));
       gave = λ b z. dropped;
       reached = reached_still s c past n e h (gave_both n n act fs ms past) (λ f. (skips n fs).last f (lines.Begin (Client n) act ∷ lines_of past));
     })
@@ -324,7 +327,7 @@ gives_some s c past n act fs gs h none given dropped going =
       safe = λ q above. safe_over call c.clock x.epoch x.last x.epoch (x.last + 1) x.running (Some a) cache (IsAged (view h.floors c n) head) (IsAged v head) head idle (λ z. (z.0, λ b k u r. next_not _ _ _ _ f.behind u r))
           (safe_cache call c.clock x.epoch x.last x.running x.cache cache (IsAged (view h.floors c n) head) head (λ f z u found lasts. z u (left_was s c past n h f u found) lasts) (f.safe q above));
     })
-    over (own_call h.floors c past n g y a ls d.known kind refl at (new_one s c past n y a h refl refl) dropped) (λ b z k. begun_not n _ _ k) refl (tried_new n _ _ refl)
+    over (own_call h.floors c past n g y a ls d.known kind refl at (new_one s c past n y a h refl refl) dropped (new_late s c past n y a e h refl refl)) (λ b z k. begun_not n _ _ k) refl (tried_new n _ _ refl)
 
 -- what is given back is dropped in that entry
 dropped_here : (n : ℕ) (es : List CacheEntry) (f : Fid) (o : List Line) → HasDropped (Client n) f o → HasDropped (Client n) f (onto o (drops_of n (map (λ (e : CacheEntry). e.fid) es)))
@@ -365,7 +368,7 @@ gives_order [] [] s c past n act h none by given is = gives_nothing s c past n a
 gives_order (u ∷ es) [] s c past n act h none by given is = absurd (none_ordered (gift_of u) (map gift_of es) given.0 is)
 gives_order es (g ∷ gs) s c past n act h none by given is =
     subst (λ (ls : List Line). Goes s past (client_moves c n (record { state = asking (left c n (g ∷ gs)) (began (locations s) act); lines = lines.Begin (Client n) act ∷ ls; sent = call_message (Client n) (asking (left c n (g ∷ gs)) (began (locations s) act)) (began (locations s) act) ∷ [] }))) (sym (dropped_fids n es))
-    (gives_some s c past n act (map (λ (e : CacheEntry). e.fid) es) (g ∷ gs) h none (subst AreGifts is (ordered_gifts (map gift_of es) given)) (subst (λ (gs : List Gift). AreDropped (Client n) (fids_of_gifts gs) (onto (lines_of past) (gave n act (map (λ (e : CacheEntry). e.fid) es)))) is (ordered_dropped (Client n) (map gift_of es) (onto (lines_of past) (gave n act (map (λ (e : CacheEntry). e.fid) es))) (gave_dropped n act es (lines_of past)))) (subst IsOpen (sym by) tt))
+    (gives_some s c past n act (map (λ (e : CacheEntry). e.fid) es) (g ∷ gs) h none (subst AreGifts is (ordered_gifts (map gift_of es) given)) (subst (λ (gs : List Gift). AreDropped (Client n) (fids_of_gifts gs) (onto (lines_of past) (gave n act (map (λ (e : CacheEntry). e.fid) es)))) is (ordered_dropped (Client n) (map gift_of es) (onto (lines_of past) (gave n act (map (λ (e : CacheEntry). e.fid) es))) (gave_dropped n act es (lines_of past)))) by)
 
 pub gives_goes : (s : Script) (c : Cell) (past : List Entry) (n : ℕ) (act : Act) → (h : Holds s c past) → (c.clients n).running ≡ None → next (began (locations s) act) ≡ gives_back → Goes s past (client_moves c n (gives_all (Client n) (unbusied (c.clients n)) c.clock (began (locations s) act) (begin_lines n act)))
 gives_goes s c past n act h none by =

@@ -1,5 +1,6 @@
 -- What servers hear and answer, however many a cell has: what a server would run it never heard in that boot, and each of its
 -- replies to a client is that of the entry which ran the call.
+use Rattle.afs_law.proofs.Passing.{to_come}
 use Rattle.afs_history.specs.declared.acts.Act.{Act}
 use Rattle.afs_history.specs.declared.lines.Line.{Line}
 use Rattle.afs_history.specs.declared.lines.Line.TheVariants as lines
@@ -12,7 +13,7 @@ use Rattle.afs_law.proofs.Law.{all_versions, given_first}
 use Rattle.afs_law.proofs.Standing.{runs_admitted}
 use Rattle.afs_law.specs.Ideal.{first_lines, set_up}
 use Rattle.afs_law.specs.Once.{past_of}
-use Rattle.afs_law.specs.Past.{HasCode, IsCall, IsCallUnder, IsUnheard, Ran, called_key, given_message, sent_of}
+use Rattle.afs_law.specs.Past.{IsToCome, HasCode, IsCall, IsCallUnder, IsUnheard, Ran, called_key, given_message, sent_of}
 use Rattle.afs_model.specs.Calls as pairs
 use Rattle.afs_model.specs.Calls.{Admitted, admitted, call_seat, call_seated, paired}
 use Rattle.afs_num.specs.Nodes.{same_node}
@@ -72,9 +73,9 @@ ran_over : (e : Entry) (past : List Entry) (h : Head) → IsRan past h → IsRan
 ran_over e past h w i q = ran_later e past h (w i q)
 
 -- the entry that is given the call
-ran_here : (e : Entry) (past : List Entry) (m : Message) (i boot : ℕ) → e.actor ≡ actors.Node (Server i) → given_message e.lines (sent_of past) ≡ Some m → IsCall m.carried → m.head.to ≡ Server i → m.head.boot ≡ boot → IsUnheard (Server i) (called_key m.head) boot past
+ran_here : (e : Entry) (past : List Entry) (m : Message) (i boot : ℕ) → e.actor ≡ actors.Node (Server i) → given_message e.lines (sent_of past) ≡ Some m → IsCall m.carried → m.head.to ≡ Server i → m.head.boot ≡ boot → IsToCome (Server i) (called_key m.head) boot past
     → Ran (reply_head boot m.head) (e ∷ past)
-ran_here e past m i boot actor given is to own unheard = record {
+ran_here e past m i boot actor given is to own first = record {
   newer = [];
   at = e;
   older = past;
@@ -86,7 +87,7 @@ ran_here e past m i boot actor given is to own unheard = record {
   boot = own;
   callee = refl;
   node = actor ∙ ap actors.Node (sym to);
-  first = subst (λ (q : Node). IsUnheard q (called_key m.head) boot past) (sym to) unheard;
+  first = subst (λ (q : Node). IsToCome q (called_key m.head) boot past) (sym to) first;
 }
 
 -- ---- what is kept of replies
@@ -363,7 +364,8 @@ call_here c past i e m H actor given to up w =
     call_is (IsRan (e ∷ past)) (λ h. IsHad c.hosts h.to h.boot) (c.hosts i).state.lasting.boot (c.hosts i).state.seats m.head m.carried
     (λ is j from q runs k z. let a = runs_admitted (c.hosts i).state.lasting.boot (c.hosts i).state.seats m.head runs in
     ran_here e past m i (c.hosts i).state.lasting.boot actor given is to a.0
-    (H.unheard i j (called_key m.head) (c.hosts i).state.lasting.boot from (subst (λ (d : Option Fall). MayRun d (c.hosts i).state.lasting.boot (call_seat m.head.from (c.hosts i).state.seats) (called_key m.head) (c.hosts i).state.lasting.boot) (sym up) (inr (refl, a.1)))))
+    (to_come (Server i) (called_key m.head) (c.hosts i).state.lasting.boot past (λ l node later. H.unheard i j l (c.hosts i).state.lasting.boot (node ∙ from) (subst (λ (d : Option Fall). MayRun d (c.hosts i).state.lasting.boot (call_seat l.node (c.hosts i).state.seats) l (c.hosts i).state.lasting.boot) (sym up)
+    (inr (refl, subst (λ (q : Node). Above (call_seat q (c.hosts i).state.seats) l.epoch l.number) (sym node) (above_up (call_seat m.head.from (c.hosts i).state.seats) m.head.epoch m.head.number l.epoch l.number a.1 later)))))))
     w
 
 -- it is to no boot to come

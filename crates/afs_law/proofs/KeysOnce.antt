@@ -5,10 +5,10 @@ use Rattle.afs_law.proofs.Backing.{all_lines, is_unchanging}
 use Rattle.afs_law.proofs.Basics.{a_key, same_key-true, Above, Each, IfCall, IfReply, OfClient, OfReply, by_client, if_reply, UpTo, at_put, below_not, below_up_to, both, client_number, each_at, each_map, each_more, if_call, node_apart, same_key-refl, same_node-true, up_to_below, up_to_same, below-true, below-false, some_of, OfNotice, OfCall, ByClient}
 use Rattle.afs_law.proofs.Calling.{AreReplies, IsAnswer, answer_over, GoesOn, IsLastOf, Tame, begins_tame, caller_at, falls_tame, given_tame, rises_tame, uncalled_any, waits_tame, any_call}
 use Rattle.afs_law.proofs.Hosting.{Begins, HasOne, HostStep, Hosts, IsCutBy, IsSound, Memory, decides_due, disk_begins, memory_of, serves_step, starts_step, times_step, wakes_step, IsRunBy}
-use Rattle.afs_law.specs.Laws.{ArePairsKnown, IsKnownTo, AreChanges, HasReply, seat_key, IsUpTo}
+use Rattle.afs_law.specs.Laws.{ArePairsKnown, IsKnownTo, AreChanges, HasReply, seat_key}
 use Rattle.afs_law.specs.Legal.{HasChangeBy, IsNew}
 use Rattle.afs_law.specs.Once.{AreOnce, ChangesOnce, past_of}
-use Rattle.afs_law.specs.Past.{HasCode, IsCall, answered_key, lines_of, onto, same_key}
+use Rattle.afs_law.specs.Past.{IsUpTo, HasCode, IsCall, answered_key, lines_of, onto, same_key}
 use Rattle.afs_rows.specs.Callbacks.{put, replies_of}
 use Rattle.afs_rows.specs.Going.{ClientState, Going}
 use Rattle.afs_rows.specs.Runs.{is_away, Armed, Blow, Cell, Entry, Fall, Host, Input, Leads, Luck, Moved, Outcome, RunsTo, at_rest, back_timed, begins, begun_by, begun_by_disk, blow_line, client_moves, client_starts, client_stops, comes_up, decided_at, fails_early, fails_midway, given_at, given_to, gives, has_host, in_boot, in_step, is_full, message_at, moved, nothing, server_armed, server_ends, server_given, server_moves, server_restarted, server_served, server_stopped, server_timed, server_waits, server_wakes, sets_fail, sets_stop, settled, start, starts_again, stops, struck, ticks, unarmed, voided, waited_by, waits, wakes}

@@ -403,6 +403,7 @@ starts s one =
         asked = λ act x. absurd cc;
         late = λ act x. absurd cc;
         none = λ x. refl;
+        spared = λ act x. absurd cc;
         gave = λ act x. absurd cc;
         reached = λ f. reached_first (Client j) f _ s;
       };

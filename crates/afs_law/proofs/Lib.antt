@@ -11,6 +11,7 @@ pub mod Loading
 pub mod Ops
 pub mod Apart
 pub mod Passing
+pub mod Recent
 pub mod Resting
 pub mod Notes
 pub mod Pumping

@@ -1,3 +1,5 @@
+use Rattle.afs_num.specs.declared.histories.ReadSource.TheVariants.{Fetched}
+use Rattle.afs_num.specs.Fids.{same_fid}
 use Rattle.afs_law.specs.Breaks.{HasTimeout}
 use Rattle.afs_history.specs.declared.lines.Line.TheVariants as lines
 use Rattle.afs_num.specs.declared.histories.Actor.TheVariants as actors
@@ -16,23 +18,23 @@ use Rattle.afs_num.specs.declared.calls.FsCall.{FsCall}
 use Rattle.afs_num.specs.declared.messages.Carried.{Carried}
 use Rattle.afs_num.specs.declared.messages.Message.{Message}
 use Rattle.afs_ideal.specs.Operations.{volume_changed, Result, changes}
-use Rattle.afs_law.proofs.Basics.{same_key-true, same_key-refl, some_of, Each, IfCall, IfReply, IfNotice, each_more, each_map, if_call, if_reply, if_notice, at_more, ByClient, OfClient, by_client, both, same_node-true, same_node-refl, client_number, OfCall}
+use Rattle.afs_law.proofs.Basics.{UpTo, same_key-true, same_key-refl, some_of, Each, IfCall, IfReply, IfNotice, each_more, each_map, if_call, if_reply, if_notice, at_more, ByClient, OfClient, by_client, both, same_node-true, same_node-refl, client_number, OfCall}
 use Rattle.afs_law.proofs.Edits.{index_in}
 use Rattle.afs_law.proofs.Facts.{FitsList, IsWhole, IsOld, HasOld, FitsShown, IsKeptBody, Seen, IsActs, IsLastCall, View, Spot, spot, Reached, Held, IsNewest, Stands, IsCurrent, IsFetched, Fits, Answers, ReplyFact, AreKept, ClientFacts, CallIn, ReplyIn, Origin, HeldIn, ToClient, SentFacts, HasFallen, Reading, FitsReply, FitsData, FitsSet, WasChanged, WasStored, IsOne, IsNoticed}
 use Rattle.afs_rows.specs.ClientRow.{batch, batch_to, most_given, call_by, body_told, find_cached, status_told}
 use Rattle.afs_rows.specs.Going.{Need, next, reads, reads_status, reads_statuses, reads_rights, asks_for, gives_back, answers, ClientState, asked, Going}
-use Rattle.afs_law.specs.Grants.{has_fetched, fetch_reply, GrantOf, since, IsWithdrawn, IsDropped}
+use Rattle.afs_law.specs.Grants.{is_promised, has_fetched, fetch_reply, GrantOf, since, IsWithdrawn, IsDropped}
 use Rattle.afs_law.specs.Ideal.{WasBefore, IsLast, WasLast, Unless, last_version, HasVersion, reach, change_in, call_in, call_under}
 use Rattle.afs_law.specs.Legal.{IsNew, IsNot, AreDropped, HasDropped, GoodGift, IsResult, IsKey, HasChange, Cause, answer_at, IsTold, as_asked}
 use Rattle.afs_history.specs.declared.lines.Line.{Line}
-use Rattle.afs_law.specs.Past.{is_late, begins_act, onto, lines_of, sent_of, given_message, running, has_begun, Ran, called_key, same_key, is_called, has_sent, is_sent_since, answered_key}
+use Rattle.afs_law.specs.Past.{IsCallUnder, IsCallFrom, IsToCome, IsUnheard, is_late, begins_act, onto, lines_of, sent_of, given_message, running, has_begun, Ran, called_key, same_key, is_called, has_sent, is_sent_since, answered_key}
 use Rattle.afs_rows.specs.Runs.{Entry, Fall, at_rest, in_step, in_boot}
 use Rattle.afs_law.proofs.OneCell.{the_server}
 use Rattle.afs_rows.specs.States.{Gift, CacheEntry, Seat, Lasting}
 use Rattle.afs_num.specs.declared.histories.Body.{Body}
 use Rattle.afs_num.specs.declared.histories.Version.{Version}
 use Rattle.std.proofs.Math.Nat.{le_refl}
-use Rattle.std.specs.Prelude.{drop, ⊤, ◌⊎◌}
+use Rattle.std.specs.Prelude.{◌&&◌, drop, ⊤, ◌⊎◌}
 use Rattle.afs_num.specs.Nodes.{same_node}
 use Rattle.afs_num.specs.declared.calls.FsReply.{FsReply}
 use Rattle.afs_num.specs.declared.calls.AfsFetchStatus.{AfsFetchStatus}
@@ -347,30 +349,34 @@ unless_same : (t : Bool) (X : Type 0) → t ≡ false → X → Unless t X
 unless_same true X e h = absurd cc
 unless_same false X e h = h
 
-dropped_on : (c : Node) (f : Fid) (l : Line) (o : List Line) → begins_act c l ≡ false → HasDropped c f o → HasDropped c f (l ∷ o)
-dropped_on c f (lines.Drop m g) o e h = inr h
-dropped_on c f (lines.Begin m act) o e h = unless_same (same_node m c) (HasDropped c f o) e h
-dropped_on c f l o e h = h
+fetched_by : (t rest : Bool) → cond t true rest ≡ false → (cond t true false ≡ false) × (rest ≡ false)
+fetched_by true rest e = absurd cc
+fetched_by false rest e = (refl, e)
 
-pub dropped_onto : (c : Node) (f : Fid) (ls o : List Line) → has_begun c ls ≡ false → HasDropped c f o → HasDropped c f (onto o ls)
-dropped_onto c f [] o e h = h
-dropped_onto c f (l ∷ ls) o e h = dropped_by (begins_act c l) (has_begun c ls) (HasDropped c f (onto (l ∷ o) ls)) e (λ a b. dropped_onto c f ls (l ∷ o) b (dropped_on c f l o a h))
+-- of lines that fetch nothing of a fid none does
+none_fetches : (c : Node) (f : Fid) (l : Line) (ls : List Line) → has_fetched c f (l ∷ ls) ≡ false → (has_fetched c f (l ∷ []) ≡ false) × (has_fetched c f ls ≡ false)
+none_fetches c f (lines.Read m g i Fetched body) ls e = fetched_by (is_promised body && (same_node m c && same_fid g f)) (has_fetched c f ls) e
+none_fetches c f l ls e = (refl, e)
 
-pub all_dropped_onto : (c : Node) (fs : List Fid) (ls o : List Line) → has_begun c ls ≡ false → AreDropped c fs o → AreDropped c fs (onto o ls)
-all_dropped_onto c [] ls o e h = tt
-all_dropped_onto c (f ∷ fs) ls o e h = (dropped_onto c f ls o e h.0, all_dropped_onto c fs ls o e h.1)
+unless_none : (t : Bool) (X : Type 0) → cond t true false ≡ false → X → Unless t X
+unless_none true X e h = absurd cc
+unless_none false X e h = h
 
-dropped_behind : (c : Node) (f : Fid) (a o : List Line) → has_begun c a ≡ false → HasDropped c f o → HasDropped c f (a ++ o)
-dropped_behind c f [] o e h = h
-dropped_behind c f (l ∷ a) o e h = dropped_by (begins_act c l) (has_begun c a) (HasDropped c f (l ∷ (a ++ o))) e (λ t b. dropped_on c f l (a ++ o) t (dropped_behind c f a o b h))
+dropped_on : (c : Node) (f : Fid) (l : Line) (o : List Line) → begins_act c l ≡ false → has_fetched c f (l ∷ []) ≡ false → HasDropped c f o → HasDropped c f (l ∷ o)
+dropped_on c f (lines.Drop m g) o e z h = inr h
+dropped_on c f (lines.Begin m act) o e z h = unless_same (same_node m c) (HasDropped c f o) e h
+dropped_on c f (lines.Read m g i Fetched body) o e z h = unless_none (is_promised body && (same_node m c && same_fid g f)) (HasDropped c f o) z h
+dropped_on c f l o e z h = h
 
-all_dropped_behind : (c : Node) (fs : List Fid) (a o : List Line) → has_begun c a ≡ false → AreDropped c fs o → AreDropped c fs (a ++ o)
-all_dropped_behind c [] a o e h = tt
-all_dropped_behind c (f ∷ fs) a o e h = (dropped_behind c f a o e h.0, all_dropped_behind c fs a o e h.1)
+pub dropped_onto : (c : Node) (f : Fid) (ls o : List Line) → has_begun c ls ≡ false → has_fetched c f ls ≡ false → HasDropped c f o → HasDropped c f (onto o ls)
+dropped_onto c f [] o e z h = h
+dropped_onto c f (l ∷ ls) o e z h =
+    let y = none_fetches c f l ls z in
+    dropped_by (begins_act c l) (has_begun c ls) (HasDropped c f (onto (l ∷ o) ls)) e (λ a b. dropped_onto c f ls (l ∷ o) b y.1 (dropped_on c f l o a y.0 h))
 
--- by the entry's own lines, the newest first
-pub all_dropped_own : (c : Node) (fs : List Fid) (ls o : List Line) → has_begun c (onto [] ls) ≡ false → AreDropped c fs o → AreDropped c fs (onto o ls)
-all_dropped_own c fs ls o e h = subst (AreDropped c fs) (sym (onto_front [] o ls)) (all_dropped_behind c fs (onto [] ls) o e h)
+pub all_dropped_onto : (c : Node) (fs : List Fid) (ls o : List Line) → has_begun c ls ≡ false → ((f : Fid) → has_fetched c f ls ≡ false) → AreDropped c fs o → AreDropped c fs (onto o ls)
+all_dropped_onto c [] ls o e z h = tt
+all_dropped_onto c (f ∷ fs) ls o e z h = (dropped_onto c f ls o e (z f) h.0, all_dropped_onto c fs ls o e z h.1)
 
 pub dropped_rest : (c : Node) (k : ℕ) (gs : List Gift) (ls : List Line) → AreDropped c (fids_of_gifts gs) ls → AreDropped c (fids_of_gifts (drop k gs)) ls
 dropped_rest c zero gs ls h = h
@@ -431,6 +437,17 @@ new_or_changed k (l ∷ ls) = new_or_by (change_in l) k (IsNew k ls) (HasChange 
 pub changed_before : (k : Key) (o p : List Line) → (IsNew k o → IsNew k p) → HasChange k p → HasChange k o
 changed_before k o p w h = elim (new_or_changed k o) [ inl x ↦ absurd (no_change k p (w x) h) | inr y ↦ y ]
 
+-- ---- what is to come
+
+no_call_from : (s : Node) (k : Key) (b : ℕ) (o : Option Message) → ((l : Key) → l.node ≡ k.node → UpTo k.epoch k.number l.epoch l.number → IsCallUnder s l b o → ⊥) → IsCallFrom s k b o → ⊥
+no_call_from s k b None w x = x
+no_call_from s k b (Some m) w x = w (called_key m.head) x.1.0.0 x.1.0.1 (x.0, (refl, x.1.1))
+
+-- a call is to come where neither it was heard nor any later one of its node
+pub to_come : (s : Node) (k : Key) (b : ℕ) (past : List Entry) → ((l : Key) → l.node ≡ k.node → UpTo k.epoch k.number l.epoch l.number → IsUnheard s l b past) → IsToCome s k b past
+to_come s k b [] w = tt
+to_come s k b (e ∷ past) w = (no_call_from s k b (given_message e.lines (sent_of past)) (λ l node up. (w l node up).0), to_come s k b past (λ l node up. (w l node up).1))
+
 -- ---- a client that doesn't move
 
 pub reached_more : (c : Node) (f : Fid) (i k : ℕ) (past : List Entry) → i ≤ k → Reached c f i past → Reached c f k past
@@ -465,7 +482,8 @@ client_over {s} j v e past p r n q l h =
       asked = λ act x. inr (q.begins, h.asked act x);
       late = λ act x. late_over (Client j) (last_key j v) e past q.begins (h.late act x);
       none = h.none;
-      gave = λ act x. all_dropped_onto (Client j) (fids_of_gifts v.gifts) e.lines (lines_of past) q.begins (h.gave act x);
+      spared = h.spared;
+      gave = λ act x. all_dropped_onto (Client j) (fids_of_gifts v.gifts) e.lines (lines_of past) q.begins (λ f. (p f).fetched) (h.gave act x);
       reached = λ f. reached_more (Client j) f (index_in (last_version f (lines_of past))) (index_in (last_version f (lines_of (e ∷ past)))) (e ∷ past) (l f) ((r f).both (index_in (last_version f (lines_of past))) (h.reached f));
     }
 

@@ -75,6 +75,7 @@ later_client {s} n j v past h = record {
   asked = h.asked;
   late = h.late;
   none = h.none;
+  spared = h.spared;
   gave = h.gave;
   reached = h.reached;
 }

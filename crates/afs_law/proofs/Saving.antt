@@ -899,6 +899,7 @@ saves_holds y s now c past after armed d n h user call time id st es shown H w q
         own = refl;
       };
       acts = saves_act y n k vs r past;
+      fetched = λ f. (saves_file y n k vs r past f).fetched;
       grows = λ f i b z. (saves_grant y n k vs r past f).version i b (lines_of past) z;
       current = λ f u found lasts. let cur : IsCurrent n f u (view fl c n) past = (H.clients n).current f u found lasts in
           record {
@@ -1047,7 +1048,7 @@ saves_by_turn s c past armed p n h user call id st es shown H up at w q =
       own = λ i z. number_front i (numbers os) (alls b0.lists.owed) z;
       all = λ i z. number_second i (numbers os) (alls b0.lists.owed) z;
     }) in
-    let pump : Pumps c.server.lasting.boot (seats_after c n h r) (seats_of c) c.clock c.sent (e ∷ past) t = pumps c.server.lasting.boot (seats_after c n h r) (seats_of c) c.clock c.sent e past t refl (saves_clock y k vs r past ∙ H.clock) loads (record { good = tt; calls = tt; dones = tt }) (saves_boot y k vs r past ∙ (sk.boot _ ∙ up_boots s c past H up)) in
+    let pump : Pumps c.server.lasting.boot (seats_after c n h r) (seats_of c) c.clock c.sent (e ∷ past) t = pumps c.server.lasting.boot (seats_after c n h r) (seats_of c) c.clock c.sent e past t refl refl (saves_clock y k vs r past ∙ H.clock) loads (record { good = tt; calls = tt; dones = tt }) (saves_boot y k vs r past ∙ (sk.boot _ ∙ up_boots s c past H up)) in
     record {
       good = (
         refl,

@@ -13,13 +13,13 @@ use Rattle.afs_ideal.specs.Operations.{shows_volume, shows_status, shows_body, F
 use Rattle.afs_ideal.specs.Tables.{Table, get}
 use Rattle.afs_ideal.specs.Volumes.{type_of, bytes_by, Volume, Vnode, Kind, a_file, a_directory, a_link, body_by, body_of, vnode_of, if_unique, version_at}
 use Rattle.afs_law.proofs.Backing.{Plain, all_lines, is_up, is_oweless, is_unchanging, granted_over, change_back, promised_over, before_own}
-use Rattle.afs_law.proofs.Basics.{same_node-true, Below, UpTo, Above, Each, IfCall, OfReply, above_up, both, same_fid-true, client_number, below_up_to, below_not, up_to_same, own_seat, at_seat, each_map, if_call, some_of, same_node-refl}
+use Rattle.afs_law.proofs.Basics.{below-false, same_node-true, Below, UpTo, Above, Each, IfCall, OfReply, above_up, both, same_fid-true, client_number, below_up_to, below_not, up_to_same, own_seat, at_seat, each_map, if_call, some_of, same_node-refl}
 use Rattle.afs_law.proofs.Edits.{Ones, index_in, fid_at, Sound, SoundIn, sound_same, Tops, live_index}
 use Rattle.afs_law.proofs.Facts.{IsBody, back_seat, IsKnown, IsReadable, AreFine, HeldIn, Ghost, HoldsAt, up_boot, LastStored, IsActs, View, view_of, view, Spot, spot, LastRan, ReplyFact, IsBehind, AreKept, MayRun, HasFallen, Reached, HasCurrent, Fits, Answers, IsReply, KeptReply, ClientFacts, CallFact, CallIn, Origin, AreHome, AreNew, AreUnheard, Holds, Goes, InScope, IsFetched, FitsReply, AreIdeal, AreSound}
 use Rattle.afs_law.proofs.Loading.{all_promised, all_granted, granted_all, none_loaded, still_backed, known_backed, resent, run_loaded, key_held, settles_good, settles_backed, gone_promised, gone_granted, granted_to_client, gone_to_clients, own_waited}
 use Rattle.afs_law.proofs.Notes.{granted_notes, AreNotes, Skips, skips, told_entry, told_rests, noted_entry, noted_rests, settle_notes}
 use Rattle.afs_law.proofs.Owing.{AllOf, BackedIn, IsDone, DroppedOwe, IsGranted, DoneIn, Promised, IsClient}
-use Rattle.afs_law.proofs.Passing.{changing_more, changed_before, no_change, late_over, all_dropped_onto, tried_more, old_over, stands_over, answers_over, reply_over, kept_over, PassesBoth, PassesFile, PassesAct, PassesReach, stays, current_over, client_still, News, more_sent, ran_over}
+use Rattle.afs_law.proofs.Passing.{to_come, changing_more, changed_before, no_change, late_over, all_dropped_onto, tried_more, old_over, stands_over, answers_over, reply_over, kept_over, PassesBoth, PassesFile, PassesAct, PassesReach, stays, current_over, client_still, News, more_sent, ran_over}
 use Rattle.afs_law.proofs.Pumping.{no_news, pumped_news, news_break}
 use Rattle.afs_law.proofs.Resting.{Rests}
 use Rattle.afs_law.proofs.Turning.{loaded, TurnSends, Pumps, pumps, expired_backed, break_good}
@@ -29,12 +29,12 @@ use Rattle.afs_rows.specs.Going.{asked, Going}
 use Rattle.afs_law.specs.Ideal.{shown_status, Tells, TellsIn, TellsOf, volume_after, version_in, latest, IsThat, user_of, clock_of, last_version, HasVersion, reach, call_under}
 use Rattle.afs_law.specs.Legal.{HasChange, GoodGrant, IsThere, code_given, IsResult, RunsHere, AreGood, Cause, IsTold, answer_at, answer_on, as_asked}
 use Rattle.afs_history.specs.declared.lines.Line.{Line}
-use Rattle.afs_law.specs.Past.{server_boot, IsCall, code_told, IsUnheard, lines_of, sent_of, given_message, called_key, HasCode, IsCallUnder, Ran, onto, same_key, answered_key}
+use Rattle.afs_law.specs.Past.{IsCallFrom, IsToCome, server_boot, IsCall, code_told, IsUnheard, lines_of, sent_of, given_message, called_key, HasCode, IsCallUnder, Ran, onto, same_key, answered_key}
 use Rattle.afs_rows.specs.Runs.{Entry, message_at, Armed, Fall}
 use Rattle.afs_law.proofs.OneCell.{the_server, Cell, Moved, server_moves}
 use Rattle.afs_rows.specs.ServerRow.{shows, granted, Reading, promise_ticks, refuses, reply_head, replied, told, result, Decision, seat_placed, Sight, given_up_read, promised_in, reading_in, statuses_read, time_read}
 use Rattle.afs_rows.specs.States.{Seat, ServerState, volume_in, Backs, Held, BackCall}
-use Rattle.afs_model.specs.Calls.{call_seated, call_seat}
+use Rattle.afs_model.specs.Calls.{pair_below, call_seated, call_seat}
 use Rattle.std.specs.Prelude.{◌&&◌, ⊤, map, filter, not}
 use Rattle.std.specs.Option.{option_map}
 use Rattle.afs_num.specs.Fids.{same_fid}
@@ -55,8 +55,8 @@ use Rattle.std.proofs.Math.Nat.{le_refl}
 use Rattle.afs_num.specs.Nodes.{same_node}
 use Rattle.afs_breaks.specs.declared.types.Promise.{Promise}
 use Rattle.afs_law.proofs.Promising.{Owed, without_promises, shows_turn, shows_turn_is}
-use Rattle.afs_law.specs.Grants.{IsDropped}
-use Rattle.afs_law.specs.Breaks.{returned_in, returned_by, is_unheard, is_call_under, is_call, lines_at, fids_given_up, has_answer, drops_of, is_told}
+use Rattle.afs_law.specs.Grants.{has_fetched, IsDropped}
+use Rattle.afs_law.specs.Breaks.{is_call_from, is_to_come, returned_in, returned_by, is_call, lines_at, fids_given_up, has_answer, drops_of, is_told}
 use Rattle.afs_rows.specs.ServerSteps.{stepped, done}
 use Rattle.afs_law.proofs.Keeping.{at_placed}
 use Rattle.afs_records.specs.Durable.{Stored}
@@ -179,7 +179,7 @@ quiet s c past armed p m t h up at dull notes good turns loads =
     let e : Entry = told_entry p t.lines ms in
     let k : Skips t.lines = skips t.lines notes in
     let rest : Rests s e past = told_rests s p t.lines ms past k in
-    let pump : Pumps c.server.lasting.boot c.server.seats (seats_of c) c.clock c.sent (e ∷ past) t = let l = loads e refl in pumps c.server.lasting.boot c.server.seats (seats_of c) c.clock c.sent e past t refl (k.clock _ ∙ h.clock) l.backed l.sends (k.boot _ ∙ up_boots s c past h up) in
+    let pump : Pumps c.server.lasting.boot c.server.seats (seats_of c) c.clock c.sent (e ∷ past) t = let l = loads e refl in pumps c.server.lasting.boot c.server.seats (seats_of c) c.clock c.sent e past t refl refl (k.clock _ ∙ h.clock) l.backed l.sends (k.boot _ ∙ up_boots s c past h up) in
     record {
       good = (refl, good);
       replies = pump.good;
@@ -199,7 +199,7 @@ acts_alone s c past armed t h up notes good turns loads =
     let e : Entry = noted_entry t.lines ms in
     let k : Skips t.lines = skips t.lines notes in
     let rest : Rests s e past = noted_rests s t.lines ms past k in
-    let pump : Pumps c.server.lasting.boot c.server.seats (seats_of c) c.clock c.sent (e ∷ past) t = let l = loads e refl in pumps c.server.lasting.boot c.server.seats (seats_of c) c.clock c.sent e past t refl (k.clock _ ∙ h.clock) l.backed l.sends (k.boot _ ∙ up_boots s c past h up) in
+    let pump : Pumps c.server.lasting.boot c.server.seats (seats_of c) c.clock c.sent (e ∷ past) t = let l = loads e refl in pumps c.server.lasting.boot c.server.seats (seats_of c) c.clock c.sent e past t refl refl (k.clock _ ∙ h.clock) l.backed l.sends (k.boot _ ∙ up_boots s c past h up) in
     record {
       good = good;
       replies = pump.good;
@@ -262,7 +262,7 @@ renewed_goes s c past armed p n m k true H up at j is =
     (λ x over held. record { notes = tt; sent = news_break _ _ _ c.server.lasting.boot n m.head.boot k ((up_backed s c past H up).outs refl n k is).client; outs = tt; held = held })
     (λ x z. let old = still_backed b c.server.lasting.boot c.server.seats (seats_of c) c.clock c.sent x past (given_plain p x _ z) (up_backed s c past H up) in record {
       backed = none_loaded None (record b { known = put_at n m.head.boot b.known }) c.server.lasting.boot c.server.seats (seats_of c) c.clock c.sent (x ∷ past) (known_backed b (put_at n m.head.boot b.known) c.server.lasting.boot c.server.seats (seats_of c) c.clock c.sent (x ∷ past) old);
-      sends = record { good = break_good (x ∷ past) c.server.lasting.boot n m.head.boot k; calls = resent b c.server.lasting.boot c.server.seats (seats_of c) c.clock c.sent (x ∷ past) (x ∷ past) n m.head.boot k b.calls old is (λ y w. ap (λ (u : BackCall). u.breaks) (some_of y k (sym w ∙ is))); dones = (tt, tt) };
+      sends = record { good = break_good (x ∷ past) c.server.lasting.boot n m.head.boot k (ap (λ (y : Entry). y.actor) z); calls = resent b c.server.lasting.boot c.server.seats (seats_of c) c.clock c.sent (x ∷ past) (x ∷ past) n m.head.boot k b.calls old is (λ y w. ap (λ (u : BackCall). u.breaks) (some_of y k (sym w ∙ is))); dones = (tt, tt) };
     })
 
 pub renews_goes : (s : Script) (c : Cell) (past : List Entry) (armed : Armed) (p : ℕ) (m : Message) (o : Option BackCall) → (H : Holds s c past) → c.down ≡ None → message_at c.sent p ≡ Some m → Dull c.server.seats c.server.lasting.boot m → c.server.backs.calls m.head.from ≡ o
@@ -381,6 +381,11 @@ pub unheard_after : (s : Script) (c : Cell) (past : List Entry) (p n : ℕ) (h :
 unheard_after s c past p n h user call r e H up at w is = unheard_over None (seats_after c n h r) c.server.lasting.boot e past (call_at n h user call) (is ∙ at_told s c past p _ H at) (dull_after c n h r user call w.boot)
     (λ k b may. unheard_up c past up H.unheard k b (elim may [ inl l ↦ inl l | inr x ↦ inr (x.0, above_before c.server.seats n h r k.node k.epoch k.number w.above x.1) ]))
 
+-- a call that runs now is to come: of its node no later one was heard
+pub next_call : (s : Script) (c : Cell) (past : List Entry) (n : ℕ) (h : Head) (user : List ℕ) (call : FsCall) → (H : Holds s c past) → c.down ≡ None → Now s c H.floors past n h user call → IsToCome the_server (called_key (client_head n h)) c.server.lasting.boot past
+next_call s c past n h user call H up w = to_come the_server (called_key (client_head n h)) c.server.lasting.boot past
+    (λ l node later. unheard_up c past up H.unheard l c.server.lasting.boot (inr (refl, subst (λ (q : Node). Above (call_seat q c.server.seats) l.epoch l.number) (sym node) (above_up (call_seat (Client n) c.server.seats) h.epoch h.number l.epoch l.number w.above later))))
+
 -- the entry ran the call
 abbrev pub ran_now : (s : Script) (c : Cell) (past : List Entry) (p n : ℕ) (h : Head) (user : List ℕ) (call : FsCall) (e : Entry) → (H : Holds s c past) → c.down ≡ None → message_at c.sent p ≡ Some (call_at n h user call) → Now s c H.floors past n h user call
     → given_message e.lines (sent_of past) ≡ message_at (sent_of past) p → e.actor ≡ actors.Node the_server → Ran (reply_head c.server.lasting.boot (client_head n h)) (e ∷ past)
@@ -396,7 +401,7 @@ ran_now s c past p n h user call e H up sent w is at = record {
   boot = w.boot;
   callee = refl;
   node = at;
-  first = unheard_up c past up H.unheard (record { node = Client n; epoch = h.epoch; number = h.number }) c.server.lasting.boot (inr (refl, w.above));
+  first = next_call s c past n h user call H up w;
 }
 
 -- the entry that is given the call runs it, the first in its boot
@@ -405,7 +410,7 @@ runs_here s c past p n h user call H up sent w = record {
   boot = c.server.lasting.boot;
   up = up_boots s c past H up;
   given = subst (IsCallUnder the_server (called_key (client_head n h)) c.server.lasting.boot) (sym (at_told s c past p _ H sent)) ((tt, refl), (refl, w.boot));
-  first = unheard_up c past up H.unheard (called_key (client_head n h)) c.server.lasting.boot (inr (refl, w.above));
+  first = next_call s c past n h user call H up w;
 }
 
 -- the call ran in this entry, or in one before whose step was done by this one
@@ -480,6 +485,7 @@ pub record Serves (good : Bool) (s : Script) (c : Cell) (fl : ℕ → Ghost) (pa
   pub is_reply : IsReply x
   pub answer : Answers (c.clients n).spoiled n call (record { durable = own_durable good (taken n h (replied c.server.lasting.boot (client_head n h) x)) (call_seat (Client n) c.server.lasting.kept); epoch = h.epoch; last = h.number }) c.server.lasting.boot (replied c.server.lasting.boot (client_head n h) x) (e ∷ past)
   pub acts : PassesAct n e past
+  pub fetched : (f : Fid) → has_fetched (Client n) f e.lines ≡ false
   pub grows : (f : Fid) (i : ℕ) (b : Body) → HasVersion f i b (lines_of past) → HasVersion f i b (lines_of (e ∷ past))
   pub current : HasCurrent n (caller_view good fl c n h (replied c.server.lasting.boot (client_head n h) x)) (e ∷ past)
   pub reached : (f : Fid) → Reached (Client n) f (index_in (last_version f (lines_of (e ∷ past)))) (e ∷ past)
@@ -544,7 +550,8 @@ caller_after good s c past n h user call x e st H w v =
       asked = λ b y. inr (v.acts.begins, d.asked b y);
       late = λ b y. late_over (Client n) (last_key n (view H.floors c n)) e past v.acts.begins (d.late b y);
       none = d.none;
-      gave = λ b y. all_dropped_onto (Client n) (fids_of_gifts (c.clients n).gifts) e.lines (lines_of past) v.acts.begins (d.gave b y);
+      spared = d.spared;
+      gave = λ b y. all_dropped_onto (Client n) (fids_of_gifts (c.clients n).gifts) e.lines (lines_of past) v.acts.begins v.fetched (d.gave b y);
       reached = v.reached;
     }
 
@@ -646,6 +653,7 @@ serves_still s c past n h user call x e H w pf pr pa l ideal home new before clo
       is_reply = is;
       answer = a;
       acts = pa n;
+      fetched = λ f. (pf n f).fetched;
       grows = λ f i b y. ((pf n f).grant).version i b (lines_of past) y;
       current = current_same s c past n h r e H (pf n) (pr n) l;
       made = λ a runs f o z. (pr n f).made ((H.clients n).made a runs f o z);
@@ -682,7 +690,7 @@ refuses_goes s c past armed p n h user call code H up at w nz result =
     let t : Turn = turn_for the_server c.server c.clock (expired c.clock c.server.backs) (refuses (client_head n h) code) in
     let ms : List Message = (pumped the_server c.server.lasting.boot t).sent in
     let e : Entry = record { actor = actors.Node the_server; lines = lines.Given p ∷ []; sent = ms; volumes = [] } in
-    let pump : Pumps c.server.lasting.boot (seats_after c n h r) (seats_of c) c.clock c.sent (e ∷ past) t = pumps c.server.lasting.boot (seats_after c n h r) (seats_of c) c.clock c.sent e past t refl H.clock (run_backed s c past n h user call x e (expired c.clock c.server.backs).lists.promises H up w (λ y. y) refl refl refl (granted_over e past (expired c.clock c.server.backs).lists.promises refl ((up_backed s c past H up).granted refl)) ((up_backed s c past H up).clients refl).promised (promised_over None (expired c.clock c.server.backs).lists.promises c.clock c.clock e past refl (le_refl _) (up_backed s c past H up).promised)) (record { good = tt; calls = tt; dones = tt }) (up_boots s c past H up) in
+    let pump : Pumps c.server.lasting.boot (seats_after c n h r) (seats_of c) c.clock c.sent (e ∷ past) t = pumps c.server.lasting.boot (seats_after c n h r) (seats_of c) c.clock c.sent e past t refl refl H.clock (run_backed s c past n h user call x e (expired c.clock c.server.backs).lists.promises H up w (λ y. y) refl refl refl (granted_over e past (expired c.clock c.server.backs).lists.promises refl ((up_backed s c past H up).granted refl)) ((up_backed s c past H up).clients refl).promised (promised_over None (expired c.clock c.server.backs).lists.promises c.clock c.clock e past refl (le_refl _) (up_backed s c past H up).promised)) (record { good = tt; calls = tt; dones = tt }) (up_boots s c past H up) in
     record {
       good = (refl, tt);
       holds = serves false s (Some c.server.lasting.boot) c past n h user call x e (stock c.server) (pumped the_server c.server.lasting.boot t).backs None armed H w
@@ -961,28 +969,26 @@ call_is (carried.Refusal code) e = absurd cc
 call_is (carried.Reply reply) e = absurd cc
 call_is carried.Notice e = absurd cc
 
-key_is : (k l : Key) → same_key k l ≡ true → k ≡ l
-key_is k l t =
-    let a = both (same_node k.node l.node) _ t in
-    let b = both (nat_eq k.epoch l.epoch) _ a.1 in
-    ap (λ (n : Node). record { node = n; epoch = k.epoch; number = k.number }) (same_node-true k.node l.node a.0)
-    ∙ (ap (λ (e : ℕ). record { node = l.node; epoch = e; number = k.number }) (eqb-true _ _ b.0) ∙ ap (λ (n : ℕ). record { node = l.node; epoch = l.epoch; number = n }) (eqb-true _ _ b.1))
+not_false : (b : Bool) → not b ≡ true → b ≡ false
+not_false true e = absurd cc
+not_false false e = refl
 
-under_is : (s : Node) (k : Key) (boot : ℕ) (m : Message) → is_call_under s k boot (Some m) ≡ true → IsCallUnder s k boot (Some m)
-under_is s k boot m e =
+from_is : (s : Node) (k : Key) (boot : ℕ) (m : Message) → is_call_from s k boot (Some m) ≡ true → IsCallFrom s k boot (Some m)
+from_is s k boot m e =
     let a = both (is_call m.carried && same_node m.head.to s) _ e in
     let b = both (is_call m.carried) _ a.0 in
-    let d = both (same_key (called_key m.head) k) _ a.1 in
-    ((call_is m.carried b.0, same_node-true m.head.to s b.1), (key_is (called_key m.head) k d.0, eqb-true m.head.boot boot d.1))
+    let d = both (same_node m.head.from k.node && not (pair_below m.head.epoch m.head.number k.epoch k.number)) _ a.1 in
+    let f = both (same_node m.head.from k.node) _ d.0 in
+    ((call_is m.carried b.0, same_node-true m.head.to s b.1), ((same_node-true m.head.from k.node f.0, below-false m.head.epoch m.head.number k.epoch k.number (not_false _ f.1)), eqb-true m.head.boot boot d.1))
 
-under_not : (t : Bool) (s : Node) (k : Key) (boot : ℕ) (o : Option Message) → is_call_under s k boot o ≡ t → (IsCallUnder s k boot o → ⊥) → not t ≡ true
-under_not false s k boot o e w = refl
-under_not true s k boot None e w = absurd cc
-under_not true s k boot (Some m) e w = absurd (w (under_is s k boot m e))
+from_not : (t : Bool) (s : Node) (k : Key) (boot : ℕ) (o : Option Message) → is_call_from s k boot o ≡ t → (IsCallFrom s k boot o → ⊥) → not t ≡ true
+from_not false s k boot o e w = refl
+from_not true s k boot None e w = absurd cc
+from_not true s k boot (Some m) e w = absurd (w (from_is s k boot m e))
 
-unheard_is : (s : Node) (k : Key) (boot : ℕ) (past : List Entry) → IsUnheard s k boot past → is_unheard s k boot past ≡ true
-unheard_is s k boot [] h = refl
-unheard_is s k boot (e ∷ past) h = and_true (not (is_call_under s k boot (given_message e.lines (sent_of past)))) (is_unheard s k boot past) (under_not (is_call_under s k boot (given_message e.lines (sent_of past))) s k boot (given_message e.lines (sent_of past)) refl h.0) (unheard_is s k boot past h.1)
+comes : (s : Node) (k : Key) (boot : ℕ) (past : List Entry) → IsToCome s k boot past → is_to_come s k boot past ≡ true
+comes s k boot [] h = refl
+comes s k boot (e ∷ past) h = and_true (not (is_call_from s k boot (given_message e.lines (sent_of past)))) (is_to_come s k boot past) (from_not (is_call_from s k boot (given_message e.lines (sent_of past))) s k boot (given_message e.lines (sent_of past)) refl h.0) (comes s k boot past h.1)
 
 shows_by : (s : Script) (c : Cell) (past : List Entry) (armed : Armed) (p n : ℕ) (h : Head) (user : List ℕ) (call : FsCall) (r : Reading) → (H : Holds s c past) → c.down ≡ None → message_at c.sent p ≡ Some (call_at n h user call) → Now s c H.floors past n h user call
     → IsRead c call r → code_given (answer_at user call past) ≡ pos 0 → IsTold (called_key (client_head n h)) (answer_at user call past) [] → Goes s past (server_moves c armed (done the_server c.server c.clock p (shows (client_head n h) r) (shows_turn the_server c.server c.clock (expired c.clock c.server.backs) (client_head n h) r)))
@@ -1002,12 +1008,12 @@ shows_by s c past armed p n h user call r H up at w is code done =
     let ps : List Promise = (expired c.clock c.server.backs).lists.promises in
     let boots : server_boot the_server (lines_of (e ∷ past)) ≡ Some c.server.lasting.boot = k.boot (lines.Given p ∷ lines_of past) ∙ up_boots s c past H up in
     let answered : has_answer (called_key (client_head n h)) ms ≡ true = first_answer c.server.lasting.boot turn.backs.lists.owed (called_key (client_head n h)) (record { backs = held_after turn; sent = given_out turn }) (rw (same_node-refl (Client n), eq-eqb h.epoch h.epoch refl, eq-eqb h.number h.number refl) refl) in
-    let first : is_unheard the_server (called_key (client_head n h)) (client_head n h).boot past ≡ true = unheard_is the_server (called_key (client_head n h)) (client_head n h).boot past (subst (λ (b : ℕ). IsUnheard the_server (called_key (client_head n h)) b past) (sym w.boot) (unheard_up c past up H.unheard (called_key (client_head n h)) c.server.lasting.boot (inr (refl, w.above)))) in
+    let first : is_to_come the_server (called_key (client_head n h)) (client_head n h).boot past ≡ true = comes the_server (called_key (client_head n h)) (client_head n h).boot past (subst (λ (b : ℕ). IsToCome the_server (called_key (client_head n h)) b past) (sym w.boot) (next_call s c past n h user call H up w)) in
     let gave : returned_in the_server e (given_message e.lines (sent_of past)) past ≡ drops_of (Client n) r.given_up =
     ap (λ (o : Option Message). returned_in the_server e o past) (at_told s c past p _ H at) ∙ (ap (λ (b : Bool). returned_by the_server b (client_head n h) (carried.Call user (ask.File call))) (and_true _ _ first answered)
     ∙ ap (λ (gs : List Fid). drops_of (Client n) gs) (sym (gives_up_as c call r is))) in
     let given : Promised None (without_promises (Client n) r.given_up ps) c.clock (before_own e past) = subst (λ (ds : List Line). Promised None (without_promises (Client n) r.given_up ps) c.clock (onto (lines_at the_server past) ds)) (sym gave) (gone_promised (Client n) c.clock r.given_up (lines_at the_server past) ps B.promised) in
-    let pump : Pumps c.server.lasting.boot (seats_after c n h m) (seats_of c) c.clock c.sent (e ∷ past) turn = pumps c.server.lasting.boot (seats_after c n h m) (seats_of c) c.clock c.sent e past turn refl (k.clock (lines.Given p ∷ lines_of past) ∙ H.clock)
+    let pump : Pumps c.server.lasting.boot (seats_after c n h m) (seats_of c) c.clock c.sent (e ∷ past) turn = pumps c.server.lasting.boot (seats_after c n h m) (seats_of c) c.clock c.sent e past turn refl refl (k.clock (lines.Given p ∷ lines_of past) ∙ H.clock)
     (run_backed s c past n h user call z e turn.backs.lists.promises H up w (λ y. y) (granted_all is_up (Client n) t fs (λ f i. refl)) (granted_all is_oweless (Client n) t fs (λ f i. refl)) (granted_all is_unchanging (Client n) t fs (λ f i. refl))
     (all_granted (Client n) t fs (lines.Given p ∷ lines_of past) (without_promises (Client n) r.given_up ps) (gone_granted (Client n) r.given_up (lines_of past) ps (B.granted refl)))
     (granted_to_client t n fs (without_promises (Client n) r.given_up ps) (gone_to_clients (Client n) r.given_up ps (B.clients refl).promised))

@@ -1,4 +1,5 @@
 -- How a step of the server begins and ends, for the facts on breaks.
+use Rattle.afs_num.specs.declared.histories.Actor.TheVariants as actors
 use Rattle.afs_breaks.specs.Promises.{has_break}
 use Rattle.afs_breaks.specs.declared.types.Promise.{Promise}
 use Rattle.afs_law.proofs.Promising.{Owed}
@@ -21,7 +22,7 @@ use Rattle.afs_law.proofs.Owing.{CarriedOwe, AllOf, all_map, all_both, all_filte
 use Rattle.afs_law.specs.Breaks.{HasCome, AllOwes, EndedBy, EndedOf, EndedAll, CarriesBreak, NamesIn, WasSent}
 use Rattle.afs_rows.specs.Callbacks.{put_at, Turn, Started, expired, is_all, waits_none, is_ready, is_reply_to, key_answered, fids_of, breaks_call, fid_before, call_for, break_message, first_of, is_for, most_breaks, carries_for, started_call, starts_by, starts, replies_of, held_after, given_out, pumped}
 use Rattle.afs_law.specs.Ideal.{clock_of}
-use Rattle.afs_law.specs.Legal.{GoodGift, HasChange, GoodReply, AreGoodSent}
+use Rattle.afs_law.specs.Legal.{IsBy, GoodCall, GoodGift, HasChange, GoodReply, AreGoodSent}
 use Rattle.afs_history.specs.declared.lines.Line.{Line}
 use Rattle.afs_law.specs.Past.{server_boot, lines_of, sent_of, given_message, answered_key, IsCallUnder, Sends}
 use Rattle.afs_rows.specs.Runs.{Entry}
@@ -197,13 +198,20 @@ reply_gift head (carried.Refusal code) ls h = tt
 reply_gift head (carried.Reply reply) ls h = tt
 reply_gift head carried.Notice ls h = tt
 
-good_by : (t : Bool) (past : List Entry) (h : Held) (rest : List Held) → (t ≡ true → GoodReply past h.reply) → (OfReply ⊥ h.reply.carried → ⊥) → AreGoodSent past (replies_of rest) → AreGoodSent past (replies_of (cond t (h ∷ rest) rest))
-good_by true past h rest a is b = ((a refl, reply_gift h.reply.head h.reply.carried (lines_of past) is), b)
-good_by false past h rest a is b = b
+-- what is no call uses no key
+pub reply_key_good : (head : Head) (c : Carried) (past : List Entry) → (OfReply ⊥ c → ⊥) → GoodCall head c past
+reply_key_good head (carried.Call user call) past h = absurd (h tt)
+reply_key_good head (carried.Refusal code) past h = tt
+reply_key_good head (carried.Reply reply) past h = tt
+reply_key_good head carried.Notice past h = tt
 
-replies_good : (b : Backs) (boot : ℕ) (seats : List Seat) (cs : ℕ → Option Seat) (clock : ℕ) (sent : List Message) (past : List Entry) (hs : List Held) → BackedIn None b boot seats cs clock sent past → clock_of (lines_of past) ≡ clock → AllOf (HeldWaits seats clock past) hs → server_boot the_server (lines_of past) ≡ Some boot → AreGoodSent past (replies_of (filter (is_ready b.lists.owed) hs))
-replies_good b boot seats cs clock sent past [] B time w up = tt
-replies_good b boot seats cs clock sent past (h ∷ hs) B time w up = good_by (is_ready b.lists.owed h) past h (filter (is_ready b.lists.owed) hs) (λ e. reply_good b boot seats cs clock sent past h B time w.0 e up) w.0.is_reply (replies_good b boot seats cs clock sent past hs B time w.1 up)
+good_by : (t : Bool) (past : List Entry) (h : Held) (rest : List Held) → IsBy h.reply.head.from past → (t ≡ true → GoodReply past h.reply) → (OfReply ⊥ h.reply.carried → ⊥) → AreGoodSent past (replies_of rest) → AreGoodSent past (replies_of (cond t (h ∷ rest) rest))
+good_by true past h rest by a is b = (record { sender = by; reply = a refl; gift = reply_gift h.reply.head h.reply.carried (lines_of past) is; key = reply_key_good h.reply.head h.reply.carried past is }, b)
+good_by false past h rest by a is b = b
+
+replies_good : (b : Backs) (boot : ℕ) (seats : List Seat) (cs : ℕ → Option Seat) (clock : ℕ) (sent : List Message) (past : List Entry) (hs : List Held) → BackedIn None b boot seats cs clock sent past → clock_of (lines_of past) ≡ clock → AllOf (HeldWaits seats clock past) hs → server_boot the_server (lines_of past) ≡ Some boot → IsBy the_server past → AreGoodSent past (replies_of (filter (is_ready b.lists.owed) hs))
+replies_good b boot seats cs clock sent past [] B time w up by = tt
+replies_good b boot seats cs clock sent past (h ∷ hs) B time w up by = good_by (is_ready b.lists.owed h) past h (filter (is_ready b.lists.owed) hs) (subst (λ (n : Node). IsBy n past) (sym w.0.from) by) (λ e. reply_good b boot seats cs clock sent past h B time w.0 e up) w.0.is_reply (replies_good b boot seats cs clock sent past hs B time w.1 up by)
 
 pub good_more : (past : List Entry) (a b : List Message) → AreGoodSent past a → AreGoodSent past b → AreGoodSent past (a ++ b)
 good_more past [] b h k = k
@@ -429,13 +437,13 @@ pub break_gift : (os : List Owed) (head : Head) (ls : List Line) → GoodGift he
 break_gift [] head ls = tt
 break_gift (o ∷ os) head ls = on_gift o.what (o ∷ os) head ls
 
-good_by_call : (boot : ℕ) (past : List Entry) (t : Started) (o : Owed) (x : Option BackCall) → AreGoodSent past t.sent → AreGoodSent past (starts_by the_server boot t o x).sent
-good_by_call boot past t o None h = let m : Message = break_message the_server boot o.client (t.backs.known o.client) (started_call t.backs o) in good_more past t.sent (m ∷ []) h ((call_good past m.head [] (breaks_call (started_call t.backs o).breaks), break_gift (started_call t.backs o).breaks m.head (lines_of past)), tt)
-good_by_call boot past t o (Some c) h = h
+good_by_call : (boot : ℕ) (past : List Entry) (t : Started) (o : Owed) (x : Option BackCall) → IsBy the_server past → AreGoodSent past t.sent → AreGoodSent past (starts_by the_server boot t o x).sent
+good_by_call boot past t o None by h = let m : Message = break_message the_server boot o.client (t.backs.known o.client) (started_call t.backs o) in good_more past t.sent (m ∷ []) h (record { sender = by; reply = call_good past m.head [] (breaks_call (started_call t.backs o).breaks); gift = break_gift (started_call t.backs o).breaks m.head (lines_of past); key = tt }, tt)
+good_by_call boot past t o (Some c) by h = h
 
-calls_good : (boot : ℕ) (past : List Entry) (os : List Owed) (t : Started) → AreGoodSent past t.sent → AreGoodSent past (starts the_server boot os t).sent
-calls_good boot past [] t h = h
-calls_good boot past (o ∷ os) t h = calls_good boot past os (starts_by the_server boot t o (t.backs.calls o.client)) (good_by_call boot past t o (t.backs.calls o.client) h)
+calls_good : (boot : ℕ) (past : List Entry) (os : List Owed) (t : Started) → IsBy the_server past → AreGoodSent past t.sent → AreGoodSent past (starts the_server boot os t).sent
+calls_good boot past [] t by h = h
+calls_good boot past (o ∷ os) t by h = calls_good boot past os (starts_by the_server boot t o (t.backs.calls o.client)) by (good_by_call boot past t o (t.backs.calls o.client) by h)
 
 -- the whole end: `past` begins with the entry, which sends all this
 pub record Pumps (boot : ℕ) (seats : List Seat) (cs : ℕ → Option Seat) (clock : ℕ) (sent : List Message) (past : List Entry) (t : Turn) : Type 0 where
@@ -446,14 +454,14 @@ pub record Pumps (boot : ℕ) (seats : List Seat) (cs : ℕ → Option Seat) (cl
 was_sent : (e : Entry) (past : List Entry) (k : Key) (user : List ℕ) (call : FsCall) → Sends k user call e.sent → WasSent k user call (e ∷ past)
 was_sent e past k user call h = inl h
 
-pub pumps : (boot : ℕ) (seats : List Seat) (cs : ℕ → Option Seat) (clock : ℕ) (sent : List Message) (e : Entry) (past : List Entry) (t : Turn) → e.sent ≡ (pumped the_server boot t).sent → clock_of (lines_of (e ∷ past)) ≡ clock → BackedIn None (loaded t) boot seats cs clock sent (e ∷ past) → TurnSends (loaded t) boot (e ∷ past) t.sent → server_boot the_server (lines_of (e ∷ past)) ≡ Some boot → Pumps boot seats cs clock sent (e ∷ past) t
-pumps boot seats cs clock sent e past t is time h s up =
+pub pumps : (boot : ℕ) (seats : List Seat) (cs : ℕ → Option Seat) (clock : ℕ) (sent : List Message) (e : Entry) (past : List Entry) (t : Turn) → e.actor ≡ actors.Node the_server → e.sent ≡ (pumped the_server boot t).sent → clock_of (lines_of (e ∷ past)) ≡ clock → BackedIn None (loaded t) boot seats cs clock sent (e ∷ past) → TurnSends (loaded t) boot (e ∷ past) t.sent → server_boot the_server (lines_of (e ∷ past)) ≡ Some boot → Pumps boot seats cs clock sent (e ∷ past) t
+pumps boot seats cs clock sent e past t by is time h s up =
     let q = held_all (HeldWaits seats clock (e ∷ past)) t.backs.held t.outs (h.waiting refl) in
     record {
-      good = calls_good boot (e ∷ past) t.backs.lists.owed _ (good_more (e ∷ past) t.sent _ s.good (replies_good (loaded t) boot seats cs clock sent (e ∷ past) (t.outs ++ t.backs.held) h time (all_both (HeldWaits seats clock (e ∷ past)) t.outs t.backs.held q.1 q.0) up));
+      good = calls_good boot (e ∷ past) t.backs.lists.owed _ by (good_more (e ∷ past) t.sent _ s.good (replies_good (loaded t) boot seats cs clock sent (e ∷ past) (t.outs ++ t.backs.held) h time (all_both (HeldWaits seats clock (e ∷ past)) t.outs t.backs.held q.1 q.0) up by));
       clients = (h.clients refl).owed;
       backed = started_all boot seats cs clock sent (e ∷ past) t.backs.lists.owed _ (released boot seats cs clock sent (e ∷ past) t h s) (h.owing refl) (h.clients refl).owed (λ k user call x. was_sent e past k user call (subst (λ (ms : List Message). Sends k user call ms) (sym is) x));
     }
 
-pub break_good : (past : List Entry) (boot : ℕ) (n : Node) (known : ℕ) (c : BackCall) → AreGoodSent past (break_message the_server boot n known c ∷ [])
-break_good past boot n known c = let m : Message = break_message the_server boot n known c in ((call_good past m.head [] (breaks_call c.breaks), break_gift c.breaks m.head (lines_of past)), tt)
+pub break_good : (past : List Entry) (boot : ℕ) (n : Node) (known : ℕ) (c : BackCall) → IsBy the_server past → AreGoodSent past (break_message the_server boot n known c ∷ [])
+break_good past boot n known c by = let m : Message = break_message the_server boot n known c in (record { sender = by; reply = call_good past m.head [] (breaks_call c.breaks); gift = break_gift c.breaks m.head (lines_of past); key = tt }, tt)

@@ -3,8 +3,8 @@ use Rattle.afs_rows.specs.Steps.{Step}
 use Rattle.afs_num.specs.declared.types.Node.{Node}
 use Rattle.afs_law.proofs.Apart.{apart_filter}
 use Rattle.afs_law.proofs.Asking.{client_ended}
-use Rattle.afs_law.proofs.Facts.{fids_of_gifts, AreApart, IsClient, its_call}
-use Rattle.afs_law.proofs.Passing.{all_dropped_onto, tried_idle, tried_kept, tried_once, old_over, old_within, ran_over}
+use Rattle.afs_law.proofs.Facts.{last_key, fids_of_gifts, AreApart, IsClient, its_call}
+use Rattle.afs_law.proofs.Passing.{late_over, all_dropped_onto, tried_idle, tried_kept, tried_once, old_over, old_within, ran_over}
 use Rattle.std.proofs.Common.{ltb-false, ◌≤◌, nat_eq, not, ◌≡◌, ℕ, ◌+◌, inl, inr, Bool, true, false, cond, nat_lt, List, [], ◌∷◌, ◌++◌, Option, Some, None, refl, sym, ap, subst, ◌∙◌, arith}
 use Rattle.std.specs.Prelude.{◌&&◌}
 use Rattle.afs_num.specs.declared.histories.Actor.TheVariants as actors
@@ -76,7 +76,7 @@ tries_goes s c past n act h runs =
     (client_kept s c past n (boot_of the_server x.boots) e h (h.clients n).known (timeout_file q n n x.epoch x.last (x.tries + 1) ms past) (timeout_reach q n n x.epoch x.last (x.tries + 1) ms past) (timeout_act q n n x.epoch x.last (x.tries + 1) ms past) (λ f. refl))
     (λ head call f. call_known (view h.floors c n) (boot_of the_server x.boots) head call f)
     (reply_still n (view h.floors c n) e past (timeout_file q n n x.epoch x.last (x.tries + 1) ms past) (timeout_reach q n n x.epoch x.last (x.tries + 1) ms past) (λ f. refl) refl)
-    (own_call h.floors c past n (h.floors n) y act (lines.Timeout (Client n) q x.epoch x.last (x.tries + 1) ∷ []) (h.clients n).known kind runs ((h.clients n).runs act runs) (same_one s c past n act ms h runs) (all_dropped_onto (Client n) (fids_of_gifts x.gifts) (lines.Timeout (Client n) q x.epoch x.last (x.tries + 1) ∷ []) (lines_of past) refl ((h.clients n).gave act runs))) (λ a x z. inl (x, (refl, refl))) refl (tried_once n x (lines_of past) q ((h.own n).callee act runs) (h.tried n))
+    (own_call h.floors c past n (h.floors n) y act (lines.Timeout (Client n) q x.epoch x.last (x.tries + 1) ∷ []) (h.clients n).known kind runs ((h.clients n).runs act runs) (same_one s c past n act ms h runs) (all_dropped_onto (Client n) (fids_of_gifts x.gifts) (lines.Timeout (Client n) q x.epoch x.last (x.tries + 1) ∷ []) (lines_of past) refl (λ f. refl) ((h.clients n).gave act runs)) (late_over (Client n) (last_key n (view h.floors c n)) (step_entry n (lines.Timeout (Client n) q x.epoch x.last (x.tries + 1) ∷ []) ms) past refl ((h.clients n).late act runs))) (λ a x z. inl (x, (refl, refl))) refl (tried_once n x (lines_of past) q ((h.own n).callee act runs) (h.tried n))
 
 -- The clients' timeouts, and how a client stops and begins again.
 
@@ -255,6 +255,7 @@ client_stops_goes s c past n h =
       asked = λ b y. absurd cc;
       late = λ b y. absurd cc;
       none = λ y. refl;
+      spared = λ b y. absurd cc;
       gave = λ b y. absurd cc;
       reached = reached_still s c past n e h (λ f i r. record { made = r.made; seen = r.seen }) (λ f. refl);
     })

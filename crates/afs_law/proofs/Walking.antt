@@ -32,7 +32,7 @@ use Rattle.afs_rows.specs.ClientRow.{body_seen, shown_by, walked_with, find_cach
 use Rattle.afs_rows.specs.Going.{reads_status, reads_statuses, reads_rights, gives_back, Going, Need, reads, asks_for, answers, next, with_read}
 use Rattle.afs_law.specs.Grants.{until, is_promised, has_fetched, fetch_reply, read_reply, since, IsWithdrawn, IsDropped}
 use Rattle.afs_law.specs.Ideal.{last_version, HasVersion, IsLast, clock_of, Reach, reach_over, reach, is_zero_code}
-use Rattle.afs_law.specs.Legal.{AreGood, GoodRead, GoodReadBy, HasUsed, IsAtOnce, Shows}
+use Rattle.afs_law.specs.Legal.{has_read, AreGood, GoodRead, GoodReadBy, HasUsed, IsAtOnce, Shows}
 use Rattle.afs_history.specs.declared.lines.Line.{Line}
 use Rattle.afs_law.specs.Past.{has_begun, has_given, onto, lines_of, sent_of, given_message, running, IsCallUnder}
 use Rattle.afs_rows.specs.Runs.{Entry}
@@ -161,6 +161,7 @@ ready_good s c past n most ls need u body h q lasts shown r =
       expiry = u.expiry;
       grant = r.held.grant;
       home = home_of s c past u.fid u.index (seen.Status u.status) r.held.grant.server h r.held.server r.held.whole.been (until (Client n) u.fid u.expiry r.reply past r.held.grant);
+      used = λ y. absurd cc;
       granted = λ v e. granted_in _ v u.index r.held.least e;
       lasts = subst (λ (o : List Line). clock_of o < u.expiry) (own_lines ls (lines_of past)) (subst (λ (t : ℕ). t < u.expiry) (sym (quiet_clock n ls q (lines_of past) ∙ h.clock)) lasts);
       kept = λ d. r.held.kept refl (p.dropped r.held.grant.server new (subst (IsDropped r.held.grant.server (Client n) u.fid) (sym (own_lines ls new)) d));
@@ -347,6 +348,6 @@ walk_current s c past n most ls a cache tail ms v g u w t ends le free found las
     }
 
 -- an act that needs no more is answered
-pub walk_answered : (s : Script) (c : Cell) (past : List Entry) (n most : ℕ) (ls : List Line) (a : Going) (cache : List CacheEntry) (k : ℕ) → Walks s c past n most ls a cache → next a ≡ answers k → IsAtOnce (Client n) (onto [] ls) ⊎ HasUsed s (Client n) past (onto [] ls) → AreGood s (actors.Node (Client n)) past [] (ls ++ lines.Answer (Client n) (record { 0 = pos k }) ∷ [])
+pub walk_answered : (s : Script) (c : Cell) (past : List Entry) (n most : ℕ) (ls : List Line) (a : Going) (cache : List CacheEntry) (k : ℕ) → Walks s c past n most ls a cache → next a ≡ answers k → IsAtOnce (Client n) (onto [] ls) ⊎ (HasUsed s (Client n) past (onto [] ls) × (has_read (Client n) (onto [] ls) ≡ true)) → AreGood s (actors.Node (Client n)) past [] (ls ++ lines.Answer (Client n) (record { 0 = pos k }) ∷ [])
 walk_answered s c past n most ls a cache k w e last =
     w.good (lines.Answer (Client n) (record { 0 = pos k }) ∷ []) ((refl, record { act = a; runs = ap (running s (Client n)) (sym (own_lines ls (lines_of past))) ∙ w.runs; cause = inr (inl (record { number = k; is = refl; by = e; last = last })) }), tt)

@@ -18,7 +18,7 @@ use Rattle.afs_law.proofs.Homes.{accepts_first}
 use Rattle.afs_law.specs.Grants.{GrantOf, until}
 use Rattle.afs_num.specs.declared.histories.Actor.{Actor}
 use Rattle.afs_num.specs.declared.types.Node.{Node}
-use Rattle.afs_law.proofs.OneCell.{the_server, server_waits, Input, begins, gives, moved, nothing, sets_stop, start, starts_again, waits}
+use Rattle.afs_law.proofs.OneCell.{stops, the_server, server_waits, Input, begins, gives, moved, nothing, sets_stop, start, starts_again, waits}
 use Rattle.afs_law.proofs.Worked.{alters, answer, begun, entries, file, root, script, six_front}
 use Rattle.afs_law.specs.Breaks.{HasTimeout, HasStopped}
 use Rattle.afs_law.specs.Legal.{Cause, EndsAct, IsResult, Legal, answer_at, code_given}
@@ -31,8 +31,9 @@ use Rattle.afs_rows.specs.Runs.{Entry, comes_up, steady}
 use Rattle.afs_xdr.specs.Words.{opaque, pad, word, opaque_at, word_at, counted_at}
 use Rattle.afs_law.specs.Ideal.{set_up}
 use Rattle.afs_law.specs.Once.{past_of}
-use Rattle.afs_law.specs.Past.{AreWithin, has_begun, IsUnheard, IsCallUnder, Ran, answered_key, code_told, given_message, lines_of, sent_of}
+use Rattle.afs_law.specs.Past.{CalledSince, IsToCome, called_key, AreWithin, has_begun, IsUnheard, IsCallUnder, Ran, answered_key, code_told, given_message, lines_of, sent_of}
 use Rattle.afs_num.specs.declared.calls.FsCall.{FsCall}
+use Rattle.afs_num.specs.declared.calls.FsCall.TheVariants as calls
 use Rattle.afs_num.specs.declared.histories.Actor.TheVariants as actors
 use Rattle.afs_num.specs.declared.messages.Call.TheVariants as ask
 use Rattle.afs_num.specs.declared.types.Half.TheVariants as halves
@@ -118,7 +119,7 @@ shown_against_a_refusal h =
     elim g.cause [
       | inl x ↦ subst (λ (a : Going). EndsAct (next a)) (sym (some_of _ _ g.runs)) (x.ends refl)
       | inr y ↦ elim y [
-        | inl x ↦ elim x.last [ inl z ↦ let e : false ≡ true = z.0 in absurd cc | inr u ↦ let e : pos 102 ≡ pos 0 = of_reply _ _ u.reply _ refl u.by refl u.told in absurd cc ]
+        | inl x ↦ elim x.last [ inl z ↦ let e : false ≡ true = z.0 in absurd cc | inr u ↦ let e : pos 102 ≡ pos 0 = of_reply _ _ u.0.reply _ refl u.0.by refl u.0.told in absurd cc ]
         | inr z ↦ elim z [
           | inl x ↦ let e : pos 0 ≡ negsuc 0 = x.is in absurd cc
           | inr x ↦ given_back _ (ap next (some_of _ _ g.runs) ∙ x.by)
@@ -137,7 +138,7 @@ begun_with_a_reply h =
     elim g.cause [
       | inl x ↦ let e : true ≡ false = x.before in absurd cc
       | inr y ↦ elim y [
-        | inl x ↦ elim x.last [ inl z ↦ let e : true ≡ false = z.1 in absurd cc | inr u ↦ let e : true ≡ false = u.before in absurd cc ]
+        | inl x ↦ elim x.last [ inl z ↦ let e : true ≡ false = z.1 in absurd cc | inr u ↦ let e : true ≡ false = u.0.before in absurd cc ]
         | inr z ↦ elim z [
           | inl x ↦ let e : pos 0 ≡ negsuc 0 = x.is in absurd cc
           | inr x ↦ given_back _ (ap next (some_of _ _ g.runs) ∙ x.by)
@@ -237,7 +238,7 @@ stops_there e = record e { lines = e.lines ++ lines.Crash (Server 1) ∷ [] }
 
 answered_when_down : Legal (alters 1 stops_there (entries (start (script 1)) store_front)) (script 1) → ⊥
 unfolding moved begin_row client_row server_row back_timeout_row wake_row start_row record_bytes head_form volume_form spelled opaque pad word laid_at led name_ok directory_bytes name_bytes rights_of image acl_text digits entry_text directory_of names_at opaque_at word_at counted_at whole_at count_at name_at spelled_at bytes_below
-answered_when_down h = (h.1.0.0.1.0.0 (refl, tt) refl 1 refl).1 refl
+answered_when_down h = (h.1.0.0.1.0.reply (refl, tt) refl 1 refl).1 refl
 
 -- a server that is down runs a call
 abbrev after_a_stop : List Entry → List Entry
@@ -258,22 +259,22 @@ run_when_down h =
 abbrev key_of_one : ℕ → Key
 key_of_one n = record { node = Client 1; epoch = 1; number = n }
 
-abbrev late_front : List Input
-late_front = begins 1 (acts.Close (operands.Fid file) (Hex (codes "def"))) ∷ waits 1 ∷ waits 1 ∷ waits 1 ∷ begins 1 (acts.Close (operands.Fid file) (Hex (codes "xyz"))) ∷ gives 4 steady ∷ gives 1 steady ∷ []
+abbrev to_boot_two : Entry → Entry
+to_boot_two e = record e { sent = map (λ (m : Message). record m { head = record m.head { boot = 2 } }) e.sent }
 
-changed_behind_a_later_one : Legal (alters 6 (instead (lines.Given 1 ∷ lines.Change (Server 1) (key_of_one 1) 1 ∷ lines.Version (record { fid = file; index = 3; data_version = 3; body = bodies.File (codes "def") }) ∷ [])) (entries (start (script 1)) late_front)) (script 1) → ⊥
+abbrev late_front : List Input
+late_front = begins 1 (acts.Close (operands.Fid file) (Hex (codes "def"))) ∷ waits 1 ∷ waits 1 ∷ waits 1 ∷ begins 1 (acts.Close (operands.Fid file) (Hex (codes "xyz"))) ∷ gives 4 steady ∷ gives 5 steady ∷ stops ∷ starts_again true comes_up ∷ gives 2 steady ∷ []
+
+changed_behind_a_later_one : Legal (alters 1 to_boot_two (alters 9 (instead (lines.Given 2 ∷ lines.Change (Server 1) (key_of_one 1) 1 ∷ lines.Version (record { fid = file; index = 3; data_version = 3; body = bodies.File (codes "def") }) ∷ [])) (entries (start (script 1)) late_front))) (script 1) → ⊥
 unfolding moved begin_row client_row server_row back_timeout_row wake_row start_row record_bytes head_form volume_form spelled opaque pad word laid_at led name_ok directory_bytes name_bytes rights_of image acl_text digits entry_text directory_of names_at opaque_at word_at counted_at whole_at count_at name_at spelled_at bytes_below
 changed_behind_a_later_one h =
-    let g = h.1.1.1.1.1.1.0.0.0.1.0.1 in
+    let g = h.1.1.1.1.1.1.1.1.1.0.0.0.1.0.1 in
     elim (g.latest (key_of_one 2) (inl (refl, refl)) refl) [
       | inl x ↦ let e : 1 < 1 = x in absurd (omega arith)
       | inr x ↦ let e : 2 < 1 = x.1 in absurd (omega arith)
     ]
 
 -- a server runs a call that is to another boot than its own
-abbrev to_boot_two : Entry → Entry
-to_boot_two e = record e { sent = map (λ (m : Message). record m { head = record m.head { boot = 2 } }) e.sent }
-
 run_in_another_boot : Legal (alters 0 to_boot_two (entries (start (script 1)) (begins 1 (acts.Close (operands.Fid file) (Hex (codes "def"))) ∷ gives 1 steady ∷ []))) (script 1) → ⊥
 unfolding moved begin_row client_row server_row back_timeout_row wake_row start_row record_bytes head_form volume_form spelled opaque pad word laid_at led name_ok directory_bytes name_bytes rights_of image acl_text digits entry_text directory_of names_at opaque_at word_at counted_at whole_at count_at name_at spelled_at bytes_below
 run_in_another_boot h =
@@ -374,33 +375,104 @@ no_room_but_stored h =
       ]
     ]
 
--- ---- the second of two acts that ask the same is answered by the reply to the first, under one key for both
+-- ---- what is fetched is of the running act, and answers it in the entry that reads it
+
+-- a client shows a file by the reply to an older act, while it opens a directory
+abbrev old_reply_front : List Input
+old_reply_front = begins 1 (acts.Open (operands.Fid file)) ∷ gives 1 steady ∷ gives 2 steady ∷ begins 1 (acts.Open (operands.Fid root)) ∷ gives 2 steady ∷ []
+
+read_of_an_old_reply : Legal (alters 4 (instead (lines.Given 2 ∷ shown Fetched ∷ [])) (entries (start (script 1)) old_reply_front)) (script 1) → ⊥
+unfolding moved begin_row client_row server_row back_timeout_row wake_row start_row record_bytes head_form volume_form spelled opaque pad word laid_at led name_ok directory_bytes name_bytes rights_of image acl_text digits entry_text directory_of names_at opaque_at word_at counted_at whole_at count_at name_at spelled_at bytes_below
+read_of_an_old_reply h =
+    let u = h.1.1.1.1.0.0.0.1.0.1.used refl in
+    elim (subst (λ (m : Message). CalledSince (answered_key m.head) (codes "guest") u.call (past_of (set_up (script 1) ∷ []) (entries (start (script 1)) (take 4 old_reply_front)))) (sym (some_of _ _ u.by)) u.called) [
+      | inl x ↦ elim x.1 [ inl y ↦ let e : 2 ≡ 1 = ap (λ (k : Key). k.number) y.0 in absurd (omega (arith, e)) | inr y ↦ y ]
+      | inr x ↦ let e : true ≡ false = x.0 in absurd cc
+    ]
+
+-- a client opens a file, and tells so only when the reply comes again
+answered_behind_its_read : Legal (alters 2 (instead (lines.Given 2 ∷ shown Fetched ∷ [])) (alters 3 (instead (lines.Given 2 ∷ answer 1 ∷ [])) (entries (start (script 1)) (begins 1 (acts.Open (operands.Fid file)) ∷ gives 1 steady ∷ gives 2 steady ∷ gives 2 steady ∷ [])))) (script 1) → ⊥
+unfolding moved begin_row client_row server_row back_timeout_row wake_row start_row record_bytes head_form volume_form spelled opaque pad word laid_at led name_ok directory_bytes name_bytes rights_of image acl_text digits entry_text directory_of names_at opaque_at word_at counted_at whole_at count_at name_at spelled_at bytes_below
+answered_behind_its_read h =
+    let g = h.1.1.1.0.0.0.1.0.1 in
+    elim g.cause [
+      | inl x ↦ subst (λ (a : Going). EndsAct (next a)) (sym (some_of _ _ g.runs)) (x.ends refl)
+      | inr y ↦ elim y [
+        | inl x ↦ elim x.last [ inl z ↦ let e : false ≡ true = z.0 in absurd cc | inr u ↦ let e : false ≡ true = u.1 in absurd cc ]
+        | inr z ↦ elim z [
+          | inl x ↦ let e : pos 0 ≡ negsuc 0 = x.is in absurd cc
+          | inr x ↦ let e : false ≡ true = x.begun in absurd cc
+        ]
+      ]
+    ]
+
+-- ---- a server runs a dead call behind a later one of its client, in one boot, and refuses it
+
+abbrev refusal_of_one : Message
+refusal_of_one = record { head = record { half = halves.Reply; from = Server 1; to = Client 1; epoch = 1; number = 1; boot = 1; stamp = 0; opcode = 130 }; carried = carried.Refusal (record { 0 = pos 13 }) }
+
+abbrev old_front : List Input
+old_front = begins 1 (acts.Open (operands.Fid file)) ∷ waits 1 ∷ waits 1 ∷ waits 1 ∷ begins 1 (acts.Open (operands.Fid file)) ∷ gives 4 steady ∷ gives 1 steady ∷ []
+
+-- what that says of the entry that ran it
+record RanOne (e : Entry) (older : List Entry) : Type 0 where
+  message : Message
+  given : given_message e.lines (sent_of older) ≡ Some message
+  key : called_key message.head ≡ key_of_one 1
+  first : IsToCome (Server 1) (key_of_one 1) 1 older
+
+ran_one : (past : List Entry) → Ran refusal_of_one.head past → Among RanOne past
+ran_one past r = subst (Among RanOne) (sym r.split) (is_among RanOne r.newer r.at r.older (record { message = r.message; given = r.given; key = r.key; first = r.first }))
+
+was_given_none : (e : Entry) (older : List Entry) → given_message e.lines (sent_of older) ≡ None → RanOne e older → ⊥
+was_given_none e older none x = let no_ : None ≡ Some x.message = sym none ∙ x.given in absurd cc
+
+was_given_another : (e : Entry) (older : List Entry) (m : Message) → given_message e.lines (sent_of older) ≡ Some m → m.head.number ≡ 2 → RanOne e older → ⊥
+was_given_another e older m at two x = let no_ : 2 ≡ 1 = sym two ∙ (ap (λ (q : Message). q.head.number) (some_of m x.message (sym at ∙ x.given)) ∙ ap (λ (k : Key). k.number) x.key) in absurd (omega (arith, no_))
+
+ran_behind_a_later_one : Legal (alters 6 (λ e. record e { sent = refusal_of_one ∷ [] }) (entries (start (script 1)) old_front)) (script 1) → ⊥
+unfolding moved begin_row client_row server_row back_timeout_row wake_row start_row record_bytes head_form volume_form spelled opaque pad word laid_at led name_ok directory_bytes name_bytes rights_of image acl_text digits entry_text directory_of names_at opaque_at word_at counted_at whole_at count_at name_at spelled_at bytes_below
+ran_behind_a_later_one h =
+    elim (ran_one _ (h.1.1.1.1.1.1.0.1.1.0 1 1 (refl, tt) refl refl)) [
+      | inl x ↦ x.first.0 ((tt, refl), ((refl, inr (refl, omega arith)), refl))
+      | inr y ↦ elim y [
+        | inl x ↦ was_given_another _ _ _ refl refl x
+        | inr z ↦ elim z [
+          | inl x ↦ was_given_none _ _ refl x
+          | inr w ↦ elim w [
+            | inl x ↦ was_given_none _ _ refl x
+            | inr v ↦ elim v [
+              | inl x ↦ was_given_none _ _ refl x
+              | inr u ↦ elim u [
+                | inl x ↦ was_given_none _ _ refl x
+                | inr t ↦ elim t [ inl x ↦ was_given_none _ _ refl x | inr r ↦ elim r [ inl x ↦ was_given_none _ _ refl x | inr q ↦ q ] ]
+              ]
+            ]
+          ]
+        ]
+      ]
+    ]
+
+-- ---- the second of two acts that ask the same sends its call under the key of the first, whose reply would answer it
 
 abbrev twice_front : List Input
-twice_front = begins 1 (acts.Close (operands.Fid file) (Hex (codes "def"))) ∷ gives 1 steady ∷ gives 2 steady ∷ begins 1 (acts.Close (operands.Fid file) (Hex (codes "def"))) ∷ gives 2 steady ∷ []
+twice_front = begins 1 (acts.Close (operands.Fid file) (Hex (codes "def"))) ∷ gives 1 steady ∷ gives 2 steady ∷ begins 1 (acts.Close (operands.Fid file) (Hex (codes "def"))) ∷ []
 
 abbrev under_the_old_key : Entry → Entry
 under_the_old_key e = record e { sent = map (λ (m : Message). record m { head = record m.head { number = 1 } }) e.sent }
 
--- no act begins behind the entry that ran the call
-begins_behind : (n : Node) (e : Entry) (past newer : List Entry) (at : Entry) (older : List Entry) → has_begun n e.lines ≡ true → e ∷ past ≡ newer ++ (at ∷ older) → AreWithin n (newer ++ at ∷ []) → ⊥
-begins_behind n e past [] at older begun split w = let one : e ≡ at = cc in let no_ : true ≡ false = sym begun ∙ (ap (λ (x : Entry). has_begun n x.lines) one ∙ w.0) in absurd cc
-begins_behind n e past (x ∷ newer) at older begun split w = let one : e ≡ x = cc in let no_ : true ≡ false = sym begun ∙ (ap (λ (y : Entry). has_begun n y.lines) one ∙ w.0) in absurd cc
-
-answered_by_an_older_act : Legal (alters 3 under_the_old_key (alters 4 (instead (lines.Given 2 ∷ answer 1 ∷ [])) (entries (start (script 1)) twice_front))) (script 1) → ⊥
+asked_under_an_old_key : Legal (alters 3 under_the_old_key (entries (start (script 1)) twice_front)) (script 1) → ⊥
 unfolding moved begin_row client_row server_row back_timeout_row wake_row start_row record_bytes head_form volume_form spelled opaque pad word laid_at led name_ok directory_bytes name_bytes rights_of image acl_text digits entry_text directory_of names_at opaque_at word_at counted_at whole_at count_at name_at spelled_at bytes_below
-answered_by_an_older_act h =
-    let g = h.1.1.1.1.0.0.0.1.0.1 in
-    elim g.cause [
-      | inl x ↦ begins_behind (Client 1) _ _ _ _ _ refl x.cause.ran.split x.lately
-      | inr y ↦ elim y [
-        | inl x ↦ no_answer_call _ x.number (ap next (some_of _ _ g.runs) ∙ x.by)
-        | inr z ↦ elim z [
-          | inl x ↦ let e : pos 0 ≡ negsuc 0 = x.is in absurd cc
-          | inr x ↦ let e : true ≡ false = sym x.begun in absurd cc
-        ]
-      ]
-    ]
+asked_under_an_old_key h = let e : false ≡ true = h.1.1.1.0.0.1.0.key in absurd cc
+
+-- ---- a client sends a call in another's name
+
+abbrev in_the_name_of_two : Entry → Entry
+in_the_name_of_two e = record e { sent = map (λ (m : Message). record m { head = record m.head { from = Client 2 } }) e.sent }
+
+sent_in_another_name : Legal (alters 0 in_the_name_of_two (entries (start (script 2)) (begins 1 (acts.Open (operands.Fid file)) ∷ []))) (script 2) → ⊥
+unfolding moved begin_row client_row server_row back_timeout_row wake_row start_row record_bytes head_form volume_form spelled opaque pad word laid_at led name_ok directory_bytes name_bytes rights_of image acl_text digits entry_text directory_of names_at opaque_at word_at counted_at whole_at count_at name_at spelled_at bytes_below
+sent_in_another_name h = let e : actors.Node (Client 1) ≡ actors.Node (Client 2) = h.0.0.1.0.sender in absurd cc
 
 -- ---- a call is dead at its third timeout
 
@@ -486,7 +558,18 @@ read_when_gone h = h.1.1.1.1.1.1.1.0.0.0.1.0.1.whole.0
 -- a client tells its server that it gives a promise back, and goes on holding what it was promised
 gave_back_and_kept : Legal (alters 3 (λ e. record e { lines = lines.Begin (Client 1) acts.GiveUp ∷ [] }) (entries (start (script 1)) (begins 1 (acts.Open (operands.Fid file)) ∷ gives 1 steady ∷ gives 2 steady ∷ begins 1 acts.GiveUp ∷ []))) (script 1) → ⊥
 unfolding moved begin_row client_row server_row back_timeout_row wake_row start_row record_bytes head_form volume_form spelled opaque pad word laid_at led name_ok directory_bytes name_bytes rights_of image acl_text digits entry_text directory_of names_at opaque_at word_at counted_at whole_at count_at name_at spelled_at bytes_below
-gave_back_and_kept h = h.1.1.1.0.0.1.0.1.0
+gave_back_and_kept h = h.1.1.1.0.0.1.0.gift.0
+
+-- a client drops a file, fetches it anew, and gives back what it was promised by that: it would be owed nothing, and show it for long
+abbrev open_front : List Input
+open_front = begins 1 (acts.Open (operands.Fid file)) ∷ gives 1 steady ∷ gives 2 steady ∷ []
+
+abbrev gift : Message
+gift = record { head = record { half = halves.Call; from = Client 1; to = Server 1; epoch = 1; number = 2; boot = 1; stamp = 0; opcode = 147 }; carried = carried.Call (codes "guest") (ask.File (calls.GiveUpCallBacks (file ∷ []) [])) }
+
+gave_back_what_is_new : Legal (alters 0 (λ e. record e { lines = begun 1 ∷ lines.Drop (Client 1) file ∷ [] }) (alters 2 (λ e. record e { lines = lines.Given 2 ∷ shown Fetched ∷ []; sent = gift ∷ [] }) (entries (start (script 1)) open_front))) (script 1) → ⊥
+unfolding moved begin_row client_row server_row back_timeout_row wake_row start_row record_bytes head_form volume_form spelled opaque pad word laid_at led name_ok directory_bytes name_bytes rights_of image acl_text digits entry_text directory_of names_at opaque_at word_at counted_at whole_at count_at name_at spelled_at bytes_below
+gave_back_what_is_new h = h.1.1.0.0.1.0.gift.0
 
 -- ---- an entry is given one message
 

@@ -1,4 +1,5 @@
 -- What becomes of the breaks that a server owes.
+use Rattle.afs_model.specs.Calls.{pair_below}
 use Rattle.std.specs.Prelude.{◌≡◌, ℕ, ◌+◌, ◌≤◌, List, [], ◌∷◌, ◌++◌, Bool, cond, nat_eq, not, ◌&&◌, Option, Some, None, ◌⊎◌, true, false, if◌then◌else◌}
 use Rattle.afs_num.specs.declared.histories.Actor.{Actor}
 use Rattle.afs_num.specs.declared.histories.Actor.TheVariants as actors
@@ -100,24 +101,25 @@ abbrev pub is_entry_of : Node → Actor → Bool
 is_entry_of s (actors.Node n) = same_node n s
 is_entry_of s a = false
 
--- whether a message is a call to this callee under this key, to this boot
+-- whether a message is a call to this callee, to this boot, by the key's node: under this key or a later one
 abbrev pub is_call : Carried → Bool
 is_call (carried.Call user call) = true
 is_call c = false
 
-abbrev pub is_call_under : Node → Key → ℕ → Option Message → Bool
-is_call_under s k boot None = false
-is_call_under s k boot (Some m) = (is_call m.carried && same_node m.head.to s) && (same_key (called_key m.head) k && nat_eq m.head.boot boot)
+abbrev pub is_call_from : Node → Key → ℕ → Option Message → Bool
+is_call_from s k boot None = false
+is_call_from s k boot (Some m) = (is_call m.carried && same_node m.head.to s) && ((same_node m.head.from k.node && not (pair_below m.head.epoch m.head.number k.epoch k.number)) && nat_eq m.head.boot boot)
 
-abbrev pub is_unheard : Node → Key → ℕ → List Entry → Bool
-is_unheard s k boot [] = true
-is_unheard s k boot (e ∷ past) = not (is_call_under s k boot (given_message e.lines (sent_of past))) && is_unheard s k boot past
+-- whether the callee wasn't given it yet in that boot, and no later one of its node
+abbrev pub is_to_come : Node → Key → ℕ → List Entry → Bool
+is_to_come s k boot [] = true
+is_to_come s k boot (e ∷ past) = not (is_call_from s k boot (given_message e.lines (sent_of past))) && is_to_come s k boot past
 
 -- the fids of the message that this entry of the server was given, and answers: it was the first that was given its key in its
--- boot, for a reply that is sent again drops nothing
+-- boot, before any later call of its node, for a reply that is sent again drops nothing, and an old call isn't run
 abbrev pub returned_in : Node → Entry → Option Message → List Entry → List Line
 returned_in s e None past = []
-returned_in s e (Some m) past = returned_by s (is_entry_of s e.actor && (is_unheard s (called_key m.head) m.head.boot past && has_answer (called_key m.head) e.sent)) m.head m.carried
+returned_in s e (Some m) past = returned_by s (is_entry_of s e.actor && (is_to_come s (called_key m.head) m.head.boot past && has_answer (called_key m.head) e.sent)) m.head m.carried
 
 abbrev pub lines_at : Node → List Entry → List Line
 lines_at s [] = []

@@ -22,11 +22,11 @@ use Rattle.afs_ideal.specs.Told.{Agrees}
 use Rattle.afs_ideal.specs.Volumes.{Volume}
 use Rattle.afs_law.specs.Grants.{since, IsOutstanding, fetch_reply}
 use Rattle.afs_law.specs.Ideal.{user_of, versions_in, volume_after, set_up, IsLast}
-use Rattle.afs_law.specs.Legal.{HasChangeBy, GoodRead, HasChange, Legal, Cause}
+use Rattle.afs_law.specs.Legal.{IsCaused, HasChangeBy, GoodRead, HasChange, Legal, Cause}
 use Rattle.afs_history.specs.declared.lines.Line.{Line}
 use Rattle.afs_law.specs.Once.{past_of, ChangesOnce}
 use Rattle.afs_law.specs.OneServer.{IsOneServer}
-use Rattle.afs_law.specs.Past.{CalledSince, HasCode, IsCall, lines_of, onto, running, IsUnheard, called_key, answered_key, Ran}
+use Rattle.afs_law.specs.Past.{AreWithin, IsUpTo, CalledSince, HasCode, IsCall, lines_of, onto, running, IsUnheard, called_key, answered_key, Ran}
 use Rattle.afs_rows.specs.Runs.{message_at, Leads, start, Input, Entry, Cell, RunsTo, Host, first_lasting, first_stored, volumes_at}
 use Rattle.afs_rows.specs.ServerRow.{Change, is_client, lasting_after, lasting_started, record_of, serves, runs, refuses, not_served, whole, is_client, no_room, key_of, made, versioned}
 use Rattle.afs_rows.specs.States.{CacheEntry, Seat, Lasting, durable_of, volume_in, ServerState, BackCall}
@@ -70,10 +70,6 @@ pub record IsHeld (id : ℕ) (volumes : Table Stored) (past : List Entry) : Type
 
 abbrev pub VolumesAreTold : Type 0
 VolumesAreTold = (s : Script) (history : List Entry) (end : Cell) → IsOneServer s → RunsTo history s end → (id : ℕ) → IsHeld id (end.hosts 1).state.lasting.volumes (past_of (set_up s ∷ []) history)
-
--- a pair of epoch and number is not above another
-abbrev pub IsUpTo : ℕ → ℕ → ℕ → ℕ → Type 0
-IsUpTo epoch number d m = (epoch < d) ⊎ ((epoch ≡ d) × (number ≤ m))
 
 abbrev pub IsKnownTo : ClientState → Head → Type 0
 IsKnownTo c head = IsUpTo head.epoch head.number c.epoch c.last
@@ -127,6 +123,11 @@ abbrev pub AcknowledgedAreMade : Type 0
 AcknowledgedAreMade =
     (s : Script) (history before after : List Entry) (e : Entry) (first rest : List Line) (c : Node) (code : Code) (act : Going) → Legal history s → history ≡ before ++ (e ∷ after) → e.lines ≡ first ++ lines.Answer c code ∷ rest
     → running s c (onto [] first ++ lines_of (past_of (set_up s ∷ []) before)) ≡ Some act → IsChangingAct act.act → code.0 ≡ pos 0 → IsMade c (past_of (set_up s ∷ []) before) (onto [] first)
+
+-- Behind a legal history, where a reply is the cause of a client's answer, its server ran the call since the act began
+abbrev pub AnswersAreRecent : Type 0
+AnswersAreRecent =
+    (s : Script) (history : List Entry) → Legal history s → (j : ℕ) (act : Going) (code : ℤ) (own : List Line) (x : IsCaused s (Client j) act code (past_of (set_up s ∷ []) history) own) → AreWithin (Client j) (x.cause.ran.newer ++ x.cause.ran.at ∷ [])
 
 -- a server tells that a call isn't served exactly where its caller is no client, or its opcode none of those that it serves
 abbrev pub UnservedAreRefused : Type 0

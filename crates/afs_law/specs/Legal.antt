@@ -1,5 +1,6 @@
+use Rattle.afs_num.specs.Fids.{same_fid}
 use Rattle.afs_rows.specs.ServerRow.{promise_ticks}
-use Rattle.std.specs.Prelude.{◌+◌, Bool, true, ◌≡◌, ℕ, ◌≤◌, ◌<◌, List, [], ◌∷◌, ◌++◌, false, Option, Some, None, ℤ, pos, negsuc, length, ⊤, ◌⊎◌, if◌then◌else◌}
+use Rattle.std.specs.Prelude.{◌&&◌, ◌+◌, Bool, true, ◌≡◌, ℕ, ◌≤◌, ◌<◌, List, [], ◌∷◌, ◌++◌, false, Option, Some, None, ℤ, pos, negsuc, length, ⊤, ◌⊎◌, if◌then◌else◌}
 use Rattle.afs_num.specs.Nodes.{same_node}
 use Rattle.afs_num.specs.declared.types.Code.{Code}
 use Rattle.afs_num.specs.declared.types.Fid.{Fid}
@@ -18,7 +19,7 @@ use Rattle.afs_rows.specs.Going.{Going, Need, answers, asks_for, next, asked, gi
 use Rattle.afs_law.specs.Grants.{is_promised, read_reply, GrantOf, since, until, IsWithdrawn, IsDropped}
 use Rattle.afs_law.specs.Ideal.{last_version, Unless, set_up, IsLast, WasLast, HasBeen, HasVersion, Accepts, clock_of, user_of, seen, change_in, change_key, call_under, volume_after}
 use Rattle.afs_history.specs.declared.lines.Line.{Line}
-use Rattle.afs_law.specs.Past.{is_of_act, AreWithin, lines_of, sent_of, given_message, answered_key, code_told, IsReply, running, has_begun, has_given, Called, CalledSince, IsCallUnder, IsUnheard, Ran, server_boot}
+use Rattle.afs_law.specs.Past.{is_late, called_key, IsToCome, is_of_act, lines_of, sent_of, given_message, answered_key, code_told, IsReply, running, has_begun, has_given, Called, CalledSince, IsCallUnder, Ran, server_boot}
 use Rattle.afs_rows.specs.Runs.{Entry}
 use Rattle.afs_history.specs.declared.scripts.Script.{Script}
 use Rattle.afs_num.specs.declared.histories.Actor.{Actor}
@@ -49,6 +50,12 @@ pub record HasAct (s : Script) (c : Node) (past : List Entry) (own : List Line) 
 abbrev pub IsAtOnce : Node → List Line → Type 0
 IsAtOnce c own = (has_begun c own ≡ true) × (has_given own ≡ false)
 
+-- the client read something in these lines
+abbrev pub has_read : Node → List Line → Bool
+has_read c [] = false
+has_read c (lines.Read m f index source body ∷ own) = if same_node m c then true else has_read c own
+has_read c (l ∷ own) = has_read c own
+
 -- the entry was given a reply with code 0, to a call that the client sent since its act began, which was in an entry before
 pub record HasUsed (s : Script) (c : Node) (past : List Entry) (own : List Line) : Type 0 where
   pub reply : Message
@@ -77,10 +84,12 @@ Shows f index (shows.Contents body) past own = IsThere body × HasVersion f inde
 Shows f index body past own = HasIndex f index (own ++ lines_of past) × HasBeen f index body past
 
 -- a read is whole: it shows a version; it is not older than any that the client has seen; and it is the newest unless its
--- grant, which lasts, was not given up, and came from a server that accepted stores of the volume, was withdrawn
+-- grant, which lasts, was not given up, and came from a server that accepted stores of the volume, was withdrawn. One that was
+-- fetched just now is of a reply to a call of the running act
 pub record GoodRead (s : Script) (c : Node) (f : Fid) (index : ℕ) (source : ReadSource) (body : ReadBody) (past : List Entry) (own : List Line) : Type 0 where
   pub whole : Shows f index body past own
   pub not_older : seen c f past own ≤ index
+  pub used : source ≡ Fetched → HasUsed s c past own
   pub reply : Message
   pub by : read_reply c f source past own ≡ Some reply
   pub expiry : ℕ
@@ -151,12 +160,13 @@ abbrev pub AreFailed : Node → List Entry → Type 0
 AreFailed s [] = ⊤
 AreFailed s (e ∷ past) = (e.actor ≡ actors.Node s → e.lines ≡ lines.Fault s ∷ []) × AreFailed s past
 
--- this entry was given a call of the key to the server and to the boot in which that is, the first in that boot
+-- this entry was given a call of the key to the server and to the boot in which that is, the first in that boot, and before any
+-- later call of its node
 pub record RunsHere (server : Node) (k : Key) (past : List Entry) (own : List Line) : Type 0 where
   pub boot : ℕ
   pub up : server_boot server (lines_of past) ≡ Some boot
   pub given : IsCallUnder server k boot (given_message own (sent_of past))
-  pub first : IsUnheard server k boot past
+  pub first : IsToCome server k boot past
 
 -- the server stopped in the entry that was given it; and this one is the restart that finds what that step left, which it tells
 -- first
@@ -312,8 +322,8 @@ EndsAct gives_back = ⊤
 EndsAct need = ⊥
 
 -- the reply that the answer's entry was given is the cause of the code, and its call is one of this very act: the client
--- sent it for its user, and its server ran it, since the act began, which was in an entry before. The code is 0 only where the act
--- ends with this call
+-- sent it for its user since the act began, which was in an entry before. (So its server ran it since then, for no act before used
+-- its key.) The code is 0 only where the act ends with this call
 pub record IsCaused (s : Script) (c : Node) (act : Going) (code : ℤ) (past : List Entry) (own : List Line) : Type 0 where
   pub reply : Message
   pub by : given_message own (sent_of past) ≡ Some reply
@@ -322,16 +332,15 @@ pub record IsCaused (s : Script) (c : Node) (act : Going) (code : ℤ) (past : L
   pub own_user : cause.user ≡ user_of s c
   pub before : has_begun c own ≡ false
   pub called : CalledSince (answered_key reply.head) cause.user cause.call past
-  pub lately : AreWithin c (cause.ran.newer ++ cause.ran.at ∷ [])
   pub ends : code ≡ pos 0 → EndsAct (next act)
 
 -- the act needs no more, and answers so by its read lines; it began in this entry, which was given nothing, or the entry was
--- given a reply with code 0 to its call
+-- given a reply with code 0 to its call, and read what was wanting
 pub record IsDone (s : Script) (c : Node) (act : Going) (code : ℤ) (past : List Entry) (own : List Line) : Type 0 where
   pub number : ℕ
   pub is : code ≡ pos number
   pub by : next act ≡ answers number
-  pub last : IsAtOnce c own ⊎ HasUsed s c past own
+  pub last : IsAtOnce c own ⊎ (HasUsed s c past own × (has_read c own ≡ true))
 
 -- a call of this very act was timed out for the third time in this entry, and twice before: it is dead
 pub record IsDead (s : Script) (c : Node) (act : Going) (code : ℤ) (past : List Entry) (own : List Line) : Type 0 where
@@ -369,18 +378,19 @@ pub record GoodCode (s : Script) (c : Node) (code : Code) (past : List Entry) (o
 
 -- ---- messages that are sent
 
--- the client dropped the fid since it last began an act, by these lines, the newest first
+-- the client dropped the fid since it last began an act, and fetched nothing of it since, by these lines, the newest first
 abbrev pub HasDropped : Node → Fid → List Line → Type 0
 HasDropped c f [] = ⊥
 HasDropped c f (lines.Drop m g ∷ older) = ((m ≡ c) × (g ≡ f)) ⊎ HasDropped c f older
 HasDropped c f (lines.Begin m act ∷ older) = Unless (same_node m c) (HasDropped c f older)
+HasDropped c f (lines.Read m g index Fetched body ∷ older) = Unless (is_promised body && (same_node m c && same_fid g f)) (HasDropped c f older)
 HasDropped c f (l ∷ older) = HasDropped c f older
 
 abbrev pub AreDropped : Node → List Fid → List Line → Type 0
 AreDropped c [] ls = ⊤
 AreDropped c (f ∷ fs) ls = HasDropped c f ls × AreDropped c fs ls
 
--- who tells that promises are given back dropped each of their fids in the same act
+-- who tells that promises are given back dropped each of their fids in the same act, and was promised none anew
 abbrev pub GoodGift : Head → Carried → List Line → Type 0
 GoodGift head (carried.Call user (ask.File (calls.GiveUpCallBacks fids callbacks))) ls = AreDropped head.from fids ls
 GoodGift head c ls = ⊤
@@ -391,9 +401,31 @@ abbrev pub GoodReply : List Entry → Message → Type 0
 GoodReply past m = IsReply m → code_told m.carried ≡ Some (pos 0) → (i : ℕ) → m.head.from ≡ Server i
     → (AllOwes m.head.from (EndedOf m.head.from (answered_key m.head) (clock_of (lines_of past))) past × (HasChange (answered_key m.head) (lines_of past) → AllOwes m.head.from (EndedAll m.head.from (clock_of (lines_of past))) past)) × (server_boot m.head.from (lines_of past) ≡ None → ⊥)
 
+-- the newest of these entries is this node's
+abbrev pub IsBy : Node → List Entry → Type 0
+IsBy n [] = ⊥
+IsBy n (e ∷ past) = e.actor ≡ actors.Node n
+
+-- a client gives its call a key that no act before the one that it began last used
+abbrev pub HasOwnKey : Node → Key → List Entry → Type 0
+HasOwnKey (Client j) k past = is_late (Client j) k past ≡ true
+HasOwnKey n k past = ⊤
+
+abbrev pub GoodCall : Head → Carried → List Entry → Type 0
+GoodCall head (carried.Call user call) past = HasOwnKey head.from (called_key head) past
+GoodCall head c past = ⊤
+
+-- A message is sent by the node that it names, in the entry with which `past` begins. A reply of a server waits for its breaks, what
+-- a call gives back was dropped, and a client's call has a key of its own act
+pub record GoodMessage (past : List Entry) (m : Message) : Type 0 where
+  pub sender : IsBy m.head.from past
+  pub reply : GoodReply past m
+  pub gift : GoodGift m.head m.carried (lines_of past)
+  pub key : GoodCall m.head m.carried past
+
 abbrev pub AreGoodSent : List Entry → List Message → Type 0
 AreGoodSent past [] = ⊤
-AreGoodSent past (m ∷ ms) = (GoodReply past m × GoodGift m.head m.carried (lines_of past)) × AreGoodSent past ms
+AreGoodSent past (m ∷ ms) = GoodMessage past m × AreGoodSent past ms
 
 -- what is sent as a server's reply to a client is that of the entry which ran its call: one before, or the one that sends it
 abbrev pub AreRan : List Entry → List Message → Type 0

@@ -1,4 +1,4 @@
-use Rattle.std.specs.Prelude.{not, ◌≡◌, ℕ, List, [], ◌∷◌, ◌++◌, Bool, true, false, ◌&&◌, Option, Some, None, ℤ, pos, nat_eq, if◌then◌else◌, ⊤, ◌⊎◌}
+use Rattle.std.specs.Prelude.{◌<◌, ◌≤◌, not, ◌≡◌, ℕ, List, [], ◌∷◌, ◌++◌, Bool, true, false, ◌&&◌, Option, Some, None, ℤ, pos, nat_eq, if◌then◌else◌, ⊤, ◌⊎◌}
 use Rattle.afs_num.specs.Nodes.{same_node}
 use Rattle.afs_num.specs.declared.types.Head.{Head}
 use Rattle.afs_num.specs.declared.types.Key.{Key}
@@ -174,8 +174,23 @@ abbrev pub IsUnheard : Node → Key → ℕ → List Entry → Type 0
 IsUnheard s k boot [] = ⊤
 IsUnheard s k boot (e ∷ past) = (IsCallUnder s k boot (given_message e.lines (sent_of past)) → ⊥) × IsUnheard s k boot past
 
+-- a pair of epoch and number is not above another
+abbrev pub IsUpTo : ℕ → ℕ → ℕ → ℕ → Type 0
+IsUpTo epoch number d m = (epoch < d) ⊎ ((epoch ≡ d) × (number ≤ m))
+
+-- a call to this callee, to this boot, by the key's node: under this key or a later one
+abbrev pub IsCallFrom : Node → Key → ℕ → Option Message → Type 0
+IsCallFrom s k boot None = ⊥
+IsCallFrom s k boot (Some m) = (IsCall m.carried × (m.head.to ≡ s)) × (((m.head.from ≡ k.node) × IsUpTo k.epoch k.number m.head.epoch m.head.number) × (m.head.boot ≡ boot))
+
+-- the callee wasn't given it yet in that boot, and no later one of its node
+abbrev pub IsToCome : Node → Key → ℕ → List Entry → Type 0
+IsToCome s k boot [] = ⊤
+IsToCome s k boot (e ∷ past) = (IsCallFrom s k boot (given_message e.lines (sent_of past)) → ⊥) × IsToCome s k boot past
+
 -- The past, split at the entry that ran the call which this is the reply to: the callee's first that was given it, in
--- the boot that the reply tells. A later one finds the kept reply, and a callee runs no call to another boot.
+-- the boot that the reply tells, and before any later call of that node. A later entry finds the kept reply, and a callee runs
+-- no call to another boot.
 pub record Ran (reply : Head) (past : List Entry) : Type 0 where
   pub newer : List Entry
   pub at : Entry
@@ -188,4 +203,4 @@ pub record Ran (reply : Head) (past : List Entry) : Type 0 where
   pub boot : message.head.boot ≡ reply.boot
   pub callee : message.head.to ≡ reply.from
   pub node : at.actor ≡ actors.Node message.head.to
-  pub first : IsUnheard reply.from (answered_key reply) reply.boot older
+  pub first : IsToCome reply.from (answered_key reply) reply.boot older
