@@ -1,4 +1,5 @@
 pub mod Admitting
+pub mod Again
 pub mod Codes
 pub mod Counting
 pub mod Decisions

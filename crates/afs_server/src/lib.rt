@@ -10,6 +10,7 @@ mod ending;
 pub mod faults;
 mod handling;
 mod hearing;
+pub mod laws;
 mod node;
 mod putting;
 mod restoring;
