@@ -38,6 +38,8 @@ use Rattle.afs_volume.proofs.Soundly.{volume_sound}
 use Rattle.afs_server.specs.Deciding.{granted_in, CanBeTold, ChangesAs, Decides, FitsDecided, IsReading, ReadsAs}
 use Rattle.afs_server.specs.declared.decided.Decided.{Decided}
 use Rattle.afs_server.proofs.Codes.{op_code}
+use Rattle.afs_server.proofs.Counting.{change_counted}
+use Rattle.afs_server.proofs.Retold.{change_told}
 use Rattle.afs_server.proofs.Spelled.{fits_within}
 use Rattle.afs_server.proofs.Stamped.{told_times}
 use Rattle.afs_server.proofs.Written.{can_be_written}
@@ -193,6 +195,8 @@ module _ (s : ServerState) (clock : ℕ) (head : Head) (caller : Caller) (w : Vo
                   sym (told_times w.head.id clock caller call (stored_of w) es n sound (is_on call w.head.id on) applies.1.1.0)
                   ∙ (ap (λ (vs : List Version). change_reply w.head.id caller (stamped clock vs (durable.time_in (stored_of w))) (after w es n) n call) (sym changed.versions)
                   ∙ subst (λ (t : Fid → ℕ). change_reply w.head.id caller (stamped clock x.versions t) (after w es n) n call ≡ Some x.reply) (same_times w) applies.1.1.1.1.0);
+              told = change_told w caller call clock es n x sound (is_on call w.head.id on) applies.1.1.0 changed applies.1.1.1.1.1;
+              counted = change_counted w caller call clock es n x sound (is_on call w.head.id on) applies.1.1.0 changed;
             },
             ap (decided s clock head caller call w.head.id (stored_of w)) applies.1.1.0,
           ),

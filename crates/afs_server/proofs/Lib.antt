@@ -1,9 +1,11 @@
 pub mod Admitting
 pub mod Again
 pub mod Codes
+pub mod Counting
 pub mod Decisions
 pub mod Drawing
 pub mod Drawn
+pub mod Effects
 pub mod Folded
 pub mod Granting
 pub mod Handled
@@ -12,8 +14,10 @@ pub mod Holding
 pub mod Kept
 pub mod Lasting
 pub mod Making
+pub mod Outcomes
 pub mod Placed
 pub mod Repeating
+pub mod Retold
 pub mod Saved
 pub mod Roomed
 pub mod Saves

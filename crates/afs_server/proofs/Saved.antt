@@ -18,6 +18,7 @@ use Rattle.afs_breaks.specs.declared.types.OwedBreak.{OwedBreak}
 use Rattle.afs_ideal.specs.Operations.{Found}
 use Rattle.afs_ideal.specs.Tables.{get}
 use Rattle.afs_records.specs.Durable.{folded, time_in, Durable}
+use Rattle.afs_records.specs.Records.{FitsRecord}
 use Rattle.afs_rows.specs.Callbacks as row
 use Rattle.afs_rows.specs.Callbacks.{alls, fids_found, grants_found, new_owes, numbers, owe_line, pumped, turn_for, withdraws_all}
 use Rattle.afs_rows.specs.ServerRow.{change_reply_to, does, granted, granted_in, key_of, made, result, record_of, saved, saves, stored_by, versioned, Change}
@@ -33,11 +34,12 @@ use Rattle.afs_server.specs.Answering.{answer_turn, with_lists}
 use Rattle.afs_server.specs.Deciding.{IsMade}
 use Rattle.afs_server.specs.Ending.{Ends}
 use Rattle.afs_server.specs.Handling.{server_seen, Makes}
-use Rattle.afs_server.specs.Putting.{IsMadeOf}
+use Rattle.afs_server.specs.Putting.{IsMadeOf, TellsAgain}
 use Rattle.afs_server.specs.Saving.{breaks_new, change_kept, change_lines, fids_changed, fids_granted, hits_each, new_grants, reply_told, withdraws_each, IsPlanned, IsPut, IsTaken}
 use Rattle.afs_server.specs.Seen.{backs_seen, lasting_of, AreToNodes, IsPromiseToNode, KeepsForNodes, Memory, Serves}
 use Rattle.afs_server.specs.declared.ending.Ended.{Ended}
 use Rattle.afs_server.specs.declared.saving.Planned.{Planned}
+use Rattle.afs_server.proofs.Effects.{told_again}
 use Rattle.afs_server.proofs.Folded.{durable_saved, folds, lasting_left, record_is, reply_is, set_to_nodes}
 use Rattle.afs_server.proofs.Granting.{granted_to_nodes, lines_granted}
 use Rattle.afs_server.proofs.Lasting.{lasting_promised, lasting_to_nodes}
@@ -143,6 +145,11 @@ module _ {D : Type 0} (clock id : ℕ) (head : Head) (c : Change) (x : made_of.C
         calls = subst (λ (n : Node). AreGoodCalls n new.callees) (sym me) (subst (AreGoodCalls s.node) (sym taken.callees) plan.good);
       }
 
+  pub effects_as : get id s.durable.volumes ≡ Some c.before → IsMade clock id c x → IsPlanned s.node s.durable.boot s.drawn clock head id x old p → TellsAgain clock (saves head c) old s
+  effects_as there is plan r recorded =
+      told_again s.node clock id head c x p.kept (server_seen old s) s.durable r there is (subst FitsRecord plan.rec plan.fits)
+      (sym (record_is s.durable.boot clock id head c x p.kept is (spells_reply is plan)) ∙ some_is _ r recorded)
+
   pub saved_made : (outs : Outs) → get id s.durable.volumes ≡ Some c.before → clock ≤ 1000000000 → IsMade clock id c x → IsNode head.from → Serves s.node old s.durable → IsPlanned s.node s.durable.boot s.drawn clock head id x old p → IsTaken head clock p old new →
       IsPut p s t → outs ≡ p.ended.outs → IsMadeOf clock (saves head c) (turn_for s.node (server_seen old s) clock (row.expired clock (server_seen old s).backs) (saves head c)) old new s t outs
   saved_made outs there small is node serves plan taken put given =
@@ -165,6 +172,7 @@ module _ {D : Type 0} (clock id : ℕ) (head : Head) (c : Change) (x : made_of.C
             let count = sym (ap (λ (u : Store D). u.count) put.store) in
             let drawn = sym (ap (λ (u : Store D). u.drawn) put.store) in
             put.store ∙ (λ i. record s { durable = t.durable; disk = t.disk; prepared = prepared i; count = count i; drawn = drawn i });
+        effects = effects_as there is plan;
         done = (ap (λ (r : StoreRecord). folded r s.durable) (record_is s.durable.boot clock id head c x p.kept is (spells_reply is plan)) ∙ folds_as plan put, ap (λ (u : Store D). u.count) put.store);
         few = tt;
       }

@@ -26,7 +26,7 @@ use Rattle.afs_server.specs.declared.faults.NodeFault.{NodeFault}
 use Rattle.afs_server.specs.declared.faults.NodeFault.TheVariants as faults
 use Rattle.afs_server.specs.declared.saving.Planned.{Planned}
 use Rattle.afs_server.proofs.Folded.{folds, lasting_left, record_is, reply_is}
-use Rattle.afs_server.proofs.Saved.{saved_made}
+use Rattle.afs_server.proofs.Saved.{effects_as, saved_made}
 
 -- ---- whether there is room
 
@@ -115,6 +115,7 @@ module _ {D : Type 0} (clock id : ℕ) (head : Head) (c : Change) (x : made_of.C
   saved_by (Err faults.Down) prepared there small is node serves plan puts = record {
     closed = closed_from prepared puts;
     some = λ none. absurd cc;
+    effects = effects_as clock id head c x old new s t p there is plan;
     left = left_as there is node serves plan;
   }
 
@@ -144,6 +145,7 @@ module _ {D : Type 0} (clock id : ℕ) (head : Head) (c : Change) (x : made_of.C
         serves = is.1.0;
         store = same ∙ (λ i. record s { durable = sym durable i; disk = sym disk i; prepared = sym prepared i; count = sym count i; drawn = t.drawn });
         done = (durable, count);
+        effects = λ r recorded. absurd cc;
         few = tt;
       }
 

@@ -1,6 +1,6 @@
 -- What a step does to the disk: nothing, or what the commit of its record does.
 use Rattle.std.proofs.Common.{◌≡◌, ◌≤◌, ◌<◌, ◌+◌, inl, inr, ⊎_elim, ℕ, List, Option, Some, None, refl, sym, ap, subst, ◌∙◌, arith}
-use Rattle.std.specs.Prelude.{Result, Ok, Err, OnOk}
+use Rattle.std.specs.Prelude.{◌↔◌, Result, Ok, Err, IsSome, OnOk}
 use Rattle.afs_disk.specs.Disk.{LeavesOnly, PassesAll, SameDisk, Setting}
 use Rattle.afs_journal.specs.Log.{SameCounts}
 use Rattle.afs_journal.specs.Records.{whole_records}
@@ -12,6 +12,9 @@ use Rattle.afs_server.specs.Handling.{IsQuiet, IsWritten, Ran}
 use Rattle.afs_server.specs.Putting.{calls_for, IsStill, OnDisk}
 use Rattle.afs_server.specs.declared.faults.NodeFault.{NodeFault}
 use Rattle.afs_server.specs.declared.faults.NodeFault.TheVariants as nodes
+
+as_told : (o p : Option (List ℕ)) → p ≡ o → IsSome p ↔ IsSome o
+as_told o p e = (λ h. subst (λ (q : Option (List ℕ)). IsSome q) e h, λ h. subst (λ (q : Option (List ℕ)). IsSome q) (sym e) h)
 
 none_called : (setting : Setting) (n : ℕ) → PassesAll setting n n
 none_called setting n = λ call above within trips. absurd (omega (arith, above, within))
@@ -71,6 +74,7 @@ module _ {D : Type 0} (seen : D → Option (List ℕ)) (left_by : D → ℕ → 
   -- nothing but the room changed
   pub is_still : {T : Type 0} (decided : Option StoreRecord) (d : Durable) (old new : D) (result : Result T NodeFault) → IsStill decided result → Same old new → Counts old new → OfDisk decided d old new result
   is_still {T} decided d old new result still same counts = record {
+    told = as_told (seen old) (seen new) same.same_seen;
     quiet = λ is. (same, counts);
     any_moment = λ r is. absurd (not_written decided r result still is);
     fits = λ r is. absurd (not_written decided r result still is);
@@ -117,6 +121,7 @@ module _ {D : Type 0} (seen : D → Option (List ℕ)) (left_by : D → ℕ → 
 
   pub behind : {T : Type 0} (decided : Option StoreRecord) (d : Durable) (old mid new : D) (result : Result T NodeFault) → Same old mid → Counts old mid → OfDisk decided d mid new result → OfDisk decided d old new result
   behind {T} decided d old mid new result same counts then = record {
+    told = subst (λ (o : Option (List ℕ)). IsSome (seen new) ↔ IsSome o) same.same_seen then.told;
     quiet = λ is. let q = then.quiet is in (both_same old mid new same q.0, both_count old mid new counts q.1);
     any_moment = λ r is bytes told. moved old mid new (LeftAround (whole_records bytes) r d) same (then.any_moment r is bytes (same.same_seen ∙ told));
     fits = then.fits;
@@ -133,16 +138,16 @@ module _ {D : Type 0} (seen : D → Option (List ℕ)) (left_by : D → ℕ → 
 
   -- with another value at Ok
   pub with_value : {S T : Type 0} (decided : Option StoreRecord) (d : Durable) (old new : D) (x : S) (y : T) → OfDisk {T = S} decided d old new (Ok x) → OfDisk {T = T} decided d old new (Ok y)
-  with_value {S} {T} None d old new x y is = record { quiet = is.quiet; any_moment = is.any_moment; fits = is.fits; most = is.most; limited = is.limited; called = is.called; ran = record { never_falls = is.ran.never_falls; own_never_falls = is.ran.own_never_falls; down = λ z. absurd cc; passed = is.ran.passed }; set = is.set }
-  with_value {S} {T} (Some r) d old new x y is = record { quiet = is.quiet; any_moment = is.any_moment; fits = is.fits; most = is.most; limited = is.limited; called = is.called; ran = record { never_falls = is.ran.never_falls; own_never_falls = is.ran.own_never_falls; down = λ z. absurd cc; passed = is.ran.passed }; set = is.set }
+  with_value {S} {T} None d old new x y is = record { told = is.told; quiet = is.quiet; any_moment = is.any_moment; fits = is.fits; most = is.most; limited = is.limited; called = is.called; ran = record { never_falls = is.ran.never_falls; own_never_falls = is.ran.own_never_falls; down = λ z. absurd cc; passed = is.ran.passed }; set = is.set }
+  with_value {S} {T} (Some r) d old new x y is = record { told = is.told; quiet = is.quiet; any_moment = is.any_moment; fits = is.fits; most = is.most; limited = is.limited; called = is.called; ran = record { never_falls = is.ran.never_falls; own_never_falls = is.ran.own_never_falls; down = λ z. absurd cc; passed = is.ran.passed }; set = is.set }
 
   fault_by : {S T : Type 0} (decided : Option StoreRecord) (d : Durable) (old new : D) → OfDisk {T = S} decided d old new (Err nodes.OutOfMemory) → OfDisk {T = T} decided d old new (Err nodes.OutOfMemory)
-  fault_by {S} {T} None d old new is = record { quiet = is.quiet; any_moment = λ r z. absurd z; fits = λ r z. absurd z; most = is.most; limited = is.limited; called = tt; ran = record { never_falls = is.ran.never_falls; own_never_falls = is.ran.own_never_falls; down = λ z. absurd cc; passed = tt }; set = is.set }
-  fault_by {S} {T} (Some r) d old new is = record { quiet = is.quiet; any_moment = λ r z. absurd z; fits = λ r z. absurd z; most = is.most; limited = is.limited; called = tt; ran = record { never_falls = is.ran.never_falls; own_never_falls = is.ran.own_never_falls; down = λ z. absurd cc; passed = tt }; set = is.set }
+  fault_by {S} {T} None d old new is = record { told = is.told; quiet = is.quiet; any_moment = λ r z. absurd z; fits = λ r z. absurd z; most = is.most; limited = is.limited; called = tt; ran = record { never_falls = is.ran.never_falls; own_never_falls = is.ran.own_never_falls; down = λ z. absurd cc; passed = tt }; set = is.set }
+  fault_by {S} {T} (Some r) d old new is = record { told = is.told; quiet = is.quiet; any_moment = λ r z. absurd z; fits = λ r z. absurd z; most = is.most; limited = is.limited; called = tt; ran = record { never_falls = is.ran.never_falls; own_never_falls = is.ran.own_never_falls; down = λ z. absurd cc; passed = tt }; set = is.set }
 
   down_by : {S T : Type 0} (decided : Option StoreRecord) (d : Durable) (old new : D) → OfDisk {T = S} decided d old new (Err nodes.Down) → OfDisk {T = T} decided d old new (Err nodes.Down)
-  down_by {S} {T} None d old new is = record { quiet = is.quiet; any_moment = is.any_moment; fits = is.fits; most = is.most; limited = is.limited; called = tt; ran = record { never_falls = is.ran.never_falls; own_never_falls = is.ran.own_never_falls; down = λ z. is.ran.down refl; passed = tt }; set = is.set }
-  down_by {S} {T} (Some r) d old new is = record { quiet = is.quiet; any_moment = is.any_moment; fits = is.fits; most = is.most; limited = is.limited; called = tt; ran = record { never_falls = is.ran.never_falls; own_never_falls = is.ran.own_never_falls; down = λ z. is.ran.down refl; passed = tt }; set = is.set }
+  down_by {S} {T} None d old new is = record { told = is.told; quiet = is.quiet; any_moment = is.any_moment; fits = is.fits; most = is.most; limited = is.limited; called = tt; ran = record { never_falls = is.ran.never_falls; own_never_falls = is.ran.own_never_falls; down = λ z. is.ran.down refl; passed = tt }; set = is.set }
+  down_by {S} {T} (Some r) d old new is = record { told = is.told; quiet = is.quiet; any_moment = is.any_moment; fits = is.fits; most = is.most; limited = is.limited; called = tt; ran = record { never_falls = is.ran.never_falls; own_never_falls = is.ran.own_never_falls; down = λ z. is.ran.down refl; passed = tt }; set = is.set }
 
   pub with_fault : {S T : Type 0} (decided : Option StoreRecord) (d : Durable) (old new : D) (fault : NodeFault) → OfDisk {T = S} decided d old new (Err fault) → OfDisk {T = T} decided d old new (Err fault)
   with_fault {S} {T} decided d old new nodes.OutOfMemory is = fault_by decided d old new is

@@ -23,8 +23,8 @@ use Rattle.afs_server_parts.specs.Telling.{grants_seen}
 use Rattle.afs_server_parts.specs.declared.telling.Grant.{Grant}
 use Rattle.afs_volstore.specs.Stores.{Store}
 use Rattle.afs_server.specs.Deciding.{leaves_disk, Decides, FitsDecided, IsReading, LeavesDisk}
-use Rattle.afs_server.specs.Handling.{lines_behind, record_decided, server_seen, Does, Handles, IsDone, Makes}
-use Rattle.afs_server.specs.Putting.{calls_for, DoesAll, IsFew, IsInterrupted, IsMadeOf, IsStill}
+use Rattle.afs_server.specs.Handling.{lines_behind, record_decided, server_seen, Does, Handles, IsDone, IsWritten, Makes}
+use Rattle.afs_server.specs.Putting.{calls_for, DoesAll, IsFew, IsInterrupted, IsMadeOf, IsStill, IsToldAgain}
 use Rattle.afs_server.specs.Seen.{backs_seen, lasting_of, Memory, Serves}
 use Rattle.afs_server.specs.declared.decided.Decided.{Decided}
 use Rattle.afs_server.specs.declared.decided.Decided.TheVariants as decided
@@ -85,6 +85,7 @@ module _ {D : Type 0} (clock : ℕ) (d : Decision) (turn : row.Turn) (old new : 
         serves = does.1.0;
         store = is ∙ (λ i. record s { durable = sym durable i; disk = sym disk i; prepared = sym prepared i; count = sym count i; drawn = t.drawn });
         done = subst (λ (r : Option StoreRecord). IsDone r s t) (sym none) (durable, count);
+        effects = λ r recorded. absurd (let z : ◌≡◌ {A = Option StoreRecord} None (Some r) = sym none ∙ recorded in cc);
         few = few;
       }
 
@@ -126,6 +127,12 @@ pub left_down : {D : Type 0} (clock : ℕ) (d : Decision) (turn : row.Turn) (old
 left_down {D} clock d turn old new s t (Ok outs) is down r made e folds = absurd cc
 left_down {D} clock d turn old new s t (Err faults.OutOfMemory) is down r made e folds = absurd cc
 left_down {D} clock d turn old new s t (Err faults.Down) is down r made e folds = is.left r made e folds
+
+pub told_after : {D : Type 0} (clock : ℕ) (d : Decision) (turn : row.Turn) (old new : Memory) (s t : Store D) (result : Result Outs NodeFault) → DoesAll clock d turn old new s t result → (r : StoreRecord) → IsWritten r (record_decided s.durable.boot clock d) result →
+    IsToldAgain s.node (server_seen old s) clock d r s.durable
+told_after {D} clock d turn old new s t (Ok outs) is r written = is.effects r written
+told_after {D} clock d turn old new s t (Err faults.OutOfMemory) is r written = absurd written
+told_after {D} clock d turn old new s t (Err faults.Down) is r written = is.effects r written
 
 pub calls_decided : (boot clock : ℕ) (d : Decision) → calls_for (record_decided boot clock d) ≡ device_calls d
 calls_decided boot clock drops = refl

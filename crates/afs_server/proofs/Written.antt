@@ -97,7 +97,7 @@ one_version id (amends n a) v = amends_one id n a v (get n v.vnodes)
 one_version id (makes n x) v = makes_one id n x v (get n v.vnodes)
 one_version id (frees n) v = frees_one id n v (get n v.vnodes)
 
-few_versions : (id : ℕ) (es : List Edit) (v : Volume) → length (versions_by id es v) ≤ length es
+pub few_versions : (id : ℕ) (es : List Edit) (v : Volume) → length (versions_by id es v) ≤ length es
 few_versions id [] v = omega arith
 few_versions id (e ∷ es) v =
     let one = one_version id e v in

@@ -12,19 +12,22 @@ use Rattle.afs_num.specs.declared.messages.Received.{Received}
 use Rattle.afs_num.specs.declared.messages.Received.TheVariants.{Whole}
 use Rattle.afs_num.specs.declared.messages.Reply.TheVariants as tell
 use Rattle.afs_num.specs.declared.types.Fid.{Fid}
+use Rattle.afs_num.specs.declared.histories.Version.{Version}
 use Rattle.afs_num.specs.declared.types.Head.{Head}
 use Rattle.afs_num.specs.declared.vnodes.Vnode as image
 use Rattle.afs_num.specs.declared.volumes.Change as made
 use Rattle.afs_shape.specs.Rows.{IsWithin}
+use Rattle.afs_xdr.specs.Words.{AreWords}
 use Rattle.afs_model.specs.CellRows.{cell_replies, reply_number}
 use Rattle.afs_model.specs.Calls.{runs, Admitted}
 use Rattle.afs_model.specs.Heads.{is_zero}
 use Rattle.afs_model.specs.Messages.{IsSoundCarried}
+use Rattle.afs_ideal.specs.Operations.{last_count}
 use Rattle.afs_ideal.specs.Replies.{change_reply}
 use Rattle.afs_ideal.specs.Tables.{get}
-use Rattle.afs_ideal.specs.VnodeImage.{kind_fits, FitsImage}
+use Rattle.afs_ideal.specs.VnodeImage.{image_words, kind_fits, FitsImage}
 use Rattle.afs_records.specs.Changes.{images_left, numbers_gone}
-use Rattle.afs_records.specs.Durable.{changed_stored, time_in, Stored}
+use Rattle.afs_records.specs.Durable.{changed_stored, time_in, versions_told, Stored}
 use Rattle.afs_rows.specs.ServerRow as row
 use Rattle.afs_rows.specs.ServerRow.{drops, given_up_read, is_client, refuses, repeats, result, roomed, shows, stored_by, tells_boot, Decision}
 use Rattle.afs_rows.specs.States.{ServerState}
@@ -69,8 +72,20 @@ pub record IsReading (reply : FsReply) (grants : List Grant) (r : row.Reading) :
   pub grants_are : grants_seen r.granted ≡ grants
   pub nothing : r.given_up ≡ []
 
+-- the counts that a version tells are words
+abbrev pub IsCounted : Version → Type 0
+IsCounted w = (w.index ≤ last_count) × (w.data_version ≤ last_count)
+
+-- so is how many versions there are
+abbrev pub AreCounted : List Version → Type 0
+AreCounted ws = (length ws ≤ last_count) × AllByRecursion IsCounted ws
+
+abbrev pub IsOfWords : image.Vnode → Type 0
+IsOfWords i = AreWords (image_words i)
+
 -- The change of the volume of this number that is made at this time: what its record says, and its reply. A disk that keeps the
--- volume makes of the record the volume after the change.
+-- volume makes of the record the volume after the change; and the record tells the versions that the change tells, with counts
+-- that are words where those of the images are.
 pub record IsMade (clock id : ℕ) (c : row.Change) (x : made.Change) : Type 0 where
   pub number : c.id ≡ id
   pub versions : x.versions ≡ row.made c
@@ -80,6 +95,8 @@ pub record IsMade (clock id : ℕ) (c : row.Change) (x : made.Change) : Type 0 w
   pub unique : x.unique ≡ (result c).next
   pub kept : changed_stored x.counter x.unique x.vnodes x.removed c.before ≡ Some (stored_by clock c)
   pub reply : change_reply c.id c.caller (time_in (stored_by clock c)) (result c) c.shown c.call ≡ Some x.reply
+  pub told : versions_told id x.vnodes x.removed (Some c.before) ≡ x.versions
+  pub counted : AllByRecursion IsOfWords x.vnodes → AreCounted x.versions
 
 -- what is decided on the call of this header, at this time
 abbrev pub Decides : ServerState → ℕ → Head → Decision → Decided → Type 0

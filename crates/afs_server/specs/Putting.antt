@@ -1,5 +1,5 @@
 -- What a step does to its store: what is decided is done, with its record or without one.
-use Rattle.std.specs.Prelude.{◌≡◌, ◌≤◌, ◌+◌, ℕ, List, [], Bool, true, false, Option, Some, None, Result, Ok, Err, OnOk, length}
+use Rattle.std.specs.Prelude.{◌≡◌, ◌≤◌, ◌↔◌, ◌+◌, ◌++◌, ℕ, List, [], Bool, true, false, Option, Some, None, Result, Ok, Err, IsSome, OnOk, length, map}
 use Rattle.afs_disk.specs.Disk.{LeavesOnly, SameDisk, Setting}
 use Rattle.afs_journal.specs.Log.{SameCounts}
 use Rattle.afs_journal.specs.Records.{whole_records}
@@ -7,13 +7,14 @@ use Rattle.afs_history.specs.declared.lines.Line.{Line}
 use Rattle.afs_history.specs.declared.lines.Outs.{Outs}
 use Rattle.afs_num.specs.declared.records.StoreRecord.{StoreRecord}
 use Rattle.afs_num.specs.declared.types.Node.{Node}
-use Rattle.afs_records.specs.Durable.{folded, Durable}
+use Rattle.afs_records.specs.Durable.{effect_of, folded, Durable}
 use Rattle.afs_records.specs.Records.{FitsRecord}
 use Rattle.afs_rows.specs.Callbacks as row
 use Rattle.afs_rows.specs.ServerRow.{begun_after, does, shows, Decision}
 use Rattle.afs_rows.specs.ServerSteps.{stepped}
 use Rattle.afs_rows.specs.States.{ServerState}
 use Rattle.afs_volstore.specs.Stores.{LeftAround, Store}
+use Rattle.afs_volstore.specs.Telling.{in_words}
 use Rattle.afs_server.specs.Handling.{lines_behind, record_decided, server_seen, IsClosed, IsDone, IsQuiet, IsWritten, Makes, Ran, SameStore}
 use Rattle.afs_server.specs.Seen.{lasting_of, Memory, Serves}
 use Rattle.afs_server.specs.declared.faults.NodeFault.{NodeFault}
@@ -28,8 +29,10 @@ calls_for (Some r) = 4
 
 -- What a step that has this record, or none, does to the disk of a store that keeps this. Without a record, or where memory was
 -- wanting, it leaves the disk alone; else a crash at any moment leaves what was kept before, or what is kept with the record.
+-- Either way a disk that tells goes on telling.
 pub record OnDisk {D T : Type 0} (seen : D → Option (List ℕ)) (left_by : D → ℕ → Option (List ℕ)) (size : D → ℕ) (may_leave : D → List ℕ → Type 0) (moment : D → ℕ) (left_since : D → ℕ → List ℕ → Type 0)
     (faults own_faults calls : D → ℕ) (setting : D → Setting) (limit : D → ℕ) (decided : Option StoreRecord) (d : Durable) (old new : D) (result : Result T NodeFault) : Type 0 where
+  pub told : IsSome (seen new) ↔ IsSome (seen old)
   pub quiet : IsQuiet decided result → SameDisk seen left_by size may_leave moment left_since old new × SameCounts faults own_faults calls setting limit old new
   pub any_moment : (r : StoreRecord) → IsWritten r decided result → (bytes : List ℕ) → seen old ≡ Some bytes → LeavesOnly moment left_since old new (LeftAround (whole_records bytes) r d)
   pub fits : (r : StoreRecord) → IsWritten r decided result → FitsRecord r
@@ -66,18 +69,28 @@ abbrev pub IsFew : Decision → Type 0
 IsFew (shows head r) = length r.granted ≤ 50
 IsFew d = Unit {0}
 
+-- What a restart tells of this record, where it stands on the disk, is what the row tells then of the step before its own lines.
+abbrev pub IsToldAgain : Node → ServerState → ℕ → Decision → StoreRecord → Durable → Type 0
+IsToldAgain me s clock d r durable = (ls : List Line) → (begun_after me s clock d).before ls ≡ map in_words (effect_of me r durable).lines ++ ls
+
+-- the record of what is decided, if it has one
+abbrev pub TellsAgain : {D : Type 0} → ℕ → Decision → Memory → Store D → Type 0
+TellsAgain {D} clock d old s = (r : StoreRecord) → record_decided s.durable.boot clock d ≡ Some r → IsToldAgain s.node (server_seen old s) clock d r s.durable
+
 -- what is left of a step that was made
 pub record IsMadeOf {D : Type 0} (clock : ℕ) (d : Decision) (turn : row.Turn) (old new : Memory) (s t : Store D) (outs : Outs) : Type 0 where
   pub makes : Makes (stepped s.node (does s.node (server_seen old s) clock 0 d []).state (lines_behind (does s.node (server_seen old s) clock 0 d turn.lines).lines) turn) [] new t outs
   pub serves : Serves t.node new t.durable
   pub store : t ≡ record s { durable = t.durable; disk = t.disk; prepared = t.prepared; count = t.count; drawn = t.drawn }
   pub done : IsDone (record_decided s.durable.boot clock d) s t
+  pub effects : TellsAgain clock d old s
   pub few : IsFew d
 
 -- A disk that keeps the record of the step keeps what the row leaves of it.
 pub record IsInterrupted {D : Type 0} (me : Node) (clock : ℕ) (d : Decision) (old : Memory) (s t : Store D) : Type 0 where
   pub closed : IsClosed s t
   pub some : record_decided s.durable.boot clock d ≡ None → ⊥
+  pub effects : TellsAgain clock d old s
   pub left : (r : StoreRecord) → record_decided s.durable.boot clock d ≡ Some r → (e : Durable) → folded r s.durable ≡ Some e → lasting_of e ≡ (begun_after me (server_seen old s) clock d).state.lasting
 
 -- what is decided is done, and then this; or memory was wanting, and all is as before; or the disk failed while the record was written

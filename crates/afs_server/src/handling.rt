@@ -1,22 +1,24 @@
 //! What a file server does with a message.
 
-ghost use Rattle.std.specs.Prelude.{◌≡◌, ◌≤◌, ◌+◌, ◌∷◌, [], ℕ, List, false, true, None, Some, length, IsErrOf, OnOk};
+ghost use Rattle.std.specs.Prelude.{◌≡◌, ◌≤◌, ◌↔◌, ◌+◌, ◌++◌, ◌∷◌, [], ℕ, List, false, true, None, Some, length, map, IsErrOf, IsSome, OnOk};
 ghost use Rattle.afs_num.specs.declared.messages.Received.TheVariants as receives;
 ghost use Rattle.afs_num.specs.declared.records.StoreRecord as records;
 ghost use Rattle.afs_disk.specs.Disk.{LeavesOnly, SameDisk};
+ghost use Rattle.afs_history.specs.declared.lines.Line.{Line};
 ghost use Rattle.afs_history.specs.declared.lines.Line.TheVariants as lines;
 ghost use Rattle.afs_journal.specs.Log.{SameCounts};
 ghost use Rattle.afs_journal.specs.Records.{whole_records};
 ghost use Rattle.afs_model.specs.Calls.{call_seat, paired};
 ghost use Rattle.afs_model.specs.Heads.{IsSoundHead};
 ghost use Rattle.afs_model.specs.Messages.{received_by, FindsMessages, HasSpelling, IsSoundReceived};
-ghost use Rattle.afs_records.specs.Durable.{folded, Durable};
+ghost use Rattle.afs_records.specs.Durable.{effect_of, folded, Durable};
 ghost use Rattle.afs_records.specs.Records.{FitsRecord};
 ghost use Rattle.afs_rows.specs.Callbacks as row;
 ghost use Rattle.afs_rows.specs.Callbacks.{no_turn, turn_for, turned_in};
 ghost use Rattle.afs_rows.specs.ServerRow.{begun_after, called, decides, device_calls, drops, Decision};
 ghost use Rattle.afs_rows.specs.ServerSteps.{server_row};
 ghost use Rattle.afs_volstore.specs.Stores.{LeftAround};
+ghost use Rattle.afs_volstore.specs.Telling.{in_words};
 ghost use Rattle.afs_server.specs.Deciding.{leaves_disk, CanBeTold, Decides, FitsDecided, IsByClient, IsUnder, Runs};
 ghost use Rattle.afs_server.specs.Handling.{calls_served, record_decided, server_seen, Handles, IsDone, IsQuiet, IsWritten, Ran};
 ghost use Rattle.afs_server.specs.Hearing.{answered_turn, noticed_turn};
@@ -286,6 +288,10 @@ impl FileServer {
         ensures step { (place : ℕ) → Handles (server_row store.old.node (server_seen self.old store.old) now place (received_by calls_served bytes.now)) (lines.Given place ∷ []) self.old self.new store.old store.new result }
         ensures found { FindsMessages calls_served bytes.now }
         ensures serves { OnOk result (Serves store.new.node self.new store.new.durable) }
+
+        // A disk that tells goes on telling, whatever the result.
+        ensures told { IsSome (D.seen store.new.disk) ↔ IsSome (D.seen store.old.disk) }
+
         ensures store { OnOk result (store.new ≡ record store.old { durable = store.new.durable; disk = store.new.disk; prepared = store.new.prepared; count = store.new.count; drawn = store.new.drawn }) }
         ensures kept { OnOk result (IsDone (record_decided store.old.durable.boot now (decides store.old.node (server_seen self.old store.old) now (received_by calls_served bytes.now))) store.old store.new) }
 
@@ -307,6 +313,11 @@ impl FileServer {
             → (bytes : List ℕ) → D.seen store.old.disk ≡ Some bytes → LeavesOnly D.moment D.left_since store.old.disk store.new.disk (LeftAround (whole_records bytes) r store.old.durable) }
 
         ensures fits { (r : records.StoreRecord) → IsWritten r (record_decided store.old.durable.boot now (decides store.old.node (server_seen self.old store.old) now (received_by calls_served bytes.now))) result → FitsRecord r }
+
+        // What a restart tells of this record is what the row tells then of the step.
+        ensures effects { (r : records.StoreRecord) → IsWritten r (record_decided store.old.durable.boot now (decides store.old.node (server_seen self.old store.old) now (received_by calls_served bytes.now))) result
+            → (ls : List Line) → (begun_after store.old.node (server_seen self.old store.old) now (decides store.old.node (server_seen self.old store.old) now (received_by calls_served bytes.now))).before ls ≡ map in_words (effect_of store.old.node r store.old.durable).lines ++ ls }
+
         ensures most { (D.calls store.old.disk ≤ D.calls store.new.disk) × (D.calls store.new.disk ≤ D.calls store.old.disk + 4) }
         ensures limit { D.limit store.new.disk ≡ D.limit store.old.disk }
         ensures calls { OnOk result (D.calls store.new.disk ≡ D.calls store.old.disk + device_calls (decides store.old.node (server_seen self.old store.old) now (received_by calls_served bytes.now))) }

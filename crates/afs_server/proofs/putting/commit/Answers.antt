@@ -5,6 +5,7 @@ use Rattle.afs_server.proofs.putting.commit.Goals as goal
 
 pub returns-in-Ok-clause-disk : goal.returns-in-Ok-clause-disk
 returns-in-Ok-clause-disk g c r e = record {
+  told = c.commit.ensures.told;
   quiet = λ is. absurd is;
   any_moment = λ q is bytes told. c.commit.ensures.any_moment c.requires.up q (e ∙ is) bytes told;
   fits = λ q is. c.requires.fits q (e ∙ is);
@@ -17,6 +18,7 @@ returns-in-Ok-clause-disk g c r e = record {
 
 pub returns-in-Err-clause-disk : goal.returns-in-Err-clause-disk
 returns-in-Err-clause-disk g c r e = record {
+  told = c.commit.ensures.told;
   quiet = λ is. absurd is;
   any_moment = λ q is bytes told. c.commit.ensures.any_moment c.requires.up q (e ∙ is) bytes told;
   fits = λ q is. c.requires.fits q (e ∙ is);

@@ -5,7 +5,7 @@ use Rattle.afs_rows.specs.Callbacks as row
 use Rattle.afs_rows.specs.Callbacks.{turned_in}
 use Rattle.afs_rows.specs.ServerRow.{decides, device_calls}
 use Rattle.afs_server.specs.Handling.{calls_served, server_seen}
-use Rattle.afs_server.proofs.Wholly.{calls_decided, called_after, done_after, draws_after, left_down, serves_after, some_down, step_at, store_after}
+use Rattle.afs_server.proofs.Wholly.{calls_decided, called_after, done_after, draws_after, left_down, serves_after, some_down, step_at, store_after, told_after}
 use Rattle.afs_server.proofs.server.FileServer.handle.Goals as goal
 
 pub returns-clause-step : goal.returns-clause-step
@@ -61,6 +61,16 @@ returns-clause-any_moment g c = c.take_bytes.ensures.disk.any_moment
 
 pub returns-clause-fits : goal.returns-clause-fits
 returns-clause-fits g c = c.take_bytes.ensures.disk.fits
+
+pub returns-clause-told : goal.returns-clause-told
+returns-clause-told g c = c.take_bytes.ensures.disk.told
+
+pub returns-clause-effects : goal.returns-clause-effects
+returns-clause-effects g c r written ls =
+    let s = c.args.store.now in
+    let d = decides s.node (server_seen c.args.self.now s) c.args.now (received_by calls_served c.args.bytes.now) in
+    let turn = turned_in s.node (server_seen c.args.self.now s) c.args.now (row.expired c.args.now (server_seen c.args.self.now s).backs) d (received_by calls_served c.args.bytes.now) in
+    told_after c.args.now d turn c.args.self.now c.take_bytes.new.self s c.take_bytes.new.store c.take_bytes.result c.take_bytes.ensures.does r written ls
 
 pub returns-clause-most : goal.returns-clause-most
 returns-clause-most g c = c.take_bytes.ensures.disk.most
