@@ -8,14 +8,14 @@ use Rattle.afs_cache.specs.Wanted.{shows_statuses, statuses_wanted}
 use Rattle.afs_cache.proofs.Replying.{bulk_as, bulk_none, none_taken, some_taken}
 use Rattle.afs_cache.proofs.node.CacheManager.take_bulk.Goals as goal
 
-pub returns-in-Some : goal.returns-in-Some
-returns-in-Some c =
+pub returns-in_ok-all-in-Some : goal.returns-in_ok-all-in-Some
+returns-in_ok-all-in-Some c =
     let old = c.args.self.now in
     let st = old.state in
-    let all = map entry_of c.in_ok-all.all.items in
+    let all = map entry_of c.in_ok-all-in-Some.all.items in
     some_taken statuses_wanted st c.in-Some.fids.now (λ (place : ℕ) (act : Going) (call : FsCall). shows_statuses old.node st c.args.now place act all)
     (λ (place : ℕ) (act : Going). takes_bulk old.node st c.args.now place act c.args.statuses.now c.args.callbacks.now c.args.sync.now) old c.take_all.new.self c.take_all.result c.in-Some.ensures
-    (λ place act e. ap (shows_statuses old.node st c.args.now place act) c.in_ok-all.ensures ∙ bulk_as old.node st c.args.now place act c.args.statuses.now c.args.callbacks.now c.args.sync.now c.in-Some.fids.now e) c.take_all.ensures
+    (λ place act e. ap (shows_statuses old.node st c.args.now place act) c.in_ok-all-in-Some.ensures ∙ bulk_as old.node st c.args.now place act c.args.statuses.now c.args.callbacks.now c.args.sync.now c.in-Some.fids.now e) c.take_all.ensures
 
 pub returns-in-None : goal.returns-in-None
 returns-in-None c =
