@@ -7,3 +7,4 @@ pub mod Numbers
 pub mod Breaking
 pub mod Dropping
 pub mod Replying
+pub mod Idle

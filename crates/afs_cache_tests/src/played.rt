@@ -221,16 +221,32 @@ fn put_step(out: &mut String, outs: &Outs) -> Mem<()> {
     Ok(())
 }
 
+/// Makes a step, and writes what it tells and sends; an empty line stands behind that.
+fn play(alloc: Global, client: &mut CacheManager, step: Step<'_>, out: &mut String) -> Mem<()>
+    requires last { client.old.state.last < number_limit }
+    ensures { OnOk result (client.new.state.last ≤ client.old.state.last + 1) }
+{
+    let outs = made(alloc, client, step)?;
+    put_step(out, &outs)?;
+    writeln!(out)
+}
+
+/// What a client that begins tells and sends in these steps.
+fn play_all(alloc: Global, client: &mut CacheManager, steps: &[Step<'_>]) -> Mem<String>
+    requires new { client.old.state.last ≡ 0 }
+    requires few { length steps.now < 100 }
+{
+    let mut out = String::new(alloc);
+    for step in steps {
+        play(alloc, client, *step, &mut out)?;
+    }
+    Ok(out)
+}
+
 /// What the steps tell and send; behind each stands an empty line.
 pub fn played(alloc: Global, steps: &[Step<'_>]) -> Mem<String>
     requires { length steps.now < 100 }
 {
     let mut client = new_client(alloc)?;
-    let mut out = String::new(alloc);
-    for step in steps {
-        let outs = made(alloc, &mut client, *step)?;
-        put_step(&mut out, &outs)?;
-        writeln!(&mut out)?;
-    }
-    Ok(out)
+    play_all(alloc, &mut client, steps)
 }
