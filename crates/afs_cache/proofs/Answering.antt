@@ -1,22 +1,61 @@
--- An act is answered; entries of a volume.
-use Rattle.std.proofs.Common.{◌≡◌, ℕ, false, not, List, [], ◌∷◌, ◌++◌, filter, Option, Some, None, Result, Ok, Err, refl, ap, subst}
+-- What answers the unanswered call, and what a server's call does.
+use Rattle.std.proofs.Common.{◌≡◌, ℕ, Bool, true, false, cond, not, ◌&&◌, List, [], ◌∷◌, ◌++◌, map, filter, Option, Some, None, Result, Ok, Err, refl, ap, sym, subst, ◌∙◌}
+use Rattle.std.specs.Prelude.{nat_eq}
+use Rattle.std.proofs.lemmas.Bool.{eq-eqb}
+use Rattle.afs_num.specs.Nodes.{same_node}
+use Rattle.afs_num.specs.declared.types.Code.{Code}
+use Rattle.afs_num.specs.declared.types.Node.{Node}
+use Rattle.afs_num.specs.declared.types.Node.TheVariants as nodes
+use Rattle.afs_num.specs.declared.types.Head.{Head}
+use Rattle.afs_num.specs.declared.calls.FsCall.{FsCall}
+use Rattle.afs_num.specs.declared.messages.Message.{Message}
+use Rattle.afs_num.specs.declared.messages.Received.{Received}
 use Rattle.afs_history.specs.declared.lines.Line.{Line}
+use Rattle.afs_history.specs.declared.lines.Line.TheVariants as lines
 use Rattle.afs_history.specs.declared.lines.Outs.{Outs}
+use Rattle.afs_ideal.specs.Operations.{volume_changed}
+use Rattle.afs_model.specs.Calls.{Admitted}
+use Rattle.afs_model.specs.Calls as pairs
 use Rattle.afs_model.specs.Steps.{NodeState}
-use Rattle.afs_rows.specs.States.{CacheEntry}
-use Rattle.afs_rows.specs.Going.{ClientState}
-use Rattle.afs_rows.specs.ClientRow.{given_up_in, left_in}
+use Rattle.afs_rows.specs.States.{CacheEntry, KnownBoot}
+use Rattle.afs_rows.specs.Going.{ClientState, Going}
+use Rattle.afs_rows.specs.ClientRow.{admits_call, boot_of, dropped, dropped_after, ends_step, given_up_in, left_after, left_in, runs_call, with_boot}
+use Rattle.afs_rows.specs.Scopes.{is_in_scope}
 use Rattle.afs_rows.specs.Steps.{Step}
 use Rattle.afs_entries.specs.Cached.{drops_of, left}
-use Rattle.afs_cache.specs.Managing.{Answers, Goes, Makes}
+use Rattle.afs_entries.specs.declared.drops.Drops.{Drops}
+use Rattle.afs_cache.specs.Managing.{Answers, Goes, Makes, Takes}
 use Rattle.afs_cache.specs.Acting.{changed_in}
+use Rattle.afs_cache.specs.Serving.{admits_asking, runs_asking}
+use Rattle.afs_cache.specs.declared.serving.Asking.{Asking}
 
 -- ---- steps that are the same
+
+pub takes_same : {E : Type 0} (step other : ℕ → Step ClientState) (old new : NodeState ClientState) (r : Result Outs E) → ((place : ℕ) → step place ≡ other place) → Takes step old new r → Takes other old new r
+takes_same step other old new (Ok outs) same h = (h.0, λ place. subst (λ (s : Step ClientState). Makes s new.state (λ ls. lines.Given place ∷ ls) outs) (same place) (h.1 place))
+takes_same step other old new (Err e) same h = h
+
+-- what goes behind lines that were told, is taken behind the line that names the message
+pub goes_taken : {E : Type 0} (step : (List Line → List Line) → Step ClientState) (other : ℕ → Step ClientState) (told : List Line) (old new : NodeState ClientState) (r : Result Outs E)
+    → ((place : ℕ) → step (λ ls. lines.Given place ∷ (told ++ ls)) ≡ other place) → Goes step told old new r → Takes other old new r
+goes_taken step other told old new (Ok outs) same h = (h.0, λ place. subst (λ (s : Step ClientState). Makes s new.state (λ ls. lines.Given place ∷ ls) outs) (same place) (h.1 (lines.Given place ∷ [])))
+goes_taken step other told old new (Err e) same h = h
 
 pub goes_answered : {E : Type 0} (step : (List Line → List Line) → Step ClientState) (other : Step ClientState) (told : List Line) (old new : NodeState ClientState) (r : Result Outs E)
     → step (λ ls. told ++ ls) ≡ other → Goes step told old new r → Answers other old new r
 goes_answered step other told old new (Ok outs) same h = (h.0, subst (λ (s : Step ClientState). Makes s new.state (λ ls. ls) outs) same (h.1 []))
 goes_answered step other told old new (Err e) same h = h
+
+-- ---- the boot number that a callee tells
+
+same_refl : (n : Node) → same_node n n ≡ true
+same_refl nodes.Loc = refl
+same_refl (nodes.Server i) = eq-eqb i i refl
+same_refl (nodes.Client i) = eq-eqb i i refl
+same_refl (nodes.Admin i) = eq-eqb i i refl
+
+pub boot_told_is : (server : Node) (boot : ℕ) (boots : List KnownBoot) → boot_of server (with_boot server boot boots) ≡ boot
+boot_told_is server boot boots = rw (same_refl server) refl
 
 -- ---- entries of a volume
 
@@ -35,3 +74,36 @@ left_is (Some v) es = refl
 pub given_is : (o : Option ℕ) (es : List CacheEntry) → filter (drops_of (changed_in o)) es ≡ given_up_in o es
 given_is None es = none_given es
 given_is (Some v) es = refl
+
+-- ---- a server's call
+
+asked_by : (me : Node) (c : ClientState) (place : ℕ) (head : Head) (r : Received) (asking : Asking) (a : Admitted Message) → runs_asking me c place head asking ≡ runs_call me c place head r → admits_asking me c place head asking a ≡ admits_call me c place head r a
+asked_by me c place head r asking pairs.runs h = h
+asked_by me c place head r asking (pairs.kept reply) h = refl
+asked_by me c place head r asking pairs.in_progress h = refl
+asked_by me c place head r asking pairs.older h = refl
+asked_by me c place head r asking (pairs.wrong_boot boot) h = refl
+
+pub asked_as : {E : Type 0} (me : Node) (c : ClientState) (head : Head) (r : Received) (asking : Asking) (a : Admitted Message) (old new : NodeState ClientState) (result : Result Outs E)
+    → ((place : ℕ) → runs_asking me c place head asking ≡ runs_call me c place head r) → Takes (λ place. admits_asking me c place head asking a) old new result → Takes (λ place. admits_call me c place head r a) old new result
+asked_as me c head r asking a old new result same h = takes_same (λ place. admits_asking me c place head asking a) (λ place. admits_call me c place head r a) old new result (λ place. asked_by me c place head r asking a (same place)) h
+
+-- ---- entries in a call's scope
+
+kept_as : (b d : Bool) (e : CacheEntry) (xs ys : List CacheEntry) → b ≡ d → xs ≡ ys → cond b (e ∷ xs) xs ≡ cond d (e ∷ ys) ys
+kept_as true true e xs ys h ih = ap (λ (zs : List CacheEntry). e ∷ zs) ih
+kept_as true false e xs ys h ih = absurd cc
+kept_as false true e xs ys h ih = absurd cc
+kept_as false false e xs ys h ih = ih
+
+pub filter_as : (p q : CacheEntry → Bool) (es : List CacheEntry) → ((e : CacheEntry) → p e ≡ q e) → filter p es ≡ filter q es
+filter_as p q [] h = refl
+filter_as p q (e ∷ es) h = kept_as (p e) (q e) e (filter p es) (filter q es) (h e) (filter_as p q es h)
+
+-- the entries of these go, and the act is answered
+pub plain_as : (me : Node) (c : ClientState) (d : Drops) (call : FsCall) (place : ℕ) (code : Code) → ((e : CacheEntry) → drops_of d e ≡ is_in_scope call e.fid)
+    → ends_step me c (left d c.cache) (λ ls. lines.Given place ∷ dropped me (filter (drops_of d) c.cache) ls) code ≡ ends_step me c (left_after call c.cache) (λ ls. lines.Given place ∷ dropped me (dropped_after call c.cache) ls) code
+plain_as me c d call place code h =
+    ap (λ (es : List CacheEntry). ends_step me c es (λ ls. lines.Given place ∷ dropped me (filter (drops_of d) c.cache) ls) code)
+    (filter_as (λ (e : CacheEntry). not (drops_of d e)) (λ (e : CacheEntry). not (is_in_scope call e.fid)) c.cache (λ e. ap not (h e)))
+    ∙ ap (λ (es : List CacheEntry). ends_step me c (left_after call c.cache) (λ ls. lines.Given place ∷ dropped me es ls) code) (filter_as (drops_of d) (λ (e : CacheEntry). is_in_scope call e.fid) c.cache h)

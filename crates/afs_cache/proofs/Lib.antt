@@ -2,6 +2,9 @@ pub mod Walking
 pub mod Planning
 pub mod Calling
 pub mod Answering
+pub mod Telling
 pub mod Numbers
+pub mod Breaking
 pub mod Dropping
-pub mod Waiting
+pub mod Replying
+pub mod Idle

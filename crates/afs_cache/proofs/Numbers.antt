@@ -22,9 +22,11 @@ use Rattle.afs_num.specs.declared.messages.Message.{Message}
 use Rattle.afs_num.specs.declared.messages.Received.{Received}
 use Rattle.afs_num.specs.declared.messages.Received.TheVariants.{Nothing, Unserved, Unreadable, Whole}
 use Rattle.afs_num.specs.declared.messages.Reply.TheVariants as tell
+use Rattle.afs_num.specs.declared.histories.Body.{Body}
 use Rattle.afs_num.specs.declared.histories.ReadBody.{ReadBody}
 use Rattle.afs_num.specs.declared.histories.ReadBody.TheVariants as seen
 use Rattle.afs_num.specs.declared.histories.ReadSource.TheVariants.{Fetched}
+use Rattle.afs_num.specs.declared.histories.ReadStatus.{ReadStatus}
 use Rattle.afs_history.specs.declared.acts.Act.{Act}
 use Rattle.afs_history.specs.declared.lines.Line.{Line}
 use Rattle.afs_history.specs.declared.lines.Line.TheVariants as lines
@@ -33,11 +35,11 @@ use Rattle.afs_model.specs.Calls as pairs
 use Rattle.afs_rows.specs.States.{CacheEntry, Gift}
 use Rattle.afs_rows.specs.Going as going
 use Rattle.afs_rows.specs.Going.{ClientState, Going, Need, next, began, with_read}
-use Rattle.afs_rows.specs.ClientRow.{Look, calls_again, gift_of, in_order, look_at, looked, put_entries, put_entry, read_lines, status_look, trusted_in, untrusted_in, with_statuses, Walked, admits_call, awaits, begin_row, begins_by, behind_batch, body_told, breaks, call_of, called, client_row, counts, dropped, entries_told, entry_told, find_cached, gives_by, given, gives_up, goes_by, hears, is_awaited, is_below, is_busy_code, is_older, is_spent, is_trusted, most_busy, most_reads, refuses, runs_call, runs_carried, status_told, takes, takes_bulk, takes_data, takes_entries, takes_entry, takes_given, takes_in, takes_list, takes_set, takes_shown, takes_status, timeout_row, tries_again, walked, walks_on, whole}
+use Rattle.afs_rows.specs.ClientRow.{Look, calls_again, gift_of, in_order, look_at, looked, put_entries, put_entry, read_lines, status_look, trusted_in, untrusted_in, with_statuses, Walked, admits_call, awaits, begin_row, begins_by, behind_batch, body_told, breaks, call_of, called, client_row, counts, dropped, entries_told, entry_told, ends_step, find_cached, gives_all, gives_by, given, gives_up, goes_by, hears, ignores, is_awaited, is_below, is_busy_code, is_older, is_spent, is_trusted, most_busy, most_reads, refuses, runs_call, runs_carried, status_told, takes, takes_bulk, takes_bytes, takes_data, takes_entries, takes_entry, takes_given, takes_in, takes_list, takes_plain, takes_rights, takes_set, takes_shown, takes_status, takes_stored, timeout_row, tries_again, walked, walks_on, whole}
 use Rattle.afs_rows.specs.Steps.{Step}
 use Rattle.afs_history.specs.declared.lines.Outs.{Outs}
 use Rattle.afs_model.specs.Steps.{NodeState}
-use Rattle.afs_cache.specs.Managing.{Answers, times_out}
+use Rattle.afs_cache.specs.Managing.{Answers, Takes, times_out}
 use Rattle.afs_cache.specs.Lasting.{lasting}
 
 -- what lasts stays, and the last number rises by one at most
@@ -364,6 +366,10 @@ pub answers_rise : {E : Type 0} (step : Step ClientState) (old new : NodeState C
 answers_rise step old new (Ok outs) h a = rw a.1.state h.1
 answers_rise step old new (Err e) h a = tt
 
+pub takes_rise : {E : Type 0} (step : ℕ → Step ClientState) (old new : NodeState ClientState) (r : Result Outs E) → ((place : ℕ) → Rises old.state (step place)) → Takes step old new r → OnOk r (new.state.last ≤ old.state.last + 1)
+takes_rise step old new (Ok outs) h t = rw (t.1 0).state (h 0).1
+takes_rise step old new (Err e) h t = tt
+
 pub answers_keep : {E : Type 0} (step : Step ClientState) (old new : NodeState ClientState) (r : Result Outs E) → Keeps old.state step → Answers step old new r → OnOk r (new.state.last ≡ old.state.last)
 answers_keep step old new (Ok outs) h a = ap (λ (c : ClientState). c.last) a.1.state ∙ h.1
 answers_keep step old new (Err e) h a = tt
@@ -371,3 +377,7 @@ answers_keep step old new (Err e) h a = tt
 pub answers_last : {E : Type 0} (step : Step ClientState) (old new : NodeState ClientState) (r : Result Outs E) → lasting step.state ≡ lasting old.state → Answers step old new r → lasting new.state ≡ lasting old.state
 answers_last step old new (Ok outs) h a = ap lasting a.1.state ∙ h
 answers_last step old new (Err e) h a = ap (λ (n : NodeState ClientState). lasting n.state) a
+
+pub takes_last : {E : Type 0} (step : ℕ → Step ClientState) (old new : NodeState ClientState) (r : Result Outs E) → ((place : ℕ) → Rises old.state (step place)) → Takes step old new r → lasting new.state ≡ lasting old.state
+takes_last step old new (Ok outs) h t = ap lasting (t.1 0).state ∙ (h 0).0
+takes_last step old new (Err e) h t = ap (λ (n : NodeState ClientState). lasting n.state) t

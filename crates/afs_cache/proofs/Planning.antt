@@ -241,10 +241,9 @@ touch_view seen old k fids busy v q =
     ap (λ (x : Kept). record seen.state { cache = x.entries; capacity = x.capacity; busy = busy }) q
     ∙ ap (λ (s : NodeState ClientState). but_for s.state (touched_all fids s.state.cache) busy) v
 
--- entries were put, and then some were used
-pub walk_view : (seen old : NodeState ClientState) (put used : Kept) (es : List CacheEntry) (fids : List Fid) → seen ≡ old → put ≡ record { entries = put_entries seen.state.capacity es seen.state.cache; capacity = seen.state.capacity }
-    → used ≡ record { entries = touched_all fids put.entries; capacity = put.capacity } → record seen.state { cache = used.entries; capacity = used.capacity } ≡ but_for old.state (touched_all fids (put_entries old.state.capacity es old.state.cache)) old.state.busy
-walk_view seen old put used es fids v p u =
-    ap (λ (x : Kept). record seen.state { cache = x.entries; capacity = x.capacity }) u
-    ∙ (ap (λ (x : Kept). record seen.state { cache = touched_all fids x.entries; capacity = x.capacity }) p
-    ∙ ap (λ (s : NodeState ClientState). but_for s.state (touched_all fids (put_entries s.state.capacity es s.state.cache)) s.state.busy) v)
+-- an entry was put, and then some were used
+pub used_view : (seen put old : NodeState ClientState) (k : Kept) (fids : List Fid) (cache : List CacheEntry) → seen ≡ put → put ≡ record old { state = record old.state { cache = cache } } → k ≡ record { entries = touched_all fids seen.state.cache; capacity = seen.state.capacity }
+    → record seen { state = record seen.state { cache = k.entries; capacity = k.capacity } } ≡ record old { state = record old.state { cache = touched_all fids cache } }
+used_view seen put old k fids cache v p q =
+    ap (λ (x : Kept). record seen { state = record seen.state { cache = x.entries; capacity = x.capacity } }) q
+    ∙ ap (λ (s : NodeState ClientState). record s { state = record s.state { cache = touched_all fids s.state.cache } }) (v ∙ p)

@@ -1,13 +1,17 @@
 -- What the calls of a cache manager promise.
-use Rattle.std.specs.Prelude.{◌≡◌, ℕ, List, [], ◌++◌, Option, Some, None, Result, Ok, Err}
+use Rattle.std.specs.Prelude.{◌≡◌, ℕ, Bool, false, List, [], ◌∷◌, ◌++◌, Option, Some, None, Result, Ok, Err, if◌then◌else◌}
 use Rattle.afs_history.specs.declared.lines.Line.{Line}
+use Rattle.afs_history.specs.declared.lines.Line.TheVariants as lines
 use Rattle.afs_history.specs.declared.lines.Outs.{Outs}
 use Rattle.afs_num.specs.declared.types.Node.{Node}
 use Rattle.afs_num.specs.declared.types.Key.{Key}
+use Rattle.afs_num.specs.declared.calls.FsCall.{FsCall}
+use Rattle.afs_num.specs.declared.calls.FsReply.{FsReply}
+use Rattle.afs_num.specs.declared.types.Code.{Code}
 use Rattle.afs_model.specs.Messages.{parcels_read, messages_spelled}
 use Rattle.afs_model.specs.Steps.{NodeState}
 use Rattle.afs_rows.specs.Going.{ClientState, Going}
-use Rattle.afs_rows.specs.ClientRow.{call_of, gives_up, timeout_row}
+use Rattle.afs_rows.specs.ClientRow.{call_of, calls_again, gives_up, ignores, is_spent, refuses, takes, timeout_row}
 use Rattle.afs_rows.specs.Steps.{Step}
 
 -- the new state and what is given out are those of this step
@@ -21,10 +25,36 @@ abbrev pub Answers : {E : Type 0} → Step ClientState → NodeState ClientState
 Answers step old new (Ok outs) = (new.node ≡ old.node) × Makes step new.state (λ ls. ls) outs
 Answers step old new (Err e) = new ≡ old
 
+-- the same with a message, whose place the client isn't told: the first line, which names it, is the cell's, and the client gives those behind it
+abbrev pub Takes : {E : Type 0} → (ℕ → Step ClientState) → NodeState ClientState → NodeState ClientState → Result Outs E → Type 0
+Takes step old new (Ok outs) = (new.node ≡ old.node) × ((place : ℕ) → Makes (step place) new.state (λ ls. lines.Given place ∷ ls) outs)
+Takes step old new (Err e) = new ≡ old
+
 -- the same behind lines that were told before, which the program has in hand; what comes before them (the act's begin, or that a message was given) the caller adds
 abbrev pub Goes : {E : Type 0} → ((List Line → List Line) → Step ClientState) → List Line → NodeState ClientState → NodeState ClientState → Result Outs E → Type 0
 Goes step told old new (Ok outs) = (new.node ≡ old.node) × ((first : List Line) → Makes (step (λ ls. first ++ (told ++ ls))) new.state (λ ls. first ++ ls) outs)
 Goes step told old new (Err e) = new ≡ old
+
+-- what the act that runs does with the message of this place; where none runs, the message does nothing
+abbrev pub by_act : ClientState → ℕ → (Going → Step ClientState) → Option Going → Step ClientState
+by_act c place step None = ignores c place
+by_act c place step (Some act) = step act
+
+-- the same by the act's unanswered call
+abbrev pub by_call : ClientState → ℕ → (Going → FsCall → Step ClientState) → Option Going → Step ClientState
+by_call c place step running = by_act c place (λ act. step act (call_of c act)) running
+
+-- a break overtook the reply to the act's reading call
+abbrev pub spent_by : ClientState → Option Going → Bool
+spent_by c None = false
+spent_by c (Some act) = is_spent c act
+
+-- a refusal, and a reply: what a break overtook isn't used
+abbrev pub hears_refusal : Node → ClientState → ℕ → Going → Code → Step ClientState
+hears_refusal me c place act code = if is_spent c act then calls_again me c place act else refuses me c place act code
+
+abbrev pub hears_reply : Node → ClientState → ℕ → ℕ → Going → FsReply → Step ClientState
+hears_reply me c clock place act reply = if is_spent c act then calls_again me c place act else takes me c clock place act (call_of c act) reply
 
 -- nothing happens
 abbrev pub rests : ClientState → Step ClientState

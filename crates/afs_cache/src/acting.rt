@@ -2,19 +2,19 @@
 //!
 //! What a step does is planned first, while the client is as it was; what changes then takes no memory.
 
-ghost use Rattle.std.specs.Prelude.{◌≡◌, ◌+◌, ◌<◌, [], ◌++◌, ◌∷◌, filter, map, Some, IfOk, OnOk};
+ghost use Rattle.std.specs.Prelude.{◌≡◌, ◌+◌, ◌<◌, [], ◌++◌, ◌∷◌, map, Some, IfOk, OnErr, OnOk};
 ghost use Rattle.std.specs.List.{All};
 ghost use Rattle.std.specs.Option.{option_copied};
 ghost use Rattle.afs_num.specs.Nodes.{IsNode};
 ghost use Rattle.afs_model.specs.Messages.{messages_spelled, parcels_read};
 ghost use Rattle.afs_rows.specs.Going.{began, next};
-ghost use Rattle.afs_rows.specs.ClientRow.{begin_row, begins_by, boot_of, call_by, calls_step, drop_line, dropped, ends_step, gift_of, gives_all, gives_by, goes_on, in_order, stays, trusted_in, walks_on};
+ghost use Rattle.afs_rows.specs.ClientRow.{begin_row, begins_by, boot_of, call_by, calls_step, drop_line, ends_step, gift_of, gives_all, gives_by, goes_on, in_order, put_entries, put_entry, stays, trusted_in, walks_on};
 ghost use Rattle.afs_history.specs.declared.lines.Line.TheVariants as told;
 ghost use Rattle.afs_acts.specs.Acts.{IsShortAct};
-ghost use Rattle.afs_entries.specs.Cached.{drops_of, HasBody, left};
+ghost use Rattle.afs_entries.specs.Cached.{entry_of, HasBody, touched_all};
 ghost use Rattle.afs_cache.specs.Asking.{asking_of, IsGift, is_giving};
 ghost use Rattle.afs_cache.specs.Acting.{called_by, CanFollow, followed, head_of, IsAsking, IsDropping, IsWay, outs_of, PlansFor, seen_with, sent_to, whole_walk};
-ghost use Rattle.afs_cache.specs.Managing.{Answers, Goes, number_limit, rests};
+ghost use Rattle.afs_cache.specs.Managing.{Answers, Goes, number_limit};
 
 use crate::asked::{Asked, code_now, gives_now};
 use crate::calls::boot_of;
@@ -59,11 +59,11 @@ pub struct Dropping {
 }
 
 impl CacheManager {
-    /// Nothing happens.
-    pub(crate) fn ignore(&self) -> Mem<Outs>
-        ensures { Answers (rests self.now.state) self.now self.now result }
+    /// No lines yet.
+    pub(crate) fn no_lines(&self) -> Lines
+        ensures { result ≡ [] }
     {
-        Ok(quiet(self.alloc, Sequence::new(self.alloc)))
+        Sequence::new(self.alloc)
     }
 
     /// The act that runs, with its call.
@@ -208,6 +208,17 @@ impl CacheManager {
         }
     }
 
+    /// Behind these lines the call is made again under the next number.
+    pub(crate) fn plan_again(&self, asked: &Asked, lines: Lines) -> Mem<Plan>
+        requires last { self.now.state.last < number_limit }
+        ensures plan { IfOk result (λ p. PlansFor (λ d front. calls_step self.now.node (record d { gifts = asked.now.gifts }) asked.now.going front) lines self.now.state p) }
+        ensures follows { IfOk result (CanFollow self.now.state.last) }
+    {
+        let gifts = asked.copy_gifts(self.alloc)?;
+        let going = asked.copy_going(self.alloc)?;
+        self.plan_asking(going, gifts, lines)
+    }
+
     /// Behind these lines these promises are given back, or all of them were.
     pub(crate) fn plan_giving(&self, going: Going, gifts: Vec<Gift>, lines: Lines) -> Mem<Plan>
         requires short { IsShortAct going.act }
@@ -287,6 +298,57 @@ impl CacheManager {
         Ok(self.follow(plan))
     }
 
+    /// One entry comes into the cache.
+    fn put_alone(&mut self, fresh: Fresh) -> Mem<()>
+        ensures ok { OnOk result (self.new ≡ record self.old { state = record self.old.state { cache = put_entry self.old.state.capacity (entry_of fresh) self.old.state.cache } }) }
+        ensures err { OnErr result (self.new ≡ self.old) }
+    {
+        let mut all = Vec::new(self.alloc);
+        all.push(fresh)?;
+        self.cache.put_all(all)?;
+        Ok(())
+    }
+
+    /// One entry comes into the cache, and then some are used.
+    fn put_used(&mut self, fresh: Fresh, used: &[Fid]) -> Mem<()>
+        ensures ok { OnOk result (self.new ≡ record self.old { state = record self.old.state { cache = touched_all used.now (put_entry self.old.state.capacity (entry_of fresh) self.old.state.cache) } }) }
+        ensures err { OnErr result (self.new ≡ self.old) }
+    {
+        self.put_alone(fresh)?;
+        self.cache.touch_all(used);
+        Ok(())
+    }
+
+    /// A reply brought an entry that has a body: behind these lines the act goes on as far as the cache shows what it
+    /// needs.
+    pub(crate) fn walk_with(
+        &mut self,
+        fresh: Fresh,
+        going: Going,
+        lines: Lines,
+        now: u32,
+    ) -> Mem<Outs>
+        requires body { HasBody (Some fresh) }
+        requires short { IsShortAct going.act }
+        requires last { self.old.state.last < number_limit }
+        ensures { Goes (λ front. walks_on self.old.node self.old.state now front going (put_entry self.old.state.capacity (entry_of fresh) self.old.state.cache)) lines self.old self.new result }
+    {
+        let Way { used, plan } = self.way(Some(&fresh), going, lines, now)?;
+        self.put_used(fresh, &used)?;
+        Ok(self.follow(plan))
+    }
+
+    /// The same, where a reply brought entries that show statuses: the act needs nothing more from the cache.
+    pub(crate) fn go_with(&mut self, fresh: Vec<Fresh>, going: Going, lines: Lines) -> Mem<Outs>
+        requires short { IsShortAct going.act }
+        requires last { self.old.state.last < number_limit }
+        ensures { Goes (λ front. goes_on self.old.node self.old.state front (stays going (put_entries self.old.state.capacity (map entry_of fresh.items) self.old.state.cache))) lines self.old self.new result }
+    {
+        let plan = self.plan(going, lines)?;
+        self.cache.put_all(fresh)?;
+        Ok(self.follow(plan))
+    }
+
     /// Tells of entries that are given up.
     pub(crate) fn tell_dropped(&self, fids: &[Fid], lines: &mut Lines) -> Mem<()>
         ensures { OnOk result (lines.new ≡ lines.old ++ map (drop_line self.now.node) fids.now) }
@@ -308,16 +370,6 @@ impl CacheManager {
         let fids = self.cache.listed(self.alloc, drops)?;
         self.tell_dropped(&fids, &mut lines)?;
         Ok(Dropping { fids, lines })
-    }
-
-    /// Behind these lines entries are given up, and the act is answered.
-    pub(crate) fn end_dropping(&mut self, drops: &Drops, lines: Lines, code: Code) -> Mem<Outs>
-        ensures { Goes (λ front. ends_step self.old.node self.old.state (left drops.now self.old.state.cache) (λ ls. front (dropped self.old.node (filter (drops_of drops.now) self.old.state.cache) ls)) code) lines self.old self.new result }
-    {
-        let Dropping { fids, lines } = self.dropping(drops, lines)?;
-        let plan = self.plan_ending(code, lines)?;
-        self.cache.drop_all(&fids);
-        Ok(self.follow(plan))
     }
 
     /// The promises that can be given back now, in the order of their servers.

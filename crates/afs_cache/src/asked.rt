@@ -4,7 +4,7 @@ ghost use Rattle.std.specs.Prelude.{◌≡◌, IfOk};
 ghost use Rattle.std.specs.List.{All};
 ghost use Rattle.afs_model.specs.CellRows.{cell_calls};
 ghost use Rattle.afs_shape.specs.Rows.{IsWithin};
-ghost use Rattle.afs_rows.specs.ClientRow.{call_by};
+ghost use Rattle.afs_rows.specs.ClientRow.{behind_batch, call_by};
 ghost use Rattle.afs_rows.specs.Going.{next};
 ghost use Rattle.afs_acts.specs.Acts.{FitsNeed, IsShortAct};
 ghost use Rattle.afs_acts.specs.Walks.{need_of};
@@ -12,7 +12,7 @@ ghost use Rattle.afs_cache.specs.Asking.{code_of, IsGift, is_giving};
 ghost use Rattle.afs_num.specs.declared.messages.Call.TheVariants as ask;
 
 use afs_acts::{Going, Need, next};
-use afs_entries::{Gift, copy_gifts, gift_batch, gift_call};
+use afs_entries::{Gift, batch_len, copy_gifts, gift_batch, gift_call};
 use afs_num::calls::FsCall;
 use afs_num::messages::Call;
 use afs_num::types::{Code, Mem};
@@ -126,6 +126,14 @@ impl Asked {
         self.gives_back
     }
 
+    /// A copy of the act, and of what it has read.
+    pub fn copy_going(&self, alloc: Global) -> Mem<Going>
+        ensures value { IfOk result (λ g. g ≡ self.now.going) }
+        ensures short { IsShortAct self.now.going.act }
+    {
+        self.going.copy(alloc)
+    }
+
     pub fn gifts(&self) -> &[Gift]
         ensures value { result.now ≡ self.now.gifts }
         ensures nodes { All IsGift self.now.gifts }
@@ -146,6 +154,14 @@ impl Asked {
         ensures nodes { All IsGift self.now.gifts }
     {
         copy_gifts(alloc, &self.gifts)
+    }
+
+    /// What it gives back behind the batch that its call carries.
+    pub fn behind_batch(&self, alloc: Global) -> Mem<Vec<Gift>>
+        ensures value { IfOk result (λ gs. gs.items ≡ behind_batch self.now.gifts) }
+        ensures nodes { IfOk result (λ gs. All IsGift gs.items) }
+    {
+        copy_gifts(alloc, self.gifts.split_at(batch_len(&self.gifts)).1)
     }
 
     /// Its call: all calls of clients are of the interface of the file servers.

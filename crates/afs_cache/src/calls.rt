@@ -1,12 +1,12 @@
 //! The calls that a client makes, and those that it was made.
 
-ghost use Rattle.std.specs.Prelude.{◌≡◌, ◌+◌, ◌<◌, false};
-ghost use Rattle.afs_num.specs.Nodes.{same_node};
-ghost use Rattle.afs_rows.specs.ClientRow.{boot_of};
+ghost use Rattle.std.specs.Prelude.{◌≡◌, ◌+◌, ◌<◌, false, OnErr, OnOk};
+ghost use Rattle.afs_num.specs.Nodes.{IsNode, same_node};
+ghost use Rattle.afs_rows.specs.ClientRow.{boot_of, with_boot};
 
-use afs_num::keyed::{Keyed, find_keyed};
+use afs_num::keyed::{Keyed, find_keyed, put_first};
 use afs_num::messages::Message;
-use afs_num::types::Node;
+use afs_num::types::{Mem, Node};
 use std::marker::Model;
 
 /// The numbers of its calls: its epoch, and the last call's number in it, whom that is for, how often it was timed out, and
@@ -123,4 +123,14 @@ pub fn boot_of(server: &Node, boots: &[KnownBoot]) -> u32
         Some(known) => known.boot,
         None => 1,
     }
+}
+
+/// Notes the boot number that a server told.
+pub fn note_boot(boots: &mut Vec<KnownBoot>, server: Node, boot: u32) -> Mem<()>
+    ensures ok { OnOk result (boots.new.items ≡ with_boot server boot boots.old.items) }
+    ensures err { OnErr result (boots.new.items ≡ boots.old.items) }
+{
+    boots.reserve(1)?;
+    put_first(boots, KnownBoot { server, boot });
+    Ok(())
 }

@@ -2,11 +2,18 @@
 #![tactic(auto)]
 
 mod acting;
+mod admitting;
 mod asked;
+mod breaks;
 mod calls;
 mod looks;
 mod messages;
 mod node;
 mod refusing;
+mod replies;
+mod serving;
+mod storing;
+mod taking;
+mod wanted;
 
 pub use node::CacheManager;

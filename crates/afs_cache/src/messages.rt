@@ -3,15 +3,20 @@
 ghost use Rattle.std.specs.Prelude.{◌≡◌, [], ◌∷◌, IfOk, OnOk};
 ghost use Rattle.afs_model.specs.Messages.{FitsMessage, HasSpelling, messages_spelled, parcels_read, received, spelled};
 ghost use Rattle.afs_num.specs.declared.messages.Received.TheVariants.{Whole};
+ghost use Rattle.afs_rows.specs.ServerRow.{boot_told, replied};
 ghost use Rattle.afs_cache.specs.Asking.{calling};
 
 use afs_history::lines::{Lines, Outs};
 use afs_message::cell::CellCalls;
-use afs_num::messages::Call;
+use afs_message::messages::encode_message;
+use afs_num::messages::{Call, Carried, Message};
 use afs_num::sequences::{Octets, Sequence};
-use afs_num::types::{Head, Mem, Parcel};
+use afs_num::types::{Half, Head, Mem, Parcel};
 use afs_rpc::calls::spell_call;
 use std::alloc::Global;
+
+/// The opcodes of the calls that a client serves: CallBack, InitCallBackState and Probe.
+pub const CLIENT_CALLS: [u32; 3] = [204, 205, 206];
 
 fn outs_of(alloc: Global, lines: Lines, head: Head, bytes: Octets) -> Mem<Outs>
     ensures lines { IfOk result (λ o. o.lines ≡ lines) }
@@ -20,6 +25,16 @@ fn outs_of(alloc: Global, lines: Lines, head: Head, bytes: Octets) -> Mem<Outs>
     let mut parcels = Sequence::new(alloc);
     parcels.push(Parcel { head, bytes })?;
     Ok(Outs { parcels, lines })
+}
+
+/// What a step gives out that sends this one message.
+pub fn outs_with(alloc: Global, lines: Lines, message: &Message) -> Mem<Outs>
+    requires { HasSpelling message.now }
+    ensures lines { IfOk result (λ o. o.lines ≡ lines) }
+    ensures sent { IfOk result (λ o. parcels_read o.parcels ≡ messages_spelled (message.now ∷ [])) }
+{
+    let bytes = encode_message(alloc, message)?;
+    outs_of(alloc, lines, message.head, bytes)
 }
 
 #[tactic(auto, unfolding(afs_model::specs::Messages::spelled))]
@@ -60,4 +75,32 @@ pub fn quiet(alloc: Global, lines: Lines) -> Outs
         parcels: Sequence::new(alloc),
         lines,
     }
+}
+
+/// The reply to a call.
+pub fn replied(boot: u32, head: &Head, carried: Carried) -> Message
+    ensures { result ≡ replied boot head.now carried }
+{
+    Message {
+        head: Head {
+            half: Half::Reply,
+            from: head.to,
+            to: head.from,
+            epoch: head.epoch,
+            number: head.number,
+            boot,
+            stamp: 0,
+            opcode: head.opcode,
+        },
+        carried,
+    }
+}
+
+/// The notice of this client's boot number.
+pub fn boot_told(boot: u32, head: &Head) -> Message
+    ensures { result ≡ boot_told boot head.now }
+{
+    let mut notice = replied(boot, head, Carried::Notice);
+    notice.head.half = Half::Boot;
+    notice
 }

@@ -3,20 +3,24 @@
 ghost use Rattle.std.specs.Prelude.{◌≡◌, ◌≤◌, ◌<◌, ◌+◌, None, length, IfOk, IsSome, OnOk};
 ghost use Rattle.std.specs.List.{All};
 ghost use Rattle.afs_num.specs.Nodes.{IsNode};
+ghost use Rattle.afs_model.specs.CellRows.{client_calls};
 ghost use Rattle.afs_model.specs.Heads.{user_limit};
-ghost use Rattle.afs_rows.specs.ClientRow.{begin_row, new_client};
+ghost use Rattle.afs_model.specs.Messages.{FindsMessages, received_by};
+ghost use Rattle.afs_rows.specs.ClientRow.{begin_row, client_row, new_client};
 ghost use Rattle.afs_rows.specs.Runs.{locations_in};
 ghost use Rattle.afs_acts.specs.Acts.{HasServer, IsShortAct};
-ghost use Rattle.afs_cache.specs.Managing.{Answers, number_limit, times_out, waits};
+ghost use Rattle.afs_cache.specs.Managing.{Answers, Takes, number_limit, times_out, waits};
 ghost use Rattle.afs_cache.specs.Lasting.{lasting};
 
 use crate::asked::Asked;
 use crate::calls::{Calls, KnownBoot, Seat};
+use crate::messages::CLIENT_CALLS;
 use afs_acts::{Location, locations};
 use afs_entries::Cache;
 use afs_history::acts::Act;
 use afs_history::lines::Outs;
 use afs_history::scripts::VolumeLines;
+use afs_message::messages::read_message;
 use afs_num::sequences::Octets;
 use afs_num::types::{Key, Mem, Node};
 use std::alloc::Global;
@@ -96,6 +100,20 @@ impl CacheManager {
         ensures lasting { lasting self.new.state ≡ lasting self.old.state }
     {
         self.begin(act, now)
+    }
+
+    /// One message, at this time in ticks.
+    pub fn receive(&mut self, bytes: &[u8], now: u32) -> Mem<Outs>
+        requires last { self.old.state.last < number_limit }
+        ensures step { Takes (λ place. client_row self.old.node self.old.state now place (received_by client_calls bytes.now)) self.old self.new result }
+        // A message that stands in the bytes is found, unless it is a call that isn't served.
+        ensures found { FindsMessages client_calls bytes.now }
+        // The client makes one call at most.
+        ensures last { OnOk result (self.new.state.last ≤ self.old.state.last + 1) }
+        ensures lasting { lasting self.new.state ≡ lasting self.old.state }
+    {
+        let received = read_message(self.alloc, &CLIENT_CALLS, bytes)?;
+        self.take_in(received, now)
     }
 
     /// The unanswered call has waited too long. What becomes of it doesn't depend on the time.

@@ -6,13 +6,13 @@ use Rattle.afs_rows.specs.ClientRow.{dead_code, dropped, ends_step}
 use Rattle.afs_entries.specs.Cached.{drops_of, left}
 use Rattle.afs_cache.specs.Managing.{given_up}
 use Rattle.afs_cache.proofs.Answering.{goes_answered}
-use Rattle.afs_cache.proofs.Waiting.{gives_up_as, idle_given_up}
+use Rattle.afs_cache.proofs.Replying.{gives_up_as, idle_given_up}
 use Rattle.afs_cache.proofs.node.CacheManager.give_up.Goals as goal
 
 pub returns-in_default : goal.returns-in_default
 returns-in_default c =
     let old = c.args.self.now in
-    idle_given_up old.node old.state old old c.ignore.result c.in_default.ensures c.ignore.ensures
+    idle_given_up old.node old.state old old c.ignore.result c.in_default.ensures c.ignore.ensures.answers
 
 pub returns : goal.returns
 returns c =

@@ -1,11 +1,11 @@
 use Rattle.std.proofs.Common.{sym, ◌∙◌}
-use Rattle.afs_cache.proofs.Waiting.{idle_timed, tried_enough}
+use Rattle.afs_cache.proofs.Replying.{idle_timed, tried_enough}
 use Rattle.afs_cache.proofs.node.CacheManager.time_out.Goals as goal
 
 pub returns-in_default : goal.returns-in_default
 returns-in_default c =
     let old = c.args.self.now in
-    idle_timed old.node old.state old old c.ignore.result c.in_default.ensures c.ignore.ensures
+    idle_timed old.node old.state old old c.ignore.result c.in_default.ensures c.ignore.ensures.answers
 
 pub returns-else-again : goal.returns-else-again
 returns-else-again c =

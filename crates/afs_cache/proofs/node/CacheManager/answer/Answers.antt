@@ -1,0 +1,16 @@
+use Rattle.std.proofs.Common.{◌≡◌, ℕ, List, [], ◌∷◌, ◌++◌, Some, None, true, false, ap, map, filter, sym, ◌∙◌}
+use Rattle.afs_rows.specs.Going.{ClientState, Going}
+use Rattle.afs_history.specs.declared.lines.Line.{Line}
+use Rattle.afs_history.specs.declared.lines.Line.TheVariants as lines
+use Rattle.afs_rows.specs.ClientRow.{answers_step, ends_step}
+use Rattle.afs_cache.proofs.Planning.{plan_taken}
+use Rattle.afs_cache.proofs.Replying.{ends_alone}
+use Rattle.afs_cache.proofs.node.CacheManager.answer.Goals as goal
+
+pub returns : goal.returns
+returns c =
+    let old = c.args.self.now in
+    let told = c.no_lines-lines.result in
+    plan_taken (λ (d : ClientState) (front : List Line → List Line). ends_step old.node d d.cache front c.args.code) (λ (place : ℕ). answers_step old.node old.state place c.args.code)
+    told old.state c.in_ok-plan.plan old c.follow.new.self c.follow.result old.state.cache old.state.busy c.in_ok-plan.ensures.plan c.follow.ensures.node c.follow.ensures.state c.follow.ensures.outs
+    (λ place. ends_alone old.node old.state old.state.cache place told c.args.code c.no_lines-lines.ensures)

@@ -1,0 +1,17 @@
+use Rattle.std.proofs.Common.{◌≡◌, ℕ, ap, ◌∙◌}
+use Rattle.afs_num.specs.Nodes.{same_node}
+use Rattle.afs_num.specs.declared.messages.Received.TheVariants.{Whole}
+use Rattle.afs_model.specs.Steps.{NodeState}
+use Rattle.afs_rows.specs.Going.{ClientState}
+use Rattle.afs_rows.specs.ClientRow.{hears, ignores, takes_in}
+use Rattle.afs_cache.proofs.Answering.{takes_same}
+use Rattle.afs_cache.proofs.Breaking.{chosen}
+use Rattle.afs_cache.proofs.node.CacheManager.take_whole.Goals as goal
+
+pub returns-then-is : goal.returns-then-is
+returns-then-is c =
+    let old = c.args.self.now in
+    let head = c.args.message.head in
+    let here = c.if-is.ensures ∙ ap (λ (n : NodeState ClientState). same_node head.to n.node) c.self.view_is in
+    takes_same (λ (place : ℕ). hears old.node old.state c.args.now place head c.args.message.carried) (λ (place : ℕ). takes_in old.node old.state c.args.now place (Whole c.args.message)) old c.take_message.new.self c.take_message.result
+    (λ place. chosen (same_node head.to old.node) (hears old.node old.state c.args.now place head c.args.message.carried) (ignores old.state place) here) c.take_message.ensures

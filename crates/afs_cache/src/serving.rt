@@ -1,0 +1,330 @@
+//! The calls of servers: they break promises, and ask whether the client is there.
+
+ghost use Rattle.std.specs.Prelude.{◌≡◌, ◌<◌, ◌||◌, [], ◌∷◌, false, map, IfOk, OnErr, OnOk, if◌then◌else◌};
+ghost use Rattle.afs_model.specs.Calls.{admitted, call_seated};
+ghost use Rattle.afs_model.specs.FsRows.{call_number};
+ghost use Rattle.afs_model.specs.Heads.{is_zero, IsSoundHead};
+ghost use Rattle.afs_model.specs.Messages.{HasSpelling, IsSoundReceived};
+ghost use Rattle.afs_rows.specs.ClientRow.{breaks, drop_line, hears, is_waiting, names_act, replies_step, takes_in, told_step, without_fids};
+ghost use Rattle.afs_rows.specs.ClientRow.{done as done_by};
+ghost use Rattle.afs_rows.specs.ServerRow.{bad_fields, boot_told, not_served, replied, seat_for};
+ghost use Rattle.afs_shape.specs.Tables.{is_among};
+ghost use Rattle.afs_model.specs.CellRows.{client_calls};
+ghost use Rattle.afs_entries.specs.Cached.{left, unlisted};
+ghost use Rattle.afs_cache.specs.Managing.{number_limit, Takes};
+ghost use Rattle.afs_cache.specs.Asking.{means};
+ghost use Rattle.afs_cache.specs.Serving.{admits_asking, IsSoundAdmit, IsSoundAsking, runs_asking, takes_asking};
+
+use crate::admitting::{Admit, admitted};
+use crate::breaks::{is_spoiled_by_all, names_call};
+use crate::calls::Seat;
+use crate::messages::{CLIENT_CALLS, boot_told, outs_with, replied};
+use crate::node::CacheManager;
+use afs_entries::Drops;
+use afs_history::lines::{Line, Lines, Outs};
+use afs_num::calls::{FsCall, FsReply};
+use afs_num::keyed::put_last;
+use afs_num::messages::{Call, Carried, Message, Received, Reply};
+use afs_num::sequences::Sequence;
+use afs_num::types::{Code, Fid, Head, Mem, Node};
+
+/// No such call is served here.
+const NOT_SERVED: Code = Code(-455);
+
+/// The fields of the call can't be read.
+const BAD_FIELDS: Code = Code(-453);
+
+/// What a server asks: a call, or one that is refused with this code.
+#[derive(Drop)]
+enum Asking {
+    Call(Call),
+    Refused(Code),
+}
+
+/// What a call is refused with whose fields can't be read: its opcode may be none that is served.
+fn unreadable(head: &Head) -> Code
+    ensures { result.0 ≡ (if is_among client_calls head.now.opcode then bad_fields else not_served) }
+{
+    if CLIENT_CALLS.contains(&head.opcode) {
+        BAD_FIELDS
+    } else {
+        NOT_SERVED
+    }
+}
+
+/// The reply that a call was done.
+fn done(reply: FsReply) -> Carried
+    ensures { result ≡ done_by reply }
+{
+    Carried::Reply {
+        reply: Reply::File(reply),
+    }
+}
+
+impl CacheManager {
+    /// A message is sent, and nothing else is done.
+    fn tell(&self, message: &Message) -> Mem<Outs>
+        requires { HasSpelling message.now }
+        ensures { Takes (λ place. told_step self.now.state place (message.now ∷ [])) self.now self.now result }
+    {
+        outs_with(self.alloc, Sequence::new(self.alloc), message)
+    }
+
+    /// A reply is kept for its caller.
+    fn keep(&mut self, head: &Head, reply: Message) -> Mem<()>
+        requires { HasSpelling reply }
+        ensures ok { OnOk result (self.new ≡ record self.old { state = record self.old.state { seats = call_seated (seat_for head.now reply) self.old.state.seats } }) }
+        ensures err { OnErr result (self.new ≡ self.old) }
+    {
+        self.seats.reserve(1)?;
+        put_last(
+            &mut self.seats,
+            Seat {
+                caller: head.from,
+                epoch: head.epoch,
+                number: head.number,
+                reply: Some(reply),
+            },
+        );
+        Ok(())
+    }
+
+    /// A server's call is answered behind these lines, and the reply is kept.
+    fn reply(&mut self, head: &Head, lines: Lines, carried: Carried) -> Mem<Outs>
+        requires { HasSpelling (replied self.old.state.epoch head.now carried) }
+        ensures { Takes (λ place. replies_step self.old.state place head.now lines carried) self.old self.new result }
+    {
+        let reply = replied(self.calls.epoch, head, carried);
+        let outs = outs_with(self.alloc, lines, &reply)?;
+        self.keep(head, reply)?;
+        Ok(outs)
+    }
+
+    /// The entries of these fids go, and the reply to the call that waits is spoiled, if so.
+    fn lose(&mut self, fids: &[Fid], is_spoiled: bool)
+        ensures { self.new ≡ record self.old { state = record self.old.state { cache = unlisted fids.now self.old.state.cache; spoiled = is_spoiled || self.old.state.spoiled } } }
+    {
+        self.cache.drop_all(fids);
+        self.calls.spoiled = is_spoiled || self.calls.spoiled;
+    }
+
+    /// A server's call is answered, and nothing else is told.
+    fn reply_alone(&mut self, head: &Head, carried: Carried) -> Mem<Outs>
+        requires { HasSpelling (replied self.old.state.epoch head.now carried) }
+        ensures { Takes (λ place. replies_step self.old.state place head.now [] carried) self.old self.new result }
+    {
+        let lines = Sequence::new(self.alloc);
+        self.reply(head, lines, carried)
+    }
+
+    fn refuse_call(&mut self, head: &Head, code: Code) -> Mem<Outs>
+        requires head { IsSoundHead head.now }
+        requires code { is_zero code.0 ≡ false }
+        ensures { Takes (λ place. replies_step self.old.state place head.now [] (Carried.Refusal code)) self.old self.new result }
+    {
+        self.reply_alone(head, Carried::Refusal { code })
+    }
+
+    /// Whether the reply of the call that waits is spoiled by a break on these fids.
+    fn is_named(&self, fids: &[Fid]) -> bool
+        ensures { result ≡ names_act self.now.state fids.now self.now.state.running }
+    {
+        match &self.asked {
+            Some(asked) => names_call(fids, asked.file_call()),
+            None => false,
+        }
+    }
+
+    /// What is told of a break on these fids.
+    fn lines_dropped(&self, fids: &[Fid]) -> Mem<Lines>
+        ensures { IfOk result (λ ls. ls ≡ map (drop_line self.now.node) fids.now) }
+    {
+        let mut lines = Sequence::new(self.alloc);
+        self.tell_dropped(fids, &mut lines)?;
+        Ok(lines)
+    }
+
+    /// A break of the promises on these fids: their entries go, and a reply that names one of them is spoiled.
+    fn break_fids(&mut self, head: &Head, fids: &[Fid]) -> Mem<Outs>
+        requires head { IsSoundHead head.now }
+        requires opcode { head.now.opcode ≡ 204 }
+        ensures { Takes (λ place. replies_step (without_fids self.old.state fids.now) place head.now (map (drop_line self.old.node) fids.now) (done_by FsReply.CallBack)) self.old self.new result }
+    {
+        let lines = self.lines_dropped(fids)?;
+        let is_named = self.is_named(fids);
+        let outs = self.reply(head, lines, done(FsReply::CallBack))?;
+        self.lose(fids, is_named);
+        Ok(outs)
+    }
+
+    /// Whether a reply of this server is awaited that a break of all its promises spoils.
+    fn is_waiting(&self, head: &Head) -> bool
+        ensures { result ≡ is_waiting self.now.state head.now.from self.now.state.running }
+    {
+        match &self.asked {
+            Some(asked) => {
+                self.calls.callee.is(&head.from) && is_spoiled_by_all(asked.file_call())
+            }
+            None => false,
+        }
+    }
+
+    /// What is told of a break of all that a server promised.
+    fn line_dropped(&self, server: Node) -> Mem<Lines>
+        ensures { IfOk result (λ ls. ls ≡ Line.DropAll self.now.node server ∷ []) }
+    {
+        let mut lines = Sequence::new(self.alloc);
+        lines.push(Line::DropAll {
+            client: self.node,
+            server,
+        })?;
+        Ok(lines)
+    }
+
+    /// The fids of the entries that a server promised.
+    fn promised_by(&self, server: Node) -> Mem<Vec<Fid>>
+        ensures { IfOk result (λ fs. unlisted fs.items self.now.state.cache ≡ left (Drops.Server server) self.now.state.cache) }
+    {
+        self.cache.listed(self.alloc, &Drops::Server(server))
+    }
+
+    /// A break of all that the server promised.
+    fn break_all(&mut self, head: &Head) -> Mem<Outs>
+        requires head { IsSoundHead head.now }
+        requires opcode { head.now.opcode ≡ 205 }
+        ensures { Takes (λ place. breaks self.old.node self.old.state place head.now FsCall.InitCallBackState) self.old self.new result }
+    {
+        let lines = self.line_dropped(head.from)?;
+        let fids = self.promised_by(head.from)?;
+        let is_waiting = self.is_waiting(head);
+        let outs = self.reply(head, lines, done(FsReply::InitCallBackState))?;
+        self.lose(&fids, is_waiting);
+        Ok(outs)
+    }
+
+    /// A call of a server that runs.
+    fn serve(&mut self, head: &Head, call: FsCall) -> Mem<Outs>
+        requires head { IsSoundHead head.now }
+        requires opcode { head.now.opcode ≡ call_number call }
+        ensures { Takes (λ place. breaks self.old.node self.old.state place head.now call) self.old self.new result }
+    {
+        match call {
+            FsCall::CallBack { fids, .. } => self.break_fids(head, fids.as_slice()),
+            FsCall::InitCallBackState => self.break_all(head),
+            FsCall::Probe => self.reply_alone(head, done(FsReply::Probe)),
+            _ => self.refuse_call(head, NOT_SERVED),
+        }
+    }
+
+    /// A call that runs: those of other interfaces aren't served.
+    fn run_call(&mut self, head: &Head, call: Call) -> Mem<Outs>
+        requires head { IsSoundHead head.now }
+        requires asking { IsSoundAsking head.now.opcode (Asking.Call call) }
+        ensures { Takes (λ place. runs_asking self.old.node self.old.state place head.now (Asking.Call call)) self.old self.new result }
+    {
+        match call {
+            Call::File(call) => self.serve(head, call),
+            Call::Volume(_) => self.refuse_call(head, NOT_SERVED),
+            Call::Location(_) => self.refuse_call(head, NOT_SERVED),
+        }
+    }
+
+    /// What a server asks runs.
+    fn run(&mut self, head: &Head, asking: Asking) -> Mem<Outs>
+        requires head { IsSoundHead head.now }
+        requires asking { IsSoundAsking head.now.opcode asking }
+        ensures { Takes (λ place. runs_asking self.old.node self.old.state place head.now asking) self.old self.new result }
+    {
+        match asking {
+            Asking::Call(call) => self.run_call(head, call),
+            Asking::Refused(code) => self.refuse_call(head, code),
+        }
+    }
+
+    /// What becomes of a call with this header.
+    fn admit(&self, head: &Head) -> Admit<'_>
+        ensures value { means self.now.state.epoch result ≡ admitted self.now.state.epoch self.now.state.seats head.now }
+        ensures sound { IsSoundAdmit result }
+    {
+        admitted(&self.seats, self.calls.epoch, head)
+    }
+
+    /// The caller is told this client's boot number.
+    fn tell_boot(&self, head: &Head) -> Mem<Outs>
+        requires { IsSoundHead head.now }
+        ensures { Takes (λ place. told_step self.now.state place (boot_told self.now.state.epoch head.now ∷ [])) self.now self.now result }
+    {
+        let notice = boot_told(self.calls.epoch, head);
+        self.tell(&notice)
+    }
+
+    /// A call. A call in progress or older than its caller's last one gets no answer.
+    fn called(&mut self, head: &Head, asking: Asking) -> Mem<Outs>
+        requires head { IsSoundHead head.now }
+        requires asking { IsSoundAsking head.now.opcode asking }
+        ensures { Takes (λ place. admits_asking self.old.node self.old.state place head.now asking (admitted self.old.state.epoch self.old.state.seats head.now)) self.old self.new result }
+    {
+        match self.admit(head) {
+            Admit::Run => self.run(head, asking),
+            Admit::Kept(reply) => self.tell(reply),
+            Admit::InProgress | Admit::Older => self.ignore(),
+            Admit::WrongBoot => self.tell_boot(head),
+        }
+    }
+
+    /// What a server asks, if it is asked of this client.
+    fn take_asking(&mut self, head: &Head, asking: Asking) -> Mem<Outs>
+        requires head { IsSoundHead head.now }
+        requires asking { IsSoundAsking head.now.opcode asking }
+        ensures { Takes (λ place. takes_asking self.old.node self.old.state place head.now asking) self.old self.new result }
+    {
+        if head.to.is(&self.node) {
+            self.called(head, asking)
+        } else {
+            self.ignore()
+        }
+    }
+
+    /// A message to this client.
+    fn take_message(&mut self, message: Message, now: u32) -> Mem<Outs>
+        requires sound { HasSpelling message }
+        requires last { self.old.state.last < number_limit }
+        ensures { Takes (λ place. hears self.old.node self.old.state now place message.head message.carried) self.old self.new result }
+    {
+        let Message { head, carried } = message;
+        match carried {
+            Carried::Call { call, .. } => self.called(&head, Asking::Call(call)),
+            other => self.hear(&head, other, now),
+        }
+    }
+
+    /// A message, if it is to this client.
+    fn take_whole(&mut self, message: Message, now: u32) -> Mem<Outs>
+        requires sound { HasSpelling message }
+        requires last { self.old.state.last < number_limit }
+        ensures { Takes (λ place. takes_in self.old.node self.old.state now place (Received.Whole message)) self.old self.new result }
+    {
+        if message.head.to.is(&self.node) {
+            self.take_message(message, now)
+        } else {
+            self.ignore()
+        }
+    }
+
+    /// What was received. A message to another node does nothing.
+    pub(crate) fn take_in(&mut self, received: Received, now: u32) -> Mem<Outs>
+        requires sound { IsSoundReceived received }
+        requires last { self.old.state.last < number_limit }
+        ensures { Takes (λ place. takes_in self.old.node self.old.state now place received) self.old self.new result }
+    {
+        match received {
+            Received::Nothing => self.ignore(),
+            Received::Unserved { head } => self.take_asking(&head, Asking::Refused(NOT_SERVED)),
+            Received::Unreadable { head } => {
+                let code = unreadable(&head);
+                self.take_asking(&head, Asking::Refused(code))
+            }
+            Received::Whole { message } => self.take_whole(message, now),
+        }
+    }
+}
