@@ -1,7 +1,7 @@
 """Makes scripts, good and bad, and what a reference program reads of them.
 
 scripts.py REFERENCE SEED COUNT IN WANT: writes COUNT scripts from that seed on to IN, each behind the level of its form and
-its length, and to WANT what is to be printed of each. Set-up refuses nothing here."""
+its length, and to WANT what is to be printed of each."""
 import random
 import sys
 
@@ -10,11 +10,7 @@ sys.path.insert(0, reference)
 import script as S
 import stages
 import text
-import volume as V
 from rules import Rules
-
-V.lay = lambda *_: 0
-S.first_record_full = lambda *_: False
 
 NODES = ["c1", "c2", "c16", "c17", "c0", "s1", "s2", "s8", "s9", "a1", "a4", "a5", "loc", "c01", "x1", "c", "s", "1", "lo"]
 NAMES = ["a", "b", "proj", "v.readonly", "x%20y", "x%2Fy", "%41", "%4", "%", "%G0", "a%c3", "n" * 255, "n" * 256, "n" * 257, "..", "-_.", "%00", "%FF%FE", "p" * 32, "p" * 33]
@@ -59,6 +55,54 @@ class Maker:
     def setup_path(self):
         first = self.pick(self.laid or ["proj"], VOLUMES + NAMES)
         return "/".join([first] + [self.name() for _ in range(self.r.choice([0, 1, 1, 1, 2, 2, 3]))])
+
+    def hex(self, data):
+        return "hex:" + data.hex()
+
+    def list_text(self):
+        """The text of an access list, mostly a good one."""
+        r = self.r
+        names = r.sample(["alice", "bob", "system:anyuser", "system:administrators", "u" * 40], r.choice([0, 1, 1, 2, 3]))
+        cut = r.randrange(len(names) + 1)
+        lines = ["%d\n%d\n" % (cut, len(names) - cut)] + ["%s\t%d\n" % (n, r.choice([0, 1, 9, 127])) for n in names]
+        data = "".join(lines).encode()
+        return self.pick([data], [b"", b"1\n", data + b"x", data.replace(b"\t", b" "), data[:-1], b"0\n0\n" + b" " * 1100])
+
+    def setups(self):
+        """Many lines of set-up, most of them good."""
+        r, odds = self.r, self.odds
+        self.odds = r.choice([1.0, 1.0, 0.999, 0.99])
+        places = {v: [[]] for v in self.laid}
+        others = {v: [] for v in self.laid}
+        large = r.random() < 0.2
+        lines = []
+        for k in range(r.choice([3, 10, 30, 60, 120, 300] + ([1100, 4200] if large else []))):
+            v = r.choice(self.laid)
+            word = r.choice(["dir", "dir", "file", "file", "file", "link", "acl"])
+            if large and r.random() < 0.9:
+                word = "file"
+            if large and r.random() < 0.95:
+                parent = places[v][0] if k < 1000 or len(places[v]) < 5 else places[v][k // 1000]
+            else:
+                parent = self.pick(places[v], others[v] + [["none"]])
+            name = "%s%d" % (word[0], k)
+            if r.random() > self.odds:
+                name = r.choice([p[-1] for p in places[v] + others[v] if p] + ["n" * 255, "n" * 256, "%2F", "..", "%00", "."])
+            path = parent + [name]
+            if word == "acl":
+                path = self.pick(places[v], others[v] + [["none"], parent + ["x"]])
+                lines.append([word, "/".join([v] + path), self.hex(self.list_text())])
+                continue
+            (places if word == "dir" else others)[v].append(path)
+            line = [word, "/".join([v] + path)]
+            if word == "file":
+                size = r.choice([0, 1, 3, 4, 100, 1024, 1025] + ([] if large else [5000, 20000, 65535, 65536]))
+                line.append(self.pick(["fill:%d:61" % size, self.hex(bytes(r.randrange(256) for _ in range(size % 50)))], ["fill:65537:00", "fill:2097152:00", "fill:2097153:00"]))
+            elif word == "link":
+                line.append(self.pick([self.hex(b"to"), "fill:1024:78", "hex:"], ["fill:1025:78"]))
+            lines.append(line)
+        self.odds = odds
+        return lines
 
     def fid(self):
         return "@" + ".".join([self.pick(["536870912", "1"], NUMBERS), self.pick(["2", "1", "4"], NUMBERS), self.pick(["2", "3"], NUMBERS)][:self.r.choice([3] * 40 + [2, 4])])
@@ -163,16 +207,20 @@ class Maker:
         if (level >= 6 or not one()) and r.random() < 0.3:
             lines.append(["cache", self.number(1, 256)])
         if (level >= 4 or not one()) and r.random() < 0.3:
-            lines.append(["capacity", self.number(65536, 268435456)])
+            lines.append(["capacity", self.number(65536, 268435456) if r.random() < 0.5 else str(r.choice([65536, 70000, 100000, 300000, 1000000]))])
         if level >= 5 or not one():
             for _ in range(r.choice([0, 0, 1, 3]) if self.clients or not one() else 0):
                 lines.append(["user", self.node("c"), self.pick(["alice", "bob%20x"], NAMES + ["u" * 64, "u" * 65])])
         names = ["proj", "v0", "v1"] if level >= 7 or not one() else ["proj"]
         names = names[:r.choice([1, 2, 3])]
         self.laid = names
+        many = level >= 5 and r.random() < 0.5
         for n in names:
-            lines.append(["volume", self.pick([n], VOLUMES), self.node("s"), self.number(1000 if level < 5 and one() else 1, 16384)])
-        for _ in range(r.choice([0, 0, 1, 1, 2, 4]) if level >= 5 else r.choice([0, 1, 1, 2])):
+            quota = str(r.choice([1, 100, 1000, 5000] + [16384] * 12)) if many else self.number(1000 if level < 5 and one() else 1, 16384)
+            lines.append(["volume", self.pick([n], VOLUMES), self.node("s"), quota])
+        if many:
+            lines += self.setups()
+        for _ in range(0 if many else r.choice([0, 0, 0, 1, 2, 4]) if level >= 5 else r.choice([0, 1, 1, 2])):
             word = r.choice(["dir", "file", "link", "acl"]) if level >= 5 or not one() else "file"
             lines.append([word, self.setup_path()] + ([self.bytes()] if word != "dir" else []))
         for _ in range(r.choice([0, 1, 2, 4, 8]) if self.clients or self.admins or not one() else 0):

@@ -1,8 +1,9 @@
 #!/bin/sh
 # Reads made scripts of all forms, good and bad, and compares what is read of each, or its first bad line and the reason, with
 # what a reference program in another language reads. tests/scripts.py makes the scripts and asks the reference,
-# tests/scripts.play is a program that reads them. Set-up refuses nothing here. The program is tried and not proved, so it is
-# no crate of the repository, and the script no part of the gate. All is done in a copy.
+# tests/scripts.play is a program that reads them, on the ground of set-up. Half of the scripts have many lines of set-up. The
+# program is tried and not proved, so it is no crate of the repository, and the script no part of the gate. All is done in a
+# copy.
 # tests/scripts.sh [FIRST [COUNT]]: the first seed and how many scripts; AFSCELL_REFERENCE is the folder of the reference.
 set -eu
 
@@ -28,7 +29,7 @@ needed() {
     for below in $(sed -n "s/^$1://p" crates.txt); do needed "$below"; done
 }
 
-below='afs_num afs_history afs_words afs_grammar'
+below='afs_num afs_history afs_words afs_grammar afs_ground'
 mkdir "$work/crates"
 if [ -f HANDLES ]; then cp HANDLES "$work"; fi
 for crate in $(for name in $below; do needed "$name"; done | sort -u); do

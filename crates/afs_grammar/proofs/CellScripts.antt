@@ -26,11 +26,9 @@ use Rattle.afs_grammar.specs.declared.spellings.FirstWord.TheVariants as words
 use Rattle.afs_grammar.specs.Acts.{event_at, most_contents, most_text, plan_at, task_at, Words}
 use Rattle.afs_grammar.specs.CellScripts.{AreAccepted, AreApart, AreVolumes, FitsEvent, FitsPlan, FitsTask, FitsUser, IsApart, IsCellScript, IsFrom, IsVolume}
 use Rattle.afs_grammar.specs.Forms.{is_unbuilt}
-use Rattle.afs_grammar.specs.Grounds.{line_laid_in}
-use Rattle.afs_grammar.specs.Lines.{acl_line, admins_line, bounded_for, cache_line, capacity_line, cell_line, clients_line, dir_line, do_line, end_line, event_line, event_told, file_line, filled_up, first_of, fits_all, fits_loc, fits_server, has_name, is_at, last_at, line_at, line_by_word, line_of, lines_at, link_line, loc_length, new_line, nothing_read, place_of, plan_line, schedule_line, schedule_so_far, script_of, servers_line, setup_accepts, setup_at, setup_laid, stored_all, ticks_in, user_line, volume_added, volume_at, volume_line, volumes_at, with_line, with_setup, with_setup_at, with_volume, LinesRead}
+use Rattle.afs_grammar.specs.Lines.{acl_line, admins_line, bounded_for, cache_line, capacity_line, cell_line, clients_line, dir_line, do_line, end_line, event_line, event_told, file_line, filled_up, first_of, fits_all, fits_loc, fits_server, has_name, is_at, last_at, line_at, line_by_word, line_fits, line_fits_in, line_laid_in, line_of, lines_at, link_line, loc_length, new_line, nothing_read, place_of, plan_line, schedule_line, schedule_so_far, script_of, servers_line, setup_accepts, setup_accepted, setup_laid, stored_all, ticks_in, user_line, volume_accepted, volume_added, volume_line, volumes_at, with_line, LinesRead}
 use Rattle.afs_grammar.specs.Turns.{from_turn, has_ended, is_due, next_turn, to_turn}
 use Rattle.afs_grammar.proofs.Acting.{event_in, plan_in, task_in}
-use Rattle.afs_grammar.proofs.Laid.{setup_is, volume_is}
 use Rattle.afs_grammar.proofs.Sizes.{first_record}
 use Rattle.afs_records.specs.Changes.{record_of_volumes}
 use Rattle.afs_records.specs.Durable.{place_length}
@@ -210,17 +208,16 @@ both_by : (s t : Bool) → (s && t) ≡ true → (s ≡ true) × (t ≡ true)
 both_by true t e = (refl, e)
 both_by false t e = absurd cc
 
-fits_before : (level : ℕ) (r : LinesRead) (line : VolumeLine) (ys : List VolumeLine) → volume_at level r line ≡ Ok ys → fits_all r.capacity line.server (r.volumes ++ line ∷ []) ≡ true
-unfolding volume_at with_volume
-fits_before level r line ys e =
+fits_before : (level : ℕ) (r : LinesRead) (line : VolumeLine) (u : Unit {0}) → volume_accepted level r line ≡ Ok u → fits_all r.capacity line.server (r.volumes ++ line ∷ []) ≡ true
+unfolding volume_accepted
+fits_before level r line u e =
     let few = bound (Unit {0}) _ Reason (must (nat_lt (length (volumes_at line.server r.volumes)) 64) reasons.Limit) _ _ e in
-    let volumes = bound (List VolumeLine) _ Reason (must (fits_all r.capacity line.server (r.volumes ++ line ∷ [])) reasons.Limit >>= (λ (u : Unit {0}). Ok (r.volumes ++ line ∷ []))) _ _ few.rest in
-    let short = bound (Unit {0}) _ Reason (must (fits_all r.capacity line.server (r.volumes ++ line ∷ [])) reasons.Limit) _ _ volumes.first in
-    must_true _ _ _ short.first
+    let fits = bound (Unit {0}) _ Reason (must (fits_all r.capacity line.server (r.volumes ++ line ∷ [])) reasons.Limit) _ _ few.rest in
+    must_true _ _ _ fits.first
 
-few_before : (level : ℕ) (r : LinesRead) (line : VolumeLine) (ys : List VolumeLine) → volume_at level r line ≡ Ok ys → length (volumes_at line.server r.volumes) < 64
-unfolding volume_at
-few_before level r line ys e =
+few_before : (level : ℕ) (r : LinesRead) (line : VolumeLine) (u : Unit {0}) → volume_accepted level r line ≡ Ok u → length (volumes_at line.server r.volumes) < 64
+unfolding volume_accepted
+few_before level r line u e =
     let few = bound (Unit {0}) _ Reason (must (nat_lt (length (volumes_at line.server r.volumes)) 64) reasons.Limit) _ _ e in
     ltb-true (length (volumes_at line.server r.volumes)) 64 (must_true _ _ _ few.first)
 
@@ -230,13 +227,11 @@ with_volumes r ls late h are few apart fits loc = record { some = h.some; server
 added_holds : (level : ℕ) (r x : LinesRead) (line : VolumeLine) → 8 ≤ r.turn → Holds r → IsVolume r.counts (536870912 + length r.volumes) line → list_any (has_name line.name) r.volumes ≡ false → volume_added level r line ≡ Ok x → Holds x
 unfolding volume_added
 added_holds level r x line late h is fresh e =
-    let volumes = bound (List VolumeLine) _ Reason (volume_at level r line) _ _ e in
-    let same : volumes.value ≡ r.volumes ++ line ∷ [] = volume_is level r line volumes.value volumes.first in
-    let fit = both_by (fits_server r.capacity (volumes_at line.server (r.volumes ++ line ∷ []))) (fits_loc r.capacity (r.volumes ++ line ∷ [])) (fits_before level r line volumes.value volumes.first) in
-    subst Holds (ok_of _ _ _ _ volumes.rest)
-    (subst (λ (ls : List VolumeLine). Holds (record r { volumes = ls })) (sym same)
-    (with_volumes r (r.volumes ++ line ∷ []) late h (volumes_push r.counts 536870912 r.volumes line h.volumes is) (few_push r.volumes line h.few (few_before level r line volumes.value volumes.first))
-    (apart_push r.volumes line h.apart fresh) (λ s. fits_by (is_at s line) r.capacity s r.volumes line refl (h.fits s) fit.0) fit.1))
+    let accepted = bound (Unit {0}) _ Reason (volume_accepted level r line) _ _ e in
+    let fit = both_by (fits_server r.capacity (volumes_at line.server (r.volumes ++ line ∷ []))) (fits_loc r.capacity (r.volumes ++ line ∷ [])) (fits_before level r line accepted.value accepted.first) in
+    subst Holds (ok_of _ _ _ _ accepted.rest)
+    (with_volumes r (r.volumes ++ line ∷ []) late h (volumes_push r.counts 536870912 r.volumes line h.volumes is) (few_push r.volumes line h.few (few_before level r line accepted.value accepted.first))
+    (apart_push r.volumes line h.apart fresh) (λ s. fits_by (is_at s line) r.capacity s r.volumes line refl (h.fits s) fit.0) fit.1)
 
 not_true : (t : Bool) → not t ≡ true → t ≡ false
 not_true true e = absurd cc
@@ -312,30 +307,29 @@ loc_set x [] place l is = refl
 loc_set x (y ∷ ys) zero l is = ap (λ (z : VolumeLine). loc_length ys + (4 + filled_up (length z.name) + 40)) (sym (some_volume y l is))
 loc_set x (y ∷ ys) (suc place) l is = ap (λ (k : ℕ). k + (4 + filled_up (length y.name) + 40)) (loc_set x ys place l is)
 
-accepted_by : (capacity place : ℕ) (x : SetupLine) (ls ys : List VolumeLine) (o : Option VolumeLine) (l : VolumeLine) → o ≡ Some l → with_setup_at capacity place x ls o ≡ Ok ys → setup_accepts (laid l.id x (first_volume l)) ≡ Ok tt
-accepted_by capacity place x ls ys None l is e = absurd cc
-accepted_by capacity place x ls ys (Some m) l is e =
+accepted_by : (capacity place : ℕ) (x : SetupLine) (ls : List VolumeLine) (u : Unit {0}) (o : Option VolumeLine) (l : VolumeLine) → o ≡ Some l → line_fits_in capacity place x ls o ≡ Ok u → setup_accepts (laid l.id x (first_volume l)) ≡ Ok tt
+accepted_by capacity place x ls u None l is e = absurd cc
+accepted_by capacity place x ls u (Some m) l is e =
     let stands = bound (Unit {0}) _ Reason (setup_accepts (laid m.id x (first_volume m))) _ _ e in
     subst (λ (v : VolumeLine). setup_accepts (laid v.id x (first_volume v)) ≡ Ok tt) (some_volume m l is) stands.first
 
-accepted : (level : ℕ) (r : LinesRead) (place : ℕ) (x : SetupLine) (ys : List VolumeLine) (l : VolumeLine) → slice_get r.volumes place ≡ Some l → setup_at level r place x ≡ Ok ys → setup_accepts (laid l.id x (first_volume l)) ≡ Ok tt
-unfolding setup_at with_setup
-accepted level r place x ys l is e =
-    let volumes = bound (List VolumeLine) _ Reason (with_setup_at r.capacity place x r.volumes (slice_get r.volumes place)) _ _ e in
-    accepted_by r.capacity place x r.volumes volumes.value (slice_get r.volumes place) l is volumes.first
+accepted : (level : ℕ) (r : LinesRead) (place : ℕ) (x : SetupLine) (u : Unit {0}) (l : VolumeLine) → slice_get r.volumes place ≡ Some l → setup_accepted level r place x ≡ Ok u → setup_accepts (laid l.id x (first_volume l)) ≡ Ok tt
+unfolding setup_accepted line_fits
+accepted level r place x u l is e =
+    let fits = bound (Unit {0}) _ Reason (line_fits_in r.capacity place x r.volumes (slice_get r.volumes place)) _ _ e in
+    accepted_by r.capacity place x r.volumes fits.value (slice_get r.volumes place) l is fits.first
 
-fits_after_by : (capacity place : ℕ) (x : SetupLine) (ls ys : List VolumeLine) (o : Option VolumeLine) (l : VolumeLine) → o ≡ Some l → with_setup_at capacity place x ls o ≡ Ok ys → fits_server capacity (volumes_at l.server (slice_set ls place (with_line x l))) ≡ true
-fits_after_by capacity place x ls ys None l is e = absurd cc
-fits_after_by capacity place x ls ys (Some m) l is e =
+fits_after_by : (capacity place : ℕ) (x : SetupLine) (ls : List VolumeLine) (u : Unit {0}) (o : Option VolumeLine) (l : VolumeLine) → o ≡ Some l → line_fits_in capacity place x ls o ≡ Ok u → fits_server capacity (volumes_at l.server (slice_set ls place (with_line x l))) ≡ true
+fits_after_by capacity place x ls u None l is e = absurd cc
+fits_after_by capacity place x ls u (Some m) l is e =
     let stands = bound (Unit {0}) _ Reason (setup_accepts (laid m.id x (first_volume m))) _ _ e in
-    let short = bound (Unit {0}) _ Reason (must (fits_server capacity (volumes_at m.server (slice_set ls place (with_line x m)))) reasons.Limit) _ _ stands.rest in
-    subst (λ (v : VolumeLine). fits_server capacity (volumes_at v.server (slice_set ls place (with_line x v))) ≡ true) (some_volume m l is) (must_true _ _ _ short.first)
+    subst (λ (v : VolumeLine). fits_server capacity (volumes_at v.server (slice_set ls place (with_line x v))) ≡ true) (some_volume m l is) (must_true _ _ _ stands.rest)
 
-fits_after : (level : ℕ) (r : LinesRead) (place : ℕ) (x : SetupLine) (ys : List VolumeLine) (l : VolumeLine) → slice_get r.volumes place ≡ Some l → setup_at level r place x ≡ Ok ys → fits_server r.capacity (volumes_at l.server (slice_set r.volumes place (with_line x l))) ≡ true
-unfolding setup_at with_setup
-fits_after level r place x ys l is e =
-    let volumes = bound (List VolumeLine) _ Reason (with_setup_at r.capacity place x r.volumes (slice_get r.volumes place)) _ _ e in
-    fits_after_by r.capacity place x r.volumes volumes.value (slice_get r.volumes place) l is volumes.first
+fits_after : (level : ℕ) (r : LinesRead) (place : ℕ) (x : SetupLine) (u : Unit {0}) (l : VolumeLine) → slice_get r.volumes place ≡ Some l → setup_accepted level r place x ≡ Ok u → fits_server r.capacity (volumes_at l.server (slice_set r.volumes place (with_line x l))) ≡ true
+unfolding setup_accepted line_fits
+fits_after level r place x u l is e =
+    let fits = bound (Unit {0}) _ Reason (line_fits_in r.capacity place x r.volumes (slice_get r.volumes place)) _ _ e in
+    fits_after_by r.capacity place x r.volumes fits.value (slice_get r.volumes place) l is fits.first
 
 put_apart : (x : SetupLine) (ls : List VolumeLine) (place : ℕ) (o : Option VolumeLine) → slice_get ls place ≡ o → AreApart ls → AreApart (line_laid_in place x ls o)
 put_apart x ls place None is h = h
@@ -361,16 +355,14 @@ setup_holds : (level : ℕ) (r x : LinesRead) (name : List ℕ) (line : SetupLin
 unfolding setup_laid
 setup_holds level r x name line late h e =
     let place : ℕ = place_of name r.volumes in
-    let volumes = bound (List VolumeLine) _ Reason (setup_at level r place line) _ _ e in
-    let same : volumes.value ≡ line_laid_in place line r.volumes (slice_get r.volumes place) = setup_is level r place line volumes.value volumes.first in
-    subst Holds (ok_of _ _ _ _ volumes.rest)
-    (subst (λ (ls : List VolumeLine). Holds (record r { volumes = ls })) (sym same)
+    let accepts = bound (Unit {0}) _ Reason (setup_accepted level r place line) _ _ e in
+    subst Holds (ok_of _ _ _ _ accepts.rest)
     (with_volumes r (line_laid_in place line r.volumes (slice_get r.volumes place)) (omega (arith, late)) h
-    (put_volumes r.counts line r.volumes place (slice_get r.volumes place) refl h.volumes (λ l is. accepted level r place line volumes.value l is volumes.first))
+    (put_volumes r.counts line r.volumes place (slice_get r.volumes place) refl h.volumes (λ l is. accepted level r place line accepts.value l is accepts.first))
     (put_few line r.volumes place (slice_get r.volumes place) refl h.few)
     (put_apart line r.volumes place (slice_get r.volumes place) refl h.apart)
-    (put_fits r.capacity line r.volumes place (slice_get r.volumes place) refl h.fits (λ l is. fits_after level r place line volumes.value l is volumes.first))
-    (put_loc r.capacity line r.volumes place (slice_get r.volumes place) refl h.loc)))
+    (put_fits r.capacity line r.volumes place (slice_get r.volumes place) refl h.fits (λ l is. fits_after level r place line accepts.value l is accepts.first))
+    (put_loc r.capacity line r.volumes place (slice_get r.volumes place) refl h.loc))
 
 dir_holds : (level : ℕ) (r x : LinesRead) (ws : Words) → 9 ≤ r.turn → Holds r → dir_line level r ws ≡ Ok x → Holds x
 unfolding dir_line

@@ -3,7 +3,9 @@ pub mod CellScripts
 pub mod FirstBad
 pub mod Laid
 pub mod LineByLine
+pub mod Names
 pub mod Readers
+pub mod Servers
 pub mod Sizes
 pub mod Ticks
 pub mod TooLong

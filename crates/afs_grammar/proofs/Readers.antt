@@ -119,6 +119,9 @@ label_in ws x e =
     let b = bound (Unit {0}) _ Reason (must (volume_name_ok a.value.0) reasons.Name) _ _ a.rest in
     subst (λ (y : List ℕ × List (List ℕ)). volume_name_ok y.0 ≡ true) (ok_of _ _ _ _ b.rest) (must_true _ _ _ b.first)
 
+pub label_named : (ws : List (List ℕ)) (name : List ℕ) (rest : List (List ℕ)) → label_at ws ≡ Ok (name, rest) → volume_name_ok name ≡ true
+label_named ws name rest e = label_in ws (name, rest) e
+
 names_in : (out words names : List (List ℕ)) → All (IsName 256) out → names_from out words ≡ Ok names → All (IsName 256) names
 names_in out [] names h e = subst (All (IsName 256)) (ok_of _ _ _ _ e) h
 names_in out (word ∷ more) names h e =

@@ -8,3 +8,4 @@ pub mod CellScripts
 pub mod FirstBad
 pub mod Sizes
 pub mod Worked
+pub mod Narrow

@@ -156,24 +156,21 @@ new_line count name server quota = record { id = 536870912 + count; name = name;
 abbrev pub fits_all : ℕ → ℕ → List VolumeLine → Bool
 fits_all capacity server ls = fits_server capacity (volumes_at server ls) && fits_loc capacity ls
 
--- one more volume, on disks of this capacity
-unfoldable pub with_volume : ℕ → VolumeLine → List VolumeLine → Result (List VolumeLine) Reason
-with_volume capacity line ls = do
-  short ← must (fits_all capacity line.server (ls ++ line ∷ [])) reasons.Limit
-  Ok (ls ++ line ∷ [])
+-- with one more volume
+abbrev pub volume_fits : ℕ → VolumeLine → List VolumeLine → Result (Unit {0}) Reason
+volume_fits capacity line ls = must (fits_all capacity line.server (ls ++ line ∷ [])) reasons.Limit
 
-unfoldable pub volume_at : ℕ → LinesRead → VolumeLine → Result (List VolumeLine) Reason
-volume_at level r line = do
+unfoldable pub volume_accepted : ℕ → LinesRead → VolumeLine → Result (Unit {0}) Reason
+volume_accepted level r line = do
   few ← must (nat_lt (length (volumes_at line.server r.volumes)) 64) reasons.Limit
-  volumes ← with_volume r.capacity line r.volumes
+  fits ← volume_fits r.capacity line r.volumes
   only ← must (nat_le 7 level || nat_eq (length r.volumes) 0) reasons.Limit
-  large ← must (nat_le 5 level || nat_le 1000 line.quota) reasons.Number
-  Ok volumes
+  must (nat_le 5 level || nat_le 1000 line.quota) reasons.Number
 
 unfoldable pub volume_added : ℕ → LinesRead → VolumeLine → Result LinesRead Reason
 volume_added level r line = do
-  volumes ← volume_at level r line
-  Ok (record r { volumes = volumes })
+  accepted ← volume_accepted level r line
+  Ok (record r { volumes = r.volumes ++ line ∷ [] })
 
 unfoldable pub volume_line : ℕ → LinesRead → Words → Result LinesRead Reason
 volume_line level r ws = do
@@ -192,16 +189,23 @@ with_line x l = record l { lines = l.lines ++ x ∷ [] }
 abbrev pub place_of : List ℕ → List VolumeLine → ℕ
 place_of name ls = position_or_len (has_name name) ls
 
--- a line laid in the volume of this place, on disks of this capacity
-abbrev pub with_setup_at : ℕ → ℕ → SetupLine → List VolumeLine → Option VolumeLine → Result (List VolumeLine) Reason
-with_setup_at capacity place x ls None = Err reasons.Path
-with_setup_at capacity place x ls (Some volume) = do
-  stands ← setup_accepts (laid volume.id x (first_volume volume))
-  short ← must (fits_server capacity (volumes_at volume.server (slice_set ls place (with_line x volume)))) reasons.Limit
-  Ok (slice_set ls place (with_line x volume))
+-- the volumes, where that of this place has one more line
+abbrev pub line_laid_in : ℕ → SetupLine → List VolumeLine → Option VolumeLine → List VolumeLine
+line_laid_in place x ls None = ls
+line_laid_in place x ls (Some l) = slice_set ls place (with_line x l)
 
-unfoldable pub with_setup : ℕ → ℕ → SetupLine → List VolumeLine → Result (List VolumeLine) Reason
-with_setup capacity place x ls = with_setup_at capacity place x ls (slice_get ls place)
+abbrev pub line_laid : ℕ → SetupLine → List VolumeLine → List VolumeLine
+line_laid place x ls = line_laid_in place x ls (slice_get ls place)
+
+-- set-up accepts a line in the volume of this place, on disks of this capacity
+abbrev pub line_fits_in : ℕ → ℕ → SetupLine → List VolumeLine → Option VolumeLine → Result (Unit {0}) Reason
+line_fits_in capacity place x ls None = Err reasons.Path
+line_fits_in capacity place x ls (Some volume) = do
+  stands ← setup_accepts (laid volume.id x (first_volume volume))
+  must (fits_server capacity (volumes_at volume.server (slice_set ls place (with_line x volume)))) reasons.Limit
+
+unfoldable pub line_fits : ℕ → ℕ → SetupLine → List VolumeLine → Result (Unit {0}) Reason
+line_fits capacity place x ls = line_fits_in capacity place x ls (slice_get ls place)
 
 abbrev pub has_no_lines : VolumeLine → Bool
 has_no_lines l = nat_eq (length l.lines) 0
@@ -213,16 +217,15 @@ written_length (setups.Link path target) = length (bytes_in target)
 written_length (setups.AccessList path text) = length (bytes_in text)
 
 -- narrower forms have one file, and a small one
-unfoldable pub setup_at : ℕ → LinesRead → ℕ → SetupLine → Result (List VolumeLine) Reason
-setup_at level r place x = do
-  volumes ← with_setup r.capacity place x r.volumes
-  small ← must (nat_le 5 level || (list_all has_no_lines r.volumes && nat_le (written_length x) 1024)) reasons.Limit
-  Ok volumes
+unfoldable pub setup_accepted : ℕ → LinesRead → ℕ → SetupLine → Result (Unit {0}) Reason
+setup_accepted level r place x = do
+  fits ← line_fits r.capacity place x r.volumes
+  must (nat_le 5 level || (list_all has_no_lines r.volumes && nat_le (written_length x) 1024)) reasons.Limit
 
 unfoldable pub setup_laid : ℕ → LinesRead → List ℕ → SetupLine → Result LinesRead Reason
 setup_laid level r name x = do
-  volumes ← setup_at level r (place_of name r.volumes) x
-  Ok (record r { volumes = volumes })
+  accepted ← setup_accepted level r (place_of name r.volumes) x
+  Ok (record r { volumes = line_laid (place_of name r.volumes) x r.volumes })
 
 unfoldable pub dir_line : ℕ → LinesRead → Words → Result LinesRead Reason
 dir_line level r ws = do

@@ -2,6 +2,7 @@
 
 ghost use Rattle.afs_grammar.specs.CellScripts.{ScriptsAreOfCells};
 ghost use Rattle.afs_grammar.specs.FirstBad.{FirstBadLineDecides, LastLineDecides, LongerIsAsItsFront, TooLongIsNoScript};
+ghost use Rattle.afs_grammar.specs.Narrow.{NarrowFormsHaveOneServer};
 ghost use Rattle.afs_grammar.specs.Sizes.{FirstRecordIsTheSum};
 ghost use Rattle.afs_grammar.specs.Worked.{BadLines, OneIsRead};
 
@@ -30,6 +31,11 @@ pub fn too_long_is_no_script()
 /// lines.
 pub fn scripts_are_of_cells()
     ensures { ScriptsAreOfCells }
+{}
+
+/// Below the level of several servers every script has one.
+pub fn narrow_forms_have_one_server()
+    ensures { NarrowFormsHaveOneServer }
 {}
 
 /// The first record of a server is as long as its volumes' sizes say, whose numbers ascend.

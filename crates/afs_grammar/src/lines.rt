@@ -1,10 +1,11 @@
 //! What the lines of a script tell, one function for each kind of line.
 
-ghost use Rattle.std.specs.Prelude.{◌≡◌, ◌≤◌, ◌<◌, ◌+◌, ◌^◌, ℕ, [], length, nat_le, Ok, Err, IfOk, OnOk};
+ghost use Rattle.std.specs.Prelude.{◌≡◌, ◌≤◌, ◌<◌, ◌+◌, ◌++◌, ◌∷◌, ◌^◌, ℕ, [], length, nat_le, true, Ok, Err, IfOk, OnOk};
+ghost use Rattle.afs_num.specs.Names.{volume_name_ok};
 ghost use Rattle.afs_history.specs.declared.scripts.Task.TheVariants.{Client};
 ghost use Rattle.afs_model.specs.Script.{is_silent};
-ghost use Rattle.afs_grammar.specs.Lines.{nothing_read, cell_line, servers_line, clients_line, admins_line, cache_line, capacity_line, user_line, new_line, volume_at, volume_added, volume_line, setup_at, setup_laid, dir_line, file_line, link_line, acl_line, is_file_here, is_operand_here, task_bounded, bounded_for, do_line, plan_line, schedule_line, event_told, event_line, end_line, line_told, line_by_word, first_of, line_of, line_at, script_in, last_at, ticks_of};
-ghost use Rattle.afs_grammar.specs.Grounds.{line_laid, Lays};
+ghost use Rattle.afs_grammar.specs.Lines.{nothing_read, cell_line, servers_line, clients_line, admins_line, cache_line, capacity_line, user_line, new_line, line_laid, volume_accepted, volume_added, volume_line, setup_accepted, setup_laid, dir_line, file_line, link_line, acl_line, is_file_here, is_operand_here, task_bounded, bounded_for, do_line, plan_line, schedule_line, event_told, event_line, end_line, line_told, line_by_word, first_of, line_of, line_at, script_in, last_at, ticks_of};
+ghost use Rattle.afs_grammar.specs.Grounds.{IsNext};
 ghost use Rattle.afs_words.specs.Reads.{Gives};
 
 use crate::acts::{plan, task};
@@ -218,7 +219,7 @@ impl LinesRead {
     }
 
     /// Lays a new volume.
-    #[tactic(auto, unfolding(crate::specs::Lines::volume_at))]
+    #[tactic(auto, unfolding(crate::specs::Lines::volume_accepted))]
     fn add<G: Ground>(
         &self,
         alloc: Global,
@@ -226,9 +227,12 @@ impl LinesRead {
         ground: &mut G,
         volume: &VolumeLine,
     ) -> Result<(), LineFault>
-        requires laid { G.laid ground.old ≡ self.now.volumes }
+        requires laid { G.lays ground.old self.now.volumes }
         requires bare { volume.now.lines ≡ [] }
-        ensures { Lays (volume_at form.level self.now volume.now) (G.laid ground.new) result }
+        requires name { volume_name_ok volume.now.name ≡ true }
+        requires next { IsNext volume.now self.now.volumes }
+        ensures value { Gives (volume_accepted form.level self.now volume.now) result }
+        ensures laid { OnOk result (G.lays ground.new (self.now.volumes ++ volume.now ∷ [])) }
     {
         let count = count_at(volume.server, self.volumes.as_slice());
         must(count < VOLUMES, Reason::Limit)?;
@@ -238,7 +242,7 @@ impl LinesRead {
         Ok(())
     }
 
-    #[tactic(auto, unfolding(crate::specs::Lines::volume_added), using(crate::proofs::Laid::volume_is))]
+    #[tactic(auto, unfolding(crate::specs::Lines::volume_added))]
     fn with_volume<G: Ground>(
         mut self,
         alloc: Global,
@@ -246,10 +250,12 @@ impl LinesRead {
         ground: &mut G,
         volume: VolumeLine,
     ) -> Result<LinesRead, LineFault>
-        requires laid { G.laid ground.old ≡ self.volumes }
+        requires laid { G.lays ground.old self.volumes }
         requires bare { volume.lines ≡ [] }
+        requires name { volume_name_ok volume.name ≡ true }
+        requires next { IsNext volume self.volumes }
         ensures value { Gives (volume_added form.level self volume) result }
-        ensures laid { IfOk result (λ r. G.laid ground.new ≡ r.volumes) }
+        ensures laid { IfOk result (λ r. G.lays ground.new r.volumes) }
         ensures grows { IfOk result (λ r. length r.volumes ≡ length self.volumes + 1) }
     {
         self.add(alloc, form, ground, &volume)?;
@@ -267,10 +273,10 @@ impl LinesRead {
         ground: &mut G,
         words: &mut Parts<'_>,
     ) -> Result<LinesRead, LineFault>
-        requires laid { G.laid ground.old ≡ self.volumes }
+        requires laid { G.lays ground.old self.volumes }
         requires few { length self.volumes < 200000 }
         ensures value { Gives (volume_line form.level self words.old) result }
-        ensures laid { IfOk result (λ r. G.laid ground.new ≡ r.volumes) }
+        ensures laid { IfOk result (λ r. G.lays ground.new r.volumes) }
         ensures grows { IfOk result (λ r. length r.volumes ≡ length self.volumes + 1) }
     {
         let name = label(words)?;
@@ -289,7 +295,7 @@ impl LinesRead {
     }
 
     /// Lays a line of set-up in the volume of this place.
-    #[tactic(auto, unfolding(crate::specs::Lines::setup_at, crate::specs::Lines::with_setup), using(crate::proofs::Laid::none_there))]
+    #[tactic(auto, unfolding(crate::specs::Lines::setup_accepted), using(crate::proofs::Laid::is_there))]
     fn lay<G: Ground>(
         &self,
         alloc: Global,
@@ -298,11 +304,11 @@ impl LinesRead {
         place: usize,
         line: &SetupLine,
     ) -> Result<(), LineFault>
-        requires laid { G.laid ground.old ≡ self.now.volumes }
-        ensures lays { Lays (setup_at form.level self.now place line.now) (G.laid ground.new) result }
+        requires laid { G.lays ground.old self.now.volumes }
+        ensures value { Gives (setup_accepted form.level self.now place line.now) result }
+        ensures laid { OnOk result (G.lays ground.new (line_laid place line.now self.now.volumes)) }
         ensures within { OnOk result (place < length self.now.volumes) }
     {
-        must(place < self.volumes.len(), Reason::Path)?;
         ground.lay(alloc, place, line, self.capacity)?;
         let is_small = are_bare(self.volumes.as_slice()) && written_length(line) <= TEXT;
         must(form.level >= 5 || is_small, Reason::Limit)?;
@@ -320,7 +326,7 @@ impl LinesRead {
     }
 
     /// A line of set-up in the volume of this name.
-    #[tactic(auto, unfolding(crate::specs::Lines::setup_laid), using(crate::proofs::Laid::setup_is, crate::proofs::Laid::as_long))]
+    #[tactic(auto, unfolding(crate::specs::Lines::setup_laid), using(crate::proofs::Laid::as_long))]
     fn with_setup<G: Ground>(
         self,
         alloc: Global,
@@ -329,9 +335,9 @@ impl LinesRead {
         name: &[u8],
         line: SetupLine,
     ) -> Result<LinesRead, LineFault>
-        requires laid { G.laid ground.old ≡ self.volumes }
+        requires laid { G.lays ground.old self.volumes }
         ensures value { Gives (setup_laid form.level self name.now line) result }
-        ensures laid { IfOk result (λ r. G.laid ground.new ≡ r.volumes) }
+        ensures laid { IfOk result (λ r. G.lays ground.new r.volumes) }
         ensures stays { IfOk result (λ r. length r.volumes ≡ length self.volumes) }
     {
         let place = place_of(name, self.volumes.as_slice());
@@ -347,9 +353,9 @@ impl LinesRead {
         ground: &mut G,
         words: &mut Parts<'_>,
     ) -> Result<LinesRead, LineFault>
-        requires laid { G.laid ground.old ≡ self.volumes }
+        requires laid { G.lays ground.old self.volumes }
         ensures value { Gives (dir_line form.level self words.old) result }
-        ensures laid { IfOk result (λ r. G.laid ground.new ≡ r.volumes) }
+        ensures laid { IfOk result (λ r. G.lays ground.new r.volumes) }
         ensures stays { IfOk result (λ r. length r.volumes ≡ length self.volumes) }
     {
         let Path { volume, names } = path(alloc, words)?;
@@ -366,9 +372,9 @@ impl LinesRead {
         ground: &mut G,
         words: &mut Parts<'_>,
     ) -> Result<LinesRead, LineFault>
-        requires laid { G.laid ground.old ≡ self.volumes }
+        requires laid { G.lays ground.old self.volumes }
         ensures value { Gives (file_line form.level self words.old) result }
-        ensures laid { IfOk result (λ r. G.laid ground.new ≡ r.volumes) }
+        ensures laid { IfOk result (λ r. G.lays ground.new r.volumes) }
         ensures stays { IfOk result (λ r. length r.volumes ≡ length self.volumes) }
     {
         let Path { volume, names } = path(alloc, words)?;
@@ -389,9 +395,9 @@ impl LinesRead {
         ground: &mut G,
         words: &mut Parts<'_>,
     ) -> Result<LinesRead, LineFault>
-        requires laid { G.laid ground.old ≡ self.volumes }
+        requires laid { G.lays ground.old self.volumes }
         ensures value { Gives (link_line form.level self words.old) result }
-        ensures laid { IfOk result (λ r. G.laid ground.new ≡ r.volumes) }
+        ensures laid { IfOk result (λ r. G.lays ground.new r.volumes) }
         ensures stays { IfOk result (λ r. length r.volumes ≡ length self.volumes) }
     {
         let Path { volume, names } = path(alloc, words)?;
@@ -412,9 +418,9 @@ impl LinesRead {
         ground: &mut G,
         words: &mut Parts<'_>,
     ) -> Result<LinesRead, LineFault>
-        requires laid { G.laid ground.old ≡ self.volumes }
+        requires laid { G.lays ground.old self.volumes }
         ensures value { Gives (acl_line form.level self words.old) result }
-        ensures laid { IfOk result (λ r. G.laid ground.new ≡ r.volumes) }
+        ensures laid { IfOk result (λ r. G.lays ground.new r.volumes) }
         ensures stays { IfOk result (λ r. length r.volumes ≡ length self.volumes) }
     {
         let Path { volume, names } = path(alloc, words)?;
@@ -544,10 +550,10 @@ impl LinesRead {
         first: FirstWord,
         words: &mut Parts<'_>,
     ) -> Result<LinesRead, LineFault>
-        requires laid { G.laid ground.old ≡ self.volumes }
+        requires laid { G.lays ground.old self.volumes }
         requires few { length self.volumes < 200000 }
         ensures value { Gives (line_by_word form.level first self words.old) result }
-        ensures laid { IfOk result (λ r. G.laid ground.new ≡ r.volumes) }
+        ensures laid { IfOk result (λ r. G.lays ground.new r.volumes) }
         ensures grows { IfOk result (λ r. length r.volumes ≤ length self.volumes + 1) }
     {
         match first {
@@ -568,10 +574,10 @@ impl LinesRead {
         ground: &mut G,
         words: &mut Parts<'_>,
     ) -> Result<LinesRead, LineFault>
-        requires laid { G.laid ground.old ≡ self.volumes }
+        requires laid { G.lays ground.old self.volumes }
         requires few { length self.volumes < 200000 }
         ensures value { Gives (line_of form.level self words.old) result }
-        ensures laid { IfOk result (λ r. G.laid ground.new ≡ r.volumes) }
+        ensures laid { IfOk result (λ r. G.lays ground.new r.volumes) }
         ensures grows { IfOk result (λ r. length r.volumes ≤ length self.volumes + 1) }
     {
         let first = first_of(form, word(words)?)?;
@@ -592,10 +598,10 @@ impl LinesRead {
         room: usize,
         line: &[u8],
     ) -> Result<LinesRead, LineFault>
-        requires laid { G.laid ground.old ≡ self.volumes }
+        requires laid { G.lays ground.old self.volumes }
         requires few { length self.volumes < number }
         ensures value { Gives (line_at form.level self number room line.now) result }
-        ensures laid { IfOk result (λ r. G.laid ground.new ≡ r.volumes) }
+        ensures laid { IfOk result (λ r. G.lays ground.new r.volumes) }
         ensures grows { IfOk result (λ r. length r.volumes ≤ number) }
         ensures within { OnOk result (length line.now < room) }
         ensures few { OnOk result (number ≤ 200000) }

@@ -38,10 +38,10 @@ fn read_line<G: Ground>(
     room: usize,
     line: &[u8],
 ) -> Result<LinesRead, ScriptFault>
-    requires laid { G.laid ground.old ≡ reading.volumes }
+    requires laid { G.lays ground.old reading.volumes }
     requires few { length reading.volumes < number }
     ensures value { GivesAtLine (at_line number (line_at form.level reading number room line.now)) result }
-    ensures laid { IfOk result (λ r. G.laid ground.new ≡ r.volumes) }
+    ensures laid { IfOk result (λ r. G.lays ground.new r.volumes) }
     ensures grows { IfOk result (λ r. length r.volumes ≤ number) }
     ensures within { OnOk result (length line.now < room) }
     ensures few { OnOk result (number ≤ 200000) }
@@ -58,9 +58,9 @@ fn read_lines<G: Ground>(
     ground: &mut G,
     mut lines: Parts<'_>,
 ) -> Result<Script, ScriptFault>
-    requires { G.laid ground.old ≡ [] }
+    requires { G.lays ground.old [] }
     ensures script { GivesAtLine (lines_at form.level nothing_read 0 16777216 lines.entry) result }
-    ensures laid { IfOk result (λ s. G.laid ground.new ≡ s.volumes) }
+    ensures laid { IfOk result (λ s. G.lays ground.new s.volumes) }
 {
     let mut reading = LinesRead::new(alloc);
     let mut number = 0u32;
@@ -87,9 +87,9 @@ pub fn read_script<G: Ground>(
     ground: &mut G,
     bytes: &[u8],
 ) -> Result<Script, ScriptFault>
-    requires { G.laid ground.old ≡ [] }
+    requires { G.lays ground.old [] }
     ensures script { GivesAtLine (script_of form.level bytes.now) result }
-    ensures laid { IfOk result (λ s. G.laid ground.new ≡ s.volumes) }
+    ensures laid { IfOk result (λ s. G.lays ground.new s.volumes) }
 {
     read_lines(alloc, form, ground, Parts::new(bytes, b'\n'))
 }

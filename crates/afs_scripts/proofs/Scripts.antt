@@ -1,0 +1,35 @@
+-- What every script of a cell has: short names, ascending numbers, and one server below level 7.
+use Rattle.std.proofs.Common.{◌≡◌, ℕ, ◌+◌, ◌≤◌, List, [], ◌∷◌, arith}
+use Rattle.afs_history.specs.declared.scripts.VolumeLine.{VolumeLine}
+use Rattle.afs_law.specs.Laws.{AscendBy}
+use Rattle.afs_law.specs.OneServer.{AreAtServer}
+use Rattle.afs_volstore.specs.Laying.{HaveShortNames}
+use Rattle.afs_words.specs.declared.nodes.Counts.{Counts}
+use Rattle.afs_grammar.specs.CellScripts.{counts_of, AreVolumes}
+use Rattle.afs_grammar.proofs.CellScripts.{scripts_are_of_cells}
+use Rattle.afs_grammar.proofs.Names.{short_name}
+use Rattle.afs_grammar.proofs.Servers.{one_server}
+use Rattle.afs_scripts.specs.SetUps.{NamesAreShort, NumbersAscend, OneServerAtSix}
+
+ascend : (c : Counts) (m n : ℕ) (ls : List VolumeLine) → m ≤ n → AreVolumes c n ls → AscendBy m ls
+ascend c m n [] le h = tt
+ascend c m n (l ∷ ls) le h = (let is = h.0.id in omega (arith, le, is), ascend c (l.id + 1) (n + 1) ls (let is = h.0.id in omega (arith, is)) h.1)
+
+pub numbers_ascend : NumbersAscend
+numbers_ascend s h = ascend (counts_of s) 0 536870912 s.volumes (omega arith) h.volumes
+
+short : (c : Counts) (n : ℕ) (ls : List VolumeLine) → AreVolumes c n ls → HaveShortNames ls
+short c n [] h = tt
+short c n (l ∷ ls) h = (short_name l.name h.0.name, short c (n + 1) ls h.1)
+
+pub names_are_short : NamesAreShort
+names_are_short s h = short (counts_of s) 536870912 s.volumes h.volumes
+
+at_one : (c : Counts) (n : ℕ) (ls : List VolumeLine) → c.servers ≡ 1 → AreVolumes c n ls → AreAtServer ls
+at_one c n [] one h = tt
+at_one c n (l ∷ ls) one h = (let server = h.0.server in omega (arith, one, server.0, server.1), at_one c (n + 1) ls one h.1)
+
+pub one_server_at_six : OneServerAtSix
+one_server_at_six level bytes s e lt =
+    let one = one_server level bytes s e lt in
+    (one, at_one (counts_of s) 536870912 s.volumes one (scripts_are_of_cells level bytes s e).volumes)

@@ -1,0 +1,24 @@
+-- What a script that was read gives the cell that plays it.
+use Rattle.std.specs.Prelude.{◌≡◌, ◌<◌, ℕ, List, Some, Ok}
+use Rattle.afs_history.specs.declared.scripts.Script.{Script}
+use Rattle.afs_records.specs.Changes.{set_up}
+use Rattle.afs_records.specs.Durable.{Durable}
+use Rattle.afs_law.specs.Laws.{AscendBy}
+use Rattle.afs_law.specs.OneServer.{IsOneServer}
+use Rattle.afs_volstore.specs.Laying.{HaveShortNames}
+use Rattle.afs_volstore.specs.Opening.{CanBeSetUp}
+use Rattle.afs_grammar.specs.CellScripts.{IsCellScript}
+use Rattle.afs_grammar.specs.Lines.{script_of, volumes_at}
+
+-- each server's volumes can be set up, and their first record fits on a disk of the script's capacity
+abbrev pub SetUpsAreAccepted : Type 0
+SetUpsAreAccepted = (s : Script) → IsCellScript s → (server : ℕ) → CanBeSetUp (volumes_at server s.volumes) × ((d : Durable) × (set_up s.capacity (volumes_at server s.volumes) ≡ Some d))
+
+abbrev pub NamesAreShort : Type 0
+NamesAreShort = (s : Script) → IsCellScript s → HaveShortNames s.volumes
+
+abbrev pub NumbersAscend : Type 0
+NumbersAscend = (s : Script) → IsCellScript s → AscendBy 0 s.volumes
+
+abbrev pub OneServerAtSix : Type 0
+OneServerAtSix = (level : ℕ) (bytes : List ℕ) (s : Script) → script_of level bytes ≡ Ok s → level < 7 → IsOneServer s

@@ -1,0 +1,23 @@
+//! Laws that join a script to the cell. Each is the contract of a function that does nothing.
+
+ghost use Rattle.afs_scripts.specs.SetUps.{NamesAreShort, NumbersAscend, OneServerAtSix, SetUpsAreAccepted};
+
+/// Each server's volumes can be set up on a disk of the script's capacity.
+pub fn set_ups_are_accepted()
+    ensures { SetUpsAreAccepted }
+{}
+
+/// The names of volumes are within the limit of a record.
+pub fn names_are_short()
+    ensures { NamesAreShort }
+{}
+
+/// The numbers of volumes ascend.
+pub fn numbers_ascend()
+    ensures { NumbersAscend }
+{}
+
+/// Below the level of several servers a script is one of one server.
+pub fn one_server_at_six()
+    ensures { OneServerAtSix }
+{}
