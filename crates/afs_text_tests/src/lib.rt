@@ -3,3 +3,7 @@
 
 #[cfg(test)]
 mod acts;
+#[cfg(test)]
+mod histories;
+#[cfg(test)]
+mod volumes;
