@@ -1,8 +1,7 @@
 -- A ground is told by its counts what the definitions tell of its volumes.
-use Rattle.std.proofs.Common.{◌≡◌, ℕ, zero, suc, ◌+◌, ◌<◌, ◌≤◌, Bool, true, false, List, [], ◌∷◌, ◌++◌, length, Option, Some, None, Result, Ok, Err, slice_get, slice_set, nat_eq, nat_le, if◌then◌else◌, refl, sym, ap, subst, ◌∙◌, arith}
+use Rattle.std.proofs.Common.{◌≡◌, ℕ, zero, suc, ◌+◌, ◌<◌, ◌≤◌, Bool, true, false, List, [], ◌∷◌, ◌++◌, length, Option, Some, Result, Ok, Err, get_or, slice_get, slice_set, nat_eq, nat_le, if◌then◌else◌, refl, sym, ap, subst, ◌∙◌, arith}
 use Rattle.std.specs.Prelude.{◌&&◌}
-use Rattle.std.proofs.lemmas.Option.{slice_get_past}
-use Rattle.afs_num.specs.Names.{volume_name_ok, is_name_of}
+use Rattle.std.proofs.lemmas.Option.{slice_get-get_or, slice_get_past}
 use Rattle.afs_num.specs.declared.scripts.Reason.{Reason}
 use Rattle.afs_num.specs.declared.scripts.Reason.TheVariants as reasons
 use Rattle.afs_ideal.specs.SetUp.{empty_volume, filled_by, first_volume, laid, laid_or}
@@ -17,7 +16,7 @@ use Rattle.afs_words.specs.Reads.{Gives}
 use Rattle.afs_words.specs.declared.faults.LineFault.{LineFault}
 use Rattle.afs_words.specs.declared.faults.LineFault.TheVariants as faults
 use Rattle.afs_grammar.specs.Grounds.{IsNext}
-use Rattle.afs_grammar.specs.Lines.{filled_up, fits_all, fits_loc, fits_server, is_at, line_fits, line_fits_in, line_laid, line_laid_in, loc_length, setup_accepts, stored_all, volume_fits, volumes_at, with_line}
+use Rattle.afs_grammar.specs.Lines.{fits_all, fits_loc, fits_server, is_at, line_fits, line_fits_in, line_laid, line_laid_in, loc_length, setup_accepts, stored_all, volume_fits, volumes_at, with_line}
 use Rattle.afs_grammar.specs.Sizes.{volume_size, volumes_size, AscendFrom}
 use Rattle.afs_grammar.proofs.Sizes.{first_record}
 use Rattle.afs_ground.specs.Grounds.{names_size, sizes_at, AreLaid, AreNumbered, IsGround, IsLaid}
@@ -160,6 +159,12 @@ fault_as given e answer is told = subst (Gives given) (sym told) is
 
 -- ---- a line
 
+pub is_there : (gs : List Laid) (place : ℕ) (g : Laid) → place < length gs → g ≡ get_or gs place g → slice_get gs place ≡ Some g
+is_there gs place g lt is = slice_get-get_or gs place g lt ∙ ap (λ (y : Laid). Some y) (sym is)
+
+pub same_server : (gs : List Laid) (place : ℕ) (g h : Laid) → slice_get gs place ≡ Some g → slice_get gs place ≡ Some h → g.server ≡ h.server
+same_server gs place g h p q = ap (λ (y : Laid). y.server) (some_laid g h (sym p ∙ q))
+
 -- there is no volume of this place
 pub none_there : (capacity place : ℕ) (x : SetupLine) (gs : List Laid) (ls : List VolumeLine) → length gs ≤ place → IsGround gs ls → line_fits capacity place x ls ≡ Err reasons.Path
 unfolding line_fits
@@ -178,7 +183,7 @@ refuses_at capacity place x ls g e at refused =
     subst (λ (o : Option VolumeLine). Gives (line_fits_in capacity place x ls o) (Err e)) (sym at.1.0) (refuses_by capacity place x ls at.0 e (refused at.0 at.1.1))
 
 pub refuses : (capacity place : ℕ) (x : SetupLine) (gs : List Laid) (ls : List VolumeLine) (g : Laid) (e : LineFault) → slice_get gs place ≡ Some g → IsGround gs ls → ((l : VolumeLine) → IsLaid g l → Gives (setup_accepts (laid l.id x (first_volume l))) (Err e)) → Gives (line_fits capacity place x ls) (Err e)
-refuses capacity place x gs ls g e there h no = refuses_at capacity place x ls g e (found gs ls place g h.volumes there) no
+refuses capacity place x gs ls g e there h declines = refuses_at capacity place x ls g e (found gs ls place g h.volumes there) declines
 
 -- the volume of a place takes the line, and the sum decides
 takes_by : (capacity place : ℕ) (x : SetupLine) (ls : List VolumeLine) (l : VolumeLine) → setup_accepts (laid l.id x (first_volume l)) ≡ Ok tt

@@ -91,7 +91,7 @@ led_here id v (name ∷ names) at f h e =
     step_here (is_kind at.vnode.kind a_directory) id (from_found (led_to id v names) (found_named id v (named name at.vnode.names))) f
     (λ d. next_here id (led_to id v names) (found_named id v (named name at.vnode.names)) f (λ g is goes. led_here id v names g f (named_here id v (named name at.vnode.names) g is) goes) d) e
 
-root_here : (id : ℕ) (o : Option Found) (f : Found) → ((g : Found) → o ≡ Some g → g.fid.volume ≡ id) → ok_or o 102 ≡ Ok f → f.fid.volume ≡ id
+root_here : (id : ℕ) (o : Option Found) (f : Found) → ((g : Found) → o ≡ Some g → g.fid.volume ≡ id) → ok_or {E = ℕ} o 102 ≡ Ok f → f.fid.volume ≡ id
 root_here id None f h e = absurd cc
 root_here id (Some g) f h e = ap (λ (k : Found). k.fid.volume) (sym (found_is g f e)) ∙ h g refl
 
@@ -125,7 +125,7 @@ list_small id path text v w h e =
     called_small id (calls.StoreAcl q.0.fid text) v w (ap (λ (n : ℕ). Some n) (path_here id v path q.0 q.1.0)) h q.1.1
 
 within : (most count : ℕ) (t : Bool) (r : Result Volume ℕ) (w : Volume) → nat_lt most count ≡ t → unless_over most count r ≡ Ok w → r ≡ Ok w
-within most count true r w t e = let z : Err 27 ≡ Ok w = ap (λ (b : Bool). cond b (Err 27) r) (sym t) ∙ e in absurd cc
+within most count true r w t e = let z : ◌≡◌ {A = Result Volume ℕ} (Err 27) (Ok w) = ap (λ (b : Bool). cond b (Err 27) r) (sym t) ∙ e in absurd cc
 within most count false r w t e = ap (λ (b : Bool). cond b (Err 27) r) (sym t) ∙ e
 
 line_small : (id : ℕ) (line : SetupLine) (v w : Volume) → IsSmall v → laid id line v ≡ Ok w → IsSmall w

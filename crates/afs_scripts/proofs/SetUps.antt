@@ -237,9 +237,10 @@ room_is capacity r e = grind (arith, nat_tests, e)
 folds : (capacity : ℕ) (ls : List VolumeLine) (n : ℕ) → AscendBy n ls → length ls ≤ most_volumes → (d : Durable) × (first_folded (record_of_volumes (firsts ls)) (nothing_on capacity) ≡ Some d)
 unfolding folded AllBelow
 folds capacity ls n up few =
-    let r : StoreRecord = record_of_volumes (firsts ls) in
-    (longer (place_length r) (noted no_head (record (nothing_on capacity) { volumes = firsts ls })),
-    ap (λ (o : Option Durable). o >>= λ e. Some (longer (place_length r) (noted no_head e))) (volumes_back ls (nothing_on capacity) n tt up (omega (arith, few))))
+    let r : StoreRecord = record_of_volumes (firsts ls) in (
+      longer (place_length r) (noted no_head (record (nothing_on capacity) { volumes = firsts ls })),
+      ap (λ (o : Option Durable). o >>= λ e. Some (longer (place_length r) (noted no_head e))) (volumes_back ls (nothing_on capacity) n tt up (omega (arith, few))),
+    )
 
 sets_up : (capacity : ℕ) (ls : List VolumeLine) (n : ℕ) → AscendBy n ls → AreTaken ls → length ls ≤ most_volumes → fits_server capacity ls ≡ true → (d : Durable) × (set_up capacity ls ≡ Some d)
 unfolding AllBelow
@@ -247,19 +248,22 @@ sets_up capacity ls n up h few fits =
     let r : StoreRecord = record_of_volumes (firsts ls) in
     let told : first_record ls ≡ Some r = ap (λ (o : Option (Table Stored)). o >>= λ t. Some (record_of_volumes t)) (volumes_are ls [] n tt up h) in
     let room : has_room (nothing_on capacity) r ≡ true = room_is capacity r (subst (λ (t : Table Stored). nat_le (1 + place_length (record_of_volumes t)) capacity ≡ true) (stored_is n ls up) fits) in
-    let made = folds capacity ls n up few in
-    (made.0,
-    ap (λ (o : Option StoreRecord). o >>= λ x. (if has_room (nothing_on capacity) x then first_folded x (nothing_on capacity) else None)) told
-    ∙ (ap (λ (b : Bool). if b then first_folded r (nothing_on capacity) else None) room ∙ made.1))
+    let made = folds capacity ls n up few in (
+      made.0,
+      ap (λ (o : Option StoreRecord). o >>= λ x. (if has_room (nothing_on capacity) x then first_folded x (nothing_on capacity) else None)) told
+          ∙ (ap (λ (b : Bool). if b then first_folded r (nothing_on capacity) else None) room ∙ made.1),
+    )
 
 pub set_ups_are_accepted : SetUpsAreAccepted
 unfolding AllBelow
 set_ups_are_accepted s h server =
     let ls : List VolumeLine = volumes_at server s.volumes in
     let up : AscendBy 0 ls = ascend_at server 0 s.volumes (numbers_ascend s h) in
-    let all : AreTaken ls = kept IsTaken server s.volumes (taken (counts_of s) 536870912 s.volumes h.volumes) in
-    (record {
-      names = kept HasShortName server s.volumes (names_are_short s h);
-      accepted = some_test (volumes_laid ls []) (firsts ls) (volumes_are ls [] 0 tt up all);
-      few = h.few server;
-    }, sets_up s.capacity ls 0 up all (h.few server) (h.fits server))
+    let all : AreTaken ls = kept IsTaken server s.volumes (taken (counts_of s) 536870912 s.volumes h.volumes) in (
+      record {
+        names = kept HasShortName server s.volumes (names_are_short s h);
+        accepted = some_test (volumes_laid ls []) (firsts ls) (volumes_are ls [] 0 tt up all);
+        few = h.few server;
+      },
+      sets_up s.capacity ls 0 up all (h.few server) (h.fits server),
+    )

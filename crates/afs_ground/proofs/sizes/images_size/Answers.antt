@@ -1,4 +1,4 @@
-use Rattle.std.proofs.Common.{refl, arith}
+use Rattle.std.proofs.Common.{arith}
 use Rattle.afs_ground.proofs.Measures.{one_more_sized}
 use Rattle.afs_ground.proofs.sizes.images_size.Goals as goal
 

@@ -1,6 +1,4 @@
-use Rattle.std.proofs.Common.{◌≡◌, Ok, Err, ◌∙◌, List, ◌++◌, [], ◌∷◌, rules, subst, sym}
-use Rattle.afs_num.specs.declared.scripts.Reason.TheVariants as reasons
-use Rattle.afs_model.specs.ScriptWords.{must}
+use Rattle.std.proofs.Common.{◌≡◌, ◌∙◌, List, ◌++◌, [], ◌∷◌, rules, subst, sym}
 use Rattle.afs_ground.specs.Grounds.{IsGround}
 use Rattle.afs_ground.specs.declared.laid.Laid.{Laid}
 use Rattle.afs_ground.proofs.Grounds.{added, ground_push, refused}
