@@ -1,0 +1,2 @@
+pub mod Blows
+pub mod Placed
