@@ -1,13 +1,14 @@
 //! A server that is up, over the store of its disk.
 
-ghost use Rattle.std.specs.Prelude.{◌≡◌, ◌≤◌, ◌<◌, ◌^◌, ◌↔◌, ◌∷◌, [], None, Some, false, true, IfOk, IsSome, OnErr, OnOk};
+ghost use Rattle.std.specs.Prelude.{◌≡◌, ◌≤◌, ◌<◌, ◌^◌, ◌↔◌, ◌∷◌, [], None, Some, false, true, IfOk, IfSome, IsSome, OnErr, OnOk};
+ghost use Rattle.afs_disk.specs.Disk.{LeavesJust};
 ghost use Rattle.afs_disk.specs.Fuses.{armed, failing};
 ghost use Rattle.afs_rows.specs.Runs.{Host};
 ghost use Rattle.afs_rows.specs.States.{BackCall};
 ghost use Rattle.afs_server.specs.Handling.{server_seen};
 ghost use Rattle.afs_server.specs.Seen.{CanDraw, Serves};
 ghost use Rattle.afs_server_parts.specs.Called.{calls_seen};
-ghost use Rattle.afs_volstore.specs.Stores.{IsKept};
+ghost use Rattle.afs_volstore.specs.Stores.{IsCounted, IsKept};
 ghost use Rattle.afs_host.specs.Hosts.{crashed, set_to_fail, set_to_stop, timed_out, woken};
 ghost use Rattle.afs_host.specs.Seats.{count_mark, disk_of, waits_for, CanRun, GoesOn, IsDown, IsStepUp, IsUp, OnlyDraws};
 
@@ -135,6 +136,21 @@ impl<D: Disk> Running<D> {
         ensures faults { D.faults result.disk ≡ D.faults (disk_of self) }
         ensures limit { D.limit result.disk ≡ D.limit (disk_of self) }
     {
+        self.left_by(pick)
+    }
+
+    /// What a crash of its disk with this pick leaves of it. It takes no memory.
+    pub(crate) fn left_by(self, pick: u8) -> Resting<D>
+        ensures mark { result.mark ≡ count_mark self.store.count }
+        ensures picked { D.seen result.disk ≡ D.left_by (disk_of self) pick }
+        ensures image { IfSome (D.seen result.disk) (λ bytes. D.may_leave (disk_of self) bytes × LeavesJust bytes (D.may_leave result.disk)) }
+        ensures told { IsSome (D.seen result.disk) ↔ IsSome (D.seen (disk_of self)) }
+        ensures faults { D.faults result.disk ≡ D.faults (disk_of self) }
+        ensures limit { D.limit result.disk ≡ D.limit (disk_of self) }
+        ensures kept { self.store.closed ≡ false → IsKept self.store.durable (D.seen (disk_of self)) (D.may_leave (disk_of self)) }
+        ensures counted { self.store.closed ≡ false → IsCounted self.store.count (D.seen (disk_of self)) }
+        ensures capacity { self.store.durable.capacity ≡ D.limit (disk_of self) }
+    {
         let Resting { mut disk, mark } = self.rest();
         disk.crash(pick);
         Resting { disk, mark }
@@ -144,6 +160,7 @@ impl<D: Disk> Running<D> {
     pub(crate) fn rest(self) -> Resting<D>
         ensures value { result ≡ record { disk = disk_of self; mark = count_mark self.store.count } }
         ensures kept { self.store.closed ≡ false → IsKept self.store.durable (D.seen (disk_of self)) (D.may_leave (disk_of self)) }
+        ensures counted { self.store.closed ≡ false → IsCounted self.store.count (D.seen (disk_of self)) }
         ensures capacity { self.store.durable.capacity ≡ D.limit (disk_of self) }
     {
         let Running {
