@@ -156,7 +156,7 @@ at_some setting last x e b = subst (λ (o : Option ℕ). IsAt o last) e b
 neither : (t : Bool) → t ≡ true → t ≡ false → ⊥
 neither t e f = absurd cc
 
-none_cause : (setting : Setting) (last : ℕ) (rose : Type 0) → setting.stop ≡ None → setting.fail ≡ None → Trips setting last ⊎ rose → rose
+pub none_cause : (setting : Setting) (last : ℕ) (rose : Type 0) → setting.stop ≡ None → setting.fail ≡ None → Trips setting last ⊎ rose → rose
 none_cause setting last rose stop fail (inl (inl b)) = absurd (beyond_none setting.stop last stop b)
 none_cause setting last rose stop fail (inl (inr at)) = absurd (at_none setting.fail last fail at)
 none_cause setting last rose stop fail (inr did) = did

@@ -49,7 +49,7 @@ left_image seen before now image told c left =
 
 -- ---- one record more
 
-bind_is : {A B : Type 0} (o : Option A) (x : A) (f : A → Option B) (y : B) → o ≡ Some x → (o >>= f) ≡ Some y → f x ≡ Some y
+pub bind_is : {A B : Type 0} (o : Option A) (x : A) (f : A → Option B) (y : B) → o ≡ Some x → (o >>= f) ≡ Some y → f x ≡ Some y
 bind_is {A} {B} o x f y e h = subst (λ (p : Option A). (p >>= f) ≡ Some y) e h
 
 -- records that stand for something with this one behind them: it was taken
@@ -71,6 +71,9 @@ more_all capacity (b ∷ bs) bytes r d e h is stands =
     let f = bound (first_folded p.0 (nothing_on capacity)) (fold_from bs) d p.1.1 in
     let q = bind_is (record_at b) p.0 (λ q. (first_folded q (nothing_on capacity) >>= fold_from (bs ++ bytes ∷ []))) e p.1.0 stands in
     more_from bs bytes r f.0 d e f.1.1 is (bind_is (first_folded p.0 (nothing_on capacity)) f.0 (fold_from (bs ++ bytes ∷ [])) e f.1.0 q)
+
+pub one_taken : (records : List (List ℕ)) (r : StoreRecord) (d e : Durable) → StandFor records d → StandFor (records ++ record_bytes r ∷ []) e → record_at (record_bytes r) ≡ Some r → e.capacity ≡ d.capacity → folded r d ≡ Some e
+one_taken records r d e before after is capacity = more_all d.capacity records (record_bytes r) r d e before is (subst (λ (n : ℕ). fold_all n (records ++ record_bytes r ∷ []) ≡ Some e) capacity after)
 
 -- ---- a disk on which a record was begun
 

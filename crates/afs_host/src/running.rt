@@ -168,11 +168,7 @@ impl<D: Disk> Running<D> {
             store,
             armed: _,
         } = self;
-        let mark = store.mark();
-        Resting {
-            disk: store.into_disk().into_inner(),
-            mark,
-        }
+        Resting::of(store)
     }
 
     /// The disk. While the server is up it stands for what the store keeps, and no crash leaves another.
