@@ -1,0 +1,9 @@
+pub mod Blows
+pub mod Booting
+pub mod Breaking
+pub mod Finding
+pub mod Handled
+pub mod Lying
+pub mod Placed
+pub mod Started
+pub mod Stepping

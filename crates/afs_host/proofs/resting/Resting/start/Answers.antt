@@ -1,0 +1,59 @@
+use Rattle.std.specs.Prelude.{◌≡◌, ℕ, List, [], Option, Some, None, IsSome}
+use Rattle.std.proofs.Common.{refl, ap, sym, subst, ◌∙◌}
+use Rattle.afs_num.specs.declared.faults.StoreFault.{StoreFault}
+use Rattle.afs_num.specs.declared.faults.StoreFault.TheVariants as refusals
+use Rattle.afs_num.specs.declared.types.Node.TheVariants.{Server}
+use Rattle.afs_disk.specs.Disk.{Setting}
+use Rattle.afs_disk.specs.Fuses.{Fused}
+use Rattle.afs_volstore.specs.Stores.{IsCaused, Store}
+use Rattle.afs_host.specs.Seats.{Resting}
+use Rattle.afs_host.specs.Starting.{IsStarted}
+use Rattle.afs_host.proofs.Started.{own_cause, refused_so, taken_up, Refused}
+use Rattle.afs_host.proofs.resting.Resting.start.Goals as goal
+
+pub returns-in-Ok-clause-started : goal.returns-in-Ok-clause-started
+returns-in-Ok-clause-started g c =
+    let fuse = c.new.result in
+    let old : Resting g.row.D.Denot = record { disk = fuse.disk; mark = c.self.inside.mark } in
+    let s = c.in-Ok.store in
+    let e = c.in-Ok.ensures in
+    let b = c.boot.ensures in
+    let is : old ≡ c.args.self = ap (λ (d : g.row.D.Denot). record { disk = d; mark = c.self.inside.mark }) (ap (λ (f : Fused g.row.D.Denot). f.disk) c.new.ensures) ∙ c.self.view_is in
+    subst (λ (x : Resting g.row.D.Denot). IsSome (g.D.Disk.seen x.disk) → IsStarted g.D.Disk.seen g.D.Disk.may_leave g.D.Disk.faults g.D.Disk.limit (Server c.args.server) c.args.now c.args.clients x c.boot.result) is
+    (taken_up g.D.Disk.seen g.D.Disk.may_leave g.D.Disk.faults g.D.Disk.limit (Server c.args.server) c.args.now c.args.clients old s c.in-Ok.front c.boot.result (record {
+      node = ap (λ (t : Store (Fused g.row.D.Denot)). t.node) e.rest;
+      shows = λ bytes told. g.met.D.Disk.leaves old.disk 1 bytes (g.met.D.Disk.shows old.disk ∙ told);
+      stands = λ bytes told. e.stands bytes told;
+      lines_are = λ bytes told. e.lines bytes told;
+      rests = λ bytes told. let r = e.at_rest bytes told in record { now = r.now; stands = r.stands; fit = r.fit; durable = r.durable };
+      counted = λ bytes told. e.count bytes told;
+      capacity = e.capacity;
+      no_less = e.ok.0.own_never_falls;
+      boots = b.boots;
+      goes_on = b.goes_on;
+      same_limit = b.limit ∙ e.limit;
+      falls_not = b.faults;
+    }))
+
+pub returns-in-Err-clause-started : goal.returns-in-Err-clause-started
+returns-in-Err-clause-started g c =
+    let fuse = c.new.result in
+    let old : Resting g.row.D.Denot = record { disk = fuse.disk; mark = c.self.inside.mark } in
+    let new : Resting g.row.D.Denot = record { disk = c.into_inner.result; mark = c.self.inside.mark } in
+    let e = c.in-Err.ensures in
+    let is : old ≡ c.args.self = ap (λ (d : g.row.D.Denot). record { disk = d; mark = c.self.inside.mark }) (ap (λ (f : Fused g.row.D.Denot). f.disk) c.new.ensures) ∙ c.self.view_is in
+    let inner : new.disk ≡ c.in-Err.fuse.disk = c.into_inner.ensures in
+    subst (λ (x : Resting g.row.D.Denot). IsSome (g.D.Disk.seen x.disk) → IsStarted g.D.Disk.seen g.D.Disk.may_leave g.D.Disk.faults g.D.Disk.limit (Server c.args.server) c.args.now c.args.clients x c.refused.result) is
+    (refused_so g.D.Disk.seen g.D.Disk.may_leave g.D.Disk.moment g.D.Disk.left_since g.met.D.Disk.counts_now g.D.Disk.faults g.D.Disk.limit c.in-Err.refusal (Server c.args.server) c.args.now c.args.clients old new
+    (subst (λ (d : g.row.D.Denot). Refused g.D.Disk.seen g.D.Disk.may_leave g.D.Disk.moment g.D.Disk.left_since g.D.Disk.faults g.D.Disk.limit c.in-Err.refusal old (record { disk = d; mark = c.self.inside.mark })) (sym inner) (record {
+      shows = λ bytes told. g.met.D.Disk.leaves old.disk 1 bytes (g.met.D.Disk.shows old.disk ∙ told);
+      mark = refl;
+      same_limit = e.limit;
+      told = e.told.0;
+      leaves = λ bytes told.
+          let only = e.any_moment bytes told in
+          record { later = only.later; each = only.each; before = only.before };
+      refusals_are = e.refusals;
+      bad = λ number is bytes told. e.bad number is bytes told;
+      failed = own_cause (record { stop = fuse.stop; fail = fuse.fail }) c.in-Err.fuse.calls _ _ _ _ c.in-Err.refusal (ap (λ (f : Fused g.row.D.Denot). f.stop) c.new.ensures) (ap (λ (f : Fused g.row.D.Denot). f.fail) c.new.ensures) e.err.1;
+    })) c.refused.result c.refused.ensures)

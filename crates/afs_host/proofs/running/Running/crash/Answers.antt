@@ -1,0 +1,24 @@
+use Rattle.std.specs.Prelude.{◌≡◌}
+use Rattle.std.proofs.Common.{refl, ap, sym, subst, ◌∙◌, inl}
+use Rattle.afs_num.specs.declared.records.Mark.{Mark}
+use Rattle.afs_rows.specs.Runs.{at_rest}
+use Rattle.afs_rows.specs.States.{ServerState}
+use Rattle.afs_host.specs.Standing.{Lies}
+use Rattle.afs_host.proofs.Lying.{kept_before, left_image}
+use Rattle.afs_host.proofs.running.Running.crash.Goals as goal
+
+pub returns-clause-step : goal.returns-clause-step
+returns-clause-step g c = λ h up.
+    let self = c.args.self in
+    let left = c.left_by.ensures in
+    record {
+      fall = at_rest;
+      down = refl;
+      armed = refl;
+      capacity = ap (λ (s : ServerState). s.lasting.capacity) up.state ∙ (left.capacity ∙ sym left.limit);
+      lies = λ told b l.
+          subst (λ (mark : Mark). Lies self.store.node h.state at_rest mark b) (sym left.mark)
+          (inl (kept_before self.store.durable self.store.count (g.D.Disk.seen self.store.disk.disk) (g.D.Disk.may_leave self.store.disk.disk) h.state (sym (ap (λ (s : ServerState). s.lasting) up.state))
+          (left.kept c.requires.up) (left.counted c.requires.up) (left.told.0 told) b
+          (left_image (g.D.Disk.seen c.left_by.result.disk) (g.D.Disk.may_leave self.store.disk.disk) (g.D.Disk.may_leave c.left_by.result.disk) left.image told b l)));
+    }

@@ -1,0 +1,90 @@
+-- What becomes of a server that is up and is given a message.
+use Rattle.std.specs.Prelude.{◌≡◌, ◌≤◌, ◌⊎◌, ◌↔◌, ℕ, ◌+◌, List, [], ◌∷◌, Bool, true, Option, Result, Ok, Err, IsSome}
+use Rattle.afs_num.specs.declared.messages.Message.{Message}
+use Rattle.afs_num.specs.declared.messages.Received.{Received}
+use Rattle.afs_num.specs.declared.messages.Received.TheVariants.{Whole}
+use Rattle.afs_num.specs.declared.types.Node.{Node}
+use Rattle.afs_history.specs.declared.lines.Line.{Line}
+use Rattle.afs_history.specs.declared.lines.Line.TheVariants as lines
+use Rattle.afs_history.specs.declared.lines.Outs.{Outs}
+use Rattle.afs_disk.specs.Disk.{IsBeyond, Rose, Trips}
+use Rattle.afs_rows.specs.Runs.{in_step, steady, Host, Luck}
+use Rattle.afs_rows.specs.ServerRow.{decides, device_calls}
+use Rattle.afs_server.specs.Handling.{server_seen, IsClosed}
+use Rattle.afs_server.specs.declared.faults.NodeFault.{NodeFault}
+use Rattle.afs_server.specs.declared.faults.NodeFault.TheVariants as nodes
+use Rattle.afs_host.specs.Hosts.{fall_line, served, GivesOut, HostStep, IsLuck}
+use Rattle.afs_host.specs.Seats.{count_mark, disk_of, GoesOn, IsSame, IsStepDown, IsStepUp, IsUp, Resting, Running}
+use Rattle.afs_host.specs.Setting.{stops_now}
+use Rattle.afs_host.specs.Standing.{Lies}
+use Rattle.afs_host.specs.declared.serving.Served.{Served}
+use Rattle.afs_host.specs.declared.serving.Served.TheVariants as outcome
+
+-- the disk, whatever became of the server
+abbrev pub disk_served : {D : Type 0} → Served (Running D) (Resting D) → D
+disk_served {D} (outcome.Up r outs) = disk_of r
+disk_served {D} (outcome.Down s line) = s.disk
+disk_served {D} (outcome.Unchanged r) = disk_of r
+
+-- With some luck of the disk the step of the host is this. Where the disk fails by itself, its count rose.
+pub record HasServed (me : Node) (h : Host) (clock place : ℕ) (m : Message) (Is : HostStep → Type 0) (rose : Type 0) : Type 0 where
+  pub luck : Luck
+  pub is_luck : IsLuck luck
+  pub is : Is (served me h clock place luck m)
+  pub blame : GivesOut luck → rose
+
+-- So it is of each host that the server stands for, and of the message that was found, at any place: the server is up, and gave
+-- this out behind the line of the place; or it went down, and that line and this are all. Or memory was wanting, and it is as it was.
+abbrev pub IsServed : {D : Type 0} → (D → Option (List ℕ)) → (D → ℕ → Option (List ℕ)) → (D → ℕ) → (D → List ℕ → Type 0) → (D → ℕ) → (D → ℕ → List ℕ → Type 0) → (D → ℕ) → (D → ℕ) →
+    Running D → ℕ → Received → Served (Running D) (Resting D) → Type 0
+IsServed {D} seen left_by size may_leave moment left_since faults limit old clock found (outcome.Up r outs) =
+    (h : Host) → IsUp old h → (m : Message) → found ≡ Whole m → (place : ℕ) →
+    HasServed old.store.node h clock place m (IsStepUp r (lines.Given place ∷ []) outs) (Rose (faults (disk_of old)) (faults (disk_of r)))
+IsServed {D} seen left_by size may_leave moment left_since faults limit old clock found (outcome.Down s line) =
+    (h : Host) → IsUp old h → (m : Message) → found ≡ Whole m → (place : ℕ) →
+    HasServed old.store.node h clock place m (IsStepDown seen may_leave limit old.store.node s (lines.Given place ∷ line ∷ [])) (Rose (faults (disk_of old)) (faults s.disk))
+IsServed {D} seen left_by size may_leave moment left_since faults limit old clock found (outcome.Unchanged r) =
+    IsSame seen left_by size may_leave moment left_since old r
+
+-- ---- a step that the disk ended
+
+-- The store's device call failed, and with it the step: a record was begun. Whatever a crash may leave of the disk now stands for the
+-- state before the step or after it. At most four device calls came, and the last was set to trip, or the disk failed by itself.
+pub record IsBroken {D : Type 0} (seen : D → Option (List ℕ)) (may_leave : D → List ℕ → Type 0) (faults limit : D → ℕ) (old : Running D) (clock : ℕ) (found : Received) (new : Running D) : Type 0 where
+  pub armed : new.armed ≡ old.armed
+  pub closed : IsClosed old.store new.store
+  pub lies : (m : Message) → found ≡ Whole m → IsSome (seen (disk_of new)) → (c : List ℕ) → may_leave (disk_of new) c → Lies old.store.node (server_seen old.memory old.store) (in_step m clock) (count_mark old.store.count) c
+  pub saves : (m : Message) → found ≡ Whole m → device_calls (decides old.store.node (server_seen old.memory old.store) clock (Whole m)) ≡ 4
+  pub few : new.store.disk.calls ≤ old.store.disk.calls + 4
+  pub stop : new.store.disk.stop ≡ old.store.disk.stop
+  pub fail : new.store.disk.fail ≡ old.store.disk.fail
+  pub cause : Trips (record { stop = old.store.disk.stop; fail = old.store.disk.fail }) new.store.disk.calls ⊎ Rose (faults (disk_of old)) (faults (disk_of new))
+  pub capacity : old.store.durable.capacity ≡ limit (disk_of new)
+
+-- of a server that was given a message, as long as it is one
+abbrev pub IsHandled : {D : Type 0} → (D → Option (List ℕ)) → (D → ℕ → Option (List ℕ)) → (D → ℕ) → (D → List ℕ → Type 0) → (D → ℕ) → (D → ℕ → List ℕ → Type 0) → (D → ℕ) → (D → ℕ) →
+    Running D → ℕ → Received → Running D → Result Outs NodeFault → Type 0
+IsHandled {D} seen left_by size may_leave moment left_since faults limit old clock found new (Ok outs) =
+    ((h : Host) → IsUp old h → (m : Message) → found ≡ Whole m → (place : ℕ) → IsStepUp new (lines.Given place ∷ []) outs (served old.store.node h clock place steady m)) × GoesOn 4 50 old new
+IsHandled {D} seen left_by size may_leave moment left_since faults limit old clock found new (Err nodes.OutOfMemory) =
+    IsSame seen left_by size may_leave moment left_since old new × GoesOn 4 50 old new
+IsHandled {D} seen left_by size may_leave moment left_since faults limit old clock found new (Err nodes.Down) = IsBroken seen may_leave faults limit old clock found new
+
+-- A server whose step was broken went down as its disk was stopped, or failed, and this line tells which; what is left of its disk is what was there,
+-- or what a crash may make of that.
+pub record HasFallen {D : Type 0} (seen : D → Option (List ℕ)) (may_leave : D → List ℕ → Type 0) (faults limit : D → ℕ) (r : Running D) (s : Resting D) (line : Line) : Type 0 where
+  pub came : Bool
+  pub came_so : IsBeyond r.store.disk.stop r.store.disk.calls → came ≡ true
+  pub came_is : came ≡ true → IsBeyond r.store.disk.stop r.store.disk.calls
+  pub line_is : line ≡ fall_line r.store.node (stops_now came r.armed)
+  pub mark : s.mark ≡ count_mark r.store.count
+  pub told : IsSome (seen s.disk) ↔ IsSome (seen (disk_of r))
+  pub image : IsSome (seen s.disk) → (c : List ℕ) → may_leave s.disk c → may_leave (disk_of r) c
+  pub same_faults : faults s.disk ≡ faults (disk_of r)
+  pub same_limit : limit s.disk ≡ limit (disk_of r)
+
+-- ---- while it is up it can be given what comes next
+abbrev pub GoesOnServed : {D : Type 0} → Running D → Served (Running D) (Resting D) → Type 0
+GoesOnServed {D} old (outcome.Up r outs) = GoesOn 4 50 old r
+GoesOnServed {D} old (outcome.Down s line) = Unit {0}
+GoesOnServed {D} old (outcome.Unchanged r) = GoesOn 4 50 old r

@@ -1,0 +1,54 @@
+-- What the disk of a server that is down stands for.
+use Rattle.std.specs.Prelude.{◌≡◌, ◌⊎◌, ◌+◌, ℕ, List, [], ◌∷◌, ◌++◌, map, true, Option, Some, None}
+use Rattle.afs_num.specs.declared.types.Node.{Node}
+use Rattle.afs_num.specs.declared.messages.Message.{Message}
+use Rattle.afs_num.specs.declared.messages.Received.TheVariants.{Whole}
+use Rattle.afs_num.specs.declared.records.Mark.{Mark}
+use Rattle.afs_num.specs.declared.records.StoreRecord.{StoreRecord}
+use Rattle.afs_history.specs.declared.lines.Line.{Line}
+use Rattle.afs_journal.specs.Records.{whole_records}
+use Rattle.afs_records.specs.Changes.{boot_record}
+use Rattle.afs_records.specs.Durable.{effect_of, mark_of, Durable, StandFor}
+use Rattle.afs_records.specs.Records.{record_at, record_bytes}
+use Rattle.afs_rows.specs.Runs.{at_rest, begun_by_disk, in_boot, in_step, Fall}
+use Rattle.afs_rows.specs.ServerRow.{decides}
+use Rattle.afs_rows.specs.States.{Lasting, ServerState}
+use Rattle.afs_volstore.specs.Telling.{in_words}
+use Rattle.afs_server.specs.Handling.{record_decided}
+use Rattle.afs_server.specs.Seen.{lasting_of}
+
+-- the record that the interrupted step was to make, or the restart: at rest there is none
+abbrev pub record_of_fall : Node → ServerState → Fall → Option StoreRecord
+record_of_fall me s at_rest = None
+record_of_fall me s (in_step m clock) = record_decided s.lasting.boot clock (decides me s clock (Whole m))
+record_of_fall me s in_boot = Some (boot_record (s.lasting.boot + 1))
+
+-- the records are those of a durable part that is read so
+pub record StandsFor (records : List (List ℕ)) (l : Lasting) : Type 0 where
+  pub durable : Durable
+  pub stands : StandFor records durable
+  pub read : lasting_of durable ≡ l
+
+-- the records are those from before the interrupted step, and the mark tells their number
+pub record LiesBefore (s : ServerState) (mark : Mark) (records : List (List ℕ)) : Type 0 where
+  pub before : StandsFor records s.lasting
+  pub marked : mark_of records ≡ mark
+
+-- They are those, and then the record of the interrupted step, with which the durable part is that after it. What this record
+-- tells is what the step would have told.
+pub record LiesAfter (me : Node) (s : ServerState) (fall : Fall) (mark : Mark) (records : List (List ℕ)) : Type 0 where
+  pub first : List (List ℕ)
+  pub last : StoreRecord
+  pub are : records ≡ first ++ record_bytes last ∷ []
+  pub before : LiesBefore s mark first
+  pub made : record_of_fall me s fall ≡ Some last
+  pub read_again : record_at (record_bytes last) ≡ Some last
+  pub after : StandsFor records (begun_by_disk me s true fall).state.lasting
+  pub told : (ls : List Line) → (begun_by_disk me s true fall).before ls ≡ map in_words (effect_of me last before.before.durable).lines ++ ls
+
+abbrev pub LiesIn : Node → ServerState → Fall → Mark → List (List ℕ) → Type 0
+LiesIn me s fall mark records = LiesBefore s mark records ⊎ LiesAfter me s fall mark records
+
+-- so it is of the whole records of these bytes
+abbrev pub Lies : Node → ServerState → Fall → Mark → List ℕ → Type 0
+Lies me s fall mark bytes = LiesIn me s fall mark (whole_records bytes)

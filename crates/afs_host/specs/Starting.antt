@@ -1,0 +1,126 @@
+-- What becomes of a server that was down and begins again.
+use Rattle.std.specs.Prelude.{◌≡◌, ◌≤◌, ◌⊎◌, ◌+◌, ℕ, List, [], ◌∷◌, ◌++◌, Bool, Option, Some, None, length, IsSome}
+use Rattle.afs_num.specs.declared.types.Node.{Node}
+use Rattle.afs_num.specs.declared.faults.StoreFault.{StoreFault}
+use Rattle.afs_num.specs.declared.faults.StoreFault.TheVariants as refusals
+use Rattle.afs_num.specs.declared.records.Mark.{Mark}
+use Rattle.afs_history.specs.declared.lines.Line.{Line}
+use Rattle.afs_history.specs.declared.lines.Line.TheVariants as lines
+use Rattle.afs_history.specs.declared.lines.Outs.{Outs}
+use Rattle.afs_disk.specs.Disk.{Rose}
+use Rattle.afs_disk.specs.Fuses.{Fused}
+use Rattle.afs_journal.specs.Records.{whole_records}
+use Rattle.afs_model.specs.Messages.{messages_spelled, parcels_read}
+use Rattle.afs_records.specs.Durable.{StandFor}
+use Rattle.afs_rows.specs.Runs.{at_rest, comes_up, fails_midway, in_boot, is_full, settled, unarmed, Fall, Host, Outcome}
+use Rattle.afs_rows.specs.ServerRow.{Begun}
+use Rattle.afs_rows.specs.ServerSteps.{start_row}
+use Rattle.afs_volstore.specs.Stores.{Store}
+use Rattle.afs_server.specs.Handling.{server_seen}
+use Rattle.afs_server.specs.Seen.{begun_step, lasting_of}
+use Rattle.afs_host.specs.Hosts.{goes, restarted, stays, Fails, HostStep}
+use Rattle.afs_host.specs.Seats.{count_mark, disk_of, CanRun, IsDown, IsStepDown, IsStepUp, Resting, Running}
+use Rattle.afs_host.specs.declared.starting.Start.{Start}
+use Rattle.afs_host.specs.declared.starting.Start.TheVariants as starts
+
+-- the disk, whatever became of the server
+abbrev pub disk_started : {D : Type 0} → Start (Running D) (Resting D) → D
+disk_started {D} (starts.Up r outs) = disk_of r
+disk_started {D} (starts.Down s ls) = s.disk
+disk_started {D} (starts.Unchanged s) = s.disk
+disk_started {D} (starts.Lost s) = s.disk
+
+-- One of the two that the disk may hold was found, and the restart ended so; the step of the host is this. Where the disk failed,
+-- its count rose.
+pub record HasStarted (me : Node) (h : Host) (clock count : ℕ) (fall : Fall) (Is : HostStep → Type 0) (rose : Type 0) : Type 0 where
+  pub after : Bool
+  pub outcome : Outcome
+  pub is : Is (restarted me h clock count after outcome fall)
+  pub blame : Fails outcome → rose
+
+-- The server is up, and gave this out; or it stays down, and told this; or memory was wanting, and it is what it was, or can't be
+-- told of.
+abbrev pub IsStarted : {D : Type 0} → (D → Option (List ℕ)) → (D → List ℕ → Type 0) → (D → ℕ) → (D → ℕ) → Node → ℕ → ℕ → Resting D → Start (Running D) (Resting D) → Type 0
+IsStarted {D} seen may_leave faults limit me clock count old (starts.Up r outs) =
+    (h : Host) (was : IsDown seen may_leave limit me old h) → HasStarted me h clock count was.fall (IsStepUp r [] outs) (Rose (faults old.disk) (faults (disk_of r)))
+IsStarted {D} seen may_leave faults limit me clock count old (starts.Down s ls) =
+    (h : Host) (was : IsDown seen may_leave limit me old h) → HasStarted me h clock count was.fall (IsStepDown seen may_leave limit me s ls) (Rose (faults old.disk) (faults s.disk))
+IsStarted {D} seen may_leave faults limit me clock count old (starts.Unchanged s) =
+    (h : Host) → IsDown seen may_leave limit me old h → IsDown seen may_leave limit me s h
+IsStarted {D} seen may_leave faults limit me clock count old (starts.Lost s) = Unit {0}
+
+-- it has drawn few numbers, and made at most ten device calls
+pub record IsFresh {D : Type 0} (me : Node) (r : Running D) : Type 0 where
+  pub node : r.store.node ≡ me
+  pub can_run : CanRun r
+  pub device_calls : r.store.disk.calls ≤ 10
+  pub drawn : r.store.drawn ≤ 204
+  pub owed : r.memory.lists.last_owed + length r.memory.lists.promises ≤ 16
+
+-- a server that is up can be given what comes next, whatever its disk tells
+abbrev pub GoesOnStarted : {D : Type 0} → Node → Resting D → Start (Running D) (Resting D) → Type 0
+GoesOnStarted {D} me old (starts.Up r outs) = IsFresh me r
+GoesOnStarted {D} me old (starts.Down s ls) = Unit {0}
+GoesOnStarted {D} me old (starts.Unchanged s) = s.mark ≡ old.mark
+GoesOnStarted {D} me old (starts.Lost s) = Unit {0}
+
+-- ---- the parts of a restart
+
+-- A store that was made of a disk which held these records: the restart begins so, and with these lines.
+pub record IsFound {D : Type 0} (seen : D → Option (List ℕ)) (begun : Begun) (records : List (List ℕ)) (front : List Line) (s : Store (Fused D)) : Type 0 where
+  pub read : lasting_of s.durable ≡ begun.state.lasting
+  pub before : (ls : List Line) → begun.before ls ≡ front ++ ls
+  pub stands : StandFor records s.durable
+  pub counted : s.count ≡ length records
+  pub told : (bytes : List ℕ) × ((seen s.disk.disk ≡ Some bytes) × (whole_records bytes ≡ records))
+
+-- The server is up over its store, whose boot has begun: it makes the step of a start, and tells these lines first and then that it is up.
+pub record HasRisen {D : Type 0} (s : Store (Fused D)) (front : List Line) (count clock : ℕ) (r : Running D) (outs : Outs) : Type 0 where
+  pub state : server_seen r.memory r.store ≡ (begun_step s.node s.durable clock count).state
+  pub store : r.store ≡ record s { drawn = r.store.drawn }
+  pub armed : r.armed ≡ unarmed
+  pub can_run : CanRun r
+  pub drawn : r.store.drawn ≤ 204
+  pub owed : r.memory.lists.last_owed + length r.memory.lists.promises ≤ 16
+  pub lines_are : outs.lines ≡ front ++ lines.Restart s.node s.durable.boot ∷ (begun_step s.node s.durable clock count).lines
+  pub sent : parcels_read outs.parcels ≡ messages_spelled (begun_step s.node s.durable clock count).sent
+
+abbrev pub Rises : {D : Type 0} → Store (Fused D) → List Line → ℕ → ℕ → Start (Running D) (Resting D) → Type 0
+Rises {D} s front count clock (starts.Up r outs) = HasRisen s front count clock r outs
+Rises {D} s front count clock (starts.Down d ls) = ⊥
+Rises {D} s front count clock (starts.Unchanged d) = ⊥
+Rises {D} s front count clock (starts.Lost d) = d.disk ≡ s.disk.disk
+
+-- the server stays down, with its store's mark and these lines, and one behind them; or memory was wanting for that
+abbrev pub Stays : {D : Type 0} → Store (Fused D) → List Line → Line → Start (Running D) (Resting D) → Type 0
+Stays {D} s front last (starts.Up r outs) = ⊥
+Stays {D} s front last (starts.Down d ls) = (d ≡ record { disk = s.disk.disk; mark = count_mark s.count }) × (ls ≡ front ++ last ∷ [])
+Stays {D} s front last (starts.Unchanged d) = ⊥
+Stays {D} s front last (starts.Lost d) = d.disk ≡ s.disk.disk
+
+-- The disk couldn't be taken up, by this refusal: that the server stays down is all that is told. Or memory was wanting.
+abbrev pub IsRefused : {D : Type 0} → StoreFault → Resting D → Node → Start (Running D) (Resting D) → Type 0
+IsRefused {D} refusal old me (starts.Up r outs) = ⊥
+IsRefused {D} refusal old me (starts.Down d ls) = (refusal ≡ refusals.OutOfMemory → ⊥) × ((d ≡ old) × (ls ≡ lines.Fault me ∷ []))
+IsRefused {D} refusal old me (starts.Unchanged d) = d ≡ old
+IsRefused {D} refusal old me (starts.Lost d) = ⊥
+
+-- The record of the boot was put on the disk, and the server is up; or it didn't fit, or the disk failed, and the server stays down; or memory was
+-- wanting before that, and whatever a crash leaves has the records that were there.
+abbrev pub BootsFrom : {D : Type 0} → (D → Option (List ℕ)) → (D → List ℕ → Type 0) → (D → ℕ) → (D → ℕ) → Begun → List (List ℕ) → Node → ℕ → ℕ → D → Start (Running D) (Resting D) → Type 0
+BootsFrom {D} seen may_leave faults limit begun records me clock count disk (starts.Up r outs) =
+    (settled begun.state comes_up ≡ comes_up) × IsStepUp r [] outs (goes unarmed (start_row me clock count begun))
+BootsFrom {D} seen may_leave faults limit begun records me clock count disk (starts.Down d ls) =
+    ((settled begun.state is_full ≡ is_full) × IsStepDown seen may_leave limit me d ls (stays begun (lines.Full me) at_rest))
+    ⊎ ((settled begun.state fails_midway ≡ fails_midway) × (IsStepDown seen may_leave limit me d ls (stays begun (lines.Fault me) in_boot) × Rose (faults disk) (faults d.disk)))
+BootsFrom {D} seen may_leave faults limit begun records me clock count disk (starts.Unchanged d) =
+    IsSome (seen d.disk) → (c : List ℕ) → may_leave d.disk c → whole_records c ≡ records
+BootsFrom {D} seen may_leave faults limit begun records me clock count disk (starts.Lost d) = Unit {0}
+
+-- whatever the disk tells
+abbrev pub GoesOnBooted : {D : Type 0} → Store (Fused D) → Mark → Start (Running D) (Resting D) → Type 0
+GoesOnBooted {D} s told (starts.Up r outs) =
+    (r.store.node ≡ s.node) × (CanRun r × ((r.store.disk.calls ≤ s.disk.calls + 4) × ((r.store.drawn ≤ 204) × (r.memory.lists.last_owed + length r.memory.lists.promises ≤ 16))))
+GoesOnBooted {D} s told (starts.Down d ls) = Unit {0}
+GoesOnBooted {D} s told (starts.Unchanged d) = d.mark ≡ told
+GoesOnBooted {D} s told (starts.Lost d) = Unit {0}
