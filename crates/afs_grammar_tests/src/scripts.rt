@@ -1,6 +1,6 @@
 //! Scripts without volumes, good and bad. Numbers and reasons were written from the grammar.
 
-ghost use Rattle.std.specs.Prelude.{◌≡◌, List};
+ghost use Rattle.std.specs.Prelude.{◌≡◌, [], List};
 
 use afs_grammar::forms::{Form, WHOLE};
 use afs_grammar::ground::Ground;
@@ -21,7 +21,7 @@ struct Barren {
 }
 
 impl Ground for Barren {
-    ghost laid = { λ g. g.volumes.items };
+    ghost lays = { λ g ls. ls ≡ [] };
 
     fn add(
         &mut self,
