@@ -1,5 +1,5 @@
 -- What becomes of a server that is up and is given a message.
-use Rattle.std.specs.Prelude.{◌≡◌, ◌≤◌, ◌⊎◌, ◌↔◌, ℕ, ◌+◌, List, [], ◌∷◌, Bool, true, Option, Result, Ok, Err, IsSome}
+use Rattle.std.specs.Prelude.{◌≡◌, ◌≤◌, ◌⊎◌, ◌↔◌, ℕ, ◌+◌, List, [], ◌∷◌, Bool, true, Option, Result, Ok, Err, IfSome, IsSome}
 use Rattle.afs_num.specs.declared.messages.Message.{Message}
 use Rattle.afs_num.specs.declared.messages.Received.{Received}
 use Rattle.afs_num.specs.declared.messages.Received.TheVariants.{Whole}
@@ -7,7 +7,7 @@ use Rattle.afs_num.specs.declared.types.Node.{Node}
 use Rattle.afs_history.specs.declared.lines.Line.{Line}
 use Rattle.afs_history.specs.declared.lines.Line.TheVariants as lines
 use Rattle.afs_history.specs.declared.lines.Outs.{Outs}
-use Rattle.afs_disk.specs.Disk.{IsBeyond, Rose, Trips}
+use Rattle.afs_disk.specs.Disk.{IsBeyond, LeavesJust, Rose, Trips}
 use Rattle.afs_rows.specs.Runs.{in_step, steady, Host, Luck}
 use Rattle.afs_rows.specs.ServerRow.{decides, device_calls}
 use Rattle.afs_server.specs.Handling.{server_seen, IsClosed}
@@ -80,8 +80,15 @@ pub record HasFallen {D : Type 0} (seen : D → Option (List ℕ)) (may_leave : 
   pub mark : s.mark ≡ count_mark r.store.count
   pub told : IsSome (seen s.disk) ↔ IsSome (seen (disk_of r))
   pub image : IsSome (seen s.disk) → (c : List ℕ) → may_leave s.disk c → may_leave (disk_of r) c
+  pub rests : line ≡ lines.Crash r.store.node → IfSome (seen s.disk) (λ bytes. LeavesJust bytes (may_leave s.disk))
   pub same_faults : faults s.disk ≡ faults (disk_of r)
   pub same_limit : limit s.disk ≡ limit (disk_of r)
+
+-- where it was stopped, what a read gives is what its disk keeps
+abbrev pub RestsServed : {D : Type 0} → (D → Option (List ℕ)) → (D → List ℕ → Type 0) → Node → Served (Running D) (Resting D) → Type 0
+RestsServed {D} seen may_leave me (outcome.Up r outs) = Unit {0}
+RestsServed {D} seen may_leave me (outcome.Down s line) = line ≡ lines.Crash me → IfSome (seen s.disk) (λ bytes. LeavesJust bytes (may_leave s.disk))
+RestsServed {D} seen may_leave me (outcome.Unchanged r) = Unit {0}
 
 -- ---- while it is up it can be given what comes next
 abbrev pub GoesOnServed : {D : Type 0} → Running D → Served (Running D) (Resting D) → Type 0
