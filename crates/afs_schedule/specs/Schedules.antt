@@ -1,0 +1,152 @@
+-- How a schedule is played: which input an event is.
+use Rattle.std.specs.Prelude.{◌≡◌, ◌≤◌, ℕ, zero, suc, ◌+◌, List, [], ◌∷◌, length, drop, Bool, true, false, not, ◌&&◌, Option, Some, None, nat_eq, if◌then◌else◌}
+use Rattle.std.specs.List.{list_any}
+use Rattle.afs_num.specs.Nodes.{same_node}
+use Rattle.afs_num.specs.declared.types.Node.{Node}
+use Rattle.afs_num.specs.declared.types.Node.TheVariants.{Loc, Server, Client, Admin}
+use Rattle.afs_history.specs.declared.acts.Act.{Act}
+use Rattle.afs_history.specs.declared.scripts.Event.{Event}
+use Rattle.afs_history.specs.declared.scripts.Event.TheVariants as events
+use Rattle.afs_history.specs.declared.scripts.Script.{Script}
+use Rattle.afs_history.specs.declared.scripts.Task.{Task}
+use Rattle.afs_history.specs.declared.scripts.Task.TheVariants as tasks
+use Rattle.afs_rows.specs.Callbacks.{put}
+use Rattle.afs_rows.specs.Going.{ClientState, Going}
+use Rattle.afs_rows.specs.Runs.{begins, client_starts, client_stops, gives, gives_out, is_away, moved, nothing, server_waits, sets_fail, sets_stop, start, starts_again, steady, stops, ticks, waits, wakes, Cell, Entry, Input, Leads, Luck, Outcome}
+
+-- ---- a schedule under way: the cell, the acts that each client has not begun, and the places that a deliver named
+
+pub record Turn : Type 0 where
+  pub cell : Cell
+  pub left : ℕ → List Act
+  pub named : List ℕ
+
+-- the acts of a client, in the script's order
+abbrev pub acts_of : ℕ → List Task → List Act
+acts_of n [] = []
+acts_of n (tasks.Client m act ∷ ts) = if nat_eq m n then act ∷ acts_of n ts else acts_of n ts
+acts_of n (tasks.Admin m act ∷ ts) = acts_of n ts
+
+abbrev pub first_turn : Script → Turn
+first_turn s = record { cell = start s; left = λ n. acts_of n s.tasks; named = [] }
+
+-- ---- drains
+
+-- the lowest place from this one on, of so many, that isn't among those named
+abbrev pub lowest : ℕ → ℕ → List ℕ → Option ℕ
+lowest zero place named = None
+lowest (suc more) place named = if list_any (nat_eq place) named then lowest more (place + 1) named else Some place
+
+-- the lowest place of a message that was sent and never named
+abbrev pub waiting : Turn → Option ℕ
+waiting t = lowest (length t.cell.sent) 1 t.named
+
+-- the first event, and those behind it
+abbrev pub first_of : List Event → Option (Event × List Event)
+first_of [] = None
+first_of (e ∷ es) = Some (e, es)
+
+-- What is played next, and what is left then. A drain is the delivery of the lowest place that was never named, and stays until
+-- there is none.
+abbrev pub next_event : Option ℕ → List Event → Option (Event × List Event)
+next_event low [] = None
+next_event (Some place) (events.Drain ∷ es) = Some (events.Deliver place, events.Drain ∷ es)
+next_event None (events.Drain ∷ es) = next_event None es
+next_event low (e ∷ es) = Some (e, es)
+
+-- ---- an event is an input
+
+abbrev pub is_idle : Option Going → Bool
+is_idle None = true
+is_idle (Some act) = false
+
+-- a client that is up and idle begins its next act; else nothing happens
+abbrev pub act_input : Cell → ℕ → List Act → Input
+act_input c n [] = nothing
+act_input c n (act ∷ acts) = if not (is_away c n) && is_idle (c.clients n).running then begins n act else nothing
+
+-- only the call to this node times out
+abbrev pub timeout_input : ClientState → ℕ → Node → Input
+timeout_input c n callee = if same_node c.callee callee then waits n else nothing
+
+-- the disk fails by itself at no call, or at one of the step's, from the first on
+abbrev pub IsLuck : Luck → Type 0
+IsLuck steady = Unit {0}
+IsLuck (gives_out call) = 1 ≤ call
+
+-- What each event is. A delivery leaves open whether the disk fails by itself, a restart of a server what its disk kept and
+-- whether it fails. The location database and administrators have no steps yet.
+abbrev pub IsInput : Turn → Event → Input → Type 0
+IsInput t (events.Act (Client n)) x = x ≡ act_input t.cell n (t.left n)
+IsInput t (events.Act node) x = x ≡ nothing
+IsInput t (events.Deliver place) x = (luck : Luck) × ((x ≡ gives place luck) × IsLuck luck)
+IsInput t events.Drain x = ⊥
+IsInput t (events.Timeout (Client n) callee) x = x ≡ timeout_input (t.cell.clients n) n callee
+IsInput t (events.Timeout (Server i) callee) x = x ≡ server_waits i callee
+IsInput t (events.Timeout node callee) x = x ≡ nothing
+IsInput t (events.Wake i) x = x ≡ wakes i
+IsInput t (events.Tick n) x = x ≡ ticks n
+IsInput t (events.Crash (Client n)) x = x ≡ client_stops n
+IsInput t (events.Crash node) x = x ≡ nothing
+IsInput t (events.CrashDisk (Server i) pick) x = x ≡ stops i
+IsInput t (events.CrashDisk node pick) x = x ≡ nothing
+IsInput t (events.Restart (Client n)) x = x ≡ client_starts n
+IsInput t (events.Restart (Server i)) x = (after : Bool) × ((outcome : Outcome) × (x ≡ starts_again i after outcome))
+IsInput t (events.Restart node) x = x ≡ nothing
+IsInput t (events.Stop (Server i) calls pick) x = x ≡ sets_stop i calls pick
+IsInput t (events.Stop node calls pick) x = x ≡ nothing
+IsInput t (events.Fail (Server i) call) x = x ≡ sets_fail i call
+IsInput t (events.Fail node call) x = x ≡ nothing
+
+-- ---- a schedule is a list of inputs
+
+-- an act that has begun is no longer left
+abbrev pub left_by : Input → (ℕ → List Act) → ℕ → List Act
+left_by (begins n act) left = put n (drop 1 (left n)) left
+left_by x left = left
+
+-- a deliver names its place, whether something is there or not
+abbrev pub named_by : Event → List ℕ → List ℕ
+named_by (events.Deliver place) named = place ∷ named
+named_by e named = named
+
+abbrev pub turned : Turn → Event → Input → Turn
+turned t e x = record { cell = (moved t.cell x).cell; left = left_by x t.left; named = named_by e t.named }
+
+-- an input is the event that comes next, and the rest goes on behind it
+abbrev pub IsNext : Turn → Option (Event × List Event) → Input → (Turn → List Event → Type 0) → Type 0
+IsNext t None x rest = ⊥
+IsNext t (Some e) x rest = IsInput t e.0 x × rest (turned t e.0 x) e.1
+
+-- these inputs are the events, one for one, with each drain as its deliveries, and none is left
+abbrev pub AreInputs : Turn → List Event → List Input → Type 0
+AreInputs t es [] = next_event (waiting t) es ≡ None
+AreInputs t es (x ∷ xs) = IsNext t (next_event (waiting t) es) x (λ u more. AreInputs u more xs)
+
+-- they are the first of them, and an event is left
+abbrev pub AreFirst : Turn → List Event → List Input → Type 0
+AreFirst t es [] = next_event (waiting t) es ≡ None → ⊥
+AreFirst t es (x ∷ xs) = IsNext t (next_event (waiting t) es) x (λ u more. AreFirst u more xs)
+
+-- a script without a schedule has no events
+abbrev pub events_in : Option (List Event) → List Event
+events_in None = []
+events_in (Some es) = es
+
+abbrev pub events_of : Script → List Event
+events_of s = events_in s.schedule
+
+-- ---- histories of a script
+
+-- The history is that of the script's schedule, and ends in this cell: inputs lead there from the set-up, and they are the
+-- schedule's events, one for one.
+pub record IsHistoryOf (s : Script) (history : List Entry) (end : Cell) : Type 0 where
+  pub inputs : List Input
+  pub leads : Leads (start s) inputs history end
+  pub acts : AreInputs (first_turn s) (events_of s) inputs
+
+-- it is that of the first events, and one is left
+pub record IsHistoryOfFirst (s : Script) (history : List Entry) (end : Cell) : Type 0 where
+  pub inputs : List Input
+  pub leads : Leads (start s) inputs history end
+  pub acts : AreFirst (first_turn s) (events_of s) inputs

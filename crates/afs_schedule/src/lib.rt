@@ -1,0 +1,9 @@
+//! The schedule of a script: the events that are left, with each drain as its deliveries, and the acts that each client has
+//! not begun.
+#![tactic(auto)]
+
+mod plans;
+mod schedule;
+
+pub use plans::Plan;
+pub use schedule::Schedule;
