@@ -39,7 +39,7 @@ impl Ground for Barren {
         _line: &SetupLine,
         _capacity: u32,
     ) -> Result<(), LineFault> {
-        Err(LineFault::OutOfMemory)
+        Err(LineFault::Bad(Reason::Path))
     }
 }
 
