@@ -58,7 +58,7 @@ fn attached(alloc: Global, capacity: u64) -> Option<VolStore<Fuse<MemDisk>>>
 }
 
 /// A server begins over such a disk, for the second time.
-pub(crate) fn begun(alloc: Global, capacity: u64) -> Option<Begun> {
+pub(crate) fn server_over(alloc: Global, capacity: u64) -> Option<Begun> {
     let mut store = attached(alloc, capacity)?;
     store.boot().ok()?;
     let (server, _outs) = FileServer::restart(alloc, &mut store, 2, 0).ok()?;
@@ -109,7 +109,7 @@ pub(crate) enum Changed {
 }
 
 /// Client 2 changes a file.
-pub(crate) fn changed(alloc: Global, begun: Begun) -> Option<Changed> {
+pub(crate) fn change_a_file(alloc: Global, begun: Begun) -> Option<Changed> {
     let bytes = store(alloc).ok()?;
     let Begun { running } = begun;
     match running.serve(bytes.as_slice(), 0) {

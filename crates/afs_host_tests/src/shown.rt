@@ -1,6 +1,6 @@
 //! What a server told, by the first words of its lines.
 
-use crate::playing::{Begun, Changed, begun, changed, failing, stopping};
+use crate::playing::{Begun, Changed, change_a_file, failing, server_over, stopping};
 use afs_history::lines::{Line, Lines};
 use afs_num::types::Mem;
 use std::alloc::{AllocError, Global};
@@ -46,7 +46,7 @@ fn put_change(alloc: Global, out: &mut String, server: Option<Begun>) -> Mem<()>
     let Some(server) = server else {
         return Err(AllocError);
     };
-    let Some(changed) = changed(alloc, server) else {
+    let Some(changed) = change_a_file(alloc, server) else {
         return Err(AllocError);
     };
     put_changed(out, &changed)?;
@@ -56,13 +56,16 @@ fn put_change(alloc: Global, out: &mut String, server: Option<Begun>) -> Mem<()>
 /// What becomes of a change where the disk is set to stop and to fail; at call 0 it doesn't fail.
 pub(crate) fn put_both(alloc: Global, out: &mut String, calls: u8, pick: u8, call: u8) -> Mem<()> {
     write!(out, "{calls} {pick} {call}: ")?;
-    let server = begun(alloc, ROOM).map(|server| failing(stopping(server, calls, pick), call));
+    let server = server_over(alloc, ROOM).map(|server| failing(
+        stopping(server, calls, pick),
+        call,
+    ));
     put_change(alloc, out, server)
 }
 
 /// What becomes of a change where the disk is set to fail.
 pub(crate) fn put_failure(alloc: Global, out: &mut String, call: u8) -> Mem<()> {
     write!(out, "{call}: ")?;
-    let server = begun(alloc, ROOM).map(|server| failing(server, call));
+    let server = server_over(alloc, ROOM).map(|server| failing(server, call));
     put_change(alloc, out, server)
 }

@@ -1,4 +1,4 @@
-use super::playing::{begun, crashed, lengths, timed_out, woken};
+use super::playing::{crashed, lengths, server_over, timed_out, woken};
 use super::shown::{ROOM, put_both, put_failure, put_lines};
 use std::test::Fail;
 
@@ -47,7 +47,7 @@ fn the_sooner_of_both_ends_the_step(rt: HostRuntime) -> Result<(), Fail> {
 #[test]
 fn a_server_begins_again_after_a_crash_at_rest(rt: HostRuntime) -> Result<(), Fail> {
     let mut told = String::new(rt.alloc());
-    if let Some(server) = begun(rt.alloc(), ROOM)
+    if let Some(server) = server_over(rt.alloc(), ROOM)
         && let Some(lines) = crashed(rt.alloc(), server, 0)
     {
         put_lines(&mut told, &lines)?;
@@ -60,7 +60,7 @@ fn a_server_begins_again_after_a_crash_at_rest(rt: HostRuntime) -> Result<(), Fa
 #[test]
 fn a_server_stays_down_where_no_start_fits(rt: HostRuntime) -> Result<(), Fail> {
     let mut told = String::new(rt.alloc());
-    if let Some(server) = begun(rt.alloc(), 340)
+    if let Some(server) = server_over(rt.alloc(), 340)
         && let Some(lines) = crashed(rt.alloc(), server, 0)
     {
         put_lines(&mut told, &lines)?;
@@ -72,12 +72,12 @@ fn a_server_stays_down_where_no_start_fits(rt: HostRuntime) -> Result<(), Fail> 
 #[test]
 fn a_call_to_a_client_waits_until_it_is_timed_out(rt: HostRuntime) -> Result<(), Fail> {
     let mut told = String::new(rt.alloc());
-    if let Some(server) = begun(rt.alloc(), ROOM)
+    if let Some(server) = server_over(rt.alloc(), ROOM)
         && let Some(lines) = timed_out(server)
     {
         put_lines(&mut told, &lines)?;
     }
-    if let Some(server) = begun(rt.alloc(), ROOM)
+    if let Some(server) = server_over(rt.alloc(), ROOM)
         && let Some(lines) = woken(server)
     {
         told.push_str("/ ")?;
@@ -91,8 +91,8 @@ fn a_call_to_a_client_waits_until_it_is_timed_out(rt: HostRuntime) -> Result<(),
 #[test]
 fn a_server_hands_its_disk_over(rt: HostRuntime) -> Result<(), Fail> {
     let mut all = (0, 0);
-    if let Some(up) = begun(rt.alloc(), ROOM)
-        && let Some(down) = begun(rt.alloc(), ROOM)
+    if let Some(up) = server_over(rt.alloc(), ROOM)
+        && let Some(down) = server_over(rt.alloc(), ROOM)
     {
         all = lengths(up, down);
     }
