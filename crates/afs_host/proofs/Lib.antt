@@ -1,6 +1,7 @@
 pub mod Blows
 pub mod Booting
 pub mod Breaking
+pub mod Fallen
 pub mod Finding
 pub mod Handled
 pub mod Lying

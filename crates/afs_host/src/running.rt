@@ -175,6 +175,7 @@ impl<D: Disk> Running<D> {
     pub fn into_disk(self) -> D
         ensures value { result ≡ disk_of self }
         ensures kept { self.store.closed ≡ false → IsKept self.store.durable (D.seen result) (D.may_leave result) }
+        ensures capacity { self.store.durable.capacity ≡ D.limit result }
     {
         self.rest().into_disk()
     }
