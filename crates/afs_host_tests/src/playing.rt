@@ -1,8 +1,9 @@
 //! A server of two clients over a disk in memory.
 
-ghost use Rattle.std.specs.Prelude.{◌≡◌, ◌≤◌, ◌+◌, None, false, length, IfSome};
+ghost use Rattle.std.specs.Prelude.{◌≡◌, ◌≤◌, None, false, IfSome};
 ghost use Rattle.afs_num.specs.Nodes.{IsNode};
-ghost use Rattle.afs_host.specs.Seats.{CanRun};
+ghost use Rattle.afs_num.specs.declared.types.Node.TheVariants.{Server};
+ghost use Rattle.afs_host.specs.Starting.{IsFresh};
 
 use crate::vectors::{disk, store};
 use afs_disk::{Disk, Fuse, MemDisk};
@@ -14,17 +15,6 @@ use afs_num::types::Node;
 use afs_server::FileServer;
 use afs_volstore::VolStore;
 use std::alloc::Global;
-
-/// A server that has just begun.
-#[derive(Drop)]
-pub(crate) struct Begun {
-    pub(crate) running: Running<MemDisk>,
-    ghost can_run: { CanRun running },
-    ghost calls: { running.store.disk.calls ≤ 10 },
-    ghost drawn: { running.store.drawn ≤ 204 },
-    ghost owed: { running.memory.lists.last_owed + length running.memory.lists.promises ≤ 16 },
-    ghost limit: { running.store.disk.disk.limit ≤ 268435456 },
-}
 
 /// A disk in memory of this capacity, as it is at set-up.
 fn medium(alloc: Global, capacity: u64) -> Option<MemDisk>
@@ -58,29 +48,40 @@ fn attached(alloc: Global, capacity: u64) -> Option<VolStore<Fuse<MemDisk>>>
 }
 
 /// A server begins over such a disk, for the second time.
-pub(crate) fn server_over(alloc: Global, capacity: u64) -> Option<Begun> {
+pub(crate) fn server_over(alloc: Global, capacity: u64) -> Option<Running<MemDisk>>
+    ensures fresh { IfSome result (λ r. IsFresh (Server 1) r) }
+    ensures limit { IfSome result (λ r. r.store.disk.disk.limit ≤ 268435456) }
+{
     let mut store = attached(alloc, capacity)?;
     store.boot().ok()?;
     let (server, _outs) = FileServer::restart(alloc, &mut store, 2, 0).ok()?;
-    Some(Begun {
-        running: Running::new(server, store),
-    })
+    Some(Running::new(server, store))
 }
 
 /// The disk is to pass so many device calls and then to stop the server, with this pick.
-pub(crate) fn stopping(begun: Begun, calls: u8, pick: u8) -> Begun {
-    let Begun { mut running } = begun;
-    running.stop_after(calls as u32, pick);
-    Begun { running }
+pub(crate) fn stopping(running: Running<MemDisk>, calls: u8, pick: u8) -> Running<MemDisk>
+    requires fresh { IsFresh (Server 1) running }
+    requires limit { running.store.disk.disk.limit ≤ 268435456 }
+    ensures fresh { IsFresh (Server 1) result }
+    ensures limit { result.store.disk.disk.limit ≤ 268435456 }
+{
+    let mut set = running;
+    set.stop_after(calls as u32, pick);
+    set
 }
 
 /// The disk is to fail at this one of its next device calls, counted from 1.
-pub(crate) fn failing(begun: Begun, call: u8) -> Begun {
-    let Begun { mut running } = begun;
+pub(crate) fn failing(running: Running<MemDisk>, call: u8) -> Running<MemDisk>
+    requires fresh { IsFresh (Server 1) running }
+    requires limit { running.store.disk.disk.limit ≤ 268435456 }
+    ensures fresh { IsFresh (Server 1) result }
+    ensures limit { result.store.disk.disk.limit ≤ 268435456 }
+{
+    let mut set = running;
     if call > 0 {
-        running.fail_at(call as u32);
+        set.fail_at(call as u32);
     }
-    Begun { running }
+    set
 }
 
 /// What a server tells as it begins again.
@@ -96,8 +97,10 @@ fn again(alloc: Global, resting: Resting<MemDisk>) -> Option<Lines>
 }
 
 /// What the server tells as it crashes and begins again.
-pub(crate) fn crashed(alloc: Global, begun: Begun, pick: u8) -> Option<Lines> {
-    let Begun { running } = begun;
+pub(crate) fn crashed(alloc: Global, running: Running<MemDisk>, pick: u8) -> Option<Lines>
+    requires fresh { IsFresh (Server 1) running }
+    requires limit { running.store.disk.disk.limit ≤ 268435456 }
+{
     again(alloc, running.crash(pick))
 }
 
@@ -109,9 +112,11 @@ pub(crate) enum Changed {
 }
 
 /// Client 2 changes a file.
-pub(crate) fn change_a_file(alloc: Global, begun: Begun) -> Option<Changed> {
+pub(crate) fn change_a_file(alloc: Global, running: Running<MemDisk>) -> Option<Changed>
+    requires fresh { IsFresh (Server 1) running }
+    requires limit { running.store.disk.disk.limit ≤ 268435456 }
+{
     let bytes = store(alloc).ok()?;
-    let Begun { running } = begun;
     match running.serve(bytes.as_slice(), 0) {
         Served::Up(_, outs) => Some(Changed::Done(outs.lines)),
         Served::Down(resting, line) => Some(Changed::Interrupted(line, again(alloc, resting)?)),
@@ -120,8 +125,11 @@ pub(crate) fn change_a_file(alloc: Global, begun: Begun) -> Option<Changed> {
 }
 
 /// Client 1 doesn't answer.
-pub(crate) fn timed_out(begun: Begun) -> Option<Lines> {
-    let Begun { mut running } = begun;
+pub(crate) fn timed_out(running: Running<MemDisk>) -> Option<Lines>
+    requires fresh { IsFresh (Server 1) running }
+    requires limit { running.store.disk.disk.limit ≤ 268435456 }
+{
+    let mut running = running;
     let client = Node::Client(1);
     if !running.waits_on(client) {
         return None;
@@ -131,17 +139,20 @@ pub(crate) fn timed_out(begun: Begun) -> Option<Lines> {
 }
 
 /// Time has passed.
-pub(crate) fn woken(begun: Begun) -> Option<Lines> {
-    let Begun { mut running } = begun;
+pub(crate) fn woken(running: Running<MemDisk>) -> Option<Lines>
+    requires fresh { IsFresh (Server 1) running }
+    requires limit { running.store.disk.disk.limit ≤ 268435456 }
+{
+    let mut running = running;
     let outs = running.wake(0).ok()?;
     Some(outs.lines)
 }
 
 /// How long the server's disk is, and how long it is once the server has crashed.
-pub(crate) fn lengths(up: Begun, down: Begun) -> (usize, usize) {
-    let Begun { running } = up;
-    let Begun { running: other } = down;
-    let disk = running.into_disk();
-    let left = other.crash(0).into_disk();
+pub(crate) fn lengths(up: Running<MemDisk>, down: Running<MemDisk>) -> (usize, usize)
+    requires { IsFresh (Server 1) down }
+{
+    let disk = up.into_disk();
+    let left = down.crash(0).into_disk();
     (disk.bytes().len(), left.bytes().len())
 }

@@ -1,6 +1,6 @@
 //! What a server told, by the first words of its lines.
 
-use crate::playing::{Begun, Changed, change_a_file, failing, server_over, stopping};
+use crate::playing::{Changed, change_a_file, failing, server_over, stopping};
 use afs_history::lines::{Line, Lines};
 use afs_num::types::Mem;
 use std::alloc::{AllocError, Global};
@@ -41,31 +41,28 @@ fn put_changed(out: &mut String, changed: &Changed) -> Mem<()> {
     }
 }
 
-/// What becomes of a change by this server, on a line.
-fn put_change(alloc: Global, out: &mut String, server: Option<Begun>) -> Mem<()> {
-    let Some(server) = server else {
+/// What becomes of a change where the disk is set to stop and to fail; at call 0 it doesn't fail.
+pub(crate) fn put_both(alloc: Global, out: &mut String, calls: u8, pick: u8, call: u8) -> Mem<()> {
+    let Some(server) = server_over(alloc, ROOM) else {
         return Err(AllocError);
     };
-    let Some(changed) = change_a_file(alloc, server) else {
+    let Some(changed) = change_a_file(alloc, failing(stopping(server, calls, pick), call)) else {
         return Err(AllocError);
     };
+    write!(out, "{calls} {pick} {call}: ")?;
     put_changed(out, &changed)?;
     out.push('\n')
 }
 
-/// What becomes of a change where the disk is set to stop and to fail; at call 0 it doesn't fail.
-pub(crate) fn put_both(alloc: Global, out: &mut String, calls: u8, pick: u8, call: u8) -> Mem<()> {
-    write!(out, "{calls} {pick} {call}: ")?;
-    let server = server_over(alloc, ROOM).map(|server| failing(
-        stopping(server, calls, pick),
-        call,
-    ));
-    put_change(alloc, out, server)
-}
-
 /// What becomes of a change where the disk is set to fail.
 pub(crate) fn put_failure(alloc: Global, out: &mut String, call: u8) -> Mem<()> {
+    let Some(server) = server_over(alloc, ROOM) else {
+        return Err(AllocError);
+    };
+    let Some(changed) = change_a_file(alloc, failing(server, call)) else {
+        return Err(AllocError);
+    };
     write!(out, "{call}: ")?;
-    let server = server_over(alloc, ROOM).map(|server| failing(server, call));
-    put_change(alloc, out, server)
+    put_changed(out, &changed)?;
+    out.push('\n')
 }
