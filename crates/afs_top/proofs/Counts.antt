@@ -1,6 +1,8 @@
 -- Faults of disks, summed up as the disks go back to the bank.
-use Rattle.std.specs.Prelude.{◌≡◌, ◌≤◌, ◌<◌, ◌⊎◌, ℕ, ◌+◌, ◌-◌, ◌^◌, List, [], ◌∷◌, min, Option, Some, None}
+use Rattle.std.specs.Prelude.{◌≡◌, ◌≤◌, ◌<◌, ◌⊎◌, ℕ, ◌+◌, ◌-◌, ◌^◌, List, [], ◌∷◌, min, true, false, Option, Some, None}
 use Rattle.std.proofs.Common.{refl, ap, sym, subst, ◌∙◌, inl, inr, arith}
+use Rattle.std.proofs.lemmas.Bool.Decides.{leb_tells}
+use Rattle.std.proofs.Math.Dec.{leb}
 use Rattle.afs_disk.specs.Disk.{Rose}
 use Rattle.afs_disk.specs.Fuses.{last_count}
 use Rattle.afs_disk.specs.declared.bank.LendFault.{LendFault}
@@ -31,14 +33,17 @@ OneFull (n ∷ ns) = (last_count ≤ n) ⊎ OneFull ns
 abbrev pub AtLeast : ℕ → List ℕ → Type 0
 AtLeast n ns = (n ≤ total ns) ⊎ OneFull ns
 
+rises_by : (n sum more now : ℕ) → (min (sum + n) last_count + more ≤ now) ⊎ (last_count ≤ now) → (sum + (n + more) ≤ now) ⊎ (last_count ≤ now)
+rises_by n sum more now (inr full) = inr full
+rises_by n sum more now (inl h) = either (leb_tells (sum + n) last_count) where
+  either : ((leb (sum + n) last_count ≡ true) × (sum + n ≤ last_count)) ⊎ ((leb (sum + n) last_count ≡ false) × (last_count < sum + n)) → (sum + (n + more) ≤ now) ⊎ (last_count ≤ now)
+  either (inl few) = inl (omega (arith, h, few.1))
+  either (inr many) = inr (omega (arith, h, many.1))
+
 -- what is summed up so far doesn't fall below itself, nor below the last value
 rises : (ns : List ℕ) (sum : ℕ) → (sum + total ns ≤ with_faults ns sum) ⊎ (last_count ≤ with_faults ns sum)
 rises [] sum = inl (omega (arith))
-rises (n ∷ ns) sum = either (rises ns (min (sum + n) last_count)) where
-  either : (min (sum + n) last_count + total ns ≤ with_faults ns (min (sum + n) last_count)) ⊎ (last_count ≤ with_faults ns (min (sum + n) last_count))
-      → (sum + (n + total ns) ≤ with_faults ns (min (sum + n) last_count)) ⊎ (last_count ≤ with_faults ns (min (sum + n) last_count))
-  either (inl h) = omega (arith, h)
-  either (inr h) = inr h
+rises (n ∷ ns) sum = rises_by n sum (total ns) (with_faults ns (min (sum + n) last_count)) (rises ns (min (sum + n) last_count))
 
 stays_full : (ns : List ℕ) (sum : ℕ) → last_count ≤ sum → last_count ≤ with_faults ns sum
 stays_full [] sum full = full
@@ -157,7 +162,10 @@ rose_once before after (inl more) never_falls = inl (omega (arith, more))
 rose_once before after (inr full) never_falls = inr (omega (arith, full, never_falls))
 
 pub rose_outside : (before after : ℕ) → outside.Rose before after → RoseBy 1 (span before after)
-rose_outside before after rose = omega (arith, rose)
+rose_outside before after rose = either (leb_tells (before + 1) last_count) where
+  either : ((leb (before + 1) last_count ≡ true) × (before + 1 ≤ last_count)) ⊎ ((leb (before + 1) last_count ≡ false) × (last_count < before + 1)) → RoseBy 1 (span before after)
+  either (inl few) = inl (omega (arith, rose, few.1))
+  either (inr many) = inr (omega (arith, rose, many.1))
 
 -- and from an earlier one on
 pub rose_since : (n earlier before after : ℕ) → earlier ≤ before → RoseBy n (span before after) → RoseBy n (span earlier after)

@@ -2,14 +2,20 @@
 use Rattle.std.specs.Prelude.{◌≡◌, ◌≤◌, ◌⊎◌, ℕ, ◌+◌, List, [], ◌∷◌, ◌++◌, length, map, Bool, false, Option, Some, None, Result, Ok, Err, OnOk, OnErr}
 use Rattle.std.proofs.Common.{refl, ap, sym, subst, ◌∙◌, inl, inr, arith}
 use Rattle.std.specs.Io.KnownBytes.{Appends}
+use Rattle.std.specs.Option.{option_map}
+use Rattle.std.proofs.lemmas.List.{take_all}
 use Rattle.afs_num.specs.declared.devices.Failed.{Failed}
 use Rattle.afs_history.specs.declared.scripts.Script.{Script}
 use Rattle.afs_disk.specs.Disk.{Rose}
+use Rattle.afs_disk.specs.declared.bank.Lend.{Lend}
+use Rattle.afs_disk.specs.declared.bank.LendFault.{LendFault}
 use Rattle.afs_disk.specs.declared.bank.LendFault.TheVariants as lending
+use Rattle.afs_disk.specs.declared.bank.Place.{Place}
 use Rattle.afs_disk.specs.declared.disks.Lent.{Lent}
 use Rattle.afs_law.specs.Laws.{RunsAreLegal}
 use Rattle.afs_law.specs.OneServer.{IsOneServer}
 use Rattle.afs_outside.specs.Outside.{AppendsFront}
+use Rattle.afs_records.specs.Durable.{Durable}
 use Rattle.afs_rows.specs.Runs.{Cell}
 use Rattle.afs_text.specs.FinalText.{final_text}
 use Rattle.afs_text.specs.HistoryText.{history_text, text}
@@ -26,12 +32,12 @@ use Rattle.afs_final.specs.Reading.{fault_in, part, AreFound}
 use Rattle.afs_final.specs.declared.reading.Left.{Left}
 use Rattle.afs_lending.specs.Lending.{faults_of, kept_disks, with_faults, AreUnused, GivesBackAll, GivesBackSome}
 use Rattle.afs_top.specs.Outside.{span, IsUnchanged, Outside, RoseBy, Span}
-use Rattle.afs_top.specs.Parts.{returned, set_up_status, TellsLeft}
-use Rattle.afs_top.specs.Top.{AtBankFault, EndsRun, FailsBehind, LendingFails, ReadingFails, Replays, ReplaysFirst, ReturningFails, SetUpLeaves, SettingUpFails}
+use Rattle.afs_top.specs.Parts.{lend_status, returned, set_up_status, TellsLeft}
+use Rattle.afs_top.specs.Top.{lends_of, AreKept, AtBankFault, EndsReplay, EndsRun, FailsBehind, GivesBack, IsPlayed, IsPlayedFirst, Lends, LendsAll, LendsFirst, ReadingFails, Replays, ReplaysFirst, SetUpLeaves}
 use Rattle.afs_top.specs.declared.statuses.Status.{Status}
 use Rattle.afs_top.specs.declared.statuses.Status.TheVariants as statuses
 use Rattle.afs_top.proofs.Counts.{counted, counts_lent, found_failed, found_no_less, grown, none_fell, one_grown, rose_once, rose_since, AtLeast}
-use Rattle.afs_top.proofs.Ending.{failed_behind, given_all, given_some, left_so, played_first, played_legally, read_so}
+use Rattle.afs_top.proofs.Ending.{failed_behind, given_so, left_so, played_first, played_legally, read_so}
 
 -- ---- the disks go back
 
@@ -163,3 +169,104 @@ pub record Since (o earlier : Outside) : Type 0 where
 bank_since : (o earlier : Outside) → Since o earlier → RoseBy 1 o.bank_faults → RoseBy 1 earlier.bank_faults
 bank_since o earlier since rose =
     subst (λ (k : ℕ). RoseBy 1 (span earlier.bank_faults.before k)) (sym since.bank_after) (rose_since 1 earlier.bank_faults.before o.bank_faults.before o.bank_faults.after since.bank_before rose)
+
+kept_map : (a b : Type 0) → (a → b) → (i : ℕ) (ds : List Durable) (disks : List (ℕ × List ℕ)) → AreKept a i ds disks → AreKept b i ds disks
+kept_map a b f i [] disks h = h
+kept_map a b f i (d ∷ ds) [] (inl h) = absurd h
+kept_map a b f i (d ∷ ds) (disk ∷ disks) (inl h) = inl (h.0, kept_map a b f (i + 1) ds disks h.1)
+kept_map a b f i (d ∷ ds) [] (inr h) = inr (f h.0, kept_map a b f (i + 1) ds [] h.1)
+kept_map a b f i (d ∷ ds) (disk ∷ disks) (inr h) = inr (f h.0, kept_map a b f (i + 1) ds (disk ∷ disks) h.1)
+
+given_map : (a b : Type 0) → (a → b) → (kept : List Durable) (before after : Given) → GivesBack a kept before after → GivesBack b kept before after
+given_map a b f kept None after g = tt
+given_map a b f kept (Some before) after g = (g.0, (g.1.0, kept_map a b f 1 kept g.0 g.1.1))
+
+given_since : (a b : Type 0) (o earlier : Outside) → Since o earlier → (a → b) → (kept : List Durable) → GivesBack a kept o.given.before o.given.after → GivesBack b kept earlier.given.before earlier.given.after
+given_since a b o earlier since f kept g = subst (λ (x : Span Given). GivesBack b kept x.before x.after) (sym since.given) (given_map a b f kept o.given.before o.given.after g)
+
+replays_since : (s : Script) (wire : Bool) (Writes WritesToo : List ℕ → Type 0) (a b : Type 0) (o earlier : Outside) → Since o earlier → ((t : List ℕ) → Writes t → WritesToo t) → (a → b) → Replays s wire Writes a o → Replays s wire WritesToo b earlier
+replays_since s wire Writes WritesToo a b o earlier since w f r = record {
+  history = r.history;
+  kept = r.kept;
+  played = subst (λ (x : Span ℕ). IsPlayed s x r.history r.kept) (sym since.disk_faults) r.played;
+  written = w (text wire r.history r.kept) r.written;
+  given = given_since a b o earlier since f r.kept r.given;
+}
+
+first_since : (s : Script) (wire : Bool) (a b : Type 0) (o earlier : Outside) → Since o earlier → (a → b) → ReplaysFirst s wire a o → ReplaysFirst s wire b earlier
+first_since s wire a b o earlier since f r = record {
+  history = r.history;
+  kept = r.kept;
+  played = subst (λ (x : Span ℕ). IsPlayedFirst s x r.history r.kept) (sym since.disk_faults) r.played;
+  written = subst (λ (x : Span (Option (List ℕ))). AppendsFront x.before x.after (history_text wire r.history)) (sym since.sink) r.written;
+  given = given_since a b o earlier since f r.kept r.given;
+}
+
+whole_since : (o earlier : Outside) → Since o earlier → (t : List ℕ) → Appends o.sink.before o.sink.after t → Appends earlier.sink.before earlier.sink.after t
+whole_since o earlier since t w = subst (λ (x : Span (Option (List ℕ))). Appends x.before x.after t) (sym since.sink) w
+
+front_since : (o earlier : Outside) → Since o earlier → (t : List ℕ) → AppendsFront o.sink.before o.sink.after t → AppendsFront earlier.sink.before earlier.sink.after t
+front_since o earlier since t w = subst (λ (x : Span (Option (List ℕ))). AppendsFront x.before x.after t) (sym since.sink) w
+
+unwritten_since : (o earlier : Outside) → Since o earlier → IsUnchanged o.sink → IsUnchanged earlier.sink
+unwritten_since o earlier since w = subst (λ (x : Span (Option (List ℕ))). IsUnchanged x) (sym since.sink) w
+
+disks_since : (n : ℕ) (o earlier : Outside) → Since o earlier → RoseBy n o.disk_faults → RoseBy n earlier.disk_faults
+disks_since n o earlier since rose = subst (λ (x : Span ℕ). RoseBy n x) (sym since.disk_faults) rose
+
+behind_since : (s : Script) (o earlier : Outside) → Since o earlier → FailsBehind s o.disk_faults → FailsBehind s earlier.disk_faults
+behind_since s o earlier since b = subst (λ (x : Span ℕ). FailsBehind s x) (sym since.disk_faults) b
+
+bank_fault_since : (s : Script) (wire : Bool) (tells tells_too left left_too : Type 0) (o earlier : Outside) → Since o earlier → (tells_too → tells) → (left → left_too) → AtBankFault s wire tells left o → AtBankFault s wire tells_too left_too earlier
+bank_fault_since s wire tells tells_too left left_too o earlier since t l (inl h) = inl (record { rose = bank_since o earlier since h.rose; written = unwritten_since o earlier since h.written })
+bank_fault_since s wire tells tells_too left left_too o earlier since t l (inr (inl h)) =
+    inr (inl (record { rose = disks_since 1 o earlier since h.rose; written = unwritten_since o earlier since h.written; only_set_up = l h.only_set_up }))
+bank_fault_since s wire tells tells_too left left_too o earlier since t l (inr (inr (inl h))) =
+    inr (inr (inl (record { rose = disks_since 1 o earlier since h.rose; written = unwritten_since o earlier since h.written; told = λ x. behind_since s o earlier since (h.told (t x)) })))
+bank_fault_since s wire tells tells_too left left_too o earlier since t l (inr (inr (inr h))) =
+    inr (inr (inr (record { rose = bank_since o earlier since h.rose; told = λ x. replays_since s wire _ _ _ _ o earlier since (whole_since o earlier since) (bank_since o earlier since) (h.told (t x)) })))
+
+pub ends_since : (s : Script) (wire : Bool) (tells tells_too left left_too : Type 0) (o earlier : Outside) (status : Status) → Since o earlier → (tells_too → tells) → (left → left_too) → EndsRun s wire tells left o status → EndsRun s wire tells_too left_too earlier status
+ends_since s wire tells tells_too left left_too o earlier statuses.Done since t l h = λ x. replays_since s wire _ _ _ _ o earlier since (whole_since o earlier since) (λ y. y) (h (t x))
+ends_since s wire tells tells_too left left_too o earlier statuses.WriteFault since t l h =
+    record {
+      rose = subst (λ (x : Span ℕ). RoseBy 1 x) (sym since.sink_faults) h.rose;
+      told = λ x. replays_since s wire _ _ _ _ o earlier since (front_since o earlier since) (bank_since o earlier since) (h.told (t x));
+    }
+ends_since s wire tells tells_too left left_too o earlier statuses.BankFault since t l h = bank_fault_since s wire tells tells_too left left_too o earlier since t l h
+ends_since s wire tells tells_too left left_too o earlier statuses.OutOfMemory since t l h = unwritten_since o earlier since h
+ends_since s wire tells tells_too left left_too o earlier statuses.Limit since t l h = λ x. first_since s wire _ _ o earlier since (bank_since o earlier since) (h (t x))
+ends_since s wire tells tells_too left left_too o earlier statuses.Usage since t l h = absurd h
+ends_since s wire tells tells_too left left_too o earlier (statuses.Script line reason) since t l h = absurd h
+ends_since s wire tells tells_too left left_too o earlier statuses.ReadFault since t l h = absurd h
+
+pub left_since : {D : Type 0} (seen : D → Option (List ℕ)) (may_leave : D → List ℕ → Type 0) (faults : D → ℕ) (s : Script) (o earlier : Outside) → Since o earlier → SetUpLeaves seen may_leave faults s o → SetUpLeaves seen may_leave faults s earlier
+left_since {D} seen may_leave faults s o earlier since l = record {
+  lent = l.lent;
+  unused = l.unused;
+  back = l.back;
+  left = l.left;
+  given = subst (λ (x : Span Given). GivesBackSome seen l.back x.before x.after) (sym since.given) l.given;
+}
+
+-- ---- what was lent
+
+all_first : (s : Script) (place : Place) (o : Outside) → LendsAll s place o → LendsFirst s place o
+all_first s place o all =
+    let ls = lends_of s place in
+    (length ls, all ∙ ap (λ (xs : List Lend). option_map (λ (old : List Lend). old ++ xs) o.lends.before) (sym (take_all (length ls) ls (omega (arith)))))
+
+pub lends_all : (s : Script) (place : Place) (o : Outside) (status : Status) → LendsAll s place o → Lends s place o status
+lends_all s place o statuses.Done all = all
+lends_all s place o statuses.WriteFault all = all
+lends_all s place o statuses.Limit all = all
+lends_all s place o statuses.BankFault all = all_first s place o all
+lends_all s place o statuses.OutOfMemory all = all_first s place o all
+lends_all s place o statuses.Usage all = all_first s place o all
+lends_all s place o (statuses.Script line reason) all = all_first s place o all
+lends_all s place o statuses.ReadFault all = all_first s place o all
+
+-- a disk wasn't lent
+pub not_lent : (s : Script) (wire : Bool) (place : Place) (tells left : Type 0) (fault : LendFault) (o : Outside) → LendsFirst s place o → IsUnchanged o.sink → (fault ≡ lending.Failed → RoseBy 1 o.bank_faults) → EndsReplay s wire place tells left o (lend_status fault)
+not_lent s wire place tells left lending.Failed o lent unwritten cause = record { lent = lent; run = inl (record { rose = cause refl; written = unwritten }) }
+not_lent s wire place tells left lending.OutOfMemory o lent unwritten cause = record { lent = lent; run = unwritten }

@@ -127,16 +127,14 @@ given_next told i given next bytes e back = subst (λ (o : Option (List ℕ)). b
 given_each : {D : Type 0} (excuse : Type 0) (seen : D → Option (List ℕ)) (i : ℕ) (ls : List (Lent D)) (ds : List Durable) (given : Given) (new : Option Given) → StandFor seen i ls ds → GivesBackEach excuse seen ls (Some given) new → (disks : Given) × ((new ≡ Some (given ++ disks)) × AreKept excuse i ds disks)
 given_each {D} excuse seen i [] ds given new stand back = ([], (back ∙ ap (λ (x : Given). Some x) (sym (append-nil given)), subst (λ (xs : List Durable). AreKept excuse i xs []) (sym stand) refl))
 given_each {D} excuse seen i (l ∷ ls) [] given new stand back = absurd stand
-given_each {D} excuse seen i (l ∷ ls) (d ∷ ds) given new stand back = either back.1.0 where
-  either : banks.GivesBack l.node (seen l.disk) (Some given) back.0 ⊎ (excuse × (back.0 ≡ Some given)) → (disks : Given) × ((new ≡ Some (given ++ disks)) × AreKept excuse i (d ∷ ds) disks)
-  either (inl goes) =
-      let bytes = some_of (seen l.disk) stand.0.1.0 in
-      let next = given_next (seen l.disk) l.node given back.0 bytes.0 bytes.1 goes in
-      let more = given_each excuse seen (i + 1) ls ds (given ++ (l.node, bytes.0) ∷ []) new stand.1 (subst (λ (o : Option Given). GivesBackEach excuse seen ls o new) next back.1.1) in
-      ((l.node, bytes.0) ∷ more.0, (more.1.0 ∙ ap (λ (x : Given). Some x) (append_assoc given ((l.node, bytes.0) ∷ []) more.0), inl ((stand.0.0, stand.0.1.1 bytes.0 bytes.1), more.1.1)))
-  either (inr wanting) =
-      let more = given_each excuse seen (i + 1) ls ds given new stand.1 (subst (λ (o : Option Given). GivesBackEach excuse seen ls o new) wanting.1 back.1.1) in
-      (more.0, (more.1.0, inr (wanting.0, more.1.1)))
+given_each {D} excuse seen i (l ∷ ls) (d ∷ ds) given new stand (after, (inl goes, back)) =
+    let bytes = some_of (seen l.disk) stand.0.1.0 in
+    let next = given_next (seen l.disk) l.node given after bytes.0 bytes.1 goes in
+    let more = given_each excuse seen (i + 1) ls ds (given ++ (l.node, bytes.0) ∷ []) new stand.1 (subst (λ (o : Option Given). GivesBackEach excuse seen ls o new) next back) in
+    ((l.node, bytes.0) ∷ more.0, (more.1.0 ∙ ap (λ (x : Given). Some x) (append_assoc given ((l.node, bytes.0) ∷ []) more.0), inl ((stand.0.0, stand.0.1.1 bytes.0 bytes.1), more.1.1)))
+given_each {D} excuse seen i (l ∷ ls) (d ∷ ds) given new stand (after, (inr wanting, back)) =
+    let more = given_each excuse seen (i + 1) ls ds given new stand.1 (subst (λ (o : Option Given). GivesBackEach excuse seen ls o new) wanting.1 back) in
+    (more.0, (more.1.0, inr (wanting.0, more.1.1)))
 
 given_by : {D : Type 0} (excuse : Type 0) (seen : D → Option (List ℕ)) (ls : List (Lent D)) (ds : List Durable) (old new : Option Given) → StandFor seen 1 ls ds → GivesBackEach excuse seen ls old new → GivesBack excuse ds old new
 given_by {D} excuse seen ls ds None new stand back = tt
