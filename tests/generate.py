@@ -14,11 +14,11 @@ import subprocess
 import sys
 
 ACCESS_LISTS = [
-    b"2\n0\nsystem:anyuser 9\namy 127\n",
-    b"1\n0\nbob 127\n",
-    b"1\n0\nguest 127\n",
-    b"2\n1\nsystem:anyuser 127\namy 127\nbob 2\n",
-    b"1\n0\nsystem:anyuser 127\n",
+    b"2\n0\nsystem:anyuser\t9\namy\t127\n",
+    b"1\n0\nbob\t127\n",
+    b"1\n0\nguest\t127\n",
+    b"2\n1\nsystem:anyuser\t127\namy\t127\nbob\t2\n",
+    b"1\n0\nsystem:anyuser\t127\n",
     b"0\n0\n",
 ]
 FIDS = [(1, 1), (2, 2), (4, 3), (3, 2), (6, 4), (8, 5)]
