@@ -85,7 +85,7 @@ class Script:
 def head(rng, kind):
     clients = rng.choice(kind.clients)
     lines = ["cell 1", "servers 1"]
-    if clients != 1 or rng.random() < 0.9:
+    if clients or rng.random() < 0.5:
         lines.append(f"clients {clients}")
     if rng.random() < 0.7:
         lines.append(f"cache {rng.choice(kind.caches)}")
