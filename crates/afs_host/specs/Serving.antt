@@ -103,12 +103,11 @@ pub record HasFallen {D : Type 0} (seen : D → Option (List ℕ)) (left_by : D 
   pub same_faults : faults s.disk ≡ faults (disk_of r)
   pub same_limit : limit s.disk ≡ limit (disk_of r)
 
--- A server that went down is what was left of one whose step its disk ended.
-abbrev pub IsLeft : {D : Type 0} → (D → Option (List ℕ)) → (D → ℕ → Option (List ℕ)) → (D → List ℕ → Type 0) → (D → ℕ) → (D → ℕ) → Running D → ℕ → Received → Served (Running D) (Resting D) → Type 0
-IsLeft {D} seen left_by may_leave faults limit old clock found (outcome.Up r outs) = Unit {0}
-IsLeft {D} seen left_by may_leave faults limit old clock found (outcome.Down s line) =
-    (r : Running D) × (IsBroken seen may_leave faults limit old clock found r × HasFallen seen left_by may_leave faults limit r s line)
-IsLeft {D} seen left_by may_leave faults limit old clock found (outcome.Unchanged r) = Unit {0}
+-- where it went down its mark is that from before the step, whatever its disk tells
+abbrev pub KeepsMark : {D : Type 0} → Running D → Served (Running D) (Resting D) → Type 0
+KeepsMark {D} old (outcome.Up r outs) = Unit {0}
+KeepsMark {D} old (outcome.Down s line) = s.mark ≡ count_mark old.store.count
+KeepsMark {D} old (outcome.Unchanged r) = Unit {0}
 
 -- where it was stopped, what a read gives is what its disk keeps
 abbrev pub RestsServed : {D : Type 0} → (D → Option (List ℕ)) → (D → List ℕ → Type 0) → Node → Served (Running D) (Resting D) → Type 0

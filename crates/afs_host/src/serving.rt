@@ -4,7 +4,7 @@ ghost use Rattle.std.specs.Prelude.{◌≡◌, ◌≤◌, ◌↔◌, IsSome};
 ghost use Rattle.afs_model.specs.Messages.{received};
 ghost use Rattle.afs_server.specs.Seen.{CanDraw};
 ghost use Rattle.afs_host.specs.Seats.{disk_of, CanRun};
-ghost use Rattle.afs_host.specs.Serving.{disk_served, GoesOnServed, HasFallen, IsHandled, IsLeft, IsServed, MakesRow, RestsServed, RunsRow};
+ghost use Rattle.afs_host.specs.Serving.{disk_served, GoesOnServed, HasFallen, IsHandled, IsServed, KeepsMark, MakesRow, RestsServed, RunsRow};
 
 use crate::resting::Resting;
 use crate::running::Running;
@@ -33,7 +33,7 @@ impl<D: Disk> Running<D> {
         ensures served { IsServed D.seen D.left_by D.size D.may_leave D.moment D.left_since D.faults D.limit self now (received bytes.now) result }
         ensures row { MakesRow self now bytes.now result }
         ensures goes_on { GoesOnServed self result }
-        ensures left { IsLeft D.seen D.left_by D.may_leave D.faults D.limit self now (received bytes.now) result }
+        ensures mark { KeepsMark self result }
         ensures rests { RestsServed D.seen D.may_leave self.store.node result }
         ensures told { IsSome (D.seen (disk_served result)) ↔ IsSome (D.seen (disk_of self)) }
         ensures limit { D.limit (disk_served result) ≡ D.limit (disk_of self) }

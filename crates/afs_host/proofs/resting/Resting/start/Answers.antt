@@ -80,5 +80,5 @@ returns-in-Err-clause-over g c =
     subst (λ (x : Resting g.row.D.Denot). StartsOver g.D.Disk.seen g.D.Disk.faults g.D.Disk.limit (Server c.args.server) c.args.now c.args.clients x c.refused.result) is
     (refused_over g.D.Disk.seen g.D.Disk.faults g.D.Disk.limit (Server c.args.server) c.args.now c.args.clients old new c.in-Err.refusal refl e.refusals (λ number is bytes told. e.bad number is bytes told)
     (λ failed. subst (λ (d : g.row.D.Denot). Rose (g.D.Disk.faults old.disk) (g.D.Disk.faults d)) (sym inner)
-        (own_cause (record { stop = fuse.stop; fail = fuse.fail }) c.in-Err.fuse.calls _ _ _ _ c.in-Err.refusal (ap (λ (f : Fused g.row.D.Denot). f.stop) c.new.ensures) (ap (λ (f : Fused g.row.D.Denot). f.fail) c.new.ensures) e.err.1 failed))
+    (own_cause (record { stop = fuse.stop; fail = fuse.fail }) c.in-Err.fuse.calls _ _ _ _ c.in-Err.refusal (ap (λ (f : Fused g.row.D.Denot). f.stop) c.new.ensures) (ap (λ (f : Fused g.row.D.Denot). f.fail) c.new.ensures) e.err.1 failed))
     c.refused.result c.refused.ensures)
