@@ -5,7 +5,6 @@ use Rattle.afs_disk.specs.Disk.{Rose}
 use Rattle.afs_disk.specs.declared.bank.Lend.{Lend}
 use Rattle.afs_disk.specs.declared.bank.Place.{Place}
 use Rattle.afs_disk.specs.declared.disks.Lent.{Lent}
-
 use Rattle.afs_lending.specs.Lending.{lends, AreLent, AreUnused, LentTell}
 
 -- ---- one more

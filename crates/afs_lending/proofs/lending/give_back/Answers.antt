@@ -17,7 +17,7 @@ loop-found-preserved g c =
     let lent : Lent g.row.B-D.Denot = record { node = n; disk = c.disk_in.result } in
     let rest : List (Lent g.row.B-D.Denot) = kept_disks (n + 1) (into_iter_items c.next.new.self) in
     let next : kept_disks n (into_iter_items c.loop-found.found-iterator) ≡ lent ∷ rest =
-        ap (kept_disks n) steps ∙ ap (λ (d : g.row.B-D.Denot). record { node = n; disk = d } ∷ rest) (sym c.disk_in.ensures) in
+    ap (kept_disks n) steps ∙ ap (λ (d : g.row.B-D.Denot). record { node = n; disk = d } ∷ rest) (sym c.disk_in.ensures) in
     record {
       place = omega (arith, i.place, ap length steps);
       all = ok_next c.loop-found.all c.give_one-all.result _ _ _ e.all i.all e.given
