@@ -1,7 +1,6 @@
--- Disks are lent one by one, and given back one by one.
-use Rattle.std.proofs.Common.{◌≡◌, ◌≤◌, ◌<◌, ◌⊎◌, inl, inr, ℕ, zero, suc, ◌+◌, ◌-◌, ◌^◌, List, [], ◌∷◌, ◌++◌, Option, Some, None, length, take, refl, ap, sym, subst, ◌∙◌, arith, append_assoc}
+-- Disks are lent one by one.
+use Rattle.std.proofs.Common.{◌≡◌, ◌≤◌, ℕ, zero, suc, ◌+◌, List, [], ◌∷◌, ◌++◌, Option, Some, None, length, take, refl, ap, sym, subst, ◌∙◌, arith, append_assoc}
 use Rattle.std.specs.Prelude.{IsSome, option_map}
-use Rattle.afs_disk.specs.Disk.{Rose}
 use Rattle.afs_disk.specs.declared.bank.Lend.{Lend}
 use Rattle.afs_disk.specs.declared.bank.Place.{Place}
 use Rattle.afs_disk.specs.declared.disks.Lent.{Lent}
@@ -66,12 +65,6 @@ lent_next place capacity n old mid new node m e q =
     ∙ (ap (λ (k : ℕ). option_map (λ (ls : List Lend). ls ++ (lends place capacity 1 n ++ one place capacity k ∷ [])) old) at
     ∙ (ap (λ (xs : List Lend). option_map (λ (ls : List Lend). ls ++ xs) old) (sym (lends_more place capacity 1 n))
     ∙ ap (λ (k : ℕ). option_map (λ (ls : List Lend). ls ++ lends place capacity 1 k) old) behind))))
-
--- ---- counts of faults that rose
-
-pub rose_then : (a b c : ℕ) → Rose a b → b ≤ c → Rose a c
-rose_then a b c (inl h) k = inl (omega (arith, h, k))
-rose_then a b c (inr h) k = inr h
 
 -- the first of them were lent
 pub lends_front : (place : Place) (capacity n m : ℕ) (old new : Option (List Lend)) → new ≡ option_map (λ ls. ls ++ lends place capacity 1 n) old → n ≤ m → (k : ℕ) × (new ≡ option_map (λ ls. ls ++ take k (lends place capacity 1 m)) old)
