@@ -31,3 +31,20 @@ ok_next before (Err e) P One Q same so_far one next = tt
 pub ok_end : {D : Type 0} (seen : D → Option (List ℕ)) (ls all : List (Lent D)) (taken : Result (Unit {0}) Failed) (given old : Option (List (ℕ × List ℕ))) → ls ≡ [] → OnOk taken ((last : Option (List (ℕ × List ℕ))) → GivesBackAll seen ls given last → GivesBackAll seen all old last) → OnOk taken (GivesBackAll seen all old given)
 ok_end {D} seen ls all (Ok x) given old none so_far = so_far given (subst (λ (ds : List (Lent D)). GivesBackAll seen ds given given) (sym none) refl)
 ok_end {D} seen ls all (Err e) given old none so_far = tt
+
+pub some_end : {D : Type 0} (seen : D → Option (List ℕ)) (ls all : List (Lent D)) (given old : Option (List (ℕ × List ℕ))) → ls ≡ [] → ((last : Option (List (ℕ × List ℕ))) → GivesBackSome seen ls given last → GivesBackSome seen all old last) → GivesBackSome seen all old given
+some_end {D} seen ls all given old none so_far = so_far given (subst (λ (ds : List (Lent D)). GivesBackSome seen ds given given) (sym none) refl)
+
+-- ---- the bank's count rose where one wasn't taken
+
+rose_by : (a b c : ℕ) → a ≤ b → b ≤ c → Rose b c → Rose a c
+rose_by a b c first later rose = grind arith
+
+rose_then : (a b c : ℕ) → b ≤ c → Rose a b → Rose a c
+rose_then a b c later (inl rose) = inl (omega (arith, rose, later))
+rose_then a b c later (inr last) = inr last
+
+pub cause_next : (before now : Result (Unit {0}) Failed) (a b c : ℕ) → a ≤ b → b ≤ c → OnErr before (Rose a b) → OnErr now (Rose b c ⊎ (before ≡ now)) → OnErr now (Rose a c)
+cause_next before (Ok x) a b c first later so_far one = tt
+cause_next before (Err e) a b c first later so_far (inl rose) = rose_by a b c first later rose
+cause_next before (Err e) a b c first later so_far (inr same) = rose_then a b c later (subst (λ (r : Result (Unit {0}) Failed). OnErr r (Rose a b)) same so_far)
