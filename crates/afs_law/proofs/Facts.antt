@@ -618,7 +618,6 @@ pub record IsCut (kept : Lasting) (sent : List Message) (m : Message) (past : Li
   pub at : message_at sent place ≡ Some m
   pub ran : Ran (reply_head kept.boot m.head) past
   pub is : ran.message ≡ m
-  pub up : server_boot the_server (lines_of ran.older) ≡ Some kept.boot
   pub stopped : HasStopped the_server ran.at.lines
   pub since : AreFailed the_server ran.newer
   pub ideal : AreIdeal kept.volumes ran.older

@@ -7,6 +7,7 @@ pub mod Owing
 pub mod Backing
 pub mod Turning
 pub mod Facts
+pub mod Booting
 pub mod Loading
 pub mod Ops
 pub mod Apart

@@ -87,6 +87,7 @@ ran_over reply e past h = record {
   is_call = h.is_call;
   key = h.key;
   boot = h.boot;
+  up = h.up;
   callee = h.callee;
   node = h.node;
   first = h.first;
@@ -158,7 +159,6 @@ cause_over m code call e past h = record {
   is_reply = h.is_reply;
   told = h.told;
   ran = ran_over m.head e past h.ran;
-  up = h.up;
   user = h.user;
   call = h.call;
   carries = h.carries;
@@ -172,7 +172,6 @@ cause_behind m code call past own h = record {
   is_reply = h.is_reply;
   told = h.told;
   ran = h.ran;
-  up = h.up;
   user = h.user;
   call = h.call;
   carries = h.carries;
@@ -663,7 +662,7 @@ pub fallen_over : (down : Option Fall) (server : Lasting) (sent ms : List Messag
 fallen_over None server sent ms e past w h = tt
 fallen_over (Some at_rest) server sent ms e past w h = tt
 fallen_over (Some in_boot) server sent ms e past w h = tt
-fallen_over (Some (in_step m clock)) server sent ms e past w h = record { place = h.place; at = at_more sent ms h.place m h.at; ran = ran_over _ e past h.ran; is = h.is; up = h.up; stopped = h.stopped; since = (w, h.since); ideal = h.ideal }
+fallen_over (Some (in_step m clock)) server sent ms e past w h = record { place = h.place; at = at_more sent ms h.place m h.at; ran = ran_over _ e past h.ran; is = h.is; stopped = h.stopped; since = (w, h.since); ideal = h.ideal }
 
 -- ---- the timeouts of a client's call
 

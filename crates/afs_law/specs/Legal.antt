@@ -19,7 +19,7 @@ use Rattle.afs_rows.specs.Going.{Going, Need, answers, asks_for, next, asked, gi
 use Rattle.afs_law.specs.Grants.{is_promised, read_reply, GrantOf, since, until, IsWithdrawn, IsDropped}
 use Rattle.afs_law.specs.Ideal.{last_version, Unless, set_up, IsLast, WasLast, HasBeen, HasVersion, Accepts, clock_of, user_of, seen, change_in, change_key, call_under, volume_after}
 use Rattle.afs_history.specs.declared.lines.Line.{Line}
-use Rattle.afs_law.specs.Past.{is_late, called_key, IsToCome, is_of_act, lines_of, sent_of, given_message, answered_key, code_told, IsReply, running, has_begun, has_given, Called, CalledSince, IsCallUnder, Ran, server_boot}
+use Rattle.afs_law.specs.Past.{last_boot, is_late, called_key, IsToCome, is_of_act, lines_of, sent_of, given_message, answered_key, code_told, IsReply, running, has_begun, has_given, Called, CalledSince, IsCallUnder, Ran, server_boot}
 use Rattle.afs_rows.specs.Runs.{Entry}
 use Rattle.afs_history.specs.declared.scripts.Script.{Script}
 use Rattle.afs_num.specs.declared.histories.Actor.{Actor}
@@ -302,13 +302,12 @@ abbrev pub as_asked : FsCall → FsCall
 as_asked (calls.GiveUpCallBacks fids callbacks) = calls.GiveUpCallBacks [] []
 as_asked call = call
 
--- the reply has this code, and so has the ideal operation where the call ran, in the boot in which its server then was; the call
--- is the one that the act asks; and where the operation makes versions, their change stands before
+-- the reply has this code, and so has the ideal operation where the call ran; the call is the one that the act asks; and where
+-- the operation makes versions, their change stands before
 pub record Cause (reply : Message) (code : ℤ) (asks_for : FsCall) (past : List Entry) (own : List Line) : Type 0 where
   pub is_reply : IsReply reply
   pub told : code_told reply.carried ≡ Some code
   pub ran : Ran reply.head past
-  pub up : server_boot reply.head.from (lines_of ran.older) ≡ Some reply.head.boot
   pub user : List ℕ
   pub call : FsCall
   pub carries : ran.message.carried ≡ carried.Call user (ask.File call)
@@ -438,6 +437,15 @@ AreRan past (m ∷ ms) = ((i j : ℕ) → IsReply m → m.head.from ≡ Server i
 abbrev pub GoodRestart : Script → Node → List Line → Type 0
 GoodRestart s (Server i) next = (j : ℕ) → 1 ≤ j → j ≤ s.clients → HasOwe (Server i) (Client j) None next
 GoodRestart s n next = ⊤
+
+-- its boot is above all that it began before
+abbrev pub IsRising : Line → List Line → Type 0
+IsRising (lines.Restart (Server i) boot) older = last_boot (Server i) older < boot
+IsRising l older = ⊤
+
+abbrev pub AreRising : List Line → List Line → Type 0
+AreRising older [] = ⊤
+AreRising older (l ∷ ls) = IsRising l older × AreRising (l ∷ older) ls
 
 -- ---- histories
 
