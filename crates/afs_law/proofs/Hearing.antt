@@ -51,14 +51,14 @@ no_server : (n i : ℕ) → Client n ≡ Server i → ⊥
 no_server n i e = absurd cc
 
 -- that server has begun this boot
-abbrev IsHad : (ℕ → Host) → Node → ℕ → Type 0
+abbrev pub IsHad : (ℕ → Host) → Node → ℕ → Type 0
 IsHad hosts q b = (i : ℕ) → q ≡ Server i → b ≤ (hosts i).state.lasting.boot
 
-abbrev IsNoted : (ℕ → Host) → Head → Type 0
+abbrev pub IsNoted : (ℕ → Host) → Head → Type 0
 IsNoted hosts h = IsHad hosts h.from h.boot
 
 -- a server's reply is that of the entry which ran the call
-abbrev IsRan : List Entry → Head → Type 0
+abbrev pub IsRan : List Entry → Head → Type 0
 IsRan past h = (i : ℕ) → h.from ≡ Server i → Ran h past
 
 had_over : (hosts : ℕ → Host) (i : ℕ) (h : Host) → (hosts i).state.lasting.boot ≤ h.state.lasting.boot → (q : Node) (b : ℕ) → IsHad hosts q b → IsHad (put i h hosts) q b
@@ -106,7 +106,7 @@ cut_by K M w boot seats (in_step m clock) h = if_call (λ x user call. admitted 
 cut_by K M w boot seats at_rest h = tt
 cut_by K M w boot seats in_boot h = tt
 
-abbrev HasCutAt : (Head → Type 0) → ServerState → Option Fall → Type 0
+abbrev pub HasCutAt : (Head → Type 0) → ServerState → Option Fall → Type 0
 HasCutAt K x None = ⊤
 HasCutAt K x (Some fall) = IsCutBy K x.lasting.boot x.seats fall
 
@@ -117,24 +117,24 @@ cut_to K M w x (Some fall) h = cut_by K M w x.lasting.boot x.seats fall h
 -- ---- what holds after every entry
 
 -- of clients' keys
-abbrev AreUnheardAt : ℕ → Option Fall → List Seat → ℕ → List Entry → Type 0
+abbrev pub AreUnheardAt : ℕ → Option Fall → List Seat → ℕ → List Entry → Type 0
 AreUnheardAt i down seats boot past = (j : ℕ) (k : Key) (b : ℕ) → k.node ≡ Client j → MayRun down boot (call_seat k.node seats) k b → IsUnheard (Server i) k b past
 
-record Hears (clients : ℕ → ClientState) (hosts : ℕ → Host) (sent : List Message) (past : List Entry) : Type 0 where
-  told : sent_of past ≡ sent
-  boots : Boots hosts past
-  calls : Each (IfCall (λ h user call. IsHad hosts h.to h.boot)) sent
-  notices : Each (λ m. OfNotice (IsNoted hosts m.head) m.carried) sent
-  answers : Each (IfReply (λ r. IsRan past r.head)) sent
-  known : (j : ℕ) (q : Node) → IsHad hosts q (boot_of q (clients j).boots)
-  replies : (j : ℕ) → AreReplies (IsRan past) (IsNoted hosts) (clients j).seats
-  first : (i : ℕ) → 1 ≤ (hosts i).state.lasting.boot
-  unheard : (i : ℕ) → AreUnheardAt i (hosts i).down (hosts i).state.seats (hosts i).state.lasting.boot past
-  sound : (i : ℕ) → IsSound (IsRan past) (IsNoted hosts) (memory_of (hosts i).state)
-  held : (i : ℕ) → Each (IsAnswer (IsRan past) (IsNoted hosts)) (replies_of (hosts i).state.backs.held)
-  falls : (i : ℕ) → HasCutAt (IsRan past) (hosts i).state (hosts i).down
+pub record Hears (clients : ℕ → ClientState) (hosts : ℕ → Host) (sent : List Message) (past : List Entry) : Type 0 where
+  pub told : sent_of past ≡ sent
+  pub boots : Boots hosts past
+  pub calls : Each (IfCall (λ h user call. IsHad hosts h.to h.boot)) sent
+  pub notices : Each (λ m. OfNotice (IsNoted hosts m.head) m.carried) sent
+  pub answers : Each (IfReply (λ r. IsRan past r.head)) sent
+  pub known : (j : ℕ) (q : Node) → IsHad hosts q (boot_of q (clients j).boots)
+  pub replies : (j : ℕ) → AreReplies (IsRan past) (IsNoted hosts) (clients j).seats
+  pub first : (i : ℕ) → 1 ≤ (hosts i).state.lasting.boot
+  pub unheard : (i : ℕ) → AreUnheardAt i (hosts i).down (hosts i).state.seats (hosts i).state.lasting.boot past
+  pub sound : (i : ℕ) → IsSound (IsRan past) (IsNoted hosts) (memory_of (hosts i).state)
+  pub held : (i : ℕ) → Each (IsAnswer (IsRan past) (IsNoted hosts)) (replies_of (hosts i).state.backs.held)
+  pub falls : (i : ℕ) → HasCutAt (IsRan past) (hosts i).state (hosts i).down
 
-abbrev HearsIn : Cell → List Entry → Type 0
+abbrev pub HearsIn : Cell → List Entry → Type 0
 HearsIn c past = Hears c.clients c.hosts c.sent past
 
 abbrev After : List Entry → Moved → Type 0
@@ -695,7 +695,7 @@ first_hears s = record {
   falls = λ i. tt;
 }
 
-hears_at : (s : Script) (h : List Entry) (end : Cell) → RunsTo h s end → HearsIn end (past_of (set_up s ∷ []) h)
+pub hears_at : (s : Script) (h : List Entry) (end : Cell) → RunsTo h s end → HearsIn end (past_of (set_up s ∷ []) h)
 hears_at s h end r = run_hears r.inputs (start s) (set_up s ∷ []) h end (first_hears s) r.leads
 
 pub run_unheard : (s : Script) (h : List Entry) (end : Cell) → RunsTo h s end → (i j : ℕ) → (end.hosts i).down ≡ None → (head : Head) → head.from ≡ Client j → admitted (end.hosts i).state.lasting.boot (end.hosts i).state.seats head ≡ pairs.runs

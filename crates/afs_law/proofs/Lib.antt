@@ -42,6 +42,7 @@ pub mod Hosting
 pub mod KeysOnce
 pub mod Standing
 pub mod Hearing
+pub mod Members
 pub mod Made
 pub mod Worked
 pub mod Wrong

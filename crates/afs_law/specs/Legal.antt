@@ -487,10 +487,21 @@ abbrev pub AreGood : Script → Actor → List Entry → List Line → List Line
 AreGood s who past own [] = ⊤
 AreGood s who past own (l ∷ next) = IsGood s who l past own next × AreGood s who past (l ∷ own) next
 
--- an entry lays no volumes, for the set-up alone does
+-- the script has the node whose entry this is; a tick and what is void are of none
+abbrev pub IsOfScript : Script → Actor → Type 0
+IsOfScript s (actors.Node (Client j)) = (1 ≤ j) × (j ≤ s.clients)
+IsOfScript s (actors.Node (Server i)) = (1 ≤ i) × (i ≤ s.servers)
+IsOfScript s (actors.Node n) = ⊥
+IsOfScript s actors.Clock = ⊤
+IsOfScript s actors.Nobody = ⊤
+
+-- an entry lays no volumes, for the set-up alone does; it is of a node of the script, and no server begins a boot twice
+abbrev pub IsSound : Script → List Entry → Entry → Type 0
+IsSound s past e = ((e.volumes ≡ []) × IsOfScript s e.actor) × AreRising (lines_of past) e.lines
+
 abbrev pub LegalAfter : Script → List Entry → List Entry → Type 0
 LegalAfter s past [] = ⊤
-LegalAfter s past (e ∷ es) = ((AreGood s e.actor past [] e.lines × AreGoodSent (e ∷ past) e.sent) × ((e.volumes ≡ []) × AreRan (e ∷ past) e.sent)) × LegalAfter s (e ∷ past) es
+LegalAfter s past (e ∷ es) = ((AreGood s e.actor past [] e.lines × AreGoodSent (e ∷ past) e.sent) × (IsSound s past e × AreRan (e ∷ past) e.sent)) × LegalAfter s (e ∷ past) es
 
 abbrev pub Legal : List Entry → Script → Type 0
 Legal history s = LegalAfter s (set_up s ∷ []) history
