@@ -596,6 +596,7 @@ revives s b c past x h held backs =
         origins = h.sent.origins;
         acts = h.sent.acts;
         ones = h.sent.ones;
+        lone = h.sent.lone;
         told = h.sent.told;
         waiting = held fl (waiting_over (replies_of c.server.backs.held) (view fl c) (view fl (revived_cell c)) past past (λ j m. revived_reply fl c past j m) h.sent.waiting);
         to_clients = h.sent.to_clients;
@@ -646,7 +647,7 @@ revives_down s c past fall h e =
       booted = r.booted;
       boots = h.boots ∙ ap (λ (d : Option Fall). up_boot d c.server.lasting.boot) e;
       clients = r.clients;
-      sent = record { calls = r.sent.calls; replies = r.sent.replies; notices = r.sent.notices; origins = r.sent.origins; acts = r.sent.acts; ones = r.sent.ones; told = r.sent.told; waiting = r.sent.waiting; to_clients = r.sent.to_clients };
+      sent = record { calls = r.sent.calls; replies = r.sent.replies; notices = r.sent.notices; origins = r.sent.origins; acts = r.sent.acts; ones = r.sent.ones; lone = r.sent.lone; told = r.sent.told; waiting = r.sent.waiting; to_clients = r.sent.to_clients };
       down = tt;
       clock = r.clock;
       top = r.top;

@@ -414,7 +414,7 @@ starts s one =
         gave = λ act x. absurd cc;
         reached = λ f. reached_first (Client j) f _ s;
       };
-      sent = record { calls = tt; replies = tt; notices = tt; origins = tt; acts = tt; ones = tt; told = refl; waiting = tt; to_clients = tt };
+      sent = record { calls = tt; replies = tt; notices = tt; origins = tt; acts = tt; ones = tt; lone = ((λ j k l a b x y. absurd cc), tt); told = refl; waiting = tt; to_clients = tt };
       clock = first_passed (λ (ls : List Line). clock_of ls ≡ 0) (λ v o h. h) s.volumes [] refl;
       top = facts.top;
       one = facts.one;

@@ -650,3 +650,19 @@ in_boot_one l = l
 begun_in_the_old_boot : Legal (alters 1 (by_lines in_boot_one) (entries (start (script 1)) (stops ∷ starts_again false comes_up ∷ []))) (script 1) → ⊥
 unfolding moved begin_row client_row server_row back_timeout_row wake_row start_row record_bytes head_form volume_form spelled opaque pad word laid_at led name_ok directory_bytes name_bytes rights_of image acl_text digits entry_text directory_of names_at opaque_at word_at counted_at whole_at count_at name_at spelled_at bytes_below
 begun_in_the_old_boot h = let e : 1 < 1 = h.1.0.1.0.1.0 in absurd (omega arith)
+
+-- ---- an act changes things once, were it long over
+
+-- an act sends two calls, and is over before the server runs either: it runs both
+abbrev twice_asked : Entry → Entry
+twice_asked e = record e { sent = e.sent ++ map (λ (m : Message). record m { head = record m.head { number = 2 } }) e.sent }
+
+abbrev changed_as : ℕ → ℕ → Entry
+changed_as n index = step_of (Server 1) (lines.Given n ∷ lines.Change (Server 1) (key_of_one n) 1 ∷ lines.Version (record { fid = file; index = index; data_version = index; body = bodies.File (codes "def") }) ∷ []) []
+
+abbrev changes_twice : List Entry
+changes_twice = alters 0 twice_asked (entries (start (script 1)) (begins 1 (acts.Close (operands.Fid file) (Hex (codes "def"))) ∷ waits 1 ∷ waits 1 ∷ waits 1 ∷ [])) ++ changed_as 1 2 ∷ changed_as 2 3 ∷ []
+
+changed_twice : Legal changes_twice (script 1) → ⊥
+unfolding moved begin_row client_row server_row back_timeout_row wake_row start_row record_bytes head_form volume_form spelled opaque pad word laid_at led name_ok directory_bytes name_bytes rights_of image acl_text digits entry_text directory_of names_at opaque_at word_at counted_at whole_at count_at name_at spelled_at bytes_below
+changed_twice h = h.1.1.1.1.1.0.0.0.1.0.1.alone (past_of [] (drop 1 (take 5 changes_twice))) (past_of (set_up (script 1) ∷ []) (take 1 changes_twice)) refl refl (key_of_one 1) (inl (refl, refl)) refl

@@ -184,7 +184,7 @@ pub record RanBefore (server : Node) (k : Key) (past : List Entry) (own next : L
 
 -- A change runs a key for the first time, at a server that accepts stores of the volume, and is the only one of its entry. What
 -- the server changed before for the same node it did under keys of earlier calls, and while an act runs there, under none of
--- that act: an act changes things once. The entry ran the key's call, or is the restart behind the one that was interrupted in that.
+-- that act; nor, were it long over, under a key of the act of which this key is: an act changes things once. The entry ran the key's call, or is the restart behind the one that was interrupted in that.
 -- The key's call was sent by its node, for its user, and is that of the act that ran there, with the act's own bytes. The
 -- versions that follow are just those of the ideal operation on the ideal volume. Each other client's last grant on one of their
 -- fids that lasts has a break behind the change
@@ -192,6 +192,7 @@ pub record GoodChange (s : Script) (server : Node) (k : Key) (count : ℕ) (past
   pub fresh : IsNew k (own ++ lines_of past)
   pub latest : (l : Key) → HasChangeBy server l (own ++ lines_of past) → l.node ≡ k.node → IsLater k l
   pub once : (a : Going) → running s k.node (lines_of past) ≡ Some a → (l : Key) → HasChangeBy server l (lines_of past) → is_of_act k.node l past ≡ true → ⊥
+  pub alone : (newer older : List Entry) → past ≡ newer ++ older → is_of_act k.node k older ≡ true → (l : Key) → HasChangeBy server l (lines_of past) → is_of_act k.node l older ≡ true → ⊥
   pub place : RunsHere server k past own ⊎ RanBefore server k past own next
   pub going : HasStopped server own → ⊥
   pub only : change_key own ≡ None
