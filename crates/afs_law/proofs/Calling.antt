@@ -2,6 +2,7 @@
 use Rattle.afs_rows.specs.Runs.{message_at}
 use Rattle.afs_history.specs.declared.acts.Act.{Act}
 use Rattle.afs_law.proofs.Backing.{all_lines, is_unchanging}
+use Rattle.afs_law.proofs.Booting.{is_standing}
 use Rattle.afs_law.proofs.Basics.{Below, Each, ByClient, IfCall, IfReply, OfCall, OfClient, if_reply, LastSeat, if_call, at_seat, kept_last, some_of, OfNotice, of_client, both, same_node-true, of_notice}
 use Rattle.afs_rows.specs.ClientRow.{Look, Walked, admits_call, awaits, begin_row, body_told, breaks, call_of, calls_again, calls_step, client_row, counts, dead_code, drop_line, dropped, dropped_after, ends_step, entries_told, entry_told, given, given_up_in, gives_by, goes_by, hears, ignores, is_awaited, is_busy_code, is_older, is_spent, is_trusted, look_at, looked, most_busy, most_reads, put_entries, put_entry, read_lines, reborn, refuses, replies_step, runs_carried, status_look, status_told, takes, takes_bulk, takes_bytes, takes_data, takes_entries, takes_entry, takes_list, takes_plain, takes_rights, takes_set, takes_shown, takes_status, takes_stored, timeout_line, timeout_row, told_step, walked, walks_on, whole, with_statuses, takes_given, behind_batch, begins_by, gift_of, in_order, trusted_in, untrusted_in, boot_of, with_boot, boot_or_first}
 use Rattle.afs_rows.specs.Going.{ClientState, Going, Need, answers, began, next, with_read, gives_back}
@@ -125,9 +126,32 @@ abbrev pub placed : Option ℕ → List Message → Option Message
 placed None sent = None
 placed (Some place) sent = message_at sent place
 
+-- it begins no change, and stops no server and begins none
+abbrev pub is_mild : Line → Bool
+is_mild (lines.Change s k count) = false
+is_mild l = is_standing l
+
+mild_is_unchanging : (l : Line) → is_mild l ≡ true → is_unchanging l ≡ true
+mild_is_unchanging (lines.Change s k count) h = absurd cc
+mild_is_unchanging l h = refl
+
+mild_is_standing : (l : Line) → is_mild l ≡ true → is_standing l ≡ true
+mild_is_standing (lines.Change s k count) h = absurd cc
+mild_is_standing l h = h
+
+all_by : (p q : Line → Bool) → ((l : Line) → p l ≡ true → q l ≡ true) → (ls : List Line) → all_lines p ls ≡ true → all_lines q ls ≡ true
+all_by p q w [] h = refl
+all_by p q w (l ∷ ls) h = let b = both (p l) (all_lines p ls) h in rw (w l b.0, all_by p q w ls b.1) refl
+
+pub mild_unchanging : (ls : List Line) → all_lines is_mild ls ≡ true → all_lines is_unchanging ls ≡ true
+mild_unchanging ls h = all_by is_mild is_unchanging mild_is_unchanging ls h
+
+pub mild_standing : (ls : List Line) → all_lines is_mild ls ≡ true → all_lines is_standing ls ≡ true
+mild_standing ls h = all_by is_mild is_standing mild_is_standing ls h
+
 -- these lines have no change, and tell that just this message was given
 abbrev pub AreOf : Option ℕ → List Line → Type 0
-AreOf D ls = (all_lines is_unchanging ls ≡ true) × ((sent : List Message) → given_message ls sent ≡ placed D sent)
+AreOf D ls = (all_lines is_mild ls ≡ true) × ((sent : List Message) → given_message ls sent ≡ placed D sent)
 
 -- what stands before further lines has no change, and tells what was given
 abbrev pub IsFront : Option ℕ → (List Line → List Line) → Type 0
@@ -139,7 +163,7 @@ pub record Tame (K : Head → Type 0) (L : Head → Type 0) (N : Node → ℕ �
   pub answers : Each (IfReply (λ r. K r.head)) s.sent
   pub notices : Each (λ m. OfNotice (L m.head) m.carried) s.sent
   pub kept : AreReplies K L s.state.seats
-  pub lines : all_lines is_unchanging s.lines ≡ true
+  pub lines : all_lines is_mild s.lines ≡ true
   pub given : (sent : List Message) → given_message s.lines sent ≡ placed D sent
   -- the boot numbers that it knows are some that were told
   pub boots : ((q : Node) → N q (boot_of q x.boots)) → (q : Node) → N q (boot_of q s.state.boots)
@@ -152,7 +176,7 @@ dropped_front : (n : Node) (es : List CacheEntry) → IsFront None (dropped n es
 dropped_front n [] ls h = h
 dropped_front n (e ∷ es) ls h = dropped_front n es ls h
 
-drops_plain : (n : Node) (fs : List Fid) → all_lines is_unchanging (map (drop_line n) fs) ≡ true
+drops_plain : (n : Node) (fs : List Fid) → all_lines is_mild (map (drop_line n) fs) ≡ true
 drops_plain n [] = refl
 drops_plain n (f ∷ fs) = drops_plain n fs
 
@@ -181,7 +205,7 @@ gives_tame : (K : Head → Type 0) (L : Head → Type 0) (N : Node → ℕ → T
 gives_tame K L N D j c front act [] k f = ends_tame K L N D j c c.cache front _ k f
 gives_tame K L N D j c front act (g ∷ gs) k f = calls_tame K L N D j (record c { gifts = g ∷ gs }) act front k f
 
-replies_tame : (K : Head → Type 0) (L : Head → Type 0) (N : Node → ℕ → Type 0) (j : ℕ) (c : ClientState) (place : ℕ) (head : Head) (ls : List Line) (x : Carried) → AreReplies K L c.seats → IsAnswer K L (replied c.epoch head x) → IfCall (λ h user call. IsLastOf j (caller_at c) h) (replied c.epoch head x) → all_lines is_unchanging ls ≡ true
+replies_tame : (K : Head → Type 0) (L : Head → Type 0) (N : Node → ℕ → Type 0) (j : ℕ) (c : ClientState) (place : ℕ) (head : Head) (ls : List Line) (x : Carried) → AreReplies K L c.seats → IsAnswer K L (replied c.epoch head x) → IfCall (λ h user call. IsLastOf j (caller_at c) h) (replied c.epoch head x) → all_lines is_mild ls ≡ true
     → Tame K L N (Some place) j (caller_at c) (replies_step c place head ls x)
 replies_tame K L N j c place head ls x k own call plain = record {
   goes = inl (refl, (refl, refl));

@@ -596,6 +596,7 @@ revives s b c past x h held backs =
         origins = h.sent.origins;
         acts = h.sent.acts;
         ones = h.sent.ones;
+        lone = h.sent.lone;
         told = h.sent.told;
         waiting = held fl (waiting_over (replies_of c.server.backs.held) (view fl c) (view fl (revived_cell c)) past past (λ j m. revived_reply fl c past j m) h.sent.waiting);
         to_clients = h.sent.to_clients;
@@ -646,7 +647,7 @@ revives_down s c past fall h e =
       booted = r.booted;
       boots = h.boots ∙ ap (λ (d : Option Fall). up_boot d c.server.lasting.boot) e;
       clients = r.clients;
-      sent = record { calls = r.sent.calls; replies = r.sent.replies; notices = r.sent.notices; origins = r.sent.origins; acts = r.sent.acts; ones = r.sent.ones; told = r.sent.told; waiting = r.sent.waiting; to_clients = r.sent.to_clients };
+      sent = record { calls = r.sent.calls; replies = r.sent.replies; notices = r.sent.notices; origins = r.sent.origins; acts = r.sent.acts; ones = r.sent.ones; lone = r.sent.lone; told = r.sent.told; waiting = r.sent.waiting; to_clients = r.sent.to_clients };
       down = tt;
       clock = r.clock;
       top = r.top;
@@ -749,7 +750,7 @@ ran_before c past n h user call vs ls cut boots = record {
   older = cut.ran.older;
   split = cut.ran.split;
   actor = cut.ran.node ∙ ap (λ (m : Message). actors.Node m.head.to) cut.is;
-  ran = record { boot = c.server.lasting.boot; up = cut.up; given = subst (IsCallUnder the_server (called_key (client_head n h)) c.server.lasting.boot) (sym cut.ran.given) ((cut.ran.is_call, cut.ran.callee), (cut.ran.key, cut.ran.boot)); first = cut.ran.first };
+  ran = record { boot = c.server.lasting.boot; up = cut.ran.up; given = subst (IsCallUnder the_server (called_key (client_head n h)) c.server.lasting.boot) (sym cut.ran.given) ((cut.ran.is_call, cut.ran.callee), (cut.ran.key, cut.ran.boot)); first = cut.ran.first };
   stopped = cut.stopped;
   since = cut.since;
 }
@@ -767,7 +768,7 @@ pub after_holds : (y : Way) (s : Script) (now : Option ℕ) (c : Cell) (past : L
     → (now ≡ None → BackedIn (Some fall) after c.server.lasting.boot (seats_after c n h (reply_saved c (client_head n h) time user call id st es shown)) (seats_of c) c.clock (c.sent ++ saved_sent y (reply_saved c (client_head n h) time user call id st es shown)) (NewEntry y n h (versions_by id es st.volume) (reply_saved c (client_head n h) time user call id st es shown) ∷ past))
     → HoldsAt s now (served_cell true c n h (reply_saved c (client_head n h) time user call id st es shown) (stock_after c (client_head n h) time (change_at id user call st es shown)) after (Some fall) unarmed (saved_sent y (reply_saved c (client_head n h) time user call id st es shown))) (NewEntry y n h (versions_by id es st.volume) (reply_saved c (client_head n h) time user call id st es shown) ∷ past)
 after_holds y s now c past after fall n h user call time id st es shown H w q is_cut none fallen boots gives backs =
-    saves_holds y s now c past after unarmed (Some fall) n h user call time id st es shown H w q (record { ran = ran_over _ _ past is_cut.ran; is = is_cut.is; up = is_cut.up; ideal = is_cut.ideal }) boots
+    saves_holds y s now c past after unarmed (Some fall) n h user call time id st es shown H w q (record { ran = ran_over _ _ past is_cut.ran; is = is_cut.is; ideal = is_cut.ideal }) boots
     (λ k x l. (λ z. subst (λ (o : Option Message). IsCallUnder the_server k x o) none z, unheard_later c.down c.server.seats c.server.lasting.boot past H.unheard k x l)) (fallen _ _ _) gives backs
 
 saved_up : (s : Script) (c : Cell) (past : List Entry) (fall : Fall) (n : ℕ) (h : Head) (user : List ℕ) (call : FsCall) (time id : ℕ) (st : Stored) (es : List Edit) (shown : ℕ) → (H : Holds s c past) → c.down ≡ Some fall → Now s c H.floors past n h user call → Change' c past user call id st.volume es shown
@@ -892,7 +893,7 @@ cuts_saved s c past p n h user call stops H up at w =
       volumes = refl;
       holds = still s None (record c { down = Some (in_step m c.clock); armed = unarmed }) (e ∷ past) (rests s None c past e 0 (Some (in_step m c.clock)) unarmed H (cut_boot p stops (lines_of past)) refl (cut_rests s p stops past) (cut_clock p stops (lines_of past))
           (λ k b l. (λ x. let x' : IsCallUnder the_server k b (Some m) = subst (λ (o : Option Message). IsCallUnder the_server k b o) (at_told s c past p m H at) x in let is : h.boot ≡ b = x'.1.1 in absurd (omega arith), unheard_later c.down c.server.seats c.server.lasting.boot past H.unheard k b l))
-          (record { place = p; at = at; ran = ran_now s c past p n h user call e H up at w refl refl; is = refl; up = up_boots s c past H up; stopped = cut_stopped p stops; since = tt; ideal = H.ideal }) (λ z. fall_backed s c past e (in_step m c.clock) (cut_oweless p stops) (cut_still p stops) (λ u o. cut_stops p stops o) H));
+          (record { place = p; at = at; ran = ran_now s c past p n h user call e H up at w refl refl; is = refl; stopped = cut_stopped p stops; since = tt; ideal = H.ideal }) (λ z. fall_backed s c past e (in_step m c.clock) (cut_oweless p stops) (cut_still p stops) (λ u o. cut_stops p stops o) H));
     }
 
 abbrev pub IsSave : Decision → Type 0

@@ -1,9 +1,8 @@
 use Rattle.afs_law.proofs.OneCell as one
 use Rattle.afs_law.proofs.Agreeing.{held, trusted_good}
-use Rattle.afs_law.proofs.Law.{legal}
 use Rattle.afs_law.specs.Ideal.{set_up}
 use Rattle.afs_law.specs.Laws.{IsHeld}
-use Rattle.afs_law.specs.Legal.{GoodRead, Legal}
+use Rattle.afs_law.specs.Legal.{GoodRead}
 use Rattle.afs_law.specs.Once.{past_of}
 use Rattle.afs_law.specs.OneServer.{AreAtServer, IsOneServer}
 use Rattle.afs_ideal.specs.Tables.{Table, get, set}
@@ -234,9 +233,6 @@ run_same s h end is r = record {
 }
 
 -- ---- the laws
-
-pub runs_legal : (s : Script) (h : List Entry) (end : Cell) → IsOneServer s → RunsTo h s end → Legal h s
-runs_legal s h end is r = legal s h (seen_in end) is (run_same s h end is r)
 
 pub run_held : (s : Script) (h : List Entry) (end : Cell) → IsOneServer s → RunsTo h s end → (id : ℕ) → IsHeld id (end.hosts 1).state.lasting.volumes (past_of (set_up s ∷ []) h)
 run_held s h end is r = held s h (seen_in end) is (run_same s h end is r)

@@ -167,7 +167,7 @@ away_again s c past a h = record {
   booted = h.booted;
   boots = h.boots;
   clients = h.clients;
-  sent = record { calls = h.sent.calls; replies = h.sent.replies; notices = h.sent.notices; origins = h.sent.origins; acts = h.sent.acts; ones = h.sent.ones; told = h.sent.told; waiting = h.sent.waiting; to_clients = h.sent.to_clients };
+  sent = record { calls = h.sent.calls; replies = h.sent.replies; notices = h.sent.notices; origins = h.sent.origins; acts = h.sent.acts; ones = h.sent.ones; lone = h.sent.lone; told = h.sent.told; waiting = h.sent.waiting; to_clients = h.sent.to_clients };
   down = h.down;
   clock = h.clock;
   top = h.top;
