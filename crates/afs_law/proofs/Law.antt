@@ -107,17 +107,17 @@ sent_ran : (s : Script) (c : Cell) (e : Entry) (past : List Entry) → (h : Hold
 sent_ran s c e past h = are_ran (view h.floors c) (e ∷ past) e.sent (last_each (IfReply (ReplyIn (view h.floors c) (e ∷ past))) (sent_of past) e.sent (subst (Each (IfReply (ReplyIn (view h.floors c) (e ∷ past)))) (sym h.sent.told) h.sent.replies))
 
 -- the entries are of nodes of the script, and boots rise
-abbrev pub AreSound : Script → List Entry → List Entry → Type 0
-AreSound s past [] = ⊤
-AreSound s past (e ∷ es) = (IsOfScript s e.actor × AreRising (lines_of past) e.lines) × AreSound s (e ∷ past) es
+abbrev pub AreEntries : Script → List Entry → List Entry → Type 0
+AreEntries s past [] = ⊤
+AreEntries s past (e ∷ es) = (IsOfScript s e.actor × AreRising (lines_of past) e.lines) × AreEntries s (e ∷ past) es
 
-pub legal_after : (s : Script) (xs : List Input) (c : Cell) (past es : List Entry) (end : Cell) → Holds s c past → Leads c xs es end → AreSound s past es → LegalAfter s past es
+pub legal_after : (s : Script) (xs : List Input) (c : Cell) (past es : List Entry) (end : Cell) → Holds s c past → Leads c xs es end → AreEntries s past es → LegalAfter s past es
 legal_after s [] c past [] end h r sound = tt
 legal_after s [] c past (e ∷ es) end h r sound = absurd r
 legal_after s (x ∷ xs) c past [] end h r sound = absurd r
 legal_after s (x ∷ xs) c past (e ∷ es) end h r sound =
     let g : Goes s past (moved c x) = goes s c past x h in
-    let own : AreSound s past ((moved c x).entry ∷ es) = subst (λ (y : Entry). AreSound s past (y ∷ es)) r.0 sound in
+    let own : AreEntries s past ((moved c x).entry ∷ es) = subst (λ (y : Entry). AreEntries s past (y ∷ es)) r.0 sound in
     subst (λ (y : Entry). LegalAfter s past (y ∷ es)) (sym r.0)
     (((g.good, g.replies), (((g.volumes, own.0.0), own.0.1), sent_ran s (moved c x).cell (moved c x).entry past g.holds)), legal_after s xs (moved c x).cell ((moved c x).entry ∷ past) es end g.holds r.1 own.1)
 
@@ -435,5 +435,5 @@ starts s one =
     }
 
 -- Every run of a script for one server is legal, whatever is given, how often and in what order.
-pub legal : (s : Script) (h : List Entry) (end : Cell) → IsOneServer s → RunsTo h s end → AreSound s (set_up s ∷ []) h → Legal h s
+pub legal : (s : Script) (h : List Entry) (end : Cell) → IsOneServer s → RunsTo h s end → AreEntries s (set_up s ∷ []) h → Legal h s
 legal s h end one r sound = legal_after s r.inputs (start s) (set_up s ∷ []) h end (starts s one) r.leads sound

@@ -2,7 +2,7 @@
 use Rattle.afs_law.proofs.Basics.{at_put, both}
 use Rattle.afs_law.proofs.Booting.{HaveRisen}
 use Rattle.afs_law.proofs.Hearing.{hears_at}
-use Rattle.afs_law.proofs.Law.{AreSound, legal}
+use Rattle.afs_law.proofs.Law.{AreEntries, legal}
 use Rattle.afs_law.proofs.Servers.{run_same, seen_in}
 use Rattle.afs_law.specs.Ideal.{set_up}
 use Rattle.afs_law.specs.Legal.{AreRising, IsOfScript, Legal}
@@ -161,7 +161,7 @@ risen_back : (past es : List Entry) → HaveRisen (past_of past es) → HaveRise
 risen_back past [] h = h
 risen_back past (e ∷ es) h = (risen_back (e ∷ past) es h).1
 
-run_sound : (s : Script) (xs : List Input) (c : Cell) (past es : List Entry) (end : Cell) → HasNodes s c → Leads c xs es end → HaveRisen (past_of past es) → AreSound s past es
+run_sound : (s : Script) (xs : List Input) (c : Cell) (past es : List Entry) (end : Cell) → HasNodes s c → Leads c xs es end → HaveRisen (past_of past es) → AreEntries s past es
 run_sound s [] c past [] end H r h = tt
 run_sound s [] c past (e ∷ es) end H r h = absurd r
 run_sound s (x ∷ xs) c past [] end H r h = absurd r

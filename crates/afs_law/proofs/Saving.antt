@@ -803,13 +803,13 @@ changed_once s c past n h user call H w a l runs has of_act =
     let last = act_last s (view H.floors c) past c.sent n l a H.sent.told H.sent.acts H.sent.ones runs of_act (H.changing l (any_change the_server l (lines_of past) has)) in
     later_not (called_key (client_head n h)) l (c.clients n).epoch (c.clients n).last last.1.0 last.1.1 w.fact.behind (changed_later s c past n h user call H w l has last.0)
 
--- nor did another key of its act, were that over
+-- nor did another key of its act, were that over: this one is new
 changed_alone : (s : Script) (c : Cell) (past : List Entry) (n : ℕ) (h : Head) (user : List ℕ) (call : FsCall) → (H : Holds s c past) → Now s c H.floors past n h user call → (volume_changed call ≡ None → ⊥) → (newer older : List Entry) → past ≡ newer ++ older → is_of_act (Client n) (called_key (client_head n h)) older ≡ true
-    → (l : Key) → HasChangeBy the_server l (lines_of past) → is_of_act (Client n) l older ≡ true → ⊥
+    → (l : Key) → HasChange l (lines_of past) → is_of_act (Client n) l older ≡ true → ⊥
 changed_alone s c past n h user call H w some newer older split own l has of_act =
     let k : Key = called_key (client_head n h) in
-    let same : k ≡ l = lone_at c.sent newer older (subst (AreLone c.sent) split H.sent.lone) n k l own of_act (record { user = user; call = call; one = ap (call_under k) (sym H.sent.told) ∙ w.one; changes = some }) (H.changing l (any_change the_server l (lines_of past) has)) in
-    later_not k l h.epoch h.number (ap (λ (x : Key). x.epoch) (sym same)) (ap (λ (x : Key). x.number) (sym same)) (up_to_same h.epoch h.number h.epoch h.number refl refl) (changed_later s c past n h user call H w l has (ap (λ (x : Key). x.node) (sym same)))
+    let same : k ≡ l = lone_at c.sent newer older (subst (AreLone c.sent) split H.sent.lone) n k l own of_act (record { user = user; call = call; one = ap (call_under k) (sym H.sent.told) ∙ w.one; changes = some }) (H.changing l has) in
+    no_change k (lines_of past) (H.new k w.above_durable) (subst (λ (x : Key). HasChange x (lines_of past)) (sym same) has)
 
 pub saves_change_good : (s : Script) (c : Cell) (past : List Entry) (own tail : List Line) (n : ℕ) (h : Head) (user : List ℕ) (call : FsCall) (id : ℕ) (v : Volume) (es : List Edit) (shown : ℕ) → (H : Holds s c past) → Now s c H.floors past n h user call → Change' c past user call id v es shown
     → RunsHere the_server (called_key (client_head n h)) past own ⊎ RanBefore the_server (called_key (client_head n h)) past own (versioned (versions_by id es v) tail) → IsNew (called_key (client_head n h)) (own ++ lines_of past) → ((l : Key) → HasChangeBy the_server l (own ++ lines_of past) → l.node ≡ Client n → IsLater (called_key (client_head n h)) l) → (HasStopped the_server own → ⊥) → change_key own ≡ None → Accepts s id the_server (own ++ lines_of past) → versions_first tail ≡ [] → ((j : ℕ) (f : Fid) (x : ℕ) → (Client j ≡ Client n → ⊥) → IsChanged f (versions_by id es v) → live_grant the_server (Client j) f (own ++ lines_at the_server past) ≡ Some x → clock_of (own ++ lines_of past) < x → HasOwe the_server (Client j) (Some f) (versioned (versions_by id es v) tail))

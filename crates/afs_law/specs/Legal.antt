@@ -128,6 +128,15 @@ abbrev pub IsNew : Key → List Line → Type 0
 IsNew k [] = ⊤
 IsNew k (l ∷ older) = IsNot k (change_in l) (IsNew k older)
 
+-- a change under this key is among the lines
+abbrev pub IsKey : Key → Option Key → Type 0 → Type 0
+IsKey k None before = before
+IsKey k (Some l) before = (l ≡ k) ⊎ before
+
+abbrev pub HasChange : Key → List Line → Type 0
+HasChange k [] = ⊥
+HasChange k (l ∷ ls) = IsKey k (change_in l) (HasChange k ls)
+
 -- the server changed something under this key
 abbrev pub HasChangeBy : Node → Key → List Line → Type 0
 HasChangeBy s k [] = ⊥
@@ -184,7 +193,7 @@ pub record RanBefore (server : Node) (k : Key) (past : List Entry) (own next : L
 
 -- A change runs a key for the first time, at a server that accepts stores of the volume, and is the only one of its entry. What
 -- the server changed before for the same node it did under keys of earlier calls, and while an act runs there, under none of
--- that act; nor, were it long over, under a key of the act of which this key is: an act changes things once. The entry ran the key's call, or is the restart behind the one that was interrupted in that.
+-- that act. No server did under another key of this key's act, were that long over: an act changes things once. The entry ran the key's call, or is the restart behind the one that was interrupted in that.
 -- The key's call was sent by its node, for its user, and is that of the act that ran there, with the act's own bytes. The
 -- versions that follow are just those of the ideal operation on the ideal volume. Each other client's last grant on one of their
 -- fids that lasts has a break behind the change
@@ -192,7 +201,7 @@ pub record GoodChange (s : Script) (server : Node) (k : Key) (count : ℕ) (past
   pub fresh : IsNew k (own ++ lines_of past)
   pub latest : (l : Key) → HasChangeBy server l (own ++ lines_of past) → l.node ≡ k.node → IsLater k l
   pub once : (a : Going) → running s k.node (lines_of past) ≡ Some a → (l : Key) → HasChangeBy server l (lines_of past) → is_of_act k.node l past ≡ true → ⊥
-  pub alone : (newer older : List Entry) → past ≡ newer ++ older → is_of_act k.node k older ≡ true → (l : Key) → HasChangeBy server l (lines_of past) → is_of_act k.node l older ≡ true → ⊥
+  pub alone : (newer older : List Entry) → past ≡ newer ++ older → is_of_act k.node k older ≡ true → (l : Key) → HasChange l (lines_of past) → is_of_act k.node l older ≡ true → ⊥
   pub place : RunsHere server k past own ⊎ RanBefore server k past own next
   pub going : HasStopped server own → ⊥
   pub only : change_key own ≡ None
@@ -241,15 +250,6 @@ IsUnderChange (lines.Version v ∷ own) = IsUnderChange own
 IsUnderChange own = ⊥
 
 -- ---- answers
-
--- a change under this key is among the lines
-abbrev pub IsKey : Key → Option Key → Type 0 → Type 0
-IsKey k None before = before
-IsKey k (Some l) before = (l ≡ k) ⊎ before
-
-abbrev pub HasChange : Key → List Line → Type 0
-HasChange k [] = ⊥
-HasChange k (l ∷ ls) = IsKey k (change_in l) (HasChange k ls)
 
 -- the ideal operation on a volume; one that isn't there is 103
 abbrev pub op_on : ℕ → Caller → FsCall → Option Volume → Result
@@ -497,12 +497,12 @@ IsOfScript s actors.Clock = ⊤
 IsOfScript s actors.Nobody = ⊤
 
 -- an entry lays no volumes, for the set-up alone does; it is of a node of the script, and no server begins a boot twice
-abbrev pub IsSound : Script → List Entry → Entry → Type 0
-IsSound s past e = ((e.volumes ≡ []) × IsOfScript s e.actor) × AreRising (lines_of past) e.lines
+abbrev pub IsEntryOf : Script → List Entry → Entry → Type 0
+IsEntryOf s past e = ((e.volumes ≡ []) × IsOfScript s e.actor) × AreRising (lines_of past) e.lines
 
 abbrev pub LegalAfter : Script → List Entry → List Entry → Type 0
 LegalAfter s past [] = ⊤
-LegalAfter s past (e ∷ es) = ((AreGood s e.actor past [] e.lines × AreGoodSent (e ∷ past) e.sent) × (IsSound s past e × AreRan (e ∷ past) e.sent)) × LegalAfter s (e ∷ past) es
+LegalAfter s past (e ∷ es) = ((AreGood s e.actor past [] e.lines × AreGoodSent (e ∷ past) e.sent) × (IsEntryOf s past e × AreRan (e ∷ past) e.sent)) × LegalAfter s (e ∷ past) es
 
 abbrev pub Legal : List Entry → Script → Type 0
 Legal history s = LegalAfter s (set_up s ∷ []) history
