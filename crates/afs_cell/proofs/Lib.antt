@@ -18,3 +18,4 @@ mod Scheduled
 mod Clocks
 mod Parts
 mod Played
+mod Ticked

@@ -1,5 +1,5 @@
 -- What a step of the world is by its parts.
-use Rattle.std.proofs.Common.{sym, subst, ◌≡◌, ◌≤◌, ◌<◌, ℕ, List, [], ◌∷◌, length, Bool, true, false, Option, Some, None, Result}
+use Rattle.std.proofs.Common.{arith, sym, subst, ◌≡◌, ◌≤◌, ◌<◌, ◌+◌, ℕ, zero, suc, List, [], ◌∷◌, length, Bool, true, false, Option, Some, None, Result}
 use Rattle.afs_num.specs.Places.{at_place}
 use Rattle.afs_num.specs.declared.types.Node.TheVariants.{Admin, Client, Loc, Server}
 use Rattle.afs_num.specs.declared.types.Parcel.{Parcel}
@@ -22,6 +22,12 @@ use Rattle.afs_cell.proofs.ClientsTold.{asked_settles, heard_settles}
 use Rattle.afs_cell.proofs.Eventful.{no_message, skip_as, to_admin, to_loc}
 use Rattle.afs_cell.proofs.ServersTold.{input_settles, message_settles}
 
+none_inside : {A : Type 0} (xs : List A) (n : ℕ) → at_place xs n ≡ None → 1 ≤ n → n ≤ length xs → ⊥
+none_inside [] n e low high = absurd (omega (arith, low, high))
+none_inside (x ∷ xs) zero e low high = absurd (omega (arith, low))
+none_inside (x ∷ xs) (suc zero) e low high = absurd cc
+none_inside (x ∷ xs) (suc (suc n)) e low high = none_inside xs (suc n) e (omega arith) (omega (arith, high))
+
 -- these parts are those of the world
 module _ {D : Type 0} (limit : D → ℕ) (parts w : WorldState D) (same : parts ≡ w) (safe : IsSafe limit w.script w) where
   safe_parts : IsSafe limit parts.script parts
@@ -35,6 +41,12 @@ module _ {D : Type 0} (limit : D → ℕ) (parts w : WorldState D) (same : parts
 
   pub soon : parts.clock ≤ 1000000000
   soon = safe_parts.ticks
+
+  -- a client of these numbers is there
+  pub inside_clients : (n : ℕ) → (1 ≤ n) × (n ≤ w.script.clients) → at_place parts.clients n ≡ None → ⊥
+  inside_clients n inside none =
+      let here : at_place w.clients n ≡ None = subst (λ (v : WorldState D). at_place v.clients n ≡ None) same none in
+      none_inside w.clients n here inside.0 (omega (arith, inside.1, safe.client_count))
 
   pub can_all : w.is_lost ≡ false → length w.history < most_entries → AllCanStep limit parts.servers
   can_all going few = subst (λ (v : WorldState D). AllCanStep limit v.servers) (sym same) (all_can limit w.script w safe going few)
@@ -63,34 +75,36 @@ module _ {D : Type 0} (seen : D → Option (List ℕ)) (may_leave : D → List �
       safe going few
 
   -- a server was given the message of this place
-  pub message_served : (place : ℕ) (p : Parcel) (i : ℕ) (servers : List (ServerSeat D)) (what : Happened) → at_place parts.wire place ≡ Some p → p.head.to ≡ Server i
-      → ServersHappened seen may_leave faults limit i (lines.Given place ∷ []) IsFallen (HasHeard (Server i) parts.clock place p.bytes) parts.servers servers what
+  pub message_served : (place : ℕ) (p : Parcel) (i : ℕ) (bytes : List ℕ) (servers : List (ServerSeat D)) (what : Happened) → at_place parts.wire place ≡ Some p → p.head.to ≡ Server i → bytes ≡ p.bytes
+      → ServersHappened seen may_leave faults limit i (lines.Given place ∷ []) IsFallen (HasHeard (Server i) parts.clock place bytes) parts.servers servers what
       → Settles (Server i) (Some (lines.Given place)) what (record parts { servers = servers }) new result
       → Stepped seen may_leave faults limit w.script (λ (t : Turn). IsInput t (events.Deliver place)) w new result
-  message_served place p i servers what found to happened settled =
+  message_served place p i bytes servers what found to spelled happened settled =
       subst (λ (v : WorldState D). IsSafe limit v.script v → v.is_lost ≡ false → length v.history < most_entries → Stepped seen may_leave faults limit v.script (λ (t : Turn). IsInput t (events.Deliver place)) v new result) same
-      (λ safe going few. message_settles seen may_leave faults limit parts.script parts i place p servers what new result safe going few found to happened settled)
+      (λ safe going few. message_settles seen may_leave faults limit parts.script parts i place p servers what new result safe going few found to
+      (subst (λ (b : List ℕ). ServersHappened seen may_leave faults limit i (lines.Given place ∷ []) IsFallen (HasHeard (Server i) parts.clock place b) parts.servers servers what) spelled happened) settled)
       safe going few
 
   -- a client
-  pub message_heard : (place : ℕ) (p : Parcel) (n : ℕ) (clients : List ClientSeat) (what : Happened) → at_place parts.wire place ≡ Some p → p.head.to ≡ Client n
-      → ClientsHappened parts.script n (λ (seat : ClientSeat). seat.is_away ≡ true) (ClientHears n parts.clock place p.bytes) parts.clients clients what
+  pub message_heard : (place : ℕ) (p : Parcel) (n : ℕ) (bytes : List ℕ) (clients : List ClientSeat) (what : Happened) → at_place parts.wire place ≡ Some p → p.head.to ≡ Client n → bytes ≡ p.bytes
+      → ClientsHappened parts.script n (λ (seat : ClientSeat). seat.is_away ≡ true) (ClientHears n parts.clock place bytes) parts.clients clients what
       → Settles (Client n) (Some (lines.Given place)) what (record parts { clients = clients }) new result
       → Stepped seen may_leave faults limit w.script (λ (t : Turn). IsInput t (events.Deliver place)) w new result
-  message_heard place p n clients what found to happened settled =
+  message_heard place p n bytes clients what found to spelled happened settled =
       subst (λ (v : WorldState D). IsSafe limit v.script v → v.is_lost ≡ false → length v.history < most_entries → Stepped seen may_leave faults limit v.script (λ (t : Turn). IsInput t (events.Deliver place)) v new result) same
-      (λ safe going few. heard_settles seen may_leave faults limit parts.script parts n place p clients what new result safe going few found to happened settled)
+      (λ safe going few. heard_settles seen may_leave faults limit parts.script parts n place p clients what new result safe going few found to
+      (subst (λ (b : List ℕ). ClientsHappened parts.script n (λ (seat : ClientSeat). seat.is_away ≡ true) (ClientHears n parts.clock place b) parts.clients clients what) spelled happened) settled)
       safe going few
 
   -- no node was: nothing was sent there, or it is to the location database or to an administrator
-  pub nobody_heard : (place : ℕ) → at_place w.wire place ≡ None → NothingSettles w new result → Stepped seen may_leave faults limit w.script (λ (t : Turn). IsInput t (events.Deliver place)) w new result
+  pub nobody_heard : (place : ℕ) → at_place parts.wire place ≡ None → NothingSettles w new result → Stepped seen may_leave faults limit w.script (λ (t : Turn). IsInput t (events.Deliver place)) w new result
   nobody_heard place none settled =
-      skip_as seen may_leave faults limit w.script (λ (t : Turn). IsInput t (events.Deliver place)) w new result safe going few (λ tell t at. no_message seen may_leave faults limit w place t at none) settled
+      skip_as seen may_leave faults limit w.script (λ (t : Turn). IsInput t (events.Deliver place)) w new result safe going few (λ tell t at. no_message seen may_leave faults limit w place t at (subst (λ (v : WorldState D). at_place v.wire place ≡ None) same none)) settled
 
-  pub loc_heard : (place : ℕ) (p : Parcel) → at_place w.wire place ≡ Some p → p.head.to ≡ Loc → NothingSettles w new result → Stepped seen may_leave faults limit w.script (λ (t : Turn). IsInput t (events.Deliver place)) w new result
+  pub loc_heard : (place : ℕ) (p : Parcel) → at_place parts.wire place ≡ Some p → p.head.to ≡ Loc → NothingSettles w new result → Stepped seen may_leave faults limit w.script (λ (t : Turn). IsInput t (events.Deliver place)) w new result
   loc_heard place p found to settled =
-      skip_as seen may_leave faults limit w.script (λ (t : Turn). IsInput t (events.Deliver place)) w new result safe going few (λ tell t at. to_loc seen may_leave faults limit w place t p at found to) settled
+      skip_as seen may_leave faults limit w.script (λ (t : Turn). IsInput t (events.Deliver place)) w new result safe going few (λ tell t at. to_loc seen may_leave faults limit w place t p at (subst (λ (v : WorldState D). at_place v.wire place ≡ Some p) same found) to) settled
 
-  pub admin_heard : (place : ℕ) (p : Parcel) (k : ℕ) → at_place w.wire place ≡ Some p → p.head.to ≡ Admin k → NothingSettles w new result → Stepped seen may_leave faults limit w.script (λ (t : Turn). IsInput t (events.Deliver place)) w new result
+  pub admin_heard : (place : ℕ) (p : Parcel) (k : ℕ) → at_place parts.wire place ≡ Some p → p.head.to ≡ Admin k → NothingSettles w new result → Stepped seen may_leave faults limit w.script (λ (t : Turn). IsInput t (events.Deliver place)) w new result
   admin_heard place p k found to settled =
-      skip_as seen may_leave faults limit w.script (λ (t : Turn). IsInput t (events.Deliver place)) w new result safe going few (λ tell t at. to_admin seen may_leave faults limit w place t p k at found to) settled
+      skip_as seen may_leave faults limit w.script (λ (t : Turn). IsInput t (events.Deliver place)) w new result safe going few (λ tell t at. to_admin seen may_leave faults limit w place t p k at (subst (λ (v : WorldState D). at_place v.wire place ≡ Some p) same found) to) settled

@@ -8,10 +8,11 @@ ghost use Rattle.afs_rows.specs.Runs.{nothing};
 ghost use Rattle.afs_rows.specs.Runs as runs;
 ghost use Rattle.afs_schedule.specs.Schedules.{IsInput};
 ghost use Rattle.afs_cell.specs.Happening.{IsAsked, IsDue, IsGiven, NothingSettles, Settles};
-ghost use Rattle.afs_cell.specs.Noting.{Notes};
+ghost use Rattle.afs_cell.specs.Noting.{given_line, Notes};
 ghost use Rattle.afs_cell.specs.Steps.{Steps, Stepped};
 ghost use Rattle.afs_cell.specs.Worlds.{most_entries, most_ticks, AllTell, Counts, IsSafe, IsWorld};
 ghost use Rattle.afs_cell.specs.declared.faults.WorldFault.TheVariants as faults;
+ghost use Rattle.afs_cell.specs.declared.happening.Happened.TheVariants as happened;
 
 use crate::clients::ClientSeat;
 use crate::events::{Given, meaning_of};
@@ -21,7 +22,7 @@ use crate::happening::{ClientInput, Happened, ServerInput};
 use crate::places::Places;
 use crate::telling::{one_line, tell};
 use afs_disk::{Disk, Lent};
-use afs_history::lines::{Entry, Line};
+use afs_history::lines::{Entry, Line, Outs};
 use afs_history::scripts::{Event, Script};
 use afs_host::ServerSeat;
 use afs_num::histories::Actor;
@@ -32,6 +33,16 @@ use std::marker::Model;
 
 /// The most entries of a history.
 const MOST_ENTRIES: usize = 4_194_304;
+
+/// The line of a message that is given to a node, if there is one.
+fn given_line(place: Option<u64>) -> Option<Line>
+    ensures { result ≡ given_line place }
+{
+    match place {
+        Some(place) => Some(Line::Given { place }),
+        None => None,
+    }
+}
 
 /// The servers and the clients of a cell in order of number, all messages that were sent, the history so far and the clock.
 /// Where memory was wanting behind the step of a node, the cell is lost: it tells nothing any more, and its history is that from
@@ -85,28 +96,36 @@ impl<'a, D: Disk> World<'a, D> {
         self.note(Actor::Nobody, Line::Void)
     }
 
+    /// A step of this node is told, behind the message of this place if it was given one. The cell is lost where memory is
+    /// wanting for that.
+    fn told(&mut self, node: Node, place: Option<u64>, outs: Outs) -> Result<(), WorldFault>
+        ensures { Settles node (given_line place) (happened.Step outs) self.old self.new result }
+    {
+        match tell(
+            self.alloc,
+            &mut self.wire,
+            &mut self.history,
+            node,
+            given_line(place),
+            outs,
+        ) {
+            Ok(()) => Ok(()),
+            Err(_) => self.lose(),
+        }
+    }
+
     /// What happened at this node is told.
     fn settle(
         &mut self,
         node: Node,
-        front: Option<Line>,
+        place: Option<u64>,
         happened: Happened,
     ) -> Result<(), WorldFault>
-        ensures { Settles node front happened self.old self.new result }
+        ensures { Settles node (given_line place) happened self.old self.new result }
     {
         match happened {
             Happened::Nothing => self.skip(),
-            Happened::Step(outs) => match tell(
-                self.alloc,
-                &mut self.wire,
-                &mut self.history,
-                node,
-                front,
-                outs,
-            ) {
-                Ok(()) => Ok(()),
-                Err(_) => self.lose(),
-            },
+            Happened::Step(outs) => self.told(node, place, outs),
             Happened::Unchanged => Err(WorldFault::OutOfMemory),
             Happened::Lost => self.lose(),
         }
@@ -175,19 +194,29 @@ impl<'a, D: Disk> World<'a, D> {
             return self.skip();
         };
         let bytes = parcel.bytes.as_slice();
-        let front = Some(Line::Given { place });
         match parcel.head.to {
             Node::Server(server) => {
-                let happened =
-                    server_hears(self.alloc, &mut self.servers, server, bytes, self.clock);
-                self.settle(Node::Server(server), front, happened)
+                let happened = server_hears(
+                    self.alloc,
+                    &mut self.servers,
+                    server,
+                    bytes,
+                    self.clock,
+                );
+                self.settle(Node::Server(server), Some(place), happened)
             }
             Node::Client(client) => {
-                let happened =
-                    client_hears(&mut self.clients, self.script, client, bytes, self.clock);
-                self.settle(Node::Client(client), front, happened)
+                let happened = client_hears(
+                    &mut self.clients,
+                    self.script,
+                    client,
+                    bytes,
+                    self.clock,
+                );
+                self.settle(Node::Client(client), Some(place), happened)
             }
-            Node::Loc | Node::Admin(_) => self.skip(),
+            Node::Loc => self.skip(),
+            Node::Admin(_) => self.skip(),
         }
     }
 
@@ -228,6 +257,15 @@ impl<'a, D: Disk> World<'a, D> {
         }
     }
 
+    /// Whether the history is as long as one may be.
+    fn is_full(&self) -> bool
+        requires { length self.now.history ≤ most_entries }
+        ensures full { result ≡ true → length self.now.history ≡ most_entries }
+        ensures room { result ≡ false → length self.now.history < most_entries }
+    {
+        self.history.len() == MOST_ENTRIES
+    }
+
     /// Plays one event, which isn't a drain: its deliveries are events of their own. `Limit` where the history is as long as one
     /// may be.
     pub fn step(&mut self, event: &Event) -> Result<(), WorldFault>
@@ -246,7 +284,7 @@ impl<'a, D: Disk> World<'a, D> {
         if self.is_lost {
             return Err(WorldFault::OutOfMemory);
         }
-        if self.history.len() == MOST_ENTRIES {
+        if self.is_full() {
             return Err(WorldFault::Limit);
         }
         self.play_event(*event)
