@@ -103,17 +103,20 @@ pub record Caller : Type 0 where
   pub last : ℕ
   pub callee : Node
   pub boots : List KnownBoot
+  pub running : Option Going
 
 abbrev pub caller_at : ClientState → Caller
-caller_at c = record { epoch = c.epoch; last = c.last; callee = c.callee; boots = c.boots }
+caller_at c = record { epoch = c.epoch; last = c.last; callee = c.callee; boots = c.boots; running = c.running }
 
--- the call is the last one, to its callee
+-- the call is the last one, to its callee, for the act that runs
 pub record IsLastOf (j : ℕ) (c : Caller) (head : Head) : Type 0 where
   pub from : head.from ≡ Client j
   pub epoch : head.epoch ≡ c.epoch
   pub number : head.number ≡ c.last
   pub to : head.to ≡ c.callee
   pub boot : head.boot ≡ boot_of c.callee c.boots
+  pub act : Going
+  pub runs : c.running ≡ Some act
 
 -- the last call is the same, or is a later one
 abbrev pub GoesOn : Caller → Caller → Type 0
@@ -192,7 +195,7 @@ ends_tame : (K : Head → Type 0) (L : Head → Type 0) (N : Node → ℕ → Ty
 ends_tame K L N D j c cache front code k f = record { goes = inl (refl, (refl, refl)); sent = tt; answers = tt; notices = tt; kept = k; lines = (f (lines.Answer (Client j) code ∷ []) (refl, λ sent. refl)).0; given = (f (lines.Answer (Client j) code ∷ []) (refl, λ sent. refl)).1; boots = λ h. h }
 
 calls_tame : (K : Head → Type 0) (L : Head → Type 0) (N : Node → ℕ → Type 0) (D : Option ℕ) (j : ℕ) (c : ClientState) (act : Going) (front : List Line → List Line) → AreReplies K L c.seats → IsFront D front → Tame K L N D j (caller_at c) (calls_step (Client j) c act front)
-calls_tame K L N D j c act front k f = record { goes = inr (inr (refl, omega arith)); sent = (record { from = refl; epoch = refl; number = refl; to = refl; boot = refl }, tt); answers = (tt, tt); notices = (tt, tt); kept = k; lines = (f [] (refl, λ sent. refl)).0; given = (f [] (refl, λ sent. refl)).1; boots = λ h. h }
+calls_tame K L N D j c act front k f = record { goes = inr (inr (refl, omega arith)); sent = (record { from = refl; epoch = refl; number = refl; to = refl; boot = refl; act = act; runs = refl }, tt); answers = (tt, tt); notices = (tt, tt); kept = k; lines = (f [] (refl, λ sent. refl)).0; given = (f [] (refl, λ sent. refl)).1; boots = λ h. h }
 
 goes_tame : (K : Head → Type 0) (L : Head → Type 0) (N : Node → ℕ → Type 0) (D : Option ℕ) (j : ℕ) (c : ClientState) (front : List Line → List Line) (w : Walked) (need : Need) → AreReplies K L c.seats → IsFront D front → Tame K L N D j (caller_at c) (goes_by (Client j) c front w need)
 goes_tame K L N D j c front w (answers n) k f = ends_tame K L N D j c w.cache (λ ls. front (looked (Client j) w.looks ls)) _ k (λ ls h. f _ (looked_front (Client j) w.looks ls h))
@@ -321,20 +324,20 @@ told_boot N callee boot boots true q e own h =
 told_boot N callee boot boots false q e own h =
     subst (λ (o : Option KnownBoot). N q (boot_or_first o)) (sym (ap (λ (b : Bool). cond b (Some (record { server = callee; boot = boot })) (find (λ (k : KnownBoot). same_node k.server q) (filter (λ (k : KnownBoot). not (same_node k.server callee)) boots))) e ∙ kept_boot callee q boots e)) h
 
-counts_tame : (K : Head → Type 0) (L : Head → Type 0) (N : Node → ℕ → Type 0) (j : ℕ) (c : ClientState) (clock place : ℕ) (act : Going) (head : Head) (x : Carried) → AreReplies K L c.seats → OfNotice (N c.callee head.boot) x → Tame K L N (Some place) j (caller_at c) (counts (Client j) c clock place act head x)
-counts_tame K L N j c clock place act head (carried.Call user call) k n = ignores_tame K L N j c place k
-counts_tame K L N j c clock place act head (carried.Refusal code) k n = either_tame K L N (Some place) (is_spent c act) j (caller_at c) _ _ (again_tame K L N j c place act k) (refuses_tame K L N j c place act code k)
-counts_tame K L N j c clock place act head (carried.Reply (tell.File reply)) k n = either_tame K L N (Some place) (is_spent c act) j (caller_at c) _ _ (again_tame K L N j c place act k) (takes_tame K L N j c clock place act _ reply k)
-counts_tame K L N j c clock place act head (carried.Reply reply) k n = ignores_tame K L N j c place k
-counts_tame K L N j c clock place act head carried.Notice k n = record { goes = inl (refl, (refl, refl)); sent = (record { from = refl; epoch = refl; number = refl; to = refl; boot = refl }, tt); answers = (tt, tt); notices = (tt, tt); kept = k; lines = refl; given = λ sent. refl; boots = λ h q. told_boot N c.callee head.boot c.boots (same_node c.callee q) q refl n (h q) }
+counts_tame : (K : Head → Type 0) (L : Head → Type 0) (N : Node → ℕ → Type 0) (j : ℕ) (c : ClientState) (clock place : ℕ) (act : Going) (head : Head) (x : Carried) → c.running ≡ Some act → AreReplies K L c.seats → OfNotice (N c.callee head.boot) x → Tame K L N (Some place) j (caller_at c) (counts (Client j) c clock place act head x)
+counts_tame K L N j c clock place act head (carried.Call user call) r k n = ignores_tame K L N j c place k
+counts_tame K L N j c clock place act head (carried.Refusal code) r k n = either_tame K L N (Some place) (is_spent c act) j (caller_at c) _ _ (again_tame K L N j c place act k) (refuses_tame K L N j c place act code k)
+counts_tame K L N j c clock place act head (carried.Reply (tell.File reply)) r k n = either_tame K L N (Some place) (is_spent c act) j (caller_at c) _ _ (again_tame K L N j c place act k) (takes_tame K L N j c clock place act _ reply k)
+counts_tame K L N j c clock place act head (carried.Reply reply) r k n = ignores_tame K L N j c place k
+counts_tame K L N j c clock place act head carried.Notice r k n = record { goes = inl (refl, (refl, refl)); sent = (record { from = refl; epoch = refl; number = refl; to = refl; boot = refl; act = act; runs = r }, tt); answers = (tt, tt); notices = (tt, tt); kept = k; lines = refl; given = λ sent. refl; boots = λ h q. told_boot N c.callee head.boot c.boots (same_node c.callee q) q refl n (h q) }
 
-awaited_tame : (K : Head → Type 0) (L : Head → Type 0) (N : Node → ℕ → Type 0) (t : Bool) (j : ℕ) (c : ClientState) (clock place : ℕ) (act : Going) (head : Head) (x : Carried) → is_awaited c act head ≡ t → AreReplies K L c.seats → OfNotice (N head.from head.boot) x → Tame K L N (Some place) j (caller_at c) (cond t (counts (Client j) c clock place act head x) (ignores c place))
-awaited_tame K L N true j c clock place act head x e k n = counts_tame K L N j c clock place act head x k (subst (λ (q : Node). OfNotice (N q head.boot) x) (same_node-true head.from c.callee (both (same_node head.from c.callee) _ e).0) n)
-awaited_tame K L N false j c clock place act head x e k n = ignores_tame K L N j c place k
+awaited_tame : (K : Head → Type 0) (L : Head → Type 0) (N : Node → ℕ → Type 0) (t : Bool) (j : ℕ) (c : ClientState) (clock place : ℕ) (act : Going) (head : Head) (x : Carried) → is_awaited c act head ≡ t → c.running ≡ Some act → AreReplies K L c.seats → OfNotice (N head.from head.boot) x → Tame K L N (Some place) j (caller_at c) (cond t (counts (Client j) c clock place act head x) (ignores c place))
+awaited_tame K L N true j c clock place act head x e r k n = counts_tame K L N j c clock place act head x r k (subst (λ (q : Node). OfNotice (N q head.boot) x) (same_node-true head.from c.callee (both (same_node head.from c.callee) _ e).0) n)
+awaited_tame K L N false j c clock place act head x e r k n = ignores_tame K L N j c place k
 
-awaits_tame : (K : Head → Type 0) (L : Head → Type 0) (N : Node → ℕ → Type 0) (j : ℕ) (c : ClientState) (clock place : ℕ) (head : Head) (x : Carried) (o : Option Going) → AreReplies K L c.seats → OfNotice (N head.from head.boot) x → Tame K L N (Some place) j (caller_at c) (awaits (Client j) c clock place head x o)
-awaits_tame K L N j c clock place head x None k n = ignores_tame K L N j c place k
-awaits_tame K L N j c clock place head x (Some act) k n = awaited_tame K L N (is_awaited c act head) j c clock place act head x refl k n
+awaits_tame : (K : Head → Type 0) (L : Head → Type 0) (N : Node → ℕ → Type 0) (j : ℕ) (c : ClientState) (clock place : ℕ) (head : Head) (x : Carried) (o : Option Going) → c.running ≡ o → AreReplies K L c.seats → OfNotice (N head.from head.boot) x → Tame K L N (Some place) j (caller_at c) (awaits (Client j) c clock place head x o)
+awaits_tame K L N j c clock place head x None r k n = ignores_tame K L N j c place k
+awaits_tame K L N j c clock place head x (Some act) r k n = awaited_tame K L N (is_awaited c act head) j c clock place act head x refl r k n
 
 -- ---- calls to it
 
@@ -360,7 +363,7 @@ admits_tame K L N j c place head x (pairs.wrong_boot boot) k w told e = told_tam
 
 hears_tame : (K : Head → Type 0) (L : Head → Type 0) (N : Node → ℕ → Type 0) (j : ℕ) (c : ClientState) (clock place : ℕ) (head : Head) (x : Carried) → AreReplies K L c.seats → IsCallOf K c.epoch c.seats head x → L (boot_told c.epoch head).head → OfNotice (N head.from head.boot) x → Tame K L N (Some place) j (caller_at c) (hears (Client j) c clock place head x)
 hears_tame K L N j c clock place head (carried.Call user call) k w told n = admits_tame K L N j c place head (carried.Call user call) (admitted c.epoch c.seats head) k w told refl
-hears_tame K L N j c clock place head x k w told n = awaits_tame K L N j c clock place head x c.running k n
+hears_tame K L N j c clock place head x k w told n = awaits_tame K L N j c clock place head x c.running refl k n
 
 -- ---- its steps
 
@@ -376,9 +379,9 @@ pub begins_tame : (K : Head → Type 0) (L : Head → Type 0) (N : Node → ℕ 
 unfolding begin_row
 begins_tame K L N j c clock act k = first_tame K L N None j (record c { busy = 0 }) clock (λ ls. lines.Begin (Client j) act ∷ ls) (began c.table act) (next (began c.table act)) k (λ ls h. h)
 
-pub waits_tame : (K : Head → Type 0) (L : Head → Type 0) (N : Node → ℕ → Type 0) (j : ℕ) (c : ClientState) (act : Going) → AreReplies K L c.seats → Tame K L N None j (caller_at c) (timeout_row (Client j) c act)
-waits_tame K L N j c act k = either_tame K L N None (nat_lt c.tries 2) j (caller_at c) _ _
-    (record { goes = inl (refl, (refl, refl)); sent = (record { from = refl; epoch = refl; number = refl; to = refl; boot = refl }, tt); answers = (tt, tt); notices = (tt, tt); kept = k; lines = refl; given = λ sent. refl; boots = λ h. h })
+pub waits_tame : (K : Head → Type 0) (L : Head → Type 0) (N : Node → ℕ → Type 0) (j : ℕ) (c : ClientState) (act : Going) → c.running ≡ Some act → AreReplies K L c.seats → Tame K L N None j (caller_at c) (timeout_row (Client j) c act)
+waits_tame K L N j c act r k = either_tame K L N None (nat_lt c.tries 2) j (caller_at c) _ _
+    (record { goes = inl (refl, (refl, refl)); sent = (record { from = refl; epoch = refl; number = refl; to = refl; boot = refl; act = act; runs = r }, tt); answers = (tt, tt); notices = (tt, tt); kept = k; lines = refl; given = λ sent. refl; boots = λ h. h })
     (ends_tame K L N None j c _ (λ ls. timeout_line (Client j) c 3 ∷ dropped (Client j) (given_up_in (volume_changed (call_of c act)) c.cache) ls) dead_code k (λ ls h. dropped_front (Client j) (given_up_in (volume_changed (call_of c act)) c.cache) ls h))
 
 pub falls_tame : (K : Head → Type 0) (L : Head → Type 0) (N : Node → ℕ → Type 0) (j : ℕ) (c : ClientState) → ((q : Node) → N q 1) → Tame K L N None j (caller_at c) (record { state = reborn c; lines = lines.Crash (Client j) ∷ []; sent = [] })

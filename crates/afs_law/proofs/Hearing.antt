@@ -352,7 +352,7 @@ of_client_at (Server j) X Y w h = tt
 of_client_at (Admin j) X Y w h = tt
 of_client_at Loc X Y w h = tt
 
-call_is : (P Q : Head → Type 0) (boot : ℕ) (seats : List Seat) (head : Head) (x : Carried) → (IsCall x → (j : ℕ) → head.from ≡ Client j → Q head → admitted boot seats head ≡ pairs.runs → P (reply_head boot head)) → OfCall (ByClient (λ h user call. Q h)) head x → IsCallOf P boot seats head x
+pub call_is : (P Q : Head → Type 0) (boot : ℕ) (seats : List Seat) (head : Head) (x : Carried) → (IsCall x → (j : ℕ) → head.from ≡ Client j → Q head → admitted boot seats head ≡ pairs.runs → P (reply_head boot head)) → OfCall (ByClient (λ h user call. Q h)) head x → IsCallOf P boot seats head x
 call_is P Q boot seats head (carried.Call user (ask.File call)) w h = of_client_at head.from (Q head) (admitted boot seats head ≡ pairs.runs → P (reply_head boot head)) (w tt) h
 call_is P Q boot seats head (carried.Call user call) w h = absurd h
 call_is P Q boot seats head (carried.Refusal code) w h = tt
@@ -580,7 +580,7 @@ woken_hears c past i (Some fall) H up = void_hears c past H
 
 -- ---- a step of a client
 
-abbrev of_client_step : ℕ → Step ClientState → Entry
+abbrev pub of_client_step : ℕ → Step ClientState → Entry
 of_client_step n s = record { actor = actors.Node (Client n); lines = s.lines; sent = s.sent; volumes = [] }
 
 last_had : (hosts : ℕ → Host) (n : ℕ) (y : ClientState) (h : Head) → IsHad hosts y.callee (boot_of y.callee y.boots) → IsLastOf n (caller_at y) h → IsHad hosts h.to h.boot
@@ -609,22 +609,25 @@ client_hears c past n D s H t given =
     }
 
 -- what a client keeps, by what is told after the step
-kept_on : (c : Cell) (past : List Entry) (e : Entry) (n : ℕ) → HearsIn c past → AreReplies (IsRan (e ∷ past)) (IsNoted c.hosts) (c.clients n).seats
+pub kept_on : (c : Cell) (past : List Entry) (e : Entry) (n : ℕ) → HearsIn c past → AreReplies (IsRan (e ∷ past)) (IsNoted c.hosts) (c.clients n).seats
 kept_on c past e n H = replies_to (IsRan past) (IsRan (e ∷ past)) (IsNoted c.hosts) (IsNoted c.hosts) (ran_over e past) (λ x z. z) (c.clients n).seats (H.replies n)
 
 -- ---- every input
 
+-- what a client does with a message that it is given
+pub client_given : (c : Cell) (past : List Entry) (n p : ℕ) (m : Message) → HearsIn c past → m.head.to ≡ Client n → message_at c.sent p ≡ Some m
+    → Tame (IsRan (of_client_step n (client_row (Client n) (c.clients n) c.clock p (Whole m)) ∷ past)) (IsNoted c.hosts) (IsHad c.hosts) (Some p) n (caller_at (c.clients n)) (client_row (Client n) (c.clients n) c.clock p (Whole m))
+client_given c past n p m H to at =
+    let e : Entry = of_client_step n (client_row (Client n) (c.clients n) c.clock p (Whole m)) in
+    given_tame (IsRan (e ∷ past)) (IsNoted c.hosts) (IsHad c.hosts) n (c.clients n) c.clock p m (kept_on c past e n H)
+    (call_is (IsRan (e ∷ past)) (λ h. IsHad c.hosts h.to h.boot) (c.clients n).epoch (c.clients n).seats m.head m.carried (λ is j from q runs i z. absurd (no_server n i (sym to ∙ z))) (each_at (IfCall (λ y user call. IsHad c.hosts y.to y.boot)) c.sent p m at H.calls))
+    (λ i z. absurd (no_server n i (sym to ∙ z))) (each_at (λ y. OfNotice (IsNoted c.hosts y.head) y.carried) c.sent p m at H.notices)
+
 to_hears : (c : Cell) (past : List Entry) (p : ℕ) (luck : Luck) (m : Message) (to : Node) → HearsIn c past → m.head.to ≡ to → message_at c.sent p ≡ Some m → After past (given_to c p luck m to)
 to_hears c past p luck m (Server i) H to at = either_hears past (has_host c i) _ _ (received_hears c past i p luck m (c.hosts i).down H refl to at) (void_hears c past H)
 to_hears c past p luck m (Client n) H to at =
-    let s : Step ClientState = client_row (Client n) (c.clients n) c.clock p (Whole m) in
-    let e : Entry = of_client_step n s in
     either_hears past (is_away c n) _ _ (void_hears c past H)
-    (client_hears c past n (Some p) s H
-    (given_tame (IsRan (e ∷ past)) (IsNoted c.hosts) (IsHad c.hosts) n (c.clients n) c.clock p m (kept_on c past e n H)
-    (call_is (IsRan (e ∷ past)) (λ h. IsHad c.hosts h.to h.boot) (c.clients n).epoch (c.clients n).seats m.head m.carried (λ is j from q runs i z. absurd (no_server n i (sym to ∙ z))) (each_at (IfCall (λ y user call. IsHad c.hosts y.to y.boot)) c.sent p m at H.calls))
-    (λ i z. absurd (no_server n i (sym to ∙ z))) (each_at (λ y. OfNotice (IsNoted c.hosts y.head) y.carried) c.sent p m at H.notices))
-    (subst (GivenTo (Client n)) (sym (ap (λ (ms : List Message). message_at ms p) H.told ∙ at)) to))
+    (client_hears c past n (Some p) (client_row (Client n) (c.clients n) c.clock p (Whole m)) H (client_given c past n p m H to at) (subst (GivenTo (Client n)) (sym (ap (λ (ms : List Message). message_at ms p) H.told ∙ at)) to))
 to_hears c past p luck m Loc H to at = void_hears c past H
 to_hears c past p luck m (Admin n) H to at = void_hears c past H
 
@@ -636,19 +639,19 @@ begun_hears : (c : Cell) (past : List Entry) (n : ℕ) (act : Act) (g : Option G
 begun_hears c past n act None H = client_hears c past n None _ H (begins_tame _ (IsNoted c.hosts) (IsHad c.hosts) n (c.clients n) c.clock act (kept_on c past _ n H)) tt
 begun_hears c past n act (Some g) H = void_hears c past H
 
-waited_hears : (c : Cell) (past : List Entry) (n : ℕ) (g : Option Going) → HearsIn c past → After past (waited_by c n g)
-waited_hears c past n None H = void_hears c past H
-waited_hears c past n (Some act) H = client_hears c past n None _ H (waits_tame _ (IsNoted c.hosts) (IsHad c.hosts) n (c.clients n) act (kept_on c past _ n H)) tt
+waited_hears : (c : Cell) (past : List Entry) (n : ℕ) (g : Option Going) → (c.clients n).running ≡ g → HearsIn c past → After past (waited_by c n g)
+waited_hears c past n None e H = void_hears c past H
+waited_hears c past n (Some act) e H = client_hears c past n None _ H (waits_tame _ (IsNoted c.hosts) (IsHad c.hosts) n (c.clients n) act e (kept_on c past _ n H)) tt
 
 -- a client that begins again knows no boot number, and takes each server's to be the first
-first_had : (c : Cell) (past : List Entry) → HearsIn c past → (q : Node) → IsHad c.hosts q 1
+pub first_had : (c : Cell) (past : List Entry) → HearsIn c past → (q : Node) → IsHad c.hosts q 1
 first_had c past H q i e = H.first i
 
-moved_hears : (c : Cell) (past : List Entry) (x : Input) → HearsIn c past → After past (moved c x)
+pub moved_hears : (c : Cell) (past : List Entry) (x : Input) → HearsIn c past → After past (moved c x)
 unfolding moved
 moved_hears c past (begins n act) H = either_hears past (is_away c n) _ _ (void_hears c past H) (begun_hears c past n act (c.clients n).running H)
 moved_hears c past (gives p luck) H = at_hears c past p luck (message_at c.sent p) refl H
-moved_hears c past (waits n) H = either_hears past (is_away c n) _ _ (void_hears c past H) (waited_hears c past n (c.clients n).running H)
+moved_hears c past (waits n) H = either_hears past (is_away c n) _ _ (void_hears c past H) (waited_hears c past n (c.clients n).running refl H)
 moved_hears c past (ticks zero) H = void_hears c past H
 moved_hears c past (ticks (suc n)) H = still_hears c.clients c.hosts c.sent past (record { actor = actors.Clock; lines = lines.Tick (suc n) ∷ []; sent = []; volumes = [] }) H refl refl refl
 moved_hears c past (client_stops n) H = either_hears past (is_away c n) _ _ (void_hears c past H) (client_hears c past n None _ H (falls_tame _ (IsNoted c.hosts) (IsHad c.hosts) n (c.clients n) (first_had c past H)) tt)
@@ -679,7 +682,7 @@ first_standing (l ∷ ls) h = absurd h
 first_boots : (s : Script) → Boots (start s).hosts (set_up s ∷ [])
 first_boots s = still_boots (start s).hosts (set_up s) [] (first_standing (first_lines s.volumes) (all_versions s.volumes)) (record { now = λ j. refl; last = λ j. le_refl 1; risen = tt })
 
-first_hears : (s : Script) → HearsIn (start s) (set_up s ∷ [])
+pub first_hears : (s : Script) → HearsIn (start s) (set_up s ∷ [])
 first_hears s = record {
   told = refl;
   boots = first_boots s;

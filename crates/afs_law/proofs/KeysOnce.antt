@@ -408,9 +408,9 @@ begun_keeps : (c : Cell) (o : List Line) (n : ℕ) (act : Act) (g : Option Going
 begun_keeps c o n act None S = client_keeps c o n _ _ S (begins_tame (by_key (IsKnown S.callees c.clients)) any_told any_boot n (c.clients n) c.clock act (S.replies n))
 begun_keeps c o n act (Some g) S = nothing_keeps c o S
 
-waited_keeps : (c : Cell) (o : List Line) (n : ℕ) (g : Option Going) → StandsIn c o → Keeps o (waited_by c n g)
-waited_keeps c o n None S = nothing_keeps c o S
-waited_keeps c o n (Some act) S = client_keeps c o n _ _ S (waits_tame (by_key (IsKnown S.callees c.clients)) any_told any_boot n (c.clients n) act (S.replies n))
+waited_keeps : (c : Cell) (o : List Line) (n : ℕ) (g : Option Going) → (c.clients n).running ≡ g → StandsIn c o → Keeps o (waited_by c n g)
+waited_keeps c o n None e S = nothing_keeps c o S
+waited_keeps c o n (Some act) e S = client_keeps c o n _ _ S (waits_tame (by_key (IsKnown S.callees c.clients)) any_told any_boot n (c.clients n) act e (S.replies n))
 
 ticked_keeps : (c : Cell) (o : List Line) (n : ℕ) → StandsIn c o → Stands c.clients c.hosts c.sent (lines.Tick n ∷ o)
 ticked_keeps c o n S = record { callees = S.callees; own = S.own; calls = S.calls; answers = S.answers; replies = S.replies; sound = S.sound; held = S.held; falls = S.falls; ran = (tt, S.ran); once = S.once; stored = S.stored }
@@ -419,7 +419,7 @@ moved_keeps : (c : Cell) (o : List Line) (x : Input) → StandsIn c o → Keeps 
 unfolding moved
 moved_keeps c o (begins n act) S = either_keeps o (is_away c n) _ _ (nothing_keeps c o S) (begun_keeps c o n act (c.clients n).running S)
 moved_keeps c o (gives p luck) S = at_keeps c o p luck (message_at c.sent p) refl S
-moved_keeps c o (waits n) S = either_keeps o (is_away c n) _ _ (nothing_keeps c o S) (waited_keeps c o n (c.clients n).running S)
+moved_keeps c o (waits n) S = either_keeps o (is_away c n) _ _ (nothing_keeps c o S) (waited_keeps c o n (c.clients n).running refl S)
 moved_keeps c o (ticks zero) S = nothing_keeps c o S
 moved_keeps c o (ticks (suc n)) S = ticked_keeps c o (suc n) S
 moved_keeps c o (client_stops n) S = either_keeps o (is_away c n) _ _ (nothing_keeps c o S) (client_keeps c o n _ _ S (falls_tame (by_key (IsKnown S.callees c.clients)) any_told any_boot n (c.clients n) (λ q. tt)))

@@ -99,7 +99,7 @@ are_ran : (views : ℕ → View) (past : List Entry) (ms : List Message) → Eac
 are_ran views past [] h = tt
 are_ran views past (m ∷ ms) h = (λ i j is from to. ran_of views past j m.head m.carried is.1 to h.0, are_ran views past ms h.1)
 
-last_each : (P : Message → Type 0) (a b : List Message) → Each P (a ++ b) → Each P b
+pub last_each : (P : Message → Type 0) (a b : List Message) → Each P (a ++ b) → Each P b
 last_each P [] b h = h
 last_each P (m ∷ a) b h = last_each P a b h.1
 

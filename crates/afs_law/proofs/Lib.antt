@@ -43,6 +43,7 @@ pub mod KeysOnce
 pub mod Standing
 pub mod Hearing
 pub mod Members
+pub mod Dying
 pub mod Made
 pub mod Worked
 pub mod Wrong

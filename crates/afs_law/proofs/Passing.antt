@@ -623,7 +623,7 @@ changing_more k sent ms c = record { user = c.user; call = c.call; one = one_mor
 
 -- ---- an act has one changing call
 
-sent_either : (t x : Bool) → x ≡ true → cond t true x ≡ true
+pub sent_either : (t x : Bool) → x ≡ true → cond t true x ≡ true
 sent_either true x h = refl
 sent_either false x h = h
 
@@ -631,16 +631,16 @@ sent_more : (t x y : Bool) → cond t true x ≡ true → (x ≡ true → y ≡ 
 sent_more true x y h w = refl
 sent_more false x y h w = w h
 
-sent_right : (k : Key) (a b : List Message) → has_sent k b ≡ true → has_sent k (a ++ b) ≡ true
+pub sent_right : (k : Key) (a b : List Message) → has_sent k b ≡ true → has_sent k (a ++ b) ≡ true
 sent_right k [] b h = h
 sent_right k (m ∷ a) b h = sent_either (is_called k m.head m.carried) (has_sent k (a ++ b)) (sent_right k a b h)
 
-sent_left : (k : Key) (a b : List Message) → has_sent k a ≡ true → has_sent k (a ++ b) ≡ true
+pub sent_left : (k : Key) (a b : List Message) → has_sent k a ≡ true → has_sent k (a ++ b) ≡ true
 sent_left k [] b h = absurd cc
 sent_left k (m ∷ a) b h = sent_more (is_called k m.head m.carried) (has_sent k a) (has_sent k (a ++ b)) h (λ y. sent_left k a b y)
 
 -- a key of the act was sent
-was_sent : (n : Node) (k : Key) (past : List Entry) → is_sent_since n k past ≡ true → has_sent k (sent_of past) ≡ true
+pub was_sent : (n : Node) (k : Key) (past : List Entry) → is_sent_since n k past ≡ true → has_sent k (sent_of past) ≡ true
 was_sent n k [] h = absurd cc
 was_sent n k (e ∷ past) h = since_by (has_sent k e.sent) (has_begun n e.lines) (is_sent_since n k past) (has_sent k (sent_of past ++ e.sent) ≡ true) h (λ y. sent_right k (sent_of past) e.sent y) (λ y. sent_left k (sent_of past) e.sent (was_sent n k past y))
 

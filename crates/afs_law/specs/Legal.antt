@@ -459,6 +459,10 @@ abbrev pub IsOfServer : Actor → Node → Type 0
 IsOfServer who (Server i) = who ≡ actors.Node (Server i)
 IsOfServer who n = ⊥
 
+-- a step that times a call out is given no message, and begins no act
+abbrev pub IsTimed : Node → List Line → List Line → Type 0
+IsTimed c own next = ((has_given own ≡ false) × (has_begun c own ≡ false)) × ((has_given next ≡ false) × (has_begun c next ≡ false))
+
 -- An entry is given one message at most, and each line stands in an entry of its own node: a begin, a read, an answer, a drop in one of its client, a change, a grant, a
 -- break in one of its server, a tick in the clock's, and that nothing happened in nobody's
 abbrev pub IsGood : Script → Actor → Line → List Entry → List Line → List Line → Type 0
@@ -469,7 +473,7 @@ IsGood s who (lines.Change server k count) past own next = IsOfServer who server
 IsGood s who (lines.Version v) past own next = IsUnderChange own
 IsGood s who (lines.Read c f index source body) past own next = (IsOfClient who c × HasAct s c past own) × GoodReadBy s (is_promised body) c f index source body past own
 IsGood s who (lines.Answer c code) past own next = IsOfClient who c × GoodCode s c code past own
-IsGood s who (lines.Timeout c callee epoch number count) past own next = who ≡ actors.Node c
+IsGood s who (lines.Timeout c callee epoch number count) past own next = (who ≡ actors.Node c) × IsTimed c own next
 IsGood s who (lines.Tick n) past own next = who ≡ actors.Clock
 IsGood s who (lines.Stop n calls pick) past own next = IsOfServer who n
 IsGood s who (lines.Fail n call) past own next = IsOfServer who n
