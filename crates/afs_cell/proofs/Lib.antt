@@ -19,3 +19,5 @@ mod Clocks
 mod Parts
 mod Played
 mod Ticked
+mod Picked
+mod Shortened

@@ -6,3 +6,4 @@ pub mod Seating
 pub mod Ready
 pub mod Meaning
 pub mod Noting
+pub mod Picks
