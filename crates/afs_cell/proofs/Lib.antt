@@ -21,3 +21,9 @@ mod Played
 mod Ticked
 mod Picked
 mod Shortened
+mod NextEvents
+mod UnderWay
+mod FirstStores
+mod FirstSeated
+mod FirstWorlds
+mod GivenBack
