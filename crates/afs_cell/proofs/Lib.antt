@@ -19,3 +19,11 @@ mod Clocks
 mod Parts
 mod Played
 mod Ticked
+mod Picked
+mod Shortened
+mod NextEvents
+mod UnderWay
+mod FirstStores
+mod FirstSeated
+mod FirstWorlds
+mod GivenBack

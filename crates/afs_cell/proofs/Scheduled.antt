@@ -8,12 +8,9 @@ use Rattle.afs_history.specs.declared.scripts.Script.{Script}
 use Rattle.afs_model.specs.Messages.{messages_spelled, parcels_read}
 use Rattle.afs_rows.specs.Runs.{Input}
 use Rattle.afs_schedule.specs.Schedules.{events_of, first_turn, next_event, turned, waiting, AreFirst, AreInputs, IsInput, IsNext, Turn}
+use Rattle.afs_cell.specs.UnderWay.{SoFar}
 
--- these inputs lead to this turn, and these events are left: what they are is played behind them
-pub record SoFar (s : Script) (xs : List Input) (t : Turn) (es : List Event) : Type 0 where
-  pub all : (ys : List Input) → AreInputs t es ys → AreInputs (first_turn s) (events_of s) (xs ++ ys)
-  pub first : (ys : List Input) → AreFirst t es ys → AreFirst (first_turn s) (events_of s) (xs ++ ys)
-
+-- before any event
 pub none_yet : (s : Script) → SoFar s [] (first_turn s) (events_of s)
 none_yet s = record { all = λ ys h. h; first = λ ys h. h }
 

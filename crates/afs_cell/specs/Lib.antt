@@ -6,3 +6,8 @@ pub mod Seating
 pub mod Ready
 pub mod Meaning
 pub mod Noting
+pub mod Picks
+pub mod Ends
+pub mod UnderWay
+pub mod FirstSeats
+pub mod Refusing

@@ -3,11 +3,14 @@ use Rattle.std.specs.Prelude.{◌≡◌, ◌≤◌, ◌+◌, ◌⊎◌, ◌↔�
 use Rattle.afs_history.specs.declared.acts.Act.{Act}
 use Rattle.afs_history.specs.declared.scripts.Script.{Script}
 use Rattle.afs_disk.specs.declared.disks.Lent.{Lent}
-use Rattle.afs_rows.specs.Durable.{MayStandFor}
-use Rattle.afs_rows.specs.Runs.{moved, start, Cell, Input}
+use Rattle.afs_num.specs.declared.types.Node.{Node}
+use Rattle.afs_num.specs.declared.types.Node.TheVariants.{Server}
+use Rattle.afs_rows.specs.Runs.{begun_by_disk, moved, start, Cell, Fall, Input}
+use Rattle.afs_rows.specs.States.{ServerState}
+use Rattle.afs_server.specs.Seen.{lasting_of}
 use Rattle.afs_records.specs.Durable.{Durable}
 use Rattle.afs_records.specs.Stands.{Stands}
-use Rattle.afs_schedule.specs.Schedules.{events_of, first_turn, left_by, AreFirst, AreInputs, Turn}
+use Rattle.afs_schedule.specs.Schedules.{events_of, first_turn, left_by, acts_of, AreFirst, AreInputs, Turn}
 use Rattle.afs_cell.specs.Places.{Each}
 use Rattle.afs_text.specs.Telling.{told}
 use Rattle.afs_cell.specs.Worlds.{falls, most_entries, seat_disk, AllTell, Counts, IsCell, IsSafe, Runs, ServerSeat, WorldState}
@@ -31,6 +34,7 @@ pub record IsFirst {D : Type 0} (seen : D → Option (List ℕ)) (may_leave : D 
   pub wire : w.wire ≡ []
   pub clock : w.clock ≡ 0
   pub going : w.is_lost ≡ false
+  pub acts : Each (λ (n : ℕ) (seat : ClientSeat). acts_of n s.tasks ≡ seat.plan) w.clients
   pub cell : AllTell seen w.servers → IsCell seen may_leave limit w (start s)
 
 -- ---- one event
@@ -91,9 +95,18 @@ abbrev pub lent_from : {D : Type 0} → ℕ → List (ServerSeat D) → List (Le
 lent_from {D} i [] = []
 lent_from {D} i (s ∷ ss) = record { node = i; disk = seat_disk s } ∷ lent_from (i + 1) ss
 
--- each server's disk stands for a part for which the cell lets it stand, of the capacity that the disk has
+-- What is read from this part is what the server keeps after the interrupted step, while it is down.
+abbrev pub IsReadAfter : Node → ServerState → Option Fall → Durable → Type 0
+IsReadAfter me s None d = lasting_of d ≡ s.lasting
+IsReadAfter me s (Some fall) d = lasting_of d ≡ (begun_by_disk me s true fall).state.lasting
+
+-- A server reads from this part what it keeps in the cell; or, while it is down, what it keeps there after the interrupted step.
+abbrev pub MayBeRead : Cell → ℕ → Durable → Type 0
+MayBeRead c i d = (lasting_of d ≡ (c.hosts i).state.lasting) ⊎ IsReadAfter (Server i) (c.hosts i).state (c.hosts i).down d
+
+-- each server's disk stands for such a part, of the capacity that the disk has
 abbrev pub AreStanding : {D : Type 0} → (D → Option (List ℕ)) → (D → ℕ) → Cell → List (Lent D) → Type 0
-AreStanding {D} seen limit c lent = Each (λ (i : ℕ) (l : Lent D). (bytes : List ℕ) → seen l.disk ≡ Some bytes → (d : Durable) × (MayStandFor c i d × (Stands bytes d × (d.capacity ≡ limit l.disk)))) lent
+AreStanding {D} seen limit c lent = Each (λ (i : ℕ) (l : Lent D). (bytes : List ℕ) → seen l.disk ≡ Some bytes → (d : Durable) × (MayBeRead c i d × (Stands bytes d × (d.capacity ≡ limit l.disk)))) lent
 
 -- ---- a whole schedule
 

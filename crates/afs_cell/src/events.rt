@@ -1,8 +1,11 @@
 //! What an event gives to a node of the cell.
 
-ghost use Rattle.std.specs.Prelude.{◌≡◌};
+ghost use Rattle.std.specs.Prelude.{◌≡◌, ℕ};
+ghost use Rattle.afs_num.specs.declared.types.Node.TheVariants.{Server};
 ghost use Rattle.afs_history.specs.declared.scripts.Event.TheVariants as events;
 ghost use Rattle.afs_cell.specs.Meaning.{IsMeant};
+ghost use Rattle.afs_cell.specs.declared.events.Given.TheVariants as given;
+ghost use Rattle.afs_cell.specs.declared.happening.ServerInput.TheVariants as server;
 
 use crate::happening::{ClientInput, ServerInput};
 use afs_history::scripts::Event;
@@ -56,7 +59,8 @@ fn crash(node: Node) -> Given
 
 /// One with a disk crashes.
 fn crash_disk(node: Node, pick: u8) -> Given
-    ensures { IsMeant (events.CrashDisk node pick) result }
+    ensures meant { IsMeant (events.CrashDisk node pick) result }
+    ensures picked { (i : ℕ) → node ≡ Server i → result ≡ given.Server i (server.Crash pick) }
 {
     match node {
         Node::Server(server) => Given::Server(server, ServerInput::Crash(pick)),
@@ -105,7 +109,8 @@ fn fail(node: Node, call: u32) -> Given
 /// What this event gives. A drain is none: its deliveries are.
 pub fn meaning_of(event: Event) -> Given
     requires { event ≡ events.Drain → ⊥ }
-    ensures { IsMeant event result }
+    ensures meant { IsMeant event result }
+    ensures picked { (i pick : ℕ) → event ≡ events.CrashDisk (Server i) pick → result ≡ given.Server i (server.Crash pick) }
 {
     match event {
         Event::Act { node } => act(node),

@@ -5,6 +5,7 @@ ghost use Rattle.afs_num.specs.declared.types.Node.TheVariants.{Server};
 ghost use Rattle.afs_history.specs.declared.lines.Line.TheVariants as lines;
 ghost use Rattle.afs_grammar.specs.CellScripts.{IsCellScript};
 ghost use Rattle.afs_cell.specs.Happening.{ClientHears, ClientsHappened, ClientTakes, HasHeard, HasStep, IsDue, IsFallen, IsVoidClient, IsVoidServer, ServersHappened};
+ghost use Rattle.afs_cell.specs.Picks.{OneLeavesPick};
 ghost use Rattle.afs_cell.specs.Ready.{AllCanStep, AllReady};
 
 use crate::clients::ClientSeat;
@@ -49,7 +50,8 @@ pub fn server_takes<D: Disk>(
     requires clients { clients ≤ 16 }
     requires due { IsDue given }
     requires now { now ≤ 1000000000 }
-    ensures { ServersHappened D.seen D.may_leave D.faults D.limit server [] (IsVoidServer given) (HasStep (Server server) now clients given) servers.old.items servers.new.items result }
+    ensures happened { ServersHappened D.seen D.may_leave D.faults D.limit server [] (IsVoidServer given) (HasStep (Server server) now clients given) servers.old.items servers.new.items result }
+    ensures picked { OneLeavesPick D.seen D.left_by server result given servers.old.items servers.new.items }
 {
     let Some(seat) = servers.lift(server) else {
         return Happened::Nothing;

@@ -6,6 +6,7 @@ ghost use Rattle.afs_num.specs.declared.types.Node.TheVariants.{Server};
 ghost use Rattle.afs_history.specs.declared.lines.Line.TheVariants as lines;
 ghost use Rattle.afs_host.specs.declared.seats.Seat.TheVariants as seat;
 ghost use Rattle.afs_cell.specs.Happening.{CanStep, HasHeard, HasStep, IsDue, IsFallen, IsSeatOf, IsVoidServer, SeatGoes, SeatHappens, SeatKeeps};
+ghost use Rattle.afs_cell.specs.Picks.{LeavesPick};
 ghost use Rattle.afs_cell.specs.Worlds.{seat_disk};
 ghost use Rattle.afs_cell.specs.declared.happening.ServerInput.TheVariants as input;
 
@@ -87,6 +88,7 @@ fn crash<D: Disk>(
     ensures happens { SeatHappens D.seen D.may_leave D.faults D.limit server [] (IsVoidServer (input.Crash pick)) (HasStep (Server server) 0 0 (input.Crash pick)) (seat.Up running) result.0 result.1 }
     ensures goes { SeatGoes server (seat.Up running) result.0 result.1 }
     ensures keeps { SeatKeeps D.seen D.faults D.limit (seat.Up running) result.0 }
+    ensures picked { LeavesPick D.seen D.left_by result.1 (input.Crash pick) (seat.Up running) result.0 }
 {
     let node = Node::Server(server);
     match told_alone(alloc, Line::Crash { node }) {
@@ -158,6 +160,7 @@ fn take_up<D: Disk>(
     ensures happens { (count : ℕ) → SeatHappens D.seen D.may_leave D.faults D.limit server [] (IsVoidServer given) (HasStep (Server server) now count given) (seat.Up running) result.0 result.1 }
     ensures goes { SeatGoes server (seat.Up running) result.0 result.1 }
     ensures keeps { SeatKeeps D.seen D.faults D.limit (seat.Up running) result.0 }
+    ensures picked { LeavesPick D.seen D.left_by result.1 given (seat.Up running) result.0 }
 {
     match given {
         ServerInput::TimeOut(callee) => time_out(running, callee, now),
@@ -218,6 +221,7 @@ pub fn take<D: Disk>(
     ensures happens { SeatHappens D.seen D.may_leave D.faults D.limit server [] (IsVoidServer given) (HasStep (Server server) now clients given) seat result.0 result.1 }
     ensures goes { SeatGoes server seat result.0 result.1 }
     ensures keeps { SeatKeeps D.seen D.faults D.limit seat result.0 }
+    ensures picked { LeavesPick D.seen D.left_by result.1 given seat result.0 }
 {
     match seat {
         Seat::Up(running) => take_up(alloc, running, server, now, given),

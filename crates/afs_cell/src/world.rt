@@ -1,6 +1,7 @@
 //! The cell: its nodes, the messages under way, and what is told of its run.
 
 ghost use Rattle.std.specs.Prelude.{◌≡◌, ◌≤◌, ◌<◌, ◌+◌, ◌↔◌, [], None, Some, Ok, Err, false, true, length, ℕ};
+ghost use Rattle.afs_num.specs.declared.types.Node.TheVariants.{Server};
 ghost use Rattle.afs_history.specs.declared.scripts.Event.TheVariants as events;
 ghost use Rattle.afs_grammar.specs.CellScripts.{counts_of, FitsEvent};
 ghost use Rattle.afs_grammar.specs.Lines.{ticks_of};
@@ -9,10 +10,12 @@ ghost use Rattle.afs_rows.specs.Runs as runs;
 ghost use Rattle.afs_schedule.specs.Schedules.{IsInput};
 ghost use Rattle.afs_cell.specs.Happening.{IsAsked, IsDue, IsGiven, NothingSettles, Settles};
 ghost use Rattle.afs_cell.specs.Noting.{given_line, Notes};
+ghost use Rattle.afs_cell.specs.Picks.{IsPicked};
 ghost use Rattle.afs_cell.specs.Steps.{Steps, Stepped};
 ghost use Rattle.afs_cell.specs.Worlds.{most_entries, most_ticks, AllTell, Counts, IsSafe, IsWorld};
 ghost use Rattle.afs_cell.specs.declared.faults.WorldFault.TheVariants as faults;
 ghost use Rattle.afs_cell.specs.declared.happening.Happened.TheVariants as happened;
+ghost use Rattle.afs_cell.specs.declared.happening.ServerInput.TheVariants as input;
 
 use crate::clients::ClientSeat;
 use crate::events::{Given, meaning_of};
@@ -150,6 +153,7 @@ impl<'a, D: Disk> World<'a, D> {
         requires due { IsDue given }
         ensures stepped { Stepped D.seen D.may_leave D.faults D.limit self.old.script (λ t. IsGiven server given) self.old self.new result }
         ensures clock { self.new.clock ≡ self.old.clock }
+        ensures picked { (pick : ℕ) → given ≡ input.Crash pick → IsPicked D.seen D.left_by server pick self.old.servers self.new.servers result }
     {
         let happened = server_takes(
             self.alloc,
@@ -247,6 +251,7 @@ impl<'a, D: Disk> World<'a, D> {
         requires ticks { self.old.clock + ticks_of event ≤ most_ticks }
         ensures stepped { Stepped D.seen D.may_leave D.faults D.limit self.old.script (λ t. IsInput t event) self.old self.new result }
         ensures clock { self.new.clock ≤ self.old.clock + ticks_of event }
+        ensures picked { (i pick : ℕ) → event ≡ events.CrashDisk (Server i) pick → IsPicked D.seen D.left_by i pick self.old.servers self.new.servers result }
     {
         match meaning_of(event) {
             Given::Nothing => self.skip(),
@@ -280,6 +285,7 @@ impl<'a, D: Disk> World<'a, D> {
         ensures clock { self.new.clock ≤ self.old.clock + ticks_of event.now }
         ensures lost { self.old.is_lost ≡ true → (result ≡ Err faults.OutOfMemory) × (self.new ≡ self.old) }
         ensures full { self.old.is_lost ≡ false → length self.old.history ≡ most_entries → (result ≡ Err faults.Limit) × (self.new ≡ self.old) }
+        ensures picked { (i pick : ℕ) → event.now ≡ events.CrashDisk (Server i) pick → IsPicked D.seen D.left_by i pick self.old.servers self.new.servers result }
     {
         if self.is_lost {
             return Err(WorldFault::OutOfMemory);
