@@ -3,3 +3,4 @@ pub mod FinalText
 pub mod HistoryText
 pub mod RunText
 pub mod Telling
+pub mod KeptText

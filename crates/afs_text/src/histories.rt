@@ -1,14 +1,14 @@
 //! The history of a run whose clients take every act: its entries, each with its lines and the messages that it sent.
 
-ghost use Rattle.std.specs.Prelude.{◌≡◌, ◌+◌, ◌<◌, ◌≤◌, ◌^◌, ◌++◌, [], length};
+ghost use Rattle.std.specs.Prelude.{◌≡◌, ◌+◌, ◌<◌, ◌≤◌, ◌^◌, ◌++◌, length};
 ghost use Rattle.afs_outside.specs.Outside.{Puts};
 ghost use Rattle.afs_model.specs.Text.{step_text};
-ghost use Rattle.afs_text.specs.HistoryText.{entry_text, history_text};
+ghost use Rattle.afs_text.specs.KeptText.{kept_entry_text, kept_history_text, parcels_text};
 ghost use Rattle.afs_text.specs.RunText.{lines_text};
-ghost use Rattle.afs_text.specs.Telling.{messages_of, AreRead, told, sent_by};
+ghost use Rattle.afs_text.specs.Telling.{sent_by};
 
 use crate::pieces::{Each, Print};
-use crate::printing::{Step, put_parcels};
+use crate::printing::{Step, put_parcel};
 use afs_history::lines::Entry;
 use afs_num::types::Parcel;
 use afs_outside::outside::{Failed, Sink};
@@ -25,9 +25,25 @@ fn put_lines<K: Sink>(sink: &mut K, number: u64, entry: &Entry) -> Result<(), Fa
     row!(step, Each(entry.lines.as_slice())).print(sink)
 }
 
-/// Writes an entry of this number, which sent these parcels, from this place on; with the bytes of each message where
-/// `wire` asks for them.
-#[tactic(auto, unfolding(crate::specs::HistoryText::entry_text))]
+/// Writes the lines of these parcels, the first of which has this place.
+fn put_sent<K: Sink>(
+    sink: &mut K,
+    first_place: u64,
+    sent: &[Parcel],
+    wire: bool,
+) -> Result<(), Failed>
+    requires places { first_place + length sent.now ≤ 2 ^ 64 }
+    ensures { Puts (parcels_text wire first_place sent.now) (K.held sink.old) (K.held sink.new) (K.faults sink.old) (K.faults sink.new) result }
+{
+    for (i, parcel) in sent.iter().enumerate() {
+        put_parcel(sink, first_place + i as u64, parcel, wire)?;
+    }
+    Ok(())
+}
+
+/// Writes an entry of this number, which sent these parcels, from this place on; with the bytes of each where `wire` asks for
+/// them.
+#[tactic(auto, unfolding(crate::specs::KeptText::kept_entry_text))]
 pub fn print_entry<K: Sink>(
     sink: &mut K,
     entry: &Entry,
@@ -36,26 +52,24 @@ pub fn print_entry<K: Sink>(
     first_place: u64,
     wire: bool,
 ) -> Result<(), Failed>
-    requires read { AreRead sent.now }
     requires places { first_place + length sent.now ≤ 2 ^ 64 }
-    ensures { Puts (entry_text wire number first_place (record { actor = entry.now.actor; lines = entry.now.lines; sent = messages_of sent.now; volumes = [] })) (K.held sink.old) (K.held sink.new) (K.faults sink.old) (K.faults sink.new) result }
+    ensures { Puts (kept_entry_text wire number first_place sent.now entry.now) (K.held sink.old) (K.held sink.new) (K.faults sink.old) (K.faults sink.new) result }
 {
     put_lines(sink, number, entry)?;
-    put_parcels(sink, first_place, sent, wire)
+    put_sent(sink, first_place, sent, wire)
 }
 
 /// Writes the history that these entries tell with these parcels. It takes no memory.
-#[tactic(auto, unfolding(crate::specs::HistoryText::history_text))]
+#[tactic(auto, unfolding(crate::specs::KeptText::kept_history_text))]
 pub fn put_history<K: Sink>(
     sink: &mut K,
     parcels: &[Parcel],
     history: &[Entry],
     wire: bool,
 ) -> Result<(), Failed>
-    requires read { AreRead parcels.now }
     requires all { sent_by history.now ≡ length parcels.now }
     requires places { length parcels.now < 2 ^ 63 }
-    ensures { Puts (history_text wire (told parcels.now history.now)) (K.held sink.old) (K.held sink.new) (K.faults sink.old) (K.faults sink.new) result }
+    ensures { Puts (kept_history_text wire parcels.now history.now) (K.held sink.old) (K.held sink.new) (K.faults sink.old) (K.faults sink.new) result }
 {
     let mut place = 1u64;
     let mut left = parcels;

@@ -105,7 +105,12 @@ impl<'a> Print for Tail<'a> {
 }
 
 #[tactic(auto, unfolding(afs_model::specs::Text::sent_text))]
-fn put_parcel<K: Sink>(sink: &mut K, place: u64, parcel: &Parcel, wire: bool) -> Result<(), Failed>
+pub(crate) fn put_parcel<K: Sink>(
+    sink: &mut K,
+    place: u64,
+    parcel: &Parcel,
+    wire: bool,
+) -> Result<(), Failed>
     ensures { Puts (sent_text wire place parcel.now.head (code_at parcel.now.bytes) parcel.now.bytes) (K.held sink.old) (K.held sink.new) (K.faults sink.old) (K.faults sink.new) result }
 {
     let bytes = parcel.bytes.as_slice();

@@ -1,3 +1,5 @@
 pub mod Forms
+pub mod Outside
+pub mod Parts
 pub mod Statuses
 pub mod Top

@@ -15,7 +15,9 @@ status_number statuses.Usage = 2
 status_number (statuses.Script line reason) = 3
 status_number statuses.ReadFault = 4
 status_number statuses.WriteFault = 5
+status_number statuses.BankFault = 6
 status_number statuses.OutOfMemory = 7
+status_number statuses.Limit = 8
 
 abbrev pub reason_word : Reason → List ℕ
 reason_word reasons.Word = codes "Word"
@@ -31,18 +33,14 @@ reason_word reasons.Missing = codes "Missing"
 -- the line on standard error; there is none where all is done
 abbrev pub status_line : Status → List ℕ
 status_line statuses.Done = []
-status_line statuses.Usage = codes "usage: afscell replay [--wire]\n"
+status_line statuses.Usage = codes "usage: afscell replay [--wire] [--disks DIR]\n"
 status_line (statuses.Script line reason) = codes "script: line " ++ (decimal line ++ (codes ": " ++ (reason_word reason ++ codes "\n")))
 status_line statuses.ReadFault = codes "read fault\n"
 status_line statuses.WriteFault = codes "write fault\n"
+status_line statuses.BankFault = codes "disk fault\n"
 status_line statuses.OutOfMemory = codes "out of memory\n"
+status_line statuses.Limit = codes "limit\n"
 
 -- the line of a status was written, or where the sink failed, a beginning of it
 abbrev pub Shows : Status → Option (List ℕ) → Option (List ℕ) → ℕ → ℕ → Type 0
 Shows status old new before after = (taken : Result (Unit {0}) Failed) × Puts (status_line status) old new before after taken
-
--- where the source told what it had, a script is refused by a line and a reason of that input
-abbrev pub Refuses : (ℕ → Reason → List ℕ → Type 0) → Status → Option (List ℕ) → Type 0
-Refuses IsBad (statuses.Script line reason) (Some input) = IsBad line reason input
-Refuses IsBad (statuses.Script line reason) None = Unit {0}
-Refuses IsBad status left = Unit {0}

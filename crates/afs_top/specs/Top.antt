@@ -1,80 +1,237 @@
--- What the program promises: what it writes is the text of a legal history of the script that it read.
-use Rattle.std.specs.Prelude.{◌≡◌, ◌<◌, ◌^◌, ℕ, List, ◌++◌, length, Bool, Result, Ok, Err}
+-- What the program promises: what it writes is the text of a legal history of the script that it read, and the disks that it
+-- gives back stand for what that history leaves.
+use Rattle.std.specs.Prelude.{◌≡◌, ◌≤◌, ◌⊎◌, ℕ, ◌+◌, List, [], ◌∷◌, ◌++◌, length, Bool, Option, Some, None, Result, Ok, Err, map}
+use Rattle.std.specs.Option.{option_map}
+use Rattle.std.specs.Io.KnownBytes.{Appends, IsAtEnd}
 use Rattle.afs_num.specs.declared.scripts.Reason.{Reason}
-use Rattle.afs_num.specs.declared.scripts.Script.{Script}
-use Rattle.afs_model.specs.Runs.{Entry, Cell, RunsTo, start}
-use Rattle.afs_model.specs.Acts.{Acts, events_of}
-use Rattle.afs_model.specs.Playing.{entries_of, cell_after, all_acts}
-use Rattle.afs_model.specs.Telling.{AreRead, told, sent_by}
-use Rattle.afs_world.specs.Worlds.{WorldState}
-use Rattle.afs_model.specs.Legal.{Legal}
-use Rattle.afs_model.specs.Script.{script_of}
-use Rattle.afs_model.specs.Text as texts
-use Rattle.afs_top.specs.declared.cell.Refusal.{Refusal}
-use Rattle.afs_top.specs.declared.cell.Refusal.TheVariants as refusals
-use Rattle.afs_top.specs.Forms.{Asks}
+use Rattle.afs_history.specs.declared.scripts.Script.{Script}
+use Rattle.afs_disk.specs.declared.bank.Lend.{Lend}
+use Rattle.afs_disk.specs.declared.bank.Place.{Place}
+use Rattle.afs_disk.specs.declared.disks.Lent.{Lent}
+use Rattle.afs_grammar.specs.Lines.{script_of}
+use Rattle.afs_law.specs.Legal.{Legal}
+use Rattle.afs_outside.specs.Outside.{AppendsFront, HadAll}
+use Rattle.afs_records.specs.Durable.{Durable}
+use Rattle.afs_records.specs.Stands.{Stands}
+use Rattle.afs_rows.specs.Runs.{Cell, Entry}
+use Rattle.afs_text.specs.HistoryText.{history_text, text}
+use Rattle.afs_schedule.specs.Schedules.{IsHistoryOf, IsHistoryOfFirst}
+use Rattle.afs_cell.specs.Ends.{AreLeft}
+use Rattle.afs_cell.specs.Steps.{MayBeRead}
+use Rattle.afs_cell.specs.Worlds.{most_entries, own_falls}
+use Rattle.afs_lending.specs.Lending.{lends, AreUnused, GivesBackSome, LendsSome}
+use Rattle.afs_top.specs.Forms.{Asks, HaveForm}
+use Rattle.afs_top.specs.Outside.{IsUnchanged, Outside, RoseBy, Span}
 use Rattle.afs_top.specs.declared.statuses.Form.TheVariants.{Replay}
 use Rattle.afs_top.specs.declared.statuses.Status.{Status}
 use Rattle.afs_top.specs.declared.statuses.Status.TheVariants as statuses
 
--- a history of this script: a run of the cell, whose entries are the script's events and whose acts are the script's,
--- and which is legal; and the text that tells of it, with the bytes of each message or without
-pub record IsTextOf (script : Script) (wire : Bool) (text : List ℕ) : Type 0 where
+-- how far the grammar is built: disks that stop, every act on paths, several clients and breaks, at one server
+abbrev pub level : ℕ
+level = 6
+
+-- ---- disks
+
+-- At this end of a history the disks of the servers, from this number on, may keep these: from each a server reads the durable part of
+-- its server in the cell, and of one that is down the part before the step that was interrupted, or after it.
+abbrev pub MayKeep : Cell → ℕ → List Durable → Type 0
+MayKeep end i [] = i ≡ end.host_count + 1
+MayKeep end i (d ∷ ds) = MayBeRead end i d × MayKeep end (i + 1) ds
+
+-- the first of these disks is that of this server and stands for this, and of the others this is so
+abbrev pub FirstIsKept : ℕ → Durable → List (ℕ × List ℕ) → (List (ℕ × List ℕ) → Type 0) → Type 0
+FirstIsKept i d [] rest = ⊥
+FirstIsKept i d (disk ∷ disks) rest = ((disk.0 ≡ i) × Stands disk.1 d) × rest disks
+
+-- These disks, each by its node and its bytes, stand for what is kept at the servers from this number on, in order. One may be wanting
+-- only with this excuse.
+abbrev pub AreKept : Type 0 → ℕ → List Durable → List (ℕ × List ℕ) → Type 0
+AreKept excuse i [] disks = disks ≡ []
+AreKept excuse i (d ∷ ds) disks = FirstIsKept i d disks (λ rest. AreKept excuse (i + 1) ds rest) ⊎ (excuse × AreKept excuse (i + 1) ds disks)
+
+-- those are the disks that the bank was given back, where it tells them
+abbrev pub GivesBack : Type 0 → List Durable → Option (List (ℕ × List ℕ)) → Option (List (ℕ × List ℕ)) → Type 0
+GivesBack excuse kept None after = Unit {0}
+GivesBack excuse kept (Some before) after = (disks : List (ℕ × List ℕ)) × ((after ≡ Some (before ++ disks)) × AreKept excuse 1 kept disks)
+
+-- one disk for each server of the script, in order of number, with the script's capacity
+abbrev pub lends_of : Script → Place → List Lend
+lends_of s place = lends place s.capacity 1 s.servers
+
+-- the first of them were lent, or all
+abbrev pub LendsFirst : Script → Place → Outside → Type 0
+LendsFirst s place o = LendsSome (lends_of s place) o.lends.before o.lends.after
+
+-- all of them were lent, and nothing else
+abbrev pub LendsAll : Script → Place → Outside → Type 0
+LendsAll s place o = o.lends.after ≡ option_map (λ ls. ls ++ lends_of s place) o.lends.before
+
+-- ---- histories
+
+-- A history of the script, played to its end. Its entries are the events of the schedule, one for one, with each drain as its
+-- deliveries. There are no more of them than a history may have. Disks failed by themselves in it no more often than is counted in the
+-- call. It is legal. And at its end the servers' disks may keep these.
+pub record IsPlayed (s : Script) (disk_faults : Span ℕ) (history : List Entry) (kept : List Durable) : Type 0 where
+  pub end : Cell
+  pub is : IsHistoryOf s history end
+  pub few : length history ≤ most_entries
+  pub failures : RoseBy (own_falls is.inputs) disk_faults
+  pub legal : Legal history s
+  pub keep : MayKeep end 1 kept
+
+-- The same of the first events, where there are as many as a history may have, and one is left.
+pub record IsPlayedFirst (s : Script) (disk_faults : Span ℕ) (history : List Entry) (kept : List Durable) : Type 0 where
+  pub end : Cell
+  pub is : IsHistoryOfFirst s history end
+  pub full : length history ≡ most_entries
+  pub failures : RoseBy (own_falls is.inputs) disk_faults
+  pub legal : Legal history s
+  pub keep : MayKeep end 1 kept
+
+-- The script was played to its end. What was written is the text of its history with what the disks keep, all of it or a beginning;
+-- and the disks that were given back stand for just that.
+pub record Replays (s : Script) (wire : Bool) (Writes : List ℕ → Type 0) (excuse : Type 0) (o : Outside) : Type 0 where
+  pub history : List Entry
+  pub kept : List Durable
+  pub played : IsPlayed s o.disk_faults history kept
+  pub written : Writes (text wire history kept)
+  pub given : GivesBack excuse kept o.given.before o.given.after
+
+-- The first events were played. A beginning was written of the text of their history, in which nothing of the final part stands; and
+-- the disks that were given back stand for what it leaves.
+pub record ReplaysFirst (s : Script) (wire : Bool) (excuse : Type 0) (o : Outside) : Type 0 where
+  pub history : List Entry
+  pub kept : List Durable
+  pub played : IsPlayedFirst s o.disk_faults history kept
+  pub written : AppendsFront o.sink.before o.sink.after (history_text wire history)
+  pub given : GivesBack excuse kept o.given.before o.given.after
+
+-- All events of the script were played, and a disk failed once more than in these by itself.
+pub record FailsBehind (s : Script) (disk_faults : Span ℕ) : Type 0 where
   pub history : List Entry
   pub end : Cell
-  pub run : RunsTo history script end
-  pub acts : Acts history script
-  pub legal : Legal history script
-  pub text_is : text ≡ texts.text wire script history end
+  pub is : IsHistoryOf s history end
+  pub few : length history ≤ most_entries
+  pub rose : RoseBy (own_falls is.inputs + 1) disk_faults
 
--- the input is a script, and the text is that of a history of it
-pub record IsReplay (wire : Bool) (input text : List ℕ) : Type 0 where
-  pub script : Script
-  pub read : script_of input ≡ Ok script
-  pub text_of : IsTextOf script wire text
+-- What comes back of disks that were lent and set up, but not played. No disk had failed when it was lent. Where it told its bytes, and
+-- there were none, it comes back with the record of the script's set-up, or with none. A bank need not lend empty disks.
+pub record SetUpLeaves {D : Type 0} (seen : D → Option (List ℕ)) (may_leave : D → List ℕ → Type 0) (faults : D → ℕ) (s : Script) (o : Outside) : Type 0 where
+  pub lent : List (Lent D)
+  pub unused : AreUnused faults lent
+  pub back : List (Lent D)
+  pub left : AreLeft seen may_leave s 1 lent back
+  pub given : GivesBackSome seen back o.given.before o.given.after
 
--- the words ask for a replay, and the text is that of the input, with the bytes of messages exactly where they ask for them
-pub record IsAnswer (words : List (List ℕ)) (input text : List ℕ) : Type 0 where
-  pub wire : Bool
-  pub asked : Asks (Replay wire) words
-  pub replay : IsReplay wire input text
+-- ---- how the replay of a script ends, over disks that tell what they hold or not
+
+-- all is done: the whole text was written, and each disk given back
+abbrev pub AtDone : Script → Bool → Type 0 → Outside → Type 0
+AtDone s wire tells o = tells → Replays s wire (Appends o.sink.before o.sink.after) ⊥ o
+
+-- the sink failed: a beginning of the text was written; a disk is kept from the bank only where that failed too
+pub record AtWriteFault (s : Script) (wire : Bool) (tells : Type 0) (o : Outside) : Type 0 where
+  pub rose : RoseBy 1 o.sink_faults
+  pub told : tells → Replays s wire (AppendsFront o.sink.before o.sink.after) (RoseBy 1 o.bank_faults) o
+
+-- a history was full before the last event
+abbrev pub AtLimit : Script → Bool → Type 0 → Outside → Type 0
+AtLimit s wire tells o = tells → ReplaysFirst s wire (RoseBy 1 o.bank_faults) o
+
+-- a disk wasn't lent
+pub record LendingFails (o : Outside) : Type 0 where
+  pub rose : RoseBy 1 o.bank_faults
+  pub written : IsUnchanged o.sink
+
+-- a disk failed while it was set up, before the first event: what that leaves comes back
+pub record SettingUpFails (left : Type 0) (o : Outside) : Type 0 where
+  pub rose : RoseBy 1 o.disk_faults
+  pub written : IsUnchanged o.sink
+  pub only_set_up : left
+
+-- a disk failed while it was read for the final part, behind the last event
+pub record ReadingFails (s : Script) (tells : Type 0) (o : Outside) : Type 0 where
+  pub rose : RoseBy 1 o.disk_faults
+  pub written : IsUnchanged o.sink
+  pub told : tells → FailsBehind s o.disk_faults
+
+-- a disk wasn't taken back: all else is done
+pub record ReturningFails (s : Script) (wire : Bool) (tells : Type 0) (o : Outside) : Type 0 where
+  pub rose : RoseBy 1 o.bank_faults
+  pub told : tells → Replays s wire (Appends o.sink.before o.sink.after) (RoseBy 1 o.bank_faults) o
+
+-- The bank failed, or a disk. One that fails in between, in an event of the run, is none of these.
+abbrev pub AtBankFault : Script → Bool → Type 0 → Type 0 → Outside → Type 0
+AtBankFault s wire tells left o = LendingFails o ⊎ (SettingUpFails left o ⊎ (ReadingFails s tells o ⊎ ReturningFails s wire tells o))
+
+-- by its status, whatever was lent; no other comes of a replay
+abbrev pub EndsRun : Script → Bool → Type 0 → Type 0 → Outside → Status → Type 0
+EndsRun s wire tells left o statuses.Done = AtDone s wire tells o
+EndsRun s wire tells left o statuses.WriteFault = AtWriteFault s wire tells o
+EndsRun s wire tells left o statuses.BankFault = AtBankFault s wire tells left o
+EndsRun s wire tells left o statuses.OutOfMemory = IsUnchanged o.sink
+EndsRun s wire tells left o statuses.Limit = AtLimit s wire tells o
+EndsRun s wire tells left o status = ⊥
+
+-- All of the script's disks were lent where its replay came so far that a text was written; else the first of them, however many.
+abbrev pub Lends : Script → Place → Outside → Status → Type 0
+Lends s place o statuses.Done = LendsAll s place o
+Lends s place o statuses.WriteFault = LendsAll s place o
+Lends s place o statuses.Limit = LendsAll s place o
+Lends s place o status = LendsFirst s place o
+
+-- over disks at this place
+pub record EndsReplay (s : Script) (wire : Bool) (place : Place) (tells left : Type 0) (o : Outside) (status : Status) : Type 0 where
+  pub lent : Lends s place o status
+  pub run : EndsRun s wire tells left o status
+
+-- ---- how a call of the program ends
 
 -- the input is a script
 abbrev pub IsScript : List ℕ → Type 0
-IsScript input = (script : Script) × (script_of input ≡ Ok script)
+IsScript input = (script : Script) × (script_of level input ≡ Ok script)
 
--- the first bad line of the input, and its reason
+-- the input is none: this is its first bad line, and the reason
 abbrev pub IsBad : ℕ → Reason → List ℕ → Type 0
-IsBad line reason input = script_of input ≡ Err (line, reason)
+IsBad line reason input = script_of level input ≡ Err (line, reason)
 
-abbrev pub IsScriptStatus : Status → Type 0
-IsScriptStatus (statuses.Script line reason) = Unit {0}
-IsScriptStatus status = ⊥
+-- The words ask for a replay. All was read that the source had left, and that is a script. Its replay ends so.
+pub record Answers (words : List (List ℕ)) (source : Span (Option (List ℕ))) (Ends : Script → Bool → Place → Type 0) : Type 0 where
+  pub wire : Bool
+  pub place : Place
+  pub asked : Asks (Replay wire place) words
+  pub input : List ℕ
+  pub had : HadAll source.before input
+  pub at_end : IsAtEnd source.after
+  pub script : Script
+  pub read : script_of level input ≡ Ok script
+  pub ends : Ends script wire place
 
--- an input that can't be played is refused by its first bad line; want of memory says nothing of it
-abbrev pub RefusedBy : {A : Type 0} → List ℕ → Result A Refusal → Type 0
-RefusedBy input (Err (refusals.Script line reason)) = IsBad line reason input
-RefusedBy input (Err refusals.OutOfMemory) = Unit {0}
-RefusedBy input (Ok x) = Unit {0}
+-- The words ask for a replay, and what the source had left is no script.
+pub record Refuses (words : List (List ℕ)) (source : Span (Option (List ℕ))) (line : ℕ) (reason : Reason) : Type 0 where
+  pub asked : HaveForm words
+  pub input : List ℕ
+  pub had : HadAll source.before input
+  pub bad : IsBad line reason input
 
-abbrev pub IsLongRefusal : List ℕ → Refusal → Type 0
-IsLongRefusal front (refusals.Script line reason) = (rest : List ℕ) → IsBad line reason (front ++ rest)
-IsLongRefusal front refusals.OutOfMemory = Unit {0}
+-- nothing was lent, nothing was written and nothing given back
+pub record DoesNothing (o : Outside) : Type 0 where
+  pub sink : IsUnchanged o.sink
+  pub lends : IsUnchanged o.lends
+  pub given : IsUnchanged o.given
 
-abbrev pub refusal_status : Refusal → Status
-refusal_status (refusals.Script line reason) = statuses.Script line reason
-refusal_status refusals.OutOfMemory = statuses.OutOfMemory
+-- With these words, over this source, whose faults are counted, and over a bank: at which places its disks tell what they hold, and what
+-- is left of them where they are only set up.
+abbrev pub Ends : List (List ℕ) → Span (Option (List ℕ)) → Span ℕ → (Place → Type 0) → (Script → Outside → Type 0) → Outside → Status → Type 0
+Ends words source source_faults Tells Left o statuses.Usage = HaveForm words → ⊥
+Ends words source source_faults Tells Left o (statuses.Script line reason) = Refuses words source line reason
+Ends words source source_faults Tells Left o statuses.ReadFault = HaveForm words × RoseBy 1 source_faults
+Ends words source source_faults Tells Left o statuses.OutOfMemory = HaveForm words × (DoesNothing o ⊎ Answers words source (λ s wire place. EndsReplay s wire place (Tells place) (Left s o) o statuses.OutOfMemory))
+Ends words source source_faults Tells Left o status = Answers words source (λ s wire place. EndsReplay s wire place (Tells place) (Left s o) o status)
 
--- a replay ends in its text, a refusal of the script, a fault of the sink or want of memory
-abbrev pub IsReplayStatus : Status → Type 0
-IsReplayStatus statuses.Usage = ⊥
-IsReplayStatus statuses.ReadFault = ⊥
-IsReplayStatus status = Unit {0}
-
--- the world told a history of this script, and holds the files at its end
-pub record IsPlayed (s : Script) (w : WorldState) : Type 0 where
-  pub history : told w.wire w.history ≡ entries_of (start s) (all_acts s) (events_of s.schedule)
-  pub files : w.server.state.files ≡ (cell_after (start s) (all_acts s) (events_of s.schedule)).server.files
-  pub read : AreRead w.wire
-  pub sent : sent_by w.history ≡ length w.wire
-  pub places : length w.wire < 2 ^ 63
+-- these statuses come before anything is lent or written
+abbrev pub IsBeforeReplay : Status → Type 0
+IsBeforeReplay statuses.Usage = Unit {0}
+IsBeforeReplay (statuses.Script line reason) = Unit {0}
+IsBeforeReplay statuses.ReadFault = Unit {0}
+IsBeforeReplay status = ⊥

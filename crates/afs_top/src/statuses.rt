@@ -1,13 +1,19 @@
 //! What the program answers to its caller, and what its words ask.
 
-ghost use Rattle.std.specs.Prelude.{◌≡◌, ◌↔◌, codes, map, string_bytes, IfSome, IsSome, IsTrue};
-ghost use Rattle.afs_top.specs.Forms.{Asks, HaveForm};
+ghost use Rattle.std.specs.Prelude.{◌≡◌, [], ◌∷◌, map, string_bytes, IfOk, IsSome, OnErr};
+ghost use Rattle.std.specs.Option.{option_map};
+ghost use Rattle.afs_top.specs.Forms.{asked_in, form_in, is_disks, is_name, is_wire, name_in, name_of, of_three, of_two, options_in, place_of, with_folder};
 ghost use Rattle.afs_top.specs.Statuses.{reason_word, status_line};
 ghost use Rattle.afs_outside.specs.Outside.{Puts};
 
+use afs_disk::Place;
 use afs_num::scripts::Reason;
+use afs_num::sequences::Octets;
+use afs_num::types::Mem;
 use afs_outside::outside::{Failed, Sink};
 use afs_text::pieces::Print;
+use std::alloc::Global;
+use std::marker::Model;
 
 /// How the program ended. A script is refused by the number of its first bad line, from 1, and the reason there.
 #[derive(Clone, Copy, Debug, PartialEq, Eq)]
@@ -17,7 +23,9 @@ pub enum Status {
     Script(u32, Reason),
     ReadFault,
     WriteFault,
+    BankFault,
     OutOfMemory,
+    Limit,
 }
 
 impl Status {
@@ -33,7 +41,9 @@ impl Status {
             Status::Script(_, _) => 3,
             Status::ReadFault => 4,
             Status::WriteFault => 5,
+            Status::BankFault => 6,
             Status::OutOfMemory => 7,
+            Status::Limit => 8,
         }
     }
 }
@@ -62,48 +72,182 @@ impl Print for Status {
     fn print<K: Sink>(&self, sink: &mut K) -> Result<(), Failed> {
         match *self {
             Status::Done => Ok(()),
-            Status::Usage => "usage: afscell replay [--wire]\n".print(sink),
+            Status::Usage => "usage: afscell replay [--wire] [--disks DIR]\n".print(sink),
             Status::Script(line, reason) => {
                 ("script: line ", (line, (": ", (reason_word(reason), "\n")))).print(sink)
             }
             Status::ReadFault => "read fault\n".print(sink),
             Status::WriteFault => "write fault\n".print(sink),
+            Status::BankFault => "disk fault\n".print(sink),
             Status::OutOfMemory => "out of memory\n".print(sink),
+            Status::Limit => "limit\n".print(sink),
         }
     }
 }
 
 /// What the words of the command line ask.
-#[derive(Clone, Copy, Debug, PartialEq, Eq)]
+#[derive(Debug, Drop)]
 pub enum Form {
-    /// A script is played by its schedule; with `wire` its messages are told with their bytes.
-    Replay { wire: bool },
+    /// A script is played by its schedule, over disks of this place; with `wire` its messages are told with their bytes.
+    Replay { wire: bool, place: Place },
 }
 
-fn is_replay(word: &str) -> bool
-    ensures { IsTrue result ↔ (word.now ≡ codes "replay") }
+fn is_wire(word: &[u8]) -> bool
+    ensures { result ≡ is_wire word.now }
 {
-    word == "replay"
+    word == b"--wire".as_slice()
 }
 
-fn is_wire(word: &str) -> bool
-    ensures { IsTrue result ↔ (word.now ≡ codes "--wire") }
+fn is_disks(word: &[u8]) -> bool
+    ensures { result ≡ is_disks word.now }
 {
-    word == "--wire"
+    word == b"--disks".as_slice()
+}
+
+/// Whether a word can name a folder: it isn't empty, and doesn't begin as an option does.
+fn is_name(word: &[u8]) -> bool
+    ensures { result ≡ is_name word.now }
+{
+    match word {
+        [letter, ..] => *letter != b'-',
+        [] => false,
+    }
+}
+
+/// The folder that a word names.
+fn name_of(word: &[u8]) -> Option<&[u8]>
+    ensures { option_map (λ n. n.now) result ≡ name_of word.now }
+{
+    if is_name(word) { Some(word) } else { None }
+}
+
+/// The folder that an option of one word names.
+fn name_in(word: &[u8]) -> Option<&[u8]>
+    ensures { option_map (λ n. n.now) result ≡ name_in word.now }
+{
+    match word.strip_prefix(b"--disks=") {
+        Some(name) => name_of(name),
+        None => None,
+    }
+}
+
+/// What options ask: whether the bytes of messages are told, and the folder of the disks, if one is named.
+#[derive(Drop)]
+struct Options<'a> {
+    wire: bool,
+    folder: Option<&'a [u8]>,
+}
+
+impl<'a> Model for Options<'a> {
+    ghost use Rattle.std.specs.Option.{option_map};
+    ghost use Rattle.afs_top.specs.Forms.{Options};
+
+    ghost Value = { Options };
+
+    ghost view = { λ o. record { wire = o.wire; folder = option_map (λ n. n.now) o.folder } };
+}
+
+/// With the folder that is named.
+fn with_folder(wire: bool, folder: Option<&[u8]>) -> Option<Options<'_>>
+    ensures { result ≡ with_folder wire (option_map (λ n. n.now) folder.entry) }
+{
+    match folder {
+        Some(_) => Some(Options { wire, folder }),
+        None => None,
+    }
+}
+
+/// Two options, in either order, of which one names a folder in one word; or a folder is named in two words.
+fn of_two<'a>(first: &'a [u8], second: &'a [u8]) -> Option<Options<'a>>
+    ensures { result ≡ of_two first.now second.now }
+{
+    if is_wire(first) {
+        return with_folder(true, name_in(second));
+    }
+    if is_wire(second) {
+        return with_folder(true, name_in(first));
+    }
+    if is_disks(first) {
+        return with_folder(false, name_of(second));
+    }
+    None
+}
+
+/// Two options, in either order, of which one names a folder in two words.
+fn of_three<'a>(first: &'a [u8], second: &'a [u8], third: &'a [u8]) -> Option<Options<'a>>
+    ensures { result ≡ of_three first.now second.now third.now }
+{
+    if is_wire(first) && is_disks(second) {
+        return with_folder(true, name_of(third));
+    }
+    if is_disks(first) && is_wire(third) {
+        return with_folder(true, name_of(second));
+    }
+    None
+}
+
+fn of_one(word: &[u8]) -> Option<Options<'_>>
+    ensures { result ≡ options_in (word.now ∷ []) }
+{
+    if is_wire(word) {
+        return Some(Options {
+            wire: true,
+            folder: None,
+        });
+    }
+    with_folder(false, name_in(word))
+}
+
+/// What the words behind the first one ask, as options in either order, each at most once.
+fn options_in(words: &[String]) -> Option<Options<'_>>
+    ensures { result ≡ options_in (map string_bytes words.now) }
+{
+    match words {
+        [] => Some(Options {
+            wire: false,
+            folder: None,
+        }),
+        [word] => of_one(word.as_bytes()),
+        [first, second] => of_two(first.as_bytes(), second.as_bytes()),
+        [first, second, third] => {
+            of_three(first.as_bytes(), second.as_bytes(), third.as_bytes())
+        }
+        [_, _, _, _, ..] => None,
+    }
+}
+
+fn asked_in(words: &[String]) -> Option<Options<'_>>
+    ensures { result ≡ asked_in (map string_bytes words.now) }
+{
+    match words {
+        [word, rest @ ..] if word.as_bytes() == b"replay".as_slice() => options_in(rest),
+        _ => None,
+    }
+}
+
+/// Where the disks are.
+fn place_of(alloc: Global, folder: Option<&[u8]>) -> Mem<Place>
+    ensures { IfOk result (λ p. p ≡ place_of (option_map (λ n. n.now) folder.entry)) }
+{
+    match folder {
+        Some(name) => Ok(Place::Folder(Octets::from_slice(alloc, name)?)),
+        None => Ok(Place::Memory),
+    }
 }
 
 /// The form of the words behind the program's name, where they have one.
-pub fn form_of(words: &[String]) -> Option<Form>
-    ensures asked { IfSome result (λ form. Asks form (map string_bytes words.now)) }
-    ensures found { HaveForm (map string_bytes words.now) → IsSome result }
+pub fn form_of(alloc: Global, words: &[String]) -> Mem<Option<Form>>
+    ensures form { IfOk result (λ o. o ≡ form_in (map string_bytes words.now)) }
+    ensures err { OnErr result (IsSome (form_in (map string_bytes words.now))) }
 {
-    match words {
-        [word] if is_replay(word.as_str()) => Some(Form::Replay { wire: false }),
-        [word, option] if is_replay(word.as_str()) && is_wire(option.as_str()) => {
-            Some(Form::Replay { wire: true })
-        }
-        _ => None,
-    }
+    let Some(options) = asked_in(words) else {
+        return Ok(None);
+    };
+    let place = place_of(alloc, options.folder)?;
+    Ok(Some(Form::Replay {
+        wire: options.wire,
+        place,
+    }))
 }
 
 #[cfg(test)]

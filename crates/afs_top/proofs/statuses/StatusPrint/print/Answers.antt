@@ -8,3 +8,9 @@ returns-in-Script g c = rw (c.in-Script.is, ← c.reason_word.ensures) c.print-i
 
 pub returns-in-ReadFault : goal.returns-in-ReadFault
 returns-in-ReadFault g c = rw (c.in-ReadFault.is) c.print-in-ReadFault.ensures
+
+pub returns-in-BankFault : goal.returns-in-BankFault
+returns-in-BankFault g c = rw (c.in-BankFault.is) c.print-in-BankFault.ensures
+
+pub returns-in-Limit : goal.returns-in-Limit
+returns-in-Limit g c = rw (c.in-Limit.is) c.print-in-Limit.ensures

@@ -1,0 +1,272 @@
+-- How a replay ends, by what its parts promise.
+use Rattle.std.specs.Prelude.{◌≡◌, ◌≤◌, ◌⊎◌, ℕ, ◌+◌, List, [], ◌∷◌, ◌++◌, length, map, Bool, false, Option, Some, None, Result, Ok, Err, OnOk, OnErr}
+use Rattle.std.proofs.Common.{refl, ap, sym, subst, ◌∙◌, inl, inr, arith}
+use Rattle.std.specs.Io.KnownBytes.{Appends}
+use Rattle.std.specs.Option.{option_map}
+use Rattle.std.proofs.lemmas.List.{take_all}
+use Rattle.afs_num.specs.declared.devices.Failed.{Failed}
+use Rattle.afs_history.specs.declared.scripts.Script.{Script}
+use Rattle.afs_disk.specs.Disk.{Rose}
+use Rattle.afs_disk.specs.declared.bank.Lend.{Lend}
+use Rattle.afs_disk.specs.declared.bank.LendFault.{LendFault}
+use Rattle.afs_disk.specs.declared.bank.LendFault.TheVariants as lending
+use Rattle.afs_disk.specs.declared.bank.Place.{Place}
+use Rattle.afs_disk.specs.declared.disks.Lent.{Lent}
+use Rattle.afs_law.specs.Laws.{RunsAreLegal}
+use Rattle.afs_law.specs.OneServer.{IsOneServer}
+use Rattle.afs_outside.specs.Outside.{AppendsFront}
+use Rattle.afs_records.specs.Durable.{Durable}
+use Rattle.afs_rows.specs.Runs.{Cell}
+use Rattle.afs_text.specs.FinalText.{final_text}
+use Rattle.afs_text.specs.HistoryText.{history_text, text}
+use Rattle.afs_text.specs.KeptText.{kept_history_text}
+use Rattle.afs_text.specs.Telling.{told, AreRead}
+use Rattle.afs_text.proofs.Kept.{history_told}
+use Rattle.afs_volstore.specs.Stores.{Store}
+use Rattle.afs_cell.specs.Ends.{AreLeft, IsRefused}
+use Rattle.afs_cell.specs.Steps.{lent_from, AreStanding, HasPlayedAll, HasPlayedFirst}
+use Rattle.afs_cell.specs.Worlds.{AllTell, IsCell, IsWorld, WorldState}
+use Rattle.afs_cell.specs.declared.faults.SetupFault.{SetupFault}
+use Rattle.afs_cell.specs.declared.faults.SetupFault.TheVariants as setup
+use Rattle.afs_final.specs.Reading.{fault_in, part, AreFound}
+use Rattle.afs_final.specs.declared.reading.Left.{Left}
+use Rattle.afs_lending.specs.Lending.{faults_of, kept_disks, with_faults, AreUnused, GivesBackAll, GivesBackSome}
+use Rattle.afs_top.specs.Outside.{span, IsUnchanged, Outside, RoseBy, Span}
+use Rattle.afs_top.specs.Parts.{lend_status, returned, set_up_status, TellsLeft}
+use Rattle.afs_top.specs.Top.{lends_of, AreKept, AtBankFault, EndsReplay, EndsRun, FailsBehind, GivesBack, IsPlayed, IsPlayedFirst, Lends, LendsAll, LendsFirst, ReadingFails, Replays, ReplaysFirst, SetUpLeaves}
+use Rattle.afs_top.specs.declared.statuses.Status.{Status}
+use Rattle.afs_top.specs.declared.statuses.Status.TheVariants as statuses
+use Rattle.afs_top.proofs.Counts.{counted, counts_lent, found_failed, found_no_less, grown, none_fell, one_grown, rose_once, rose_since, AtLeast}
+use Rattle.afs_top.proofs.Ending.{failed_behind, given_so, left_so, played_first, played_legally, read_so}
+
+-- ---- the disks go back
+
+abbrev Given : Type 0
+Given = Option (List (ℕ × List ℕ))
+
+-- as the bank takes them: all, or some where its count rose; and their faults are counted
+pub record GoesBack {D : Type 0} (seen : D → Option (List ℕ)) (faults : D → ℕ) (disks : List (Lent D)) (o : Outside) : Type 0 where
+  pub gives : GivesBackAll seen disks o.given.before o.given.after ⊎ Rose o.bank_faults.before o.bank_faults.after
+  pub some : GivesBackSome seen disks o.given.before o.given.after
+  pub counts : o.disk_faults.after ≡ with_faults (faults_of faults disks) o.disk_faults.before
+  pub never_falls : o.bank_faults.before ≤ o.bank_faults.after
+
+rose_by : (n : ℕ) (ns : List ℕ) (count : Span ℕ) → count.after ≡ with_faults ns count.before → AtLeast n ns → RoseBy n count
+rose_by n ns count are many = subst (λ (k : ℕ). RoseBy n (span count.before k)) (sym are) (counted n ns count.before many)
+
+excused : {A : Type 0} (before after : ℕ) → before ≤ after → A ⊎ Rose before after → A ⊎ RoseBy 1 (span before after)
+excused {A} before after never_falls (inl all) = inl all
+excused {A} before after never_falls (inr rose) = inr (rose_once before after rose never_falls)
+
+-- ---- a world that played its script to its end
+
+-- what is known of it
+pub record HasEnded {D : Type 0} (seen : D → Option (List ℕ)) (may_leave : D → List ℕ → Type 0) (faults limit : D → ℕ) (s : Script) (w : WorldState D) : Type 0 where
+  pub law : RunsAreLegal
+  pub one : IsOneServer s
+  pub world : IsWorld seen may_leave faults limit s w
+  pub going : w.is_lost ≡ false
+  pub standing : AllTell seen w.servers → (c : Cell) → IsCell seen may_leave limit w c → AreStanding seen limit c (lent_from 1 w.servers)
+
+abbrev All : {D : Type 0} → (D → Option (List ℕ)) → (D → List ℕ → Type 0) → (D → ℕ) → (D → ℕ) → Script → WorldState D → Type 0
+All {D} seen may_leave faults limit s w = AllTell seen w.servers × HasPlayedAll seen may_leave faults limit s w
+
+abbrev First : {D : Type 0} → (D → Option (List ℕ)) → (D → List ℕ → Type 0) → (D → ℕ) → (D → ℕ) → Script → WorldState D → Type 0
+First {D} seen may_leave faults limit s w = AllTell seen w.servers × HasPlayedFirst seen may_leave faults limit s w
+
+-- the text of its history
+whole_text : {D : Type 0} (seen : D → Option (List ℕ)) (may_leave : D → List ℕ → Type 0) (faults limit : D → ℕ) (s : Script) (w : WorldState D) (fs : List (Left (Store D) D)) (wire : Bool) → IsWorld seen may_leave faults limit s w → AreRead w.wire →
+    kept_history_text wire w.wire w.history ++ final_text (map part fs) ≡ text wire (told w.wire w.history) (map part fs)
+unfolding text
+whole_text {D} seen may_leave faults limit s w fs wire is read = ap (λ (t : List ℕ). t ++ final_text (map part fs)) (history_told wire w.wire w.history read is.safe.sent)
+
+-- its history is that of its script, and what was read from its disks is what that leaves
+replays : {D : Type 0} (seen : D → Option (List ℕ)) (may_leave : D → List ℕ → Type 0) (faults limit : D → ℕ) (s : Script) (w : WorldState D) (fs : List (Left (Store D) D)) (wire : Bool) (Writes : List ℕ → Type 0) (excuse : Type 0) (o : Outside)
+    → HasEnded seen may_leave faults limit s w → AreFound seen faults limit (lent_from 1 w.servers) fs → fault_in fs ≡ None → Writes (kept_history_text wire w.wire w.history ++ final_text (map part fs)) → GoesBack seen faults (kept_disks 1 fs) o
+    → GivesBackAll seen (kept_disks 1 fs) o.given.before o.given.after ⊎ excuse → All seen may_leave faults limit s w → Replays s wire Writes excuse o
+replays {D} seen may_leave faults limit s w fs wire Writes excuse o is found none written back gives p =
+    let cell = p.1.runs.cell_is is.going in
+    let so = read_so seen may_leave faults limit w p.1.cell fs cell p.0 (is.standing p.0 p.1.cell cell) found none in
+    let many = grown _ _ _ (found_no_less seen faults limit 1 (lent_from 1 w.servers) fs found) (counts_lent faults _ 1 w.servers p.1.runs.counts) in
+    record {
+      history = told w.wire w.history;
+      kept = map part fs;
+      played = played_legally seen may_leave faults limit is.law s w o.disk_faults (map part fs) is.one is.world.safe.entries p.1 (rose_by _ _ o.disk_faults back.counts many) so.keep;
+      written = subst Writes (whole_text seen may_leave faults limit s w fs wire is.world p.1.runs.read) written;
+      given = given_so excuse seen p.1.cell (map part fs) (kept_disks 1 fs) o.given.before o.given.after so gives back.some;
+    }
+
+-- a disk failed while it was read
+reading_fails : {D : Type 0} (seen : D → Option (List ℕ)) (may_leave : D → List ℕ → Type 0) (faults limit : D → ℕ) (s : Script) (w : WorldState D) (fs : List (Left (Store D) D)) (o : Outside)
+    → HasEnded seen may_leave faults limit s w → AreFound seen faults limit (lent_from 1 w.servers) fs → fault_in fs ≡ Some lending.Failed → IsUnchanged o.sink → GoesBack seen faults (kept_disks 1 fs) o → ReadingFails s (All seen may_leave faults limit s w) o
+reading_fails {D} seen may_leave faults limit s w fs o is found failed unwritten back =
+    let less = found_no_less seen faults limit 1 (lent_from 1 w.servers) fs found in
+    let more = found_failed seen faults limit 1 (lent_from 1 w.servers) fs found failed in
+    record {
+      rose = rose_by 1 _ o.disk_faults back.counts (one_grown 0 _ _ less more (inl (omega (arith))));
+      written = unwritten;
+      told = λ p. failed_behind seen may_leave faults limit s w o.disk_faults is.world.safe.entries p.1 (rose_by _ _ o.disk_faults back.counts (one_grown _ _ _ less more (counts_lent faults _ 1 w.servers p.1.runs.counts)));
+    }
+
+pub ended : {D : Type 0} (seen : D → Option (List ℕ)) (may_leave : D → List ℕ → Type 0) (faults limit : D → ℕ) (s : Script) (w : WorldState D) (fs : List (Left (Store D) D)) (wire : Bool) (o : Outside) (status : Status) (taken : Result (Unit {0}) Failed)
+    → HasEnded seen may_leave faults limit s w → AreFound seen faults limit (lent_from 1 w.servers) fs → TellsLeft (kept_history_text wire w.wire w.history ++ final_text (map part fs)) (fault_in fs) o.sink o.sink_faults status
+    → OnOk taken (GivesBackAll seen (kept_disks 1 fs) o.given.before o.given.after) → OnErr taken (Rose o.bank_faults.before o.bank_faults.after) → GoesBack seen faults (kept_disks 1 fs) o → EndsRun s wire (All seen may_leave faults limit s w) ⊥ o (returned status taken)
+ended {D} seen may_leave faults limit s w fs wire o statuses.Done (Ok u) is found tells all cause back =
+    λ p. replays seen may_leave faults limit s w fs wire (Appends o.sink.before o.sink.after) ⊥ o is found tells.0 tells.1 back (inl all) p
+ended {D} seen may_leave faults limit s w fs wire o statuses.Done (Err f) is found tells all cause back =
+    let rose = rose_once o.bank_faults.before o.bank_faults.after cause back.never_falls in
+    inr (inr (inr (record { rose = rose; told = λ p. replays seen may_leave faults limit s w fs wire (Appends o.sink.before o.sink.after) (RoseBy 1 o.bank_faults) o is found tells.0 tells.1 back (inr rose) p })))
+ended {D} seen may_leave faults limit s w fs wire o statuses.WriteFault taken is found tells all cause back =
+    record {
+      rose = tells.1.1;
+      told = λ p. replays seen may_leave faults limit s w fs wire (AppendsFront o.sink.before o.sink.after) (RoseBy 1 o.bank_faults) o is found tells.0 tells.1.0 back (excused o.bank_faults.before o.bank_faults.after back.never_falls back.gives) p;
+    }
+ended {D} seen may_leave faults limit s w fs wire o statuses.BankFault taken is found tells all cause back = inr (inr (inl (reading_fails seen may_leave faults limit s w fs o is found tells.0 tells.1 back)))
+ended {D} seen may_leave faults limit s w fs wire o statuses.OutOfMemory taken is found tells all cause back = tells
+ended {D} seen may_leave faults limit s w fs wire o statuses.Usage taken is found tells all cause back = absurd tells
+ended {D} seen may_leave faults limit s w fs wire o (statuses.Script line reason) taken is found tells all cause back = absurd tells
+ended {D} seen may_leave faults limit s w fs wire o statuses.ReadFault taken is found tells all cause back = absurd tells
+ended {D} seen may_leave faults limit s w fs wire o statuses.Limit taken is found tells all cause back = absurd tells
+
+-- ---- one whose history was full before that
+
+pub was_cut : {D : Type 0} (seen : D → Option (List ℕ)) (may_leave : D → List ℕ → Type 0) (faults limit : D → ℕ) (s : Script) (w : WorldState D) (wire : Bool) (o : Outside)
+    → HasEnded seen may_leave faults limit s w → AppendsFront o.sink.before o.sink.after (kept_history_text wire w.wire w.history) → GoesBack seen faults (lent_from 1 w.servers) o → EndsRun s wire (First seen may_leave faults limit s w) ⊥ o statuses.Limit
+was_cut {D} seen may_leave faults limit s w wire o is written back = λ p.
+    let cell = p.1.0.runs.cell_is is.going in
+    let left = left_so seen may_leave limit w p.1.0.cell cell p.0 (is.standing p.0 p.1.0.cell cell) in
+    record {
+      history = told w.wire w.history;
+      kept = left.0;
+      played = played_first seen may_leave faults limit is.law s w o.disk_faults left.0 is.one p.1 (rose_by _ _ o.disk_faults back.counts (counts_lent faults _ 1 w.servers p.1.0.runs.counts)) left.1.keep;
+      written = subst (λ (t : List ℕ). AppendsFront o.sink.before o.sink.after t) (history_told wire w.wire w.history p.1.0.runs.read is.world.safe.sent) written;
+      given = given_so (RoseBy 1 o.bank_faults) seen p.1.0.cell left.0 (lent_from 1 w.servers) o.given.before o.given.after left.1 (excused o.bank_faults.before o.bank_faults.after back.never_falls back.gives) back.some;
+    }
+
+-- ---- a cell that wasn't set up
+
+pub not_set_up : {D : Type 0} (seen : D → Option (List ℕ)) (may_leave : D → List ℕ → Type 0) (faults : D → ℕ) (s : Script) (wire : Bool) (tells : Type 0) (disks : List (Lent D)) (e : SetupFault × List (Lent D)) (o : Outside)
+    → AreUnused faults disks → IsRefused faults disks e → AreLeft seen may_leave s 1 disks e.1 → IsUnchanged o.sink → GoesBack seen faults e.1 o → EndsRun s wire tells (SetUpLeaves seen may_leave faults s o) o (set_up_status e.0)
+not_set_up {D} seen may_leave faults s wire tells disks (setup.Disk n, back) o unused refused left unwritten gone =
+    inr (inl (record {
+      rose = rose_by 1 _ o.disk_faults gone.counts (none_fell faults disks back refused.0 refused.1);
+      written = unwritten;
+      only_set_up = record { lent = disks; unused = unused; back = back; left = left; given = gone.some };
+    }))
+not_set_up {D} seen may_leave faults s wire tells disks (setup.OutOfMemory, back) o unused refused left unwritten gone = unwritten
+
+-- ---- seen from before
+
+-- The same was done outside since before the disks were lent.
+pub record Since (o earlier : Outside) : Type 0 where
+  pub sink : earlier.sink ≡ o.sink
+  pub given : earlier.given ≡ o.given
+  pub sink_faults : earlier.sink_faults ≡ o.sink_faults
+  pub disk_faults : earlier.disk_faults ≡ o.disk_faults
+  pub bank_before : earlier.bank_faults.before ≤ o.bank_faults.before
+  pub bank_after : earlier.bank_faults.after ≡ o.bank_faults.after
+
+bank_since : (o earlier : Outside) → Since o earlier → RoseBy 1 o.bank_faults → RoseBy 1 earlier.bank_faults
+bank_since o earlier since rose =
+    subst (λ (k : ℕ). RoseBy 1 (span earlier.bank_faults.before k)) (sym since.bank_after) (rose_since 1 earlier.bank_faults.before o.bank_faults.before o.bank_faults.after since.bank_before rose)
+
+kept_map : (a b : Type 0) → (a → b) → (i : ℕ) (ds : List Durable) (disks : List (ℕ × List ℕ)) → AreKept a i ds disks → AreKept b i ds disks
+kept_map a b f i [] disks h = h
+kept_map a b f i (d ∷ ds) [] (inl h) = absurd h
+kept_map a b f i (d ∷ ds) (disk ∷ disks) (inl h) = inl (h.0, kept_map a b f (i + 1) ds disks h.1)
+kept_map a b f i (d ∷ ds) [] (inr h) = inr (f h.0, kept_map a b f (i + 1) ds [] h.1)
+kept_map a b f i (d ∷ ds) (disk ∷ disks) (inr h) = inr (f h.0, kept_map a b f (i + 1) ds (disk ∷ disks) h.1)
+
+given_map : (a b : Type 0) → (a → b) → (kept : List Durable) (before after : Given) → GivesBack a kept before after → GivesBack b kept before after
+given_map a b f kept None after g = tt
+given_map a b f kept (Some before) after g = (g.0, (g.1.0, kept_map a b f 1 kept g.0 g.1.1))
+
+given_since : (a b : Type 0) (o earlier : Outside) → Since o earlier → (a → b) → (kept : List Durable) → GivesBack a kept o.given.before o.given.after → GivesBack b kept earlier.given.before earlier.given.after
+given_since a b o earlier since f kept g = subst (λ (x : Span Given). GivesBack b kept x.before x.after) (sym since.given) (given_map a b f kept o.given.before o.given.after g)
+
+replays_since : (s : Script) (wire : Bool) (Writes WritesToo : List ℕ → Type 0) (a b : Type 0) (o earlier : Outside) → Since o earlier → ((t : List ℕ) → Writes t → WritesToo t) → (a → b) → Replays s wire Writes a o → Replays s wire WritesToo b earlier
+replays_since s wire Writes WritesToo a b o earlier since w f r = record {
+  history = r.history;
+  kept = r.kept;
+  played = subst (λ (x : Span ℕ). IsPlayed s x r.history r.kept) (sym since.disk_faults) r.played;
+  written = w (text wire r.history r.kept) r.written;
+  given = given_since a b o earlier since f r.kept r.given;
+}
+
+first_since : (s : Script) (wire : Bool) (a b : Type 0) (o earlier : Outside) → Since o earlier → (a → b) → ReplaysFirst s wire a o → ReplaysFirst s wire b earlier
+first_since s wire a b o earlier since f r = record {
+  history = r.history;
+  kept = r.kept;
+  played = subst (λ (x : Span ℕ). IsPlayedFirst s x r.history r.kept) (sym since.disk_faults) r.played;
+  written = subst (λ (x : Span (Option (List ℕ))). AppendsFront x.before x.after (history_text wire r.history)) (sym since.sink) r.written;
+  given = given_since a b o earlier since f r.kept r.given;
+}
+
+whole_since : (o earlier : Outside) → Since o earlier → (t : List ℕ) → Appends o.sink.before o.sink.after t → Appends earlier.sink.before earlier.sink.after t
+whole_since o earlier since t w = subst (λ (x : Span (Option (List ℕ))). Appends x.before x.after t) (sym since.sink) w
+
+front_since : (o earlier : Outside) → Since o earlier → (t : List ℕ) → AppendsFront o.sink.before o.sink.after t → AppendsFront earlier.sink.before earlier.sink.after t
+front_since o earlier since t w = subst (λ (x : Span (Option (List ℕ))). AppendsFront x.before x.after t) (sym since.sink) w
+
+unwritten_since : (o earlier : Outside) → Since o earlier → IsUnchanged o.sink → IsUnchanged earlier.sink
+unwritten_since o earlier since w = subst (λ (x : Span (Option (List ℕ))). IsUnchanged x) (sym since.sink) w
+
+disks_since : (n : ℕ) (o earlier : Outside) → Since o earlier → RoseBy n o.disk_faults → RoseBy n earlier.disk_faults
+disks_since n o earlier since rose = subst (λ (x : Span ℕ). RoseBy n x) (sym since.disk_faults) rose
+
+behind_since : (s : Script) (o earlier : Outside) → Since o earlier → FailsBehind s o.disk_faults → FailsBehind s earlier.disk_faults
+behind_since s o earlier since b = subst (λ (x : Span ℕ). FailsBehind s x) (sym since.disk_faults) b
+
+bank_fault_since : (s : Script) (wire : Bool) (tells tells_too left left_too : Type 0) (o earlier : Outside) → Since o earlier → (tells_too → tells) → (left → left_too) → AtBankFault s wire tells left o → AtBankFault s wire tells_too left_too earlier
+bank_fault_since s wire tells tells_too left left_too o earlier since t l (inl h) = inl (record { rose = bank_since o earlier since h.rose; written = unwritten_since o earlier since h.written })
+bank_fault_since s wire tells tells_too left left_too o earlier since t l (inr (inl h)) =
+    inr (inl (record { rose = disks_since 1 o earlier since h.rose; written = unwritten_since o earlier since h.written; only_set_up = l h.only_set_up }))
+bank_fault_since s wire tells tells_too left left_too o earlier since t l (inr (inr (inl h))) =
+    inr (inr (inl (record { rose = disks_since 1 o earlier since h.rose; written = unwritten_since o earlier since h.written; told = λ x. behind_since s o earlier since (h.told (t x)) })))
+bank_fault_since s wire tells tells_too left left_too o earlier since t l (inr (inr (inr h))) =
+    inr (inr (inr (record { rose = bank_since o earlier since h.rose; told = λ x. replays_since s wire _ _ _ _ o earlier since (whole_since o earlier since) (bank_since o earlier since) (h.told (t x)) })))
+
+pub ends_since : (s : Script) (wire : Bool) (tells tells_too left left_too : Type 0) (o earlier : Outside) (status : Status) → Since o earlier → (tells_too → tells) → (left → left_too) → EndsRun s wire tells left o status → EndsRun s wire tells_too left_too earlier status
+ends_since s wire tells tells_too left left_too o earlier statuses.Done since t l h = λ x. replays_since s wire _ _ _ _ o earlier since (whole_since o earlier since) (λ y. y) (h (t x))
+ends_since s wire tells tells_too left left_too o earlier statuses.WriteFault since t l h =
+    record {
+      rose = subst (λ (x : Span ℕ). RoseBy 1 x) (sym since.sink_faults) h.rose;
+      told = λ x. replays_since s wire _ _ _ _ o earlier since (front_since o earlier since) (bank_since o earlier since) (h.told (t x));
+    }
+ends_since s wire tells tells_too left left_too o earlier statuses.BankFault since t l h = bank_fault_since s wire tells tells_too left left_too o earlier since t l h
+ends_since s wire tells tells_too left left_too o earlier statuses.OutOfMemory since t l h = unwritten_since o earlier since h
+ends_since s wire tells tells_too left left_too o earlier statuses.Limit since t l h = λ x. first_since s wire _ _ o earlier since (bank_since o earlier since) (h (t x))
+ends_since s wire tells tells_too left left_too o earlier statuses.Usage since t l h = absurd h
+ends_since s wire tells tells_too left left_too o earlier (statuses.Script line reason) since t l h = absurd h
+ends_since s wire tells tells_too left left_too o earlier statuses.ReadFault since t l h = absurd h
+
+pub left_since : {D : Type 0} (seen : D → Option (List ℕ)) (may_leave : D → List ℕ → Type 0) (faults : D → ℕ) (s : Script) (o earlier : Outside) → Since o earlier → SetUpLeaves seen may_leave faults s o → SetUpLeaves seen may_leave faults s earlier
+left_since {D} seen may_leave faults s o earlier since l = record {
+  lent = l.lent;
+  unused = l.unused;
+  back = l.back;
+  left = l.left;
+  given = subst (λ (x : Span Given). GivesBackSome seen l.back x.before x.after) (sym since.given) l.given;
+}
+
+-- ---- what was lent
+
+all_first : (s : Script) (place : Place) (o : Outside) → LendsAll s place o → LendsFirst s place o
+all_first s place o all =
+    let ls = lends_of s place in
+    (length ls, all ∙ ap (λ (xs : List Lend). option_map (λ (old : List Lend). old ++ xs) o.lends.before) (sym (take_all (length ls) ls (omega (arith)))))
+
+pub lends_all : (s : Script) (place : Place) (o : Outside) (status : Status) → LendsAll s place o → Lends s place o status
+lends_all s place o statuses.Done all = all
+lends_all s place o statuses.WriteFault all = all
+lends_all s place o statuses.Limit all = all
+lends_all s place o statuses.BankFault all = all_first s place o all
+lends_all s place o statuses.OutOfMemory all = all_first s place o all
+lends_all s place o statuses.Usage all = all_first s place o all
+lends_all s place o (statuses.Script line reason) all = all_first s place o all
+lends_all s place o statuses.ReadFault all = all_first s place o all
+
+-- a disk wasn't lent
+pub not_lent : (s : Script) (wire : Bool) (place : Place) (tells left : Type 0) (fault : LendFault) (o : Outside) → LendsFirst s place o → IsUnchanged o.sink → (fault ≡ lending.Failed → RoseBy 1 o.bank_faults) → EndsReplay s wire place tells left o (lend_status fault)
+not_lent s wire place tells left lending.Failed o lent unwritten cause = record { lent = lent; run = inl (record { rose = cause refl; written = unwritten }) }
+not_lent s wire place tells left lending.OutOfMemory o lent unwritten cause = record { lent = lent; run = unwritten }

@@ -1,0 +1,253 @@
+-- The end of a replay: its history is legal, what was read from the disks is what the history leaves, and so are the disks that were
+-- given back.
+use Rattle.std.specs.Prelude.{◌≡◌, ◌≤◌, ◌<◌, ◌⊎◌, ℕ, zero, suc, ◌+◌, List, [], ◌∷◌, ◌++◌, drop, map, length, false, Option, Some, None, IsSome}
+use Rattle.std.proofs.Common.{refl, ap, sym, subst, ◌∙◌, inl, inr, append_assoc, arith}
+use Rattle.std.proofs.lemmas.List.{append-nil}
+use Rattle.afs_num.specs.Places.{at_place}
+use Rattle.afs_num.specs.declared.types.Parcel.{Parcel}
+use Rattle.afs_history.specs.declared.lines.Entry as kept
+use Rattle.afs_history.specs.declared.scripts.Script.{Script}
+use Rattle.afs_disk.specs.Banks as banks
+use Rattle.afs_disk.specs.declared.bank.LendFault.{LendFault}
+use Rattle.afs_disk.specs.declared.disks.Lent.{Lent}
+use Rattle.afs_journal.specs.Records.{whole_records}
+use Rattle.afs_records.specs.Durable.{fold_all, Durable}
+use Rattle.afs_records.specs.Stands.{Stands}
+use Rattle.afs_records.proofs.Forms.{some_is}
+use Rattle.afs_rows.specs.Runs.{Cell, RunsTo}
+use Rattle.afs_law.specs.Laws.{RunsAreLegal}
+use Rattle.afs_law.specs.OneServer.{IsOneServer}
+use Rattle.afs_text.specs.Telling.{told}
+use Rattle.afs_volstore.specs.Stores.{Store}
+use Rattle.afs_cell.specs.Places.{Each}
+use Rattle.afs_cell.specs.Steps.{lent_from, AreStanding, HasPlayedAll, HasPlayedFirst, MayBeRead}
+use Rattle.afs_cell.specs.Worlds.{most_entries, own_falls, seat_disk, AllTell, IsCell, ServerSeat, WorldState}
+use Rattle.afs_final.specs.Reading.{fault_in, kept_disk, part, AreFound, IsFound, IsRead}
+use Rattle.afs_final.specs.declared.reading.Left.{Left}
+use Rattle.afs_final.specs.declared.reading.Left.TheVariants as left
+use Rattle.afs_lending.specs.Lending.{kept_disks, GivesBackAll, GivesBackSome}
+use Rattle.afs_top.specs.Outside.{RoseBy, Span}
+use Rattle.afs_top.specs.Top.{AreKept, FailsBehind, GivesBack, IsPlayed, IsPlayedFirst, MayKeep}
+
+some_of : {A : Type 0} (o : Option A) → IsSome o → (x : A) × (o ≡ Some x)
+some_of {A} None some = absurd cc
+some_of {A} (Some x) some = (x, refl)
+
+-- ---- what is so of each is so from one on
+
+abbrev EachFrom : {A : Type 0} → ℕ → (ℕ → A → Type 0) → List A → Type 0
+EachFrom {A} i P [] = Unit {0}
+EachFrom {A} i P (x ∷ xs) = P i x × EachFrom (i + 1) P xs
+
+each_from : {A : Type 0} (i : ℕ) (P : ℕ → A → Type 0) (xs : List A) → ((n : ℕ) (x : A) → at_place xs (suc n) ≡ Some x → P (i + n) x) → EachFrom i P xs
+each_from {A} i P [] h = tt
+each_from {A} i P (x ∷ xs) h =
+    (subst (λ (k : ℕ). P k x) (omega (arith)) (h 0 x refl), each_from (i + 1) P xs (λ n y e. subst (λ (k : ℕ). P k y) (omega (arith)) (h (suc n) y e)))
+
+each_is : {A : Type 0} (P : ℕ → A → Type 0) (xs : List A) → Each P xs → EachFrom 1 P xs
+each_is {A} P xs h = each_from 1 P xs (λ n x e. subst (λ (k : ℕ). P k x) (omega (arith)) (h (suc n) x e))
+
+-- ---- the disks of a world
+
+-- the disk of a server may stand for something in the cell
+abbrev Stand : {D : Type 0} → (D → Option (List ℕ)) → (D → ℕ) → Cell → ℕ → Lent D → Type 0
+Stand {D} seen limit c i l = (bytes : List ℕ) → seen l.disk ≡ Some bytes → (d : Durable) × (MayBeRead c i d × (Stands bytes d × (d.capacity ≡ limit l.disk)))
+
+abbrev Tells : {D : Type 0} → (D → Option (List ℕ)) → ℕ → Lent D → Type 0
+Tells {D} seen i l = IsSome (seen l.disk)
+
+tells_from : {D : Type 0} (seen : D → Option (List ℕ)) (i : ℕ) (ss : List (ServerSeat D)) → EachFrom i (λ (i : ℕ) (s : ServerSeat D). IsSome (seen (seat_disk s))) ss → EachFrom i (Tells seen) (lent_from i ss)
+tells_from {D} seen i [] h = tt
+tells_from {D} seen i (s ∷ ss) h = (h.0, tells_from seen (i + 1) ss h.1)
+
+lent_length : {D : Type 0} (i : ℕ) (ss : List (ServerSeat D)) → length (lent_from i ss) ≡ length ss
+lent_length {D} i [] = refl
+lent_length {D} i (s ∷ ss) = ap suc (lent_length (i + 1) ss)
+
+-- ---- what was found is what may stand there
+
+-- on a disk of one capacity records stand for one durable part
+same_durable : (records : List (List ℕ)) (d e : Durable) → d.capacity ≡ e.capacity → fold_all d.capacity records ≡ Some d → fold_all e.capacity records ≡ Some e → d ≡ e
+same_durable records d e capacity hd he = some_is d e (sym hd ∙ (ap (λ (n : ℕ). fold_all n records) capacity ∙ he))
+
+no_fault : (f : LendFault) → Some f ≡ None → ⊥
+no_fault f e = absurd cc
+
+one_left : {D : Type 0} (seen : D → Option (List ℕ)) (faults limit : D → ℕ) (c : Cell) (i : ℕ) (l : Lent D) (f : Left (Store D) D) (fs : List (Left (Store D) D)) → Stand seen limit c i l → Tells seen i l → IsRead seen faults limit l.disk f → fault_in (f ∷ fs) ≡ None → MayBeRead c i (part f) × (fault_in fs ≡ None)
+one_left {D} seen faults limit c i l (left.Kept s) fs stand tells read none =
+    let bytes = some_of (seen l.disk) tells in
+    let d = stand bytes.0 bytes.1 in
+    let same = same_durable (whole_records bytes.0) d.0 s.durable (d.1.1.1 ∙ sym read.is.capacity) d.1.1.0 (read.is.before bytes.0 bytes.1) in
+    (subst (λ (x : Durable). MayBeRead c i x) same d.1.0, none)
+one_left {D} seen faults limit c i l (left.Bad d) fs stand tells read none =
+    let bytes = some_of (seen l.disk) tells in
+    let p = stand bytes.0 bytes.1 in
+    absurd (read.is bytes.0 bytes.1 p.0 p.1.1.1 p.1.1.0)
+one_left {D} seen faults limit c i l (left.Failed d) fs stand tells read none = absurd (no_fault _ none)
+one_left {D} seen faults limit c i l (left.Unread d) fs stand tells read none = absurd (no_fault _ none)
+
+all_left : {D : Type 0} (seen : D → Option (List ℕ)) (faults limit : D → ℕ) (c : Cell) (i : ℕ) (ls : List (Lent D)) (fs : List (Left (Store D) D)) → EachFrom i (Stand seen limit c) ls → EachFrom i (Tells seen) ls → AreFound seen faults limit ls fs → fault_in fs ≡ None → i + length ls ≡ c.host_count + 1 → MayKeep c i (map part fs)
+all_left {D} seen faults limit c i [] [] stand tells found none counted = omega (arith, counted)
+all_left {D} seen faults limit c i [] (f ∷ fs) stand tells found none counted = absurd found
+all_left {D} seen faults limit c i (l ∷ ls) [] stand tells found none counted = absurd found
+all_left {D} seen faults limit c i (l ∷ ls) (f ∷ fs) stand tells found none counted =
+    let one = one_left seen faults limit c i l f fs stand.0 tells.0 found.0 none in
+    (one.0, all_left seen faults limit c (i + 1) ls fs stand.1 tells.1 found.1 one.1 (omega (arith, counted)))
+
+-- ---- disks that stand for what is kept go back
+
+-- each of these disks, by its server's number from this one on, tells and stands for this
+abbrev StandFor : {D : Type 0} → (D → Option (List ℕ)) → ℕ → List (Lent D) → List Durable → Type 0
+StandFor {D} seen i [] ds = ds ≡ []
+StandFor {D} seen i (l ∷ ls) [] = ⊥
+StandFor {D} seen i (l ∷ ls) (d ∷ ds) = ((l.node ≡ i) × (IsSome (seen l.disk) × ((bytes : List ℕ) → seen l.disk ≡ Some bytes → Stands bytes d))) × StandFor seen (i + 1) ls ds
+
+abbrev Given : Type 0
+Given = List (ℕ × List ℕ)
+
+-- each goes back, or it is wanting with this excuse
+abbrev GivesBackEach : {D : Type 0} → Type 0 → (D → Option (List ℕ)) → List (Lent D) → Option Given → Option Given → Type 0
+GivesBackEach {D} excuse seen [] old new = new ≡ old
+GivesBackEach {D} excuse seen (l ∷ ls) old new = (next : Option Given) × ((banks.GivesBack l.node (seen l.disk) old next ⊎ (excuse × (next ≡ old))) × GivesBackEach excuse seen ls next new)
+
+all_as_each : {D : Type 0} (excuse : Type 0) (seen : D → Option (List ℕ)) (ls : List (Lent D)) (old new : Option Given) → GivesBackAll seen ls old new → GivesBackEach excuse seen ls old new
+all_as_each {D} excuse seen [] old new all = all
+all_as_each {D} excuse seen (l ∷ ls) old new all = (all.0, (inl all.1.0, all_as_each excuse seen ls all.0 new all.1.1))
+
+some_as_each : {D : Type 0} (excuse : Type 0) (seen : D → Option (List ℕ)) (ls : List (Lent D)) (old new : Option Given) → excuse → GivesBackSome seen ls old new → GivesBackEach excuse seen ls old new
+some_as_each {D} excuse seen [] old new excused some = some
+some_as_each {D} excuse seen (l ∷ ls) old new excused some = (some.0, (either some.1.0, some_as_each excuse seen ls some.0 new excused some.1.1)) where
+  either : banks.GivesBack l.node (seen l.disk) old some.0 ⊎ (some.0 ≡ old) → banks.GivesBack l.node (seen l.disk) old some.0 ⊎ (excuse × (some.0 ≡ old))
+  either (inl back) = inl back
+  either (inr same) = inr (excused, same)
+
+given_next : (told : Option (List ℕ)) (i : ℕ) (given : Given) (next : Option Given) (bytes : List ℕ) → told ≡ Some bytes → banks.GivesBack i told (Some given) next → next ≡ Some (given ++ (i, bytes) ∷ [])
+given_next told i given next bytes e back = subst (λ (o : Option (List ℕ)). banks.GivesBack i o (Some given) next) e back
+
+given_each : {D : Type 0} (excuse : Type 0) (seen : D → Option (List ℕ)) (i : ℕ) (ls : List (Lent D)) (ds : List Durable) (given : Given) (new : Option Given) → StandFor seen i ls ds → GivesBackEach excuse seen ls (Some given) new → (disks : Given) × ((new ≡ Some (given ++ disks)) × AreKept excuse i ds disks)
+given_each {D} excuse seen i [] ds given new stand back = ([], (back ∙ ap (λ (x : Given). Some x) (sym (append-nil given)), subst (λ (xs : List Durable). AreKept excuse i xs []) (sym stand) refl))
+given_each {D} excuse seen i (l ∷ ls) [] given new stand back = absurd stand
+given_each {D} excuse seen i (l ∷ ls) (d ∷ ds) given new stand (after, (inl goes, back)) =
+    let bytes = some_of (seen l.disk) stand.0.1.0 in
+    let next = given_next (seen l.disk) l.node given after bytes.0 bytes.1 goes in
+    let more = given_each excuse seen (i + 1) ls ds (given ++ (l.node, bytes.0) ∷ []) new stand.1 (subst (λ (o : Option Given). GivesBackEach excuse seen ls o new) next back) in
+    ((l.node, bytes.0) ∷ more.0, (more.1.0 ∙ ap (λ (x : Given). Some x) (append_assoc given ((l.node, bytes.0) ∷ []) more.0), inl ((stand.0.0, stand.0.1.1 bytes.0 bytes.1), more.1.1)))
+given_each {D} excuse seen i (l ∷ ls) (d ∷ ds) given new stand (after, (inr wanting, back)) =
+    let more = given_each excuse seen (i + 1) ls ds given new stand.1 (subst (λ (o : Option Given). GivesBackEach excuse seen ls o new) wanting.1 back) in
+    (more.0, (more.1.0, inr (wanting.0, more.1.1)))
+
+given_by : {D : Type 0} (excuse : Type 0) (seen : D → Option (List ℕ)) (ls : List (Lent D)) (ds : List Durable) (old new : Option Given) → StandFor seen 1 ls ds → GivesBackEach excuse seen ls old new → GivesBack excuse ds old new
+given_by {D} excuse seen ls ds None new stand back = tt
+given_by {D} excuse seen ls ds (Some given) new stand back = given_each excuse seen 1 ls ds given new stand back
+
+given_all : {D : Type 0} (excuse : Type 0) (seen : D → Option (List ℕ)) (ls : List (Lent D)) (ds : List Durable) (old new : Option Given) → StandFor seen 1 ls ds → GivesBackAll seen ls old new → GivesBack excuse ds old new
+given_all {D} excuse seen ls ds old new stand back = given_by excuse seen ls ds old new stand (all_as_each excuse seen ls old new back)
+
+given_some : {D : Type 0} (excuse : Type 0) (seen : D → Option (List ℕ)) (ls : List (Lent D)) (ds : List Durable) (old new : Option Given) → StandFor seen 1 ls ds → excuse → GivesBackSome seen ls old new → GivesBack excuse ds old new
+given_some {D} excuse seen ls ds old new stand excused back = given_by excuse seen ls ds old new stand (some_as_each excuse seen ls old new excused back)
+
+-- ---- what is kept at the end of a run, and the disks that stand for it
+
+pub record EndsSo {D : Type 0} (seen : D → Option (List ℕ)) (end : Cell) (kept : List Durable) (disks : List (Lent D)) : Type 0 where
+  pub keep : MayKeep end 1 kept
+  pub stand : StandFor seen 1 disks kept
+
+-- as the bank takes them: all, or some where the rest is excused
+pub given_so : {D : Type 0} (excuse : Type 0) (seen : D → Option (List ℕ)) (c : Cell) (kept : List Durable) (disks : List (Lent D)) (old new : Option Given) → EndsSo seen c kept disks → GivesBackAll seen disks old new ⊎ excuse → GivesBackSome seen disks old new → GivesBack excuse kept old new
+given_so {D} excuse seen c kept disks old new so (inl all) some = given_all excuse seen disks kept old new so.stand all
+given_so {D} excuse seen c kept disks old new so (inr excused) some = given_some excuse seen disks kept old new so.stand excused some
+
+one_stands : {D : Type 0} (seen : D → Option (List ℕ)) (faults limit : D → ℕ) (c : Cell) (i : ℕ) (l : Lent D) (f : Left (Store D) D) (fs : List (Left (Store D) D)) → Stand seen limit c i l → Tells seen i l → IsRead seen faults limit l.disk f → fault_in (f ∷ fs) ≡ None →
+    IsSome (seen (kept_disk f)) × ((bytes : List ℕ) → seen (kept_disk f) ≡ Some bytes → Stands bytes (part f))
+one_stands {D} seen faults limit c i l (left.Kept s) fs stand tells read none = (read.told.1 tells, λ bytes e. read.is.after bytes e)
+one_stands {D} seen faults limit c i l (left.Bad d) fs stand tells read none =
+    let bytes = some_of (seen l.disk) tells in
+    let p = stand bytes.0 bytes.1 in
+    absurd (read.is bytes.0 bytes.1 p.0 p.1.1.1 p.1.1.0)
+one_stands {D} seen faults limit c i l (left.Failed d) fs stand tells read none = absurd (no_fault _ none)
+one_stands {D} seen faults limit c i l (left.Unread d) fs stand tells read none = absurd (no_fault _ none)
+
+all_stand : {D : Type 0} (seen : D → Option (List ℕ)) (faults limit : D → ℕ) (c : Cell) (i : ℕ) (ls : List (Lent D)) (fs : List (Left (Store D) D)) → EachFrom i (Stand seen limit c) ls → EachFrom i (Tells seen) ls → AreFound seen faults limit ls fs → fault_in fs ≡ None → StandFor seen i (kept_disks i fs) (map part fs)
+all_stand {D} seen faults limit c i [] [] stand tells found none = refl
+all_stand {D} seen faults limit c i [] (f ∷ fs) stand tells found none = absurd found
+all_stand {D} seen faults limit c i (l ∷ ls) [] stand tells found none = absurd found
+all_stand {D} seen faults limit c i (l ∷ ls) (f ∷ fs) stand tells found none =
+    let rest = (one_left seen faults limit c i l f fs stand.0 tells.0 found.0 none).1 in
+    ((refl, one_stands seen faults limit c i l f fs stand.0 tells.0 found.0 none), all_stand seen faults limit c (i + 1) ls fs stand.1 tells.1 found.1 rest)
+
+-- where the disks were read for the final part
+pub read_so : {D : Type 0} (seen : D → Option (List ℕ)) (may_leave : D → List ℕ → Type 0) (faults limit : D → ℕ) (w : WorldState D) (c : Cell) (fs : List (Left (Store D) D)) → IsCell seen may_leave limit w c → AllTell seen w.servers → AreStanding seen limit c (lent_from 1 w.servers) →
+    AreFound seen faults limit (lent_from 1 w.servers) fs → fault_in fs ≡ None → EndsSo seen c (map part fs) (kept_disks 1 fs)
+read_so {D} seen may_leave faults limit w c fs is tells stand found none =
+    let ls = lent_from 1 w.servers in
+    let each = each_is (Stand seen limit c) (lent_from 1 w.servers) stand in
+    let all = tells_from seen 1 w.servers (each_is (λ (i : ℕ) (s : ServerSeat D). IsSome (seen (seat_disk s))) w.servers tells) in
+    record {
+      keep = all_left seen faults limit c 1 (lent_from 1 w.servers) fs each all found none (omega (arith, lent_length 1 w.servers, is.host_count));
+      stand = all_stand seen faults limit c 1 (lent_from 1 w.servers) fs each all found none;
+    }
+
+-- where they go back as they are
+abbrev LeftFrom : {D : Type 0} → (D → Option (List ℕ)) → Cell → ℕ → List (Lent D) → Type 0
+LeftFrom {D} seen c i ls = (ds : List Durable) × (MayKeep c i ds × StandFor seen i ls ds)
+
+abbrev Numbered : {D : Type 0} → ℕ → Lent D → Type 0
+Numbered {D} i l = l.node ≡ i
+
+parts_stand : {D : Type 0} (seen : D → Option (List ℕ)) (limit : D → ℕ) (c : Cell) (i : ℕ) (ls : List (Lent D)) → EachFrom i (Stand seen limit c) ls → EachFrom i (Tells seen) ls → EachFrom i Numbered ls → i + length ls ≡ c.host_count + 1 → LeftFrom seen c i ls
+parts_stand {D} seen limit c i [] stand tells numbered counted = ([], (omega (arith, counted), refl))
+parts_stand {D} seen limit c i (l ∷ ls) stand tells numbered counted =
+    let bytes = some_of (seen l.disk) tells.0 in
+    let d = stand.0 bytes.0 bytes.1 in
+    let more = parts_stand seen limit c (i + 1) ls stand.1 tells.1 numbered.1 (omega (arith, counted)) in
+    (d.0 ∷ more.0, ((d.1.0, more.1.0), ((numbered.0, (tells.0, λ bs e. subst (λ (xs : List ℕ). Stands xs d.0) (some_is bytes.0 bs (sym bytes.1 ∙ e)) d.1.1.0)), more.1.1)))
+
+numbered_from : {D : Type 0} (i : ℕ) (ss : List (ServerSeat D)) → EachFrom i Numbered (lent_from i ss)
+numbered_from {D} i [] = tt
+numbered_from {D} i (s ∷ ss) = (refl, numbered_from (i + 1) ss)
+
+pub left_so : {D : Type 0} (seen : D → Option (List ℕ)) (may_leave : D → List ℕ → Type 0) (limit : D → ℕ) (w : WorldState D) (c : Cell) → IsCell seen may_leave limit w c → AllTell seen w.servers → AreStanding seen limit c (lent_from 1 w.servers) →
+    (kept : List Durable) × EndsSo seen c kept (lent_from 1 w.servers)
+left_so {D} seen may_leave limit w c is tells stand =
+    let each = each_is (Stand seen limit c) (lent_from 1 w.servers) stand in
+    let all = tells_from seen 1 w.servers (each_is (λ (i : ℕ) (s : ServerSeat D). IsSome (seen (seat_disk s))) w.servers tells) in
+    let left = parts_stand seen limit c 1 (lent_from 1 w.servers) each all (numbered_from 1 w.servers) (omega (arith, lent_length 1 w.servers, is.host_count)) in
+    (left.0, record { keep = left.1.0; stand = left.1.1 })
+
+-- ---- the history
+
+length_told : (ps : List Parcel) (es : List kept.Entry) → length (told ps es) ≡ length es
+length_told ps [] = refl
+length_told ps (e ∷ es) = ap suc (length_told (drop e.sent ps) es)
+
+-- the history that a world tells is one of its script, and legal
+pub played_legally : {D : Type 0} (seen : D → Option (List ℕ)) (may_leave : D → List ℕ → Type 0) (faults limit : D → ℕ) (law : RunsAreLegal) (s : Script) (w : WorldState D) (counts : Span ℕ) (kept : List Durable) → IsOneServer s → length w.history ≤ most_entries → (p : HasPlayedAll seen may_leave faults limit s w) → RoseBy (own_falls p.inputs) counts → MayKeep p.cell 1 kept → IsPlayed s counts (told w.wire w.history) kept
+played_legally {D} seen may_leave faults limit law s w counts kept one few p failures keep = record {
+  end = p.cell;
+  is = record { inputs = p.inputs; leads = p.runs.leads; acts = p.played };
+  few = omega (arith, length_told w.wire w.history, few);
+  failures = failures;
+  legal = law s (told w.wire w.history) p.cell one (record { inputs = p.inputs; leads = p.runs.leads });
+  keep = keep;
+}
+
+-- as far as a history may go
+pub played_first : {D : Type 0} (seen : D → Option (List ℕ)) (may_leave : D → List ℕ → Type 0) (faults limit : D → ℕ) (law : RunsAreLegal) (s : Script) (w : WorldState D) (counts : Span ℕ) (kept : List Durable) → IsOneServer s → (p : HasPlayedFirst seen may_leave faults limit s w) → RoseBy (own_falls p.0.inputs) counts → MayKeep p.0.cell 1 kept → IsPlayedFirst s counts (told w.wire w.history) kept
+played_first {D} seen may_leave faults limit law s w counts kept one p failures keep = record {
+  end = p.0.cell;
+  is = record { inputs = p.0.inputs; leads = p.0.runs.leads; acts = p.0.played };
+  full = length_told w.wire w.history ∙ p.1;
+  failures = failures;
+  legal = law s (told w.wire w.history) p.0.cell one (record { inputs = p.0.inputs; leads = p.0.runs.leads });
+  keep = keep;
+}
+
+-- all was played, and a disk failed behind it
+pub failed_behind : {D : Type 0} (seen : D → Option (List ℕ)) (may_leave : D → List ℕ → Type 0) (faults limit : D → ℕ) (s : Script) (w : WorldState D) (counts : Span ℕ) → length w.history ≤ most_entries → (p : HasPlayedAll seen may_leave faults limit s w) → RoseBy (own_falls p.inputs + 1) counts → FailsBehind s counts
+failed_behind {D} seen may_leave faults limit s w counts few p rose = record {
+  history = told w.wire w.history;
+  end = p.cell;
+  is = record { inputs = p.inputs; leads = p.runs.leads; acts = p.played };
+  few = omega (arith, length_told w.wire w.history, few);
+  rose = rose;
+}

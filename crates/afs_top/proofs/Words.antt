@@ -1,0 +1,10 @@
+-- What more words than three ask.
+use Rattle.std.proofs.Common.{◌≡◌, ℕ, ◌≤◌, List, [], ◌∷◌, length, map, None, string_bytes, refl, arith}
+use Rattle.afs_top.specs.Forms.{options_in, Options}
+
+pub four_ask_nothing : {A : Type 0} (f : A → List ℕ) (words : List A) → 4 ≤ length words → None ≡ options_in (map f words)
+four_ask_nothing f [] few = absurd (omega (arith, few))
+four_ask_nothing f (a ∷ []) few = absurd (omega (arith, few))
+four_ask_nothing f (a ∷ b ∷ []) few = absurd (omega (arith, few))
+four_ask_nothing f (a ∷ b ∷ c ∷ []) few = absurd (omega (arith, few))
+four_ask_nothing f (a ∷ b ∷ c ∷ d ∷ more) few = refl

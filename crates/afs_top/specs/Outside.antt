@@ -1,0 +1,29 @@
+-- What a call of the program does outside: to the sink, and to the bank of its disks.
+use Rattle.std.specs.Prelude.{◌≡◌, ◌≤◌, ◌⊎◌, ℕ, ◌+◌, List, Option}
+use Rattle.afs_disk.specs.Fuses.{last_count}
+use Rattle.afs_disk.specs.declared.bank.Lend.{Lend}
+
+-- what stood there before the call, and what stands there after it
+pub record Span (A : Type 0) : Type 0 where
+  pub before : A
+  pub after : A
+
+abbrev pub span : {A : Type 0} → A → A → Span A
+span {A} before after = record { before = before; after = after }
+
+abbrev pub IsUnchanged : {A : Type 0} → Span A → Type 0
+IsUnchanged {A} span = span.after ≡ span.before
+
+-- The bytes that the sink holds, the lends of the bank, and the disks that it was given back, each by its node and its bytes, where these
+-- are told; and the counts of faults of the sink, of the bank, and of all disks that it was given back.
+pub record Outside : Type 0 where
+  pub sink : Span (Option (List ℕ))
+  pub lends : Span (Option (List Lend))
+  pub given : Span (Option (List (ℕ × List ℕ)))
+  pub sink_faults : Span ℕ
+  pub bank_faults : Span ℕ
+  pub disk_faults : Span ℕ
+
+-- The count rose by so many, or by more. One that stands at the last value of a counter counts as risen.
+abbrev pub RoseBy : ℕ → Span ℕ → Type 0
+RoseBy n count = (count.before + n ≤ count.after) ⊎ (last_count ≤ count.after)

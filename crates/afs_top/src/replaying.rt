@@ -1,0 +1,214 @@
+//! A script is played over the disks of its servers, and its history is written.
+
+ghost use Rattle.std.specs.Prelude.{◌≡◌, ◌≤◌, ◌⊎◌, ◌×◌, ◌++◌, length, map, false, OnOk, OnErr, Option, Some, None};
+ghost use Rattle.afs_disk.specs.Disk.{Rose};
+ghost use Rattle.afs_law.specs.OneServer.{IsOneServer};
+ghost use Rattle.afs_grammar.specs.CellScripts.{IsCellScript};
+ghost use Rattle.afs_outside.specs.Outside.{AppendsFront, Puts};
+ghost use Rattle.afs_cell.specs.Steps.{AreLent, HasPlayedAll, HasPlayedFirst, LentTell};
+ghost use Rattle.afs_cell.specs.Worlds.{AllTell, IsWorld};
+ghost use Rattle.afs_final.specs.Reading.{part};
+ghost use Rattle.afs_final.specs.Reading as read;
+ghost use Rattle.afs_final.specs.Telling.{final_of};
+ghost use Rattle.afs_lending.specs.Lending.{faults_of, with_faults, AreUnused, GivesBackAll, GivesBackSome};
+ghost use Rattle.afs_text.specs.FinalText.{final_text};
+ghost use Rattle.afs_text.specs.KeptText.{kept_history_text};
+ghost use Rattle.afs_text.specs.Telling.{sent_by};
+ghost use Rattle.afs_top.specs.Outside.{span};
+ghost use Rattle.afs_top.specs.Parts.{lend_status, returned, set_up_status, TellsLeft};
+ghost use Rattle.afs_top.specs.Top.{EndsReplay, EndsRun, SetUpLeaves};
+
+use crate::statuses::Status;
+use afs_cell::faults::SetupFault;
+use afs_cell::{Ended, Told, World, play, set_up};
+use afs_disk::{Bank, Disk, Disks, LendFault, Place};
+use afs_final::{Kept, Left, fault_in, left_of, put_final, told_of};
+use afs_history::scripts::Script;
+use afs_law::laws::runs_are_legal;
+use afs_lending::{give_back, give_back_all, lend_all};
+use afs_num::devices::Failed as BankFailed;
+use afs_outside::outside::{Failed, Sink, pass_on};
+use afs_text::histories::put_history;
+use afs_volstore::VolStore;
+use std::alloc::Global;
+
+/// The status where a disk wasn't lent, or couldn't be read.
+fn status_of_lend(fault: LendFault) -> Status
+    ensures { result ≡ lend_status fault }
+{
+    match fault {
+        LendFault::Failed => Status::BankFault,
+        LendFault::OutOfMemory => Status::OutOfMemory,
+    }
+}
+
+/// The status where the cell wasn't set up.
+fn status_of_setup(fault: SetupFault) -> Status
+    ensures { result ≡ set_up_status fault }
+{
+    match fault {
+        SetupFault::Disk(_) => Status::BankFault,
+        SetupFault::OutOfMemory => Status::OutOfMemory,
+    }
+}
+
+/// The status behind the return of the disks: nothing is done where one of them wasn't taken.
+fn returned(status: Status, taken: Result<(), BankFailed>) -> Status
+    ensures { result ≡ returned status taken }
+{
+    match (status, taken) {
+        (Status::Done, Err(_)) => Status::BankFault,
+        (status, _) => status,
+    }
+}
+
+/// The disks go back, and the program ends so, also where the bank doesn't take one of them.
+fn give_up<B: Bank<D: Drop>>(bank: &mut B, disks: Disks<B::D>, status: Status) -> Status
+    ensures status { result ≡ status }
+    ensures given { GivesBackAll B.D.seen disks (B.given bank.old) (B.given bank.new) ⊎ Rose (B.faults bank.old) (B.faults bank.new) }
+    ensures some { GivesBackSome B.D.seen disks (B.given bank.old) (B.given bank.new) }
+    ensures faults { B.lent_faults bank.new ≡ with_faults (faults_of B.D.faults disks) (B.lent_faults bank.old) }
+    ensures lends { B.lends bank.new ≡ B.lends bank.old }
+    ensures never_falls { B.faults bank.old ≤ B.faults bank.new }
+{
+    let _taken = give_back_all(bank, disks);
+    status
+}
+
+/// Writes the text of a history that was played to its end, with what the disks keep, and passes it on.
+fn tell<K: Sink>(sink: &mut K, told: &Told, kept: &[Kept<'_>], wire: bool) -> Result<(), Failed>
+    requires all { sent_by told.now.history ≡ length told.now.wire }
+    ensures { Puts (kept_history_text wire told.now.wire told.now.history ++ final_of kept.now) (K.held sink.old) (K.held sink.new) (K.faults sink.old) (K.faults sink.new) result }
+{
+    put_history(sink, told.parcels(), told.entries(), wire)?;
+    put_final(sink, kept)?;
+    pass_on(sink)
+}
+
+/// The history is told with what was found on the disks, where that can be.
+fn tell_left<K: Sink, D: Disk>(
+    alloc: Global,
+    sink: &mut K,
+    told: &Told,
+    left: &[Left<VolStore<D>, D>],
+    wire: bool,
+) -> Status
+    requires few { length left.now ≤ 8 }
+    requires all { sent_by told.now.history ≡ length told.now.wire }
+    ensures { TellsLeft (kept_history_text wire told.now.wire told.now.history ++ final_text (map part left.now)) (read.fault_in left.now) (span (K.held sink.old) (K.held sink.new)) (span (K.faults sink.old) (K.faults sink.new)) result }
+{
+    if let Some(fault) = fault_in(left) {
+        return status_of_lend(fault);
+    }
+    let Ok(kept) = told_of(alloc, left) else {
+        return Status::OutOfMemory;
+    };
+    match tell(sink, told, kept.as_slice(), wire) {
+        Ok(()) => Status::Done,
+        Err(Failed) => Status::WriteFault,
+    }
+}
+
+/// A history that is as long as one may be is written as far as the sink takes it.
+fn tell_first<K: Sink>(sink: &mut K, told: &Told, wire: bool)
+    requires all { sent_by told.now.history ≡ length told.now.wire }
+    ensures { AppendsFront (K.held sink.old) (K.held sink.new) (kept_history_text wire told.now.wire told.now.history) }
+{
+    if put_history(sink, told.parcels(), told.entries(), wire).is_ok() {
+        let _passed = pass_on(sink);
+    }
+}
+
+/// A world that played its script to its end is told, with what its disks keep, and they are given back.
+fn end<K: Sink, B: Bank<D: Drop>>(
+    alloc: Global,
+    world: World<'_, B::D>,
+    wire: bool,
+    sink: &mut K,
+    bank: &mut B,
+) -> Status
+    requires world { IsWorld B.D.seen B.D.may_leave B.D.faults B.D.limit world.script world }
+    requires going { world.is_lost ≡ false }
+    requires one { IsOneServer world.script }
+    ensures ends { EndsRun world.entry.script wire (AllTell B.D.seen world.entry.servers × HasPlayedAll B.D.seen B.D.may_leave B.D.faults B.D.limit world.entry.script world.entry) ⊥ (record { sink = span (K.held sink.old) (K.held sink.new); lends = span (B.lends bank.old) (B.lends bank.new); given = span (B.given bank.old) (B.given bank.new); sink_faults = span (K.faults sink.old) (K.faults sink.new); bank_faults = span (B.faults bank.old) (B.faults bank.new); disk_faults = span (B.lent_faults bank.old) (B.lent_faults bank.new) }) result }
+    ensures lends { B.lends bank.new ≡ B.lends bank.old }
+    ensures never_falls { B.faults bank.old ≤ B.faults bank.new }
+{
+    runs_are_legal();
+    let (told, disks) = world.end();
+    let left = match left_of(alloc, disks) {
+        Ok(left) => left,
+        Err(disks) => return give_up(bank, disks, Status::OutOfMemory),
+    };
+    let status = tell_left(alloc, sink, &told, left.as_slice(), wire);
+    let taken = give_back(bank, left);
+    returned(status, taken)
+}
+
+/// A history that went as far as one may is told, and the disks are given back.
+fn cut<K: Sink, B: Bank<D: Drop>>(
+    world: World<'_, B::D>,
+    wire: bool,
+    sink: &mut K,
+    bank: &mut B,
+) -> Status
+    requires world { IsWorld B.D.seen B.D.may_leave B.D.faults B.D.limit world.script world }
+    requires going { world.is_lost ≡ false }
+    requires one { IsOneServer world.script }
+    ensures ends { EndsRun world.entry.script wire (AllTell B.D.seen world.entry.servers × HasPlayedFirst B.D.seen B.D.may_leave B.D.faults B.D.limit world.entry.script world.entry) ⊥ (record { sink = span (K.held sink.old) (K.held sink.new); lends = span (B.lends bank.old) (B.lends bank.new); given = span (B.given bank.old) (B.given bank.new); sink_faults = span (K.faults sink.old) (K.faults sink.new); bank_faults = span (B.faults bank.old) (B.faults bank.new); disk_faults = span (B.lent_faults bank.old) (B.lent_faults bank.new) }) result }
+    ensures lends { B.lends bank.new ≡ B.lends bank.old }
+    ensures never_falls { B.faults bank.old ≤ B.faults bank.new }
+{
+    runs_are_legal();
+    let (told, disks) = world.end();
+    tell_first(sink, &told, wire);
+    give_up(bank, disks, Status::Limit)
+}
+
+/// The script's cell is set up over these disks and played to its end.
+fn replay_over<K: Sink, B: Bank<D: Drop>>(
+    alloc: Global,
+    script: &Script,
+    disks: Disks<B::D>,
+    wire: bool,
+    sink: &mut K,
+    bank: &mut B,
+) -> Status
+    requires script { IsCellScript script.now }
+    requires one { IsOneServer script.now }
+    requires lent { AreLent B.D.limit script.now.capacity 1 disks }
+    requires all { length disks ≡ script.now.servers }
+    requires unused { AreUnused B.D.faults disks }
+    ensures ends { EndsRun script.now wire (LentTell B.D.seen disks) (SetUpLeaves B.D.seen B.D.may_leave B.D.faults script.now (record { sink = span (K.held sink.old) (K.held sink.new); lends = span (B.lends bank.old) (B.lends bank.new); given = span (B.given bank.old) (B.given bank.new); sink_faults = span (K.faults sink.old) (K.faults sink.new); bank_faults = span (B.faults bank.old) (B.faults bank.new); disk_faults = span (B.lent_faults bank.old) (B.lent_faults bank.new) })) (record { sink = span (K.held sink.old) (K.held sink.new); lends = span (B.lends bank.old) (B.lends bank.new); given = span (B.given bank.old) (B.given bank.new); sink_faults = span (K.faults sink.old) (K.faults sink.new); bank_faults = span (B.faults bank.old) (B.faults bank.new); disk_faults = span (B.lent_faults bank.old) (B.lent_faults bank.new) }) result }
+    ensures lends { B.lends bank.new ≡ B.lends bank.old }
+    ensures never_falls { B.faults bank.old ≤ B.faults bank.new }
+{
+    let world = match set_up(alloc, script, disks) {
+        Ok(world) => world,
+        Err((fault, disks)) => return give_up(bank, disks, status_of_setup(fault)),
+    };
+    match play(world) {
+        Ended::Done(world) => end(alloc, world, wire, sink, bank),
+        Ended::Limit(world) => cut(world, wire, sink, bank),
+        Ended::OutOfMemory(world) => give_up(bank, world.end().1, Status::OutOfMemory),
+    }
+}
+
+/// Plays the script over disks of this place, and writes its text, with the bytes of each message where `wire` asks for them.
+pub(crate) fn replay<K: Sink, B: Bank<D: Drop>>(
+    alloc: Global,
+    script: &Script,
+    wire: bool,
+    place: &Place,
+    sink: &mut K,
+    bank: &mut B,
+) -> Status
+    requires script { IsCellScript script.now }
+    requires one { IsOneServer script.now }
+    ensures { EndsReplay script.now wire place.now (B.tells bank.old place.now) (SetUpLeaves B.D.seen B.D.may_leave B.D.faults script.now (record { sink = span (K.held sink.old) (K.held sink.new); lends = span (B.lends bank.old) (B.lends bank.new); given = span (B.given bank.old) (B.given bank.new); sink_faults = span (K.faults sink.old) (K.faults sink.new); bank_faults = span (B.faults bank.old) (B.faults bank.new); disk_faults = span (B.lent_faults bank.old) (B.lent_faults bank.new) })) (record { sink = span (K.held sink.old) (K.held sink.new); lends = span (B.lends bank.old) (B.lends bank.new); given = span (B.given bank.old) (B.given bank.new); sink_faults = span (K.faults sink.old) (K.faults sink.new); bank_faults = span (B.faults bank.old) (B.faults bank.new); disk_faults = span (B.lent_faults bank.old) (B.lent_faults bank.new) }) result }
+{
+    match lend_all(alloc, bank, place, script.servers, script.capacity) {
+        Ok(disks) => replay_over(alloc, script, disks, wire, sink, bank),
+        Err((fault, disks)) => give_up(bank, disks, status_of_lend(fault)),
+    }
+}
