@@ -1,6 +1,6 @@
 //! A script is played over the disks of its servers, and its history is written.
 
-ghost use Rattle.std.specs.Prelude.{◌≡◌, ◌≤◌, ◌⊎◌, ◌×◌, ◌++◌, length, map, false, OnOk, OnErr, Option, Some, None};
+ghost use Rattle.std.specs.Prelude.{◌≡◌, ◌≤◌, ◌⊎◌, ◌++◌, length, map, false};
 ghost use Rattle.afs_disk.specs.Disk.{Rose};
 ghost use Rattle.afs_law.specs.OneServer.{IsOneServer};
 ghost use Rattle.afs_grammar.specs.CellScripts.{IsCellScript};
