@@ -17,8 +17,8 @@ failed=0
 sed -e '1,/^----$/d' -e '/^---- wire$/,$d' tests/rows/example_open_close.row > "$work/text"
 : > "$work/nothing"
 printf 'afscell: a first look: what runs is NOT PROVED\n' > "$work/look"
-{ cat "$work/look"; echo 'usage: afscell replay [--wire]'; } > "$work/look_usage"
-echo 'usage: afscell replay [--wire]' > "$work/usage"
+{ cat "$work/look"; echo 'usage: afscell replay [--wire] [--disks DIR]'; } > "$work/look_usage"
+echo 'usage: afscell replay [--wire] [--disks DIR]' > "$work/usage"
 
 # Runs the launcher and judges it: launch NAME LOOK STATUS OUTPUT ERROR WORDS..
 launch() {

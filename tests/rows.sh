@@ -7,16 +7,13 @@
 #   what is printed
 #   ---- wire, where messages are sent, and what is printed with --wire
 # tests/refusals.table has the inputs that are no script. Then come words that are no form of the program, a source and a
-# sink that fail, and a script at the limit of its lines. Where the reference program is beside the repository, fifty made
-# scripts are compared with it, both ways. Nothing here writes what is wanted of a row.
-# AFSCELL names another program to test, as the one that the gate built; AFSCELL_REFERENCE is the folder of the reference.
+# sink that fail, disks in a folder, contents at the limit of a close, and a script at the limit of its lines. Nothing here
+# writes what is wanted of a row. tests/seeds.sh compares made scripts with a reference program.
+# AFSCELL names another program to test, as the one that the gate built.
 set -eu
 
 cd "$(dirname "$0")/.."
 program=${AFSCELL:-./afscell}
-reference=${AFSCELL_REFERENCE:-../shared/oracle}/afscell.py
-# the reference program's name for what this program has
-form=2
 
 work=$(mktemp -d)
 trap 'rm -rf "$work"' EXIT
@@ -174,7 +171,7 @@ fi
 usage() {
     name=$1
     shift
-    wanted 2 /dev/null 'usage: afscell replay [--wire]'
+    wanted 2 /dev/null 'usage: afscell replay [--wire] [--disks DIR]'
     play "words: $name" examples/open_close.afs "$@"
 }
 usage 'none'
@@ -194,8 +191,11 @@ usage '-wire' replay -wire
 usage '--wire=1' replay --wire=1
 usage '--' replay --
 usage 'an empty word behind replay' replay ''
-usage '--disks' replay --disks disks
-usage '--wire --disks' replay --wire --disks disks
+usage '--disks without a folder' replay --disks
+usage '--disks= without a folder' replay --disks=
+usage '--disks before --wire' replay --disks --wire
+usage '--disks twice' replay --disks disks --disks disks
+usage '--disks before replay' --disks disks replay
 
 # A folder can't be read.
 wanted 4 /dev/null 'read fault'
@@ -213,6 +213,38 @@ else
     echo 'skipped: a sink that fails (there is no /dev/full)'
 fi
 
+# Disks in a folder, in each spelling: the text is the same, and each server's disk lies there. A folder that isn't there
+# can't lend one.
+take_apart tests/rows/example_open_close.row
+wanted 0 "$work/row/text" ''
+mkdir "$work/disks"
+for words in "--disks $work/disks" "--disks=$work/disks"; do
+    rm -f "$work/disks"/*
+    play 'disks in a folder' examples/open_close.afs replay $words
+    if [ -s "$work/disks/node-1" ]; then pass; else fail 'disks in a folder: there is no disk of the server'; fi
+done
+wanted 6 /dev/null 'disk fault'
+play 'disks in a folder that is not there' examples/open_close.afs replay --disks "$work/none"
+
+# A close of as many bytes as one may have, and of one more, which the server refuses.
+{
+    printf 'cell 1\nservers 1\nclients 1\nvolume proj s1 1000\nfile proj/a hex:616263\n'
+    printf 'do c1 close @536870912.2.2 fill:65536:61\ndo c1 close @536870912.2.2 fill:65537:61\n'
+    printf 'schedule\nact c1\ndrain\nact c1\ndrain\nend\n'
+} > "$work/large.afs"
+filled=$(awk 'BEGIN { for (i = 0; i < 65536; i++) printf "61" }')
+{
+    printf 'entry 1 c1\nbegin c1 close @536870912.2.2 fill:65536:61\nsent 1 c1 s1 call 133 1.1\n'
+    printf 'entry 2 s1\ngiven 1\nchange s1 c1.1.1 1\nversion 536870912.2.2 2 2 f:%s\n' "$filled"
+    printf 'sent 2 s1 c1 reply 133 1.1 0\nentry 3 c1\ngiven 2\nanswer c1 0\n'
+    printf 'entry 4 c1\nbegin c1 close @536870912.2.2 fill:65537:61\nsent 3 c1 s1 call 133 1.2\n'
+    printf 'entry 5 s1\ngiven 3\nsent 4 s1 c1 reply 133 1.2 27\nentry 6 c1\ngiven 4\nanswer c1 27\n'
+    printf 'final\nvolume s1 536870912 proj 0 0\nvnode 536870912.1.1 2 1 1 d:a=2.2\n'
+    printf 'vnode 536870912.2.2 1 2 2 f:%s\nend\n' "$filled"
+} > "$work/large.text"
+wanted 0 "$work/large.text" ''
+play 'contents at the limit of a close' "$work/large.afs" replay
+
 # At the limit of a script's lines: 199,999 good ones and the end, and one more.
 at_limit() {
     printf 'cell 1\nservers 1\nclients 1\nvolume v s1 1000\n'
@@ -226,29 +258,6 @@ play 'as many lines as a script may have' "$work/long.afs" replay
 at_limit 199995 > "$work/long.afs"
 wanted 3 /dev/null 'script: line 200001: Limit'
 play 'one line more than a script may have' "$work/long.afs" replay
-
-# What is wanted is what the reference program prints and tells: compare NAME SOURCE WORDS..
-compare() {
-    name=$1
-    source=$2
-    shift 2
-    want=0
-    python3 "$reference" "$@" --stage "R$form" < "$source" > "$work/want.out" 2> "$work/want.err" || want=$?
-    play "$name" "$source" "$@"
-}
-
-# Made scripts, beside the reference program.
-if [ -f "$reference" ] && command -v python3 > /dev/null 2>&1; then
-    seed=1
-    while [ "$seed" -le 50 ]; do
-        python3 tests/generate.py "$seed" > "$work/made.afs"
-        compare "made script $seed" "$work/made.afs" replay
-        compare "made script $seed with --wire" "$work/made.afs" replay --wire
-        seed=$((seed + 1))
-    done
-else
-    echo 'skipped: fifty made scripts (the reference program is not beside the repository)'
-fi
 
 echo "$passed passed, $failed failed"
 [ "$failed" -eq 0 ]

@@ -28,11 +28,11 @@ use Rattle.afs_rows.specs.ServerRow.{lasting_started, Begun}
 use Rattle.afs_rows.specs.ServerSteps.{start_row}
 use Rattle.afs_rows.specs.States.{durable_of, Lasting, ServerState}
 use Rattle.afs_volstore.specs.Stores.{IsCounted, IsKept, LeftAround, SameBut, Store}
-use Rattle.afs_server.specs.Seen.{begun_step, lasting_of}
+use Rattle.afs_server.specs.Seen.{begun_state, begun_step, lasting_of}
 use Rattle.afs_host.specs.Hosts.{goes, stays}
 use Rattle.afs_host.specs.Seats.{count_mark, IsStepDown, IsStepUp, Resting, Running}
 use Rattle.afs_host.specs.Standing.{Lies}
-use Rattle.afs_host.specs.Starting.{BootsFrom, HasRisen, IsFound, Rises, Stays}
+use Rattle.afs_host.specs.Starting.{begun_with, BootsFrom, BootsOver, HasRisen, IsFound, Rises, Stays}
 use Rattle.afs_host.specs.declared.starting.Start.{Start}
 use Rattle.afs_host.specs.declared.starting.Start.TheVariants as starts
 use Rattle.afs_host.proofs.Lying.{begun_lies, kept_before, some_of}
@@ -229,6 +229,31 @@ risen_boots {D} seen may_leave faults limit begun records front s t clock count 
 risen_boots {D} seen may_leave faults limit begun records front s t clock count found can store (starts.Down d ls) risen = absurd risen
 risen_boots {D} seen may_leave faults limit begun records front s t clock count found can store (starts.Unchanged d) risen = absurd risen
 risen_boots {D} seen may_leave faults limit begun records front s t clock count found can store (starts.Lost d) risen = tt
+
+-- ---- whatever the disk tells
+
+pub risen_over : {D : Type 0} (faults : D → ℕ) (front : List Line) (s t : Store (Fused D)) (clock count : ℕ) → can_boot s.durable ≡ true → t ≡ record s { durable = started s.durable; disk = t.disk; prepared = None; count = s.count + 1 } →
+    (result : Start (Running D) (Resting D)) → Rises t front count clock result → BootsOver faults s.durable front s.node clock count s.disk.disk result
+risen_over {D} faults front s t clock count can store (starts.Up r outs) risen =
+    (settled_up (begun_state s.durable) s.durable refl can, risen_up (begun_with s.durable front) front s t clock count r outs refl (λ ls. refl) store risen)
+risen_over {D} faults front s t clock count can store (starts.Down d ls) risen = absurd risen
+risen_over {D} faults front s t clock count can store (starts.Unchanged d) risen = tt
+risen_over {D} faults front s t clock count can store (starts.Lost d) risen = tt
+
+pub full_over : {D : Type 0} (faults : D → ℕ) (front : List Line) (s t : Store (Fused D)) (clock count : ℕ) → can_boot s.durable ≡ false → (result : Start (Running D) (Resting D)) → Stays t front (lines.Full s.node) result →
+    BootsOver faults s.durable front s.node clock count s.disk.disk result
+full_over {D} faults front s t clock count not (starts.Up r outs) stays_so = absurd stays_so
+full_over {D} faults front s t clock count not (starts.Down d ls) stays_so = inl (settled_full (begun_state s.durable) s.durable refl not, stays_so.1)
+full_over {D} faults front s t clock count not (starts.Unchanged d) stays_so = tt
+full_over {D} faults front s t clock count not (starts.Lost d) stays_so = tt
+
+pub failed_over : {D : Type 0} (faults : D → ℕ) (front : List Line) (s t : Store (Fused D)) (clock count : ℕ) → can_boot s.durable ≡ true → Rose (faults s.disk.disk) (faults t.disk.disk) → (result : Start (Running D) (Resting D)) → Stays t front (lines.Fault s.node) result →
+    BootsOver faults s.durable front s.node clock count s.disk.disk result
+failed_over {D} faults front s t clock count can rose (starts.Up r outs) stays_so = absurd stays_so
+failed_over {D} faults front s t clock count can rose (starts.Down d ls) stays_so =
+    inr (settled_midway (begun_state s.durable) s.durable refl can, (stays_so.1, subst (λ (x : Resting D). Rose (faults s.disk.disk) (faults x.disk)) (sym stays_so.0) rose))
+failed_over {D} faults front s t clock count can rose (starts.Unchanged d) stays_so = tt
+failed_over {D} faults front s t clock count can rose (starts.Lost d) stays_so = tt
 
 -- ---- the law of starts
 

@@ -87,10 +87,10 @@ ended_lies {D} seen may_leave moment left_since now clock found old before after
 -- ---- the server is down
 
 -- the host fell with some luck, and as the line tells
-pub down_step : {D : Type 0} (seen : D → Option (List ℕ)) (may_leave : D → List ℕ → Type 0) (faults limit : D → ℕ) (old new : Running D) (clock : ℕ) (found : Received) → CanRun old → IsBroken seen may_leave faults limit old clock found new →
-    (s : Resting D) (line : Line) → HasFallen seen may_leave faults limit new s line → (h : Host) → IsUp old h → (m : Message) → found ≡ Whole m → (place : ℕ) →
+pub down_step : {D : Type 0} (seen : D → Option (List ℕ)) (left_by : D → ℕ → Option (List ℕ)) (may_leave : D → List ℕ → Type 0) (faults limit : D → ℕ) (old new : Running D) (clock : ℕ) (found : Received) → CanRun old → IsBroken seen may_leave faults limit old clock found new →
+    (s : Resting D) (line : Line) → HasFallen seen left_by may_leave faults limit new s line → (h : Host) → IsUp old h → (m : Message) → found ≡ Whole m → (place : ℕ) →
     HasServed old.store.node h clock place m (IsStepDown seen may_leave limit old.store.node s (lines.Given place ∷ line ∷ [])) (Rose (faults (disk_of old)) (faults s.disk))
-down_step {D} seen may_leave faults limit old new clock found can broken s line fallen h up m whole place =
+down_step {D} seen left_by may_leave faults limit old new clock found can broken s line fallen h up m whole place =
     let me = old.store.node in
     let state = server_seen old.memory old.store in
     let x = explained old.armed (record { stop = old.store.disk.stop; fail = old.store.disk.fail }) old.store.disk.calls new.store.disk.calls fallen.came (Rose (faults (disk_of old)) (faults (disk_of new))) (record {

@@ -9,7 +9,7 @@ use Rattle.afs_rows.specs.Runs.{Armed}
 use Rattle.afs_host.specs.Hosts.{fall_line}
 use Rattle.afs_host.specs.Seats.{count_mark, disk_of, Resting, Running}
 use Rattle.afs_host.specs.Serving.{HasFallen}
-use Rattle.afs_host.specs.Setting.{stops_now}
+use Rattle.afs_host.specs.Setting.{pick_of, stops_now}
 
 -- what is left of the disk, whichever it was
 pub record Remains {D : Type 0} (seen : D → Option (List ℕ)) (may_leave : D → List ℕ → Type 0) (faults limit : D → ℕ) (r : Running D) (s : Resting D) : Type 0 where
@@ -32,10 +32,13 @@ as_it_was {D} seen may_leave faults limit r s is = subst (Remains seen may_leave
 no_crash : (n m : Node) → lines.Fault n ≡ lines.Crash m → ⊥
 no_crash n m e = absurd cc
 
+no_fault : (n m : Node) → lines.Crash n ≡ lines.Fault m → ⊥
+no_fault n m e = absurd cc
+
 -- by a stop
-pub stopped_so : {D : Type 0} (seen : D → Option (List ℕ)) (may_leave : D → List ℕ → Type 0) (faults limit : D → ℕ) (r : Running D) (s : Resting D) (came : Bool) (node : Node) → (IsBeyond r.store.disk.stop r.store.disk.calls → came ≡ true) → (came ≡ true → IsBeyond r.store.disk.stop r.store.disk.calls) →
-    node ≡ r.store.node → stops_now came r.armed ≡ true → Remains seen may_leave faults limit r s → IfSome (seen s.disk) (λ bytes. LeavesJust bytes (may_leave s.disk)) → HasFallen seen may_leave faults limit r s (lines.Crash node)
-stopped_so {D} seen may_leave faults limit r s came node came_so came_is is stops left rests = record {
+pub stopped_so : {D : Type 0} (seen : D → Option (List ℕ)) (left_by : D → ℕ → Option (List ℕ)) (may_leave : D → List ℕ → Type 0) (faults limit : D → ℕ) (r : Running D) (s : Resting D) (came : Bool) (node : Node) → (IsBeyond r.store.disk.stop r.store.disk.calls → came ≡ true) → (came ≡ true → IsBeyond r.store.disk.stop r.store.disk.calls) →
+    node ≡ r.store.node → stops_now came r.armed ≡ true → Remains seen may_leave faults limit r s → seen s.disk ≡ left_by (disk_of r) (pick_of r.armed) → IfSome (seen s.disk) (λ bytes. LeavesJust bytes (may_leave s.disk)) → HasFallen seen left_by may_leave faults limit r s (lines.Crash node)
+stopped_so {D} seen left_by may_leave faults limit r s came node came_so came_is is stops left picked rests = record {
   came = came;
   came_so = came_so;
   came_is = came_is;
@@ -43,15 +46,17 @@ stopped_so {D} seen may_leave faults limit r s came node came_so came_is is stop
   mark = left.mark;
   told = left.told;
   image = left.image;
+  picked = λ crash. picked;
   rests = λ crash. rests;
+  stays = λ fault. absurd (no_fault node r.store.node fault);
   same_faults = left.same_faults;
   same_limit = left.same_limit;
 }
 
 -- or by a failure
-pub failed_so : {D : Type 0} (seen : D → Option (List ℕ)) (may_leave : D → List ℕ → Type 0) (faults limit : D → ℕ) (r : Running D) (s : Resting D) (came : Bool) (node : Node) → (IsBeyond r.store.disk.stop r.store.disk.calls → came ≡ true) → (came ≡ true → IsBeyond r.store.disk.stop r.store.disk.calls) →
-    node ≡ r.store.node → stops_now came r.armed ≡ false → Remains seen may_leave faults limit r s → HasFallen seen may_leave faults limit r s (lines.Fault node)
-failed_so {D} seen may_leave faults limit r s came node came_so came_is is stops left = record {
+pub failed_so : {D : Type 0} (seen : D → Option (List ℕ)) (left_by : D → ℕ → Option (List ℕ)) (may_leave : D → List ℕ → Type 0) (faults limit : D → ℕ) (r : Running D) (s : Resting D) (came : Bool) (node : Node) → (IsBeyond r.store.disk.stop r.store.disk.calls → came ≡ true) → (came ≡ true → IsBeyond r.store.disk.stop r.store.disk.calls) →
+    node ≡ r.store.node → stops_now came r.armed ≡ false → Remains seen may_leave faults limit r s → s.disk ≡ disk_of r → HasFallen seen left_by may_leave faults limit r s (lines.Fault node)
+failed_so {D} seen left_by may_leave faults limit r s came node came_so came_is is stops left same = record {
   came = came;
   came_so = came_so;
   came_is = came_is;
@@ -59,7 +64,9 @@ failed_so {D} seen may_leave faults limit r s came node came_so came_is is stops
   mark = left.mark;
   told = left.told;
   image = left.image;
+  picked = λ crash. absurd (no_crash node r.store.node crash);
   rests = λ crash. absurd (no_crash node r.store.node crash);
+  stays = λ fault. same;
   same_faults = left.same_faults;
   same_limit = left.same_limit;
 }

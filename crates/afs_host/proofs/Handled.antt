@@ -1,5 +1,5 @@
 -- A server was given bytes: its step was made, or memory was wanting.
-use Rattle.std.specs.Prelude.{◌≡◌, ◌≤◌, ℕ, ◌+◌, List, [], ◌∷◌, length, Option, Some, None, Result, Err}
+use Rattle.std.specs.Prelude.{◌≡◌, ◌≤◌, ℕ, ◌+◌, List, [], ◌∷◌, length, Option, Some, None, Result, Err, Ok}
 use Rattle.std.specs.Option.{option_map}
 use Rattle.std.proofs.Common.{refl, ap, sym, subst, ◌∙◌, arith}
 use Rattle.std.proofs.Math.Nat.{le_refl}
@@ -18,10 +18,11 @@ use Rattle.afs_volstore.specs.Stores.{Store}
 use Rattle.afs_server.specs.Handling.{calls_served, server_seen, IsQuiet, Makes, SameStore}
 use Rattle.afs_server.specs.Seen.{Memory, Serves}
 use Rattle.afs_server.specs.declared.faults.NodeFault.TheVariants as nodes
-use Rattle.afs_host.specs.Hosts.{served}
+use Rattle.afs_host.specs.Hosts.{given, served}
 use Rattle.afs_host.specs.Seats.{CanRun, GoesOn, IsStepUp, IsUp, Running}
+use Rattle.afs_host.specs.Serving.{RunsRow}
 use Rattle.afs_host.specs.Setting.{IsSet}
-use Rattle.afs_host.proofs.Stepping.{lowered_set, unstruck, up_step}
+use Rattle.afs_host.proofs.Stepping.{as_up, lowered_set, unstruck, up_step}
 
 -- a store with another disk, and what its commits make other
 abbrev Moves : {D : Type 0} → Store D → Store D → Type 0
@@ -54,6 +55,18 @@ pub passed_step : {D : Type 0} (clock : ℕ) (bytes : List ℕ) (old new : Runni
 passed_step {D} clock bytes old new outs can p h up m whole place =
     up_step old new h up old.store.node clock place m (received_by calls_served bytes) (p.found m whole) outs (p.step place) p.armed
     (unstruck old.armed old.store.disk (device_calls (the_decision old clock bytes)) can.set (passed_so clock bytes old new outs p))
+
+-- whatever the bytes are, it is the step of the row
+pub row_made : {D : Type 0} (clock : ℕ) (bytes : List ℕ) (old new : Running D) (outs : Outs) →
+    ((place : ℕ) → Makes (server_row old.store.node (server_seen old.memory old.store) clock place (received_by calls_served bytes)) (lines.Given place ∷ []) new.memory new.store outs) → new.armed ≡ lowered (device_calls (the_decision old clock bytes)) old.armed →
+    RunsRow old clock bytes new (Ok outs)
+row_made {D} clock bytes old new outs step armed = λ h up place.
+    let makes = step place in
+    as_up old h (λ (x : Host). IsStepUp new (lines.Given place ∷ []) outs (given old.store.node x clock place (received_by calls_served bytes))) up (record {
+      host = record { state = sym makes.state; down = refl; armed = sym armed };
+      lines = makes.lines;
+      sent = makes.sent;
+    })
 
 pub passed_goes_on : {D : Type 0} (clock : ℕ) (bytes : List ℕ) (old new : Running D) (outs : Outs) → CanRun old → Passed clock bytes old new outs → GoesOn 4 50 old new
 passed_goes_on {D} clock bytes old new outs can p = record {

@@ -4,6 +4,7 @@ pub mod Breaking
 pub mod Fallen
 pub mod Finding
 pub mod Handled
+pub mod Heard
 pub mod Lying
 pub mod Placed
 pub mod Started

@@ -23,7 +23,7 @@ use Rattle.afs_server.specs.Seen.{lasting_of}
 use Rattle.afs_host.specs.Hosts.{ends, falls, restarted, HostStep}
 use Rattle.afs_host.specs.Seats.{disk_of, IsDown, IsStepDown, IsStepUp, Resting, Running}
 use Rattle.afs_host.specs.Standing.{Lies, LiesIn}
-use Rattle.afs_host.specs.Starting.{disk_started, BootsFrom, GoesOnBooted, HasStarted, IsFound, IsRefused, IsStarted}
+use Rattle.afs_host.specs.Starting.{disk_started, BootsFrom, BootsOver, GoesOnBooted, HasStarted, IsFound, IsRefused, IsStarted, StartsOver}
 use Rattle.afs_host.specs.declared.starting.Start.{Start}
 use Rattle.afs_host.specs.declared.starting.Start.TheVariants as starts
 use Rattle.afs_host.proofs.Blows.{none_cause}
@@ -197,3 +197,51 @@ refused_so {D} seen may_leave moment left_since now faults limit refusal me cloc
 refused_so {D} seen may_leave moment left_since now faults limit refusal me clock count old new r (starts.Unchanged d) so told = λ h was.
     subst (λ (x : Resting D). IsDown seen may_leave limit me x h) (sym so) (still_down seen may_leave moment left_since now faults limit refusal me old new r h was)
 refused_so {D} seen may_leave moment left_since now faults limit refusal me clock count old new r (starts.Lost d) so told = tt
+
+-- ---- whatever the disk tells
+
+pub boots_over : {D : Type 0} (seen : D → Option (List ℕ)) (faults limit : D → ℕ) (me : Node) (clock count : ℕ) (old : Resting D) (s : Store (Fused D)) (front : List Line) → s.node ≡ me → s.durable.capacity ≡ limit old.disk → faults old.disk ≤ faults s.disk.disk →
+    (result : Start (Running D) (Resting D)) → faults s.disk.disk ≤ faults (disk_started result) → BootsOver faults s.durable front s.node clock count s.disk.disk result → StartsOver seen faults limit me clock count old result
+boots_over {D} seen faults limit me clock count old s front node capacity less (starts.Up r outs) falls_not boots = record {
+  durable = s.durable;
+  capacity = capacity;
+  front = front;
+  boots = subst (λ (n : Node). BootsOver faults s.durable front n clock count old.disk (starts.Up r outs)) node boots;
+}
+boots_over {D} seen faults limit me clock count old s front node capacity less (starts.Down d ls) falls_not (inl full) = inr (record {
+  durable = s.durable;
+  capacity = capacity;
+  front = front;
+  boots = inl (full.0, subst (λ (n : Node). ls ≡ front ++ lines.Full n ∷ []) node full.1);
+})
+boots_over {D} seen faults limit me clock count old s front node capacity less (starts.Down d ls) falls_not (inr failed) = inr (record {
+  durable = s.durable;
+  capacity = capacity;
+  front = front;
+  boots = inr (failed.0, (subst (λ (n : Node). ls ≡ front ++ lines.Fault n ∷ []) node failed.1.0, rose_since (faults old.disk) (faults s.disk.disk) (faults d.disk) less falls_not failed.1.1));
+})
+boots_over {D} seen faults limit me clock count old s front node capacity less (starts.Unchanged d) falls_not boots = tt
+boots_over {D} seen faults limit me clock count old s front node capacity less (starts.Lost d) falls_not boots = tt
+
+-- the disk failed, or a record can't be taken
+cause_over : {D : Type 0} (seen : D → Option (List ℕ)) (faults limit : D → ℕ) (old new : Resting D) (refusal : StoreFault) → ((number : ℕ) → refusal ≡ refusals.BadRecord number → (bytes : List ℕ) → seen old.disk ≡ Some bytes → first_bad (limit old.disk) (whole_records bytes) ≡ Some number) →
+    (refusal ≡ refusals.Failed → Rose (faults old.disk) (faults new.disk)) → (f : StoreFault) → refusal ≡ f → IsAttachFault f → (refusal ≡ refusals.OutOfMemory → ⊥) →
+    Rose (faults old.disk) (faults new.disk) ⊎ ((number : ℕ) × ((bytes : List ℕ) → seen old.disk ≡ Some bytes → first_bad (limit old.disk) (whole_records bytes) ≡ Some number))
+cause_over {D} seen faults limit old new refusal bad failed refusals.Failed is ok other = inl (failed is)
+cause_over {D} seen faults limit old new refusal bad failed refusals.OutOfMemory is ok other = absurd (other is)
+cause_over {D} seen faults limit old new refusal bad failed (refusals.BadRecord number) is ok other = inr (number, bad number is)
+cause_over {D} seen faults limit old new refusal bad failed (refusals.Full used capacity) is ok other = absurd ok
+cause_over {D} seen faults limit old new refusal bad failed refusals.Closed is ok other = absurd ok
+
+pub refused_over : {D : Type 0} (seen : D → Option (List ℕ)) (faults limit : D → ℕ) (me : Node) (clock count : ℕ) (old new : Resting D) (refusal : StoreFault) → new.mark ≡ old.mark → IsAttachFault refusal →
+    ((number : ℕ) → refusal ≡ refusals.BadRecord number → (bytes : List ℕ) → seen old.disk ≡ Some bytes → first_bad (limit old.disk) (whole_records bytes) ≡ Some number) → (refusal ≡ refusals.Failed → Rose (faults old.disk) (faults new.disk)) →
+    (result : Start (Running D) (Resting D)) → IsRefused refusal new me result → StartsOver seen faults limit me clock count old result
+refused_over {D} seen faults limit me clock count old new refusal mark ok bad failed (starts.Up up outs) so = absurd so
+refused_over {D} seen faults limit me clock count old new refusal mark ok bad failed (starts.Down d ls) so = inl (record {
+  mark = ap (λ (x : Resting D). x.mark) so.1.0 ∙ mark;
+  lines = so.1.1;
+  cause = subst (λ (x : Resting D). Rose (faults old.disk) (faults x.disk) ⊎ ((number : ℕ) × ((bytes : List ℕ) → seen old.disk ≡ Some bytes → first_bad (limit old.disk) (whole_records bytes) ≡ Some number))) (sym so.1.0)
+      (cause_over seen faults limit old new refusal bad failed refusal refl ok so.0);
+})
+refused_over {D} seen faults limit me clock count old new refusal mark ok bad failed (starts.Unchanged d) so = tt
+refused_over {D} seen faults limit me clock count old new refusal mark ok bad failed (starts.Lost d) so = tt

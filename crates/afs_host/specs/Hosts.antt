@@ -2,6 +2,7 @@
 use Rattle.std.specs.Prelude.{ℕ, ◌≤◌, List, [], ◌∷◌, ◌++◌, Bool, true, false, Option, Some, None}
 use Rattle.afs_num.specs.declared.histories.Actor.TheVariants as actors
 use Rattle.afs_num.specs.declared.messages.Message.{Message}
+use Rattle.afs_num.specs.declared.messages.Received.{Received}
 use Rattle.afs_num.specs.declared.messages.Received.TheVariants.{Whole}
 use Rattle.afs_num.specs.declared.types.Node.{Node}
 use Rattle.afs_num.specs.declared.types.Node.TheVariants.{Server}
@@ -39,12 +40,17 @@ fall_line me false = lines.Fault me
 
 -- ---- a message
 
+-- it makes the step of its row on what it finds in the bytes that it is given, and what its disk is set to is lowered by the
+-- device calls of that
+abbrev pub given : Node → Host → ℕ → ℕ → Received → HostStep
+given me h clock place found = goes (lowered (device_calls (decides me h.state clock found)) h.armed) (server_row me h.state clock place found)
+
 abbrev pub decided : Node → Host → ℕ → Message → Decision
 decided me h clock m = decides me h.state clock (Whole m)
 
 -- the step is done, or its disk ends it
 abbrev pub served_by : Node → Host → ℕ → ℕ → Message → Option Blow → HostStep
-served_by me h clock place m None = goes (lowered (device_calls (decided me h clock m)) h.armed) (server_row me h.state clock place (Whole m))
+served_by me h clock place m None = given me h clock place (Whole m)
 served_by me h clock place m (Some b) = falls h (lines.Given place ∷ fall_line me b.stops ∷ []) (in_step m clock)
 
 -- given the message of this place, with this luck of its disk

@@ -8,14 +8,15 @@ use Rattle.afs_history.specs.declared.lines.Line.{Line}
 use Rattle.afs_history.specs.declared.lines.Line.TheVariants as lines
 use Rattle.afs_history.specs.declared.lines.Outs.{Outs}
 use Rattle.afs_disk.specs.Disk.{IsBeyond, LeavesJust, Rose, Trips}
+use Rattle.afs_model.specs.Messages.{received, received_by}
 use Rattle.afs_rows.specs.Runs.{in_step, steady, Host, Luck}
 use Rattle.afs_rows.specs.ServerRow.{decides, device_calls}
-use Rattle.afs_server.specs.Handling.{server_seen, IsClosed}
+use Rattle.afs_server.specs.Handling.{calls_served, server_seen, IsClosed}
 use Rattle.afs_server.specs.declared.faults.NodeFault.{NodeFault}
 use Rattle.afs_server.specs.declared.faults.NodeFault.TheVariants as nodes
-use Rattle.afs_host.specs.Hosts.{fall_line, served, GivesOut, HostStep, IsLuck}
+use Rattle.afs_host.specs.Hosts.{fall_line, given, served, GivesOut, HostStep, IsLuck}
 use Rattle.afs_host.specs.Seats.{count_mark, disk_of, GoesOn, IsSame, IsStepDown, IsStepUp, IsUp, Resting, Running}
-use Rattle.afs_host.specs.Setting.{stops_now}
+use Rattle.afs_host.specs.Setting.{pick_of, stops_now}
 use Rattle.afs_host.specs.Standing.{Lies}
 use Rattle.afs_host.specs.declared.serving.Served.{Served}
 use Rattle.afs_host.specs.declared.serving.Served.TheVariants as outcome
@@ -46,6 +47,14 @@ IsServed {D} seen left_by size may_leave moment left_since faults limit old cloc
 IsServed {D} seen left_by size may_leave moment left_since faults limit old clock found (outcome.Unchanged r) =
     IsSame seen left_by size may_leave moment left_since old r
 
+-- Whatever the bytes are, the server makes the step of its row on what it finds in them; or it went down, and they are those of a
+-- message.
+abbrev pub MakesRow : {D : Type 0} → Running D → ℕ → List ℕ → Served (Running D) (Resting D) → Type 0
+MakesRow {D} old clock bytes (outcome.Up r outs) =
+    (h : Host) → IsUp old h → (place : ℕ) → IsStepUp r (lines.Given place ∷ []) outs (given old.store.node h clock place (received_by calls_served bytes))
+MakesRow {D} old clock bytes (outcome.Down s line) = (m : Message) × (received bytes ≡ Whole m)
+MakesRow {D} old clock bytes (outcome.Unchanged r) = Unit {0}
+
 -- ---- a step that the disk ended
 
 -- The store's device call failed, and with it the step: a record was begun. Whatever a crash may leave of the disk now stands for the
@@ -70,9 +79,17 @@ IsHandled {D} seen left_by size may_leave moment left_since faults limit old clo
     IsSame seen left_by size may_leave moment left_since old new × GoesOn 4 50 old new
 IsHandled {D} seen left_by size may_leave moment left_since faults limit old clock found new (Err nodes.Down) = IsBroken seen may_leave faults limit old clock found new
 
--- A server whose step was broken went down as its disk was stopped, or failed, and this line tells which; what is left of its disk is what was there,
--- or what a crash may make of that.
-pub record HasFallen {D : Type 0} (seen : D → Option (List ℕ)) (may_leave : D → List ℕ → Type 0) (faults limit : D → ℕ) (r : Running D) (s : Resting D) (line : Line) : Type 0 where
+-- the row's step was made, whatever the bytes were; or their message's was ended
+abbrev pub RunsRow : {D : Type 0} → Running D → ℕ → List ℕ → Running D → Result Outs NodeFault → Type 0
+RunsRow {D} old clock bytes new (Ok outs) =
+    (h : Host) → IsUp old h → (place : ℕ) → IsStepUp new (lines.Given place ∷ []) outs (given old.store.node h clock place (received_by calls_served bytes))
+RunsRow {D} old clock bytes new (Err nodes.OutOfMemory) = Unit {0}
+RunsRow {D} old clock bytes new (Err nodes.Down) = (m : Message) × (received bytes ≡ Whole m)
+
+-- A server whose step was broken went down as its disk was stopped, or failed, and this line tells which. Where it was stopped, its
+-- disk is what a crash with the pick that was set leaves of the disk as it was when the stop came; where the disk failed, it is as
+-- it was then.
+pub record HasFallen {D : Type 0} (seen : D → Option (List ℕ)) (left_by : D → ℕ → Option (List ℕ)) (may_leave : D → List ℕ → Type 0) (faults limit : D → ℕ) (r : Running D) (s : Resting D) (line : Line) : Type 0 where
   pub came : Bool
   pub came_so : IsBeyond r.store.disk.stop r.store.disk.calls → came ≡ true
   pub came_is : came ≡ true → IsBeyond r.store.disk.stop r.store.disk.calls
@@ -80,9 +97,17 @@ pub record HasFallen {D : Type 0} (seen : D → Option (List ℕ)) (may_leave : 
   pub mark : s.mark ≡ count_mark r.store.count
   pub told : IsSome (seen s.disk) ↔ IsSome (seen (disk_of r))
   pub image : IsSome (seen s.disk) → (c : List ℕ) → may_leave s.disk c → may_leave (disk_of r) c
+  pub picked : line ≡ lines.Crash r.store.node → seen s.disk ≡ left_by (disk_of r) (pick_of r.armed)
   pub rests : line ≡ lines.Crash r.store.node → IfSome (seen s.disk) (λ bytes. LeavesJust bytes (may_leave s.disk))
+  pub stays : line ≡ lines.Fault r.store.node → s.disk ≡ disk_of r
   pub same_faults : faults s.disk ≡ faults (disk_of r)
   pub same_limit : limit s.disk ≡ limit (disk_of r)
+
+-- where it went down its mark is that from before the step, whatever its disk tells
+abbrev pub KeepsMark : {D : Type 0} → Running D → Served (Running D) (Resting D) → Type 0
+KeepsMark {D} old (outcome.Up r outs) = Unit {0}
+KeepsMark {D} old (outcome.Down s line) = s.mark ≡ count_mark old.store.count
+KeepsMark {D} old (outcome.Unchanged r) = Unit {0}
 
 -- where it was stopped, what a read gives is what its disk keeps
 abbrev pub RestsServed : {D : Type 0} → (D → Option (List ℕ)) → (D → List ℕ → Type 0) → Node → Served (Running D) (Resting D) → Type 0

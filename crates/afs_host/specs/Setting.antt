@@ -29,3 +29,13 @@ stops_at came (Some s) fail = stops_by s.0 fail && (came || nat_eq s.0 0)
 
 abbrev pub stops_now : Bool → runs.Armed → Bool
 stops_now came a = stops_at came a.stop a.fail
+
+-- ---- what a stop leaves
+
+-- The pick that was set with the stop. Where none was set it is the one that leaves what a read gives.
+abbrev pub pick_at : Option (ℕ × ℕ) → ℕ
+pick_at None = 1
+pick_at (Some s) = s.1
+
+abbrev pub pick_of : runs.Armed → ℕ
+pick_of a = pick_at a.stop

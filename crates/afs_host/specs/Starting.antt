@@ -11,13 +11,13 @@ use Rattle.afs_disk.specs.Disk.{Rose}
 use Rattle.afs_disk.specs.Fuses.{Fused}
 use Rattle.afs_journal.specs.Records.{whole_records}
 use Rattle.afs_model.specs.Messages.{messages_spelled, parcels_read}
-use Rattle.afs_records.specs.Durable.{StandFor}
+use Rattle.afs_records.specs.Durable.{first_bad, Durable, StandFor}
 use Rattle.afs_rows.specs.Runs.{at_rest, comes_up, fails_midway, in_boot, is_full, settled, unarmed, Fall, Host, Outcome}
 use Rattle.afs_rows.specs.ServerRow.{Begun}
 use Rattle.afs_rows.specs.ServerSteps.{start_row}
 use Rattle.afs_volstore.specs.Stores.{Store}
 use Rattle.afs_server.specs.Handling.{server_seen}
-use Rattle.afs_server.specs.Seen.{begun_step, lasting_of}
+use Rattle.afs_server.specs.Seen.{begun_state, begun_step, lasting_of}
 use Rattle.afs_host.specs.Hosts.{goes, restarted, stays, Fails, HostStep}
 use Rattle.afs_host.specs.Seats.{count_mark, disk_of, CanRun, IsDown, IsStepDown, IsStepUp, Resting, Running}
 use Rattle.afs_host.specs.declared.starting.Start.{Start}
@@ -48,6 +48,46 @@ IsStarted {D} seen may_leave faults limit me clock count old (starts.Down s ls) 
 IsStarted {D} seen may_leave faults limit me clock count old (starts.Unchanged s) =
     (h : Host) → IsDown seen may_leave limit me old h → IsDown seen may_leave limit me s h
 IsStarted {D} seen may_leave faults limit me clock count old (starts.Lost s) = Unit {0}
+
+-- ---- whatever the disk tells
+
+-- a restart over this durable part, which tells these lines first
+abbrev pub begun_with : Durable → List Line → Begun
+begun_with d front = record { state = begun_state d; before = λ ls. front ++ ls }
+
+-- The record of the boot was put behind what was found, and the server is up in that boot; or it didn't fit, or the disk failed while
+-- it was written, and the server stays down.
+abbrev pub BootsOver : {D : Type 0} → (D → ℕ) → Durable → List Line → Node → ℕ → ℕ → D → Start (Running D) (Resting D) → Type 0
+BootsOver {D} faults d front me clock count disk (starts.Up r outs) =
+    (settled (begun_state d) comes_up ≡ comes_up) × IsStepUp r [] outs (goes unarmed (start_row me clock count (begun_with d front)))
+BootsOver {D} faults d front me clock count disk (starts.Down s ls) =
+    ((settled (begun_state d) is_full ≡ is_full) × (ls ≡ front ++ lines.Full me ∷ []))
+    ⊎ ((settled (begun_state d) fails_midway ≡ fails_midway) × ((ls ≡ front ++ lines.Fault me ∷ []) × Rose (faults disk) (faults s.disk)))
+BootsOver {D} faults d front me clock count disk (starts.Unchanged s) = Unit {0}
+BootsOver {D} faults d front me clock count disk (starts.Lost s) = Unit {0}
+
+-- The disk failed before anything was found, or a record of this number can't be taken; that the server stays down is all that is told.
+pub record IsRefusedOver {D : Type 0} (seen : D → Option (List ℕ)) (faults limit : D → ℕ) (me : Node) (old new : Resting D) (told : List Line) : Type 0 where
+  pub mark : new.mark ≡ old.mark
+  pub lines : told ≡ lines.Fault me ∷ []
+  pub cause : Rose (faults old.disk) (faults new.disk) ⊎ ((number : ℕ) × ((bytes : List ℕ) → seen old.disk ≡ Some bytes → first_bad (limit old.disk) (whole_records bytes) ≡ Some number))
+
+-- some durable part was found on the disk, and the boot is over that
+pub record HasFoundOver {D : Type 0} (faults limit : D → ℕ) (me : Node) (clock count : ℕ) (old : Resting D) (result : Start (Running D) (Resting D)) : Type 0 where
+  pub durable : Durable
+  pub capacity : durable.capacity ≡ limit old.disk
+  pub front : List Line
+  pub boots : BootsOver faults durable front me clock count old.disk result
+
+-- So it is also of a disk that doesn't tell its bytes. Of such a one nothing else is said of what was found on it.
+abbrev pub StartsOver : {D : Type 0} → (D → Option (List ℕ)) → (D → ℕ) → (D → ℕ) → Node → ℕ → ℕ → Resting D → Start (Running D) (Resting D) → Type 0
+StartsOver {D} seen faults limit me clock count old (starts.Up r outs) = HasFoundOver faults limit me clock count old (starts.Up r outs)
+StartsOver {D} seen faults limit me clock count old (starts.Down s ls) =
+    IsRefusedOver seen faults limit me old s ls ⊎ HasFoundOver faults limit me clock count old (starts.Down s ls)
+StartsOver {D} seen faults limit me clock count old (starts.Unchanged s) = Unit {0}
+StartsOver {D} seen faults limit me clock count old (starts.Lost s) = Unit {0}
+
+-- ---- what comes next
 
 -- it has drawn few numbers, and made at most ten device calls
 pub record IsFresh {D : Type 0} (me : Node) (r : Running D) : Type 0 where

@@ -4,7 +4,7 @@ ghost use Rattle.std.specs.Prelude.{◌≡◌, ◌≤◌, ◌↔◌, IsSome};
 ghost use Rattle.afs_model.specs.Messages.{received};
 ghost use Rattle.afs_server.specs.Seen.{CanDraw};
 ghost use Rattle.afs_host.specs.Seats.{disk_of, CanRun};
-ghost use Rattle.afs_host.specs.Serving.{disk_served, GoesOnServed, HasFallen, IsHandled, IsServed, RestsServed};
+ghost use Rattle.afs_host.specs.Serving.{disk_served, GoesOnServed, HasFallen, IsHandled, IsServed, KeepsMark, MakesRow, RestsServed, RunsRow};
 
 use crate::resting::Resting;
 use crate::running::Running;
@@ -31,7 +31,9 @@ impl<D: Disk> Running<D> {
         requires draws { CanDraw self.memory self.store.drawn }
         requires now { now ≤ 1000000000 }
         ensures served { IsServed D.seen D.left_by D.size D.may_leave D.moment D.left_since D.faults D.limit self now (received bytes.now) result }
+        ensures row { MakesRow self now bytes.now result }
         ensures goes_on { GoesOnServed self result }
+        ensures mark { KeepsMark self result }
         ensures rests { RestsServed D.seen D.may_leave self.store.node result }
         ensures told { IsSome (D.seen (disk_served result)) ↔ IsSome (D.seen (disk_of self)) }
         ensures limit { D.limit (disk_served result) ≡ D.limit (disk_of self) }
@@ -54,6 +56,7 @@ impl<D: Disk> Running<D> {
         requires draws { CanDraw self.old.memory self.old.store.drawn }
         requires now { now ≤ 1000000000 }
         ensures handled { IsHandled D.seen D.left_by D.size D.may_leave D.moment D.left_since D.faults D.limit self.old now (received bytes.now) self.new result }
+        ensures row { RunsRow self.old now bytes.now self.new result }
         ensures told { IsSome (D.seen (disk_of self.new)) ↔ IsSome (D.seen (disk_of self.old)) }
         ensures limit { D.limit (disk_of self.new) ≡ D.limit (disk_of self.old) }
         ensures faults { D.faults (disk_of self.old) ≤ D.faults (disk_of self.new) }
@@ -72,7 +75,7 @@ impl<D: Disk> Running<D> {
 
     /// The disk ended a step of the server. A stop leaves of the disk what its pick says, a failure leaves it as it is.
     fn fall(self) -> (Resting<D>, Line)
-        ensures { HasFallen D.seen D.may_leave D.faults D.limit self result.0 result.1 }
+        ensures { HasFallen D.seen D.left_by D.may_leave D.faults D.limit self result.0 result.1 }
     {
         let node = self.store.node();
         if self.armed.stops_now(self.store.stopped()) {

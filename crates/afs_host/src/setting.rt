@@ -2,7 +2,7 @@
 
 ghost use Rattle.std.specs.Prelude.{◌≡◌};
 ghost use Rattle.afs_rows.specs.Runs.{lowered};
-ghost use Rattle.afs_host.specs.Setting.{armed_seen, stops_now};
+ghost use Rattle.afs_host.specs.Setting.{armed_seen, pick_of, stops_now};
 
 /// The disk passes so many device calls more and then stops its node; the pick says what is left of the writes that
 /// weren't synced.
@@ -57,7 +57,9 @@ impl Armed {
     }
 
     /// What a stop that came leaves of the writes that weren't synced; where none was set, what a read gives.
-    pub fn pick(&self) -> u8 {
+    pub fn pick(&self) -> u8
+        ensures { result ≡ pick_of (armed_seen self.now) }
+    {
         match self.stop {
             Some(stop) => stop.pick,
             None => 1,

@@ -6,7 +6,7 @@ ghost use Rattle.afs_num.specs.declared.types.Node.TheVariants.{Server};
 ghost use Rattle.afs_history.specs.declared.lines.Line.TheVariants as lines;
 ghost use Rattle.afs_rows.specs.ServerRow.{Begun};
 ghost use Rattle.afs_volstore.specs.Stores.{IsCounted, IsKept};
-ghost use Rattle.afs_host.specs.Starting.{disk_started, BootsFrom, GoesOnBooted, GoesOnStarted, IsFound, IsRefused, IsStarted, Rises, Stays};
+ghost use Rattle.afs_host.specs.Starting.{disk_started, BootsFrom, BootsOver, GoesOnBooted, GoesOnStarted, IsFound, IsRefused, IsStarted, Rises, StartsOver, Stays};
 
 use crate::resting::Resting;
 use crate::running::Running;
@@ -119,6 +119,7 @@ fn boot<D: Disk>(
     requires clients { clients ≤ 16 }
     requires now { now ≤ 1000000000 }
     ensures boots { (begun : Begun) (records : List (List ℕ)) → IsFound D.seen begun records front store → BootsFrom D.seen D.may_leave D.faults D.limit begun records store.node now clients store.disk.disk result }
+    ensures over { BootsOver D.faults store.durable front store.node now clients store.disk.disk result }
     ensures goes_on { GoesOnBooted store told result }
     ensures told { IsSome (D.seen (disk_started result)) ↔ IsSome (D.seen store.disk.disk) }
     ensures limit { D.limit (disk_started result) ≡ D.limit store.disk.disk }
@@ -171,6 +172,7 @@ impl<D: Disk> Resting<D> {
         requires clients { clients ≤ 16 }
         requires now { now ≤ 1000000000 }
         ensures started { IsSome (D.seen self.disk) → IsStarted D.seen D.may_leave D.faults D.limit (Server server) now clients self result }
+        ensures over { StartsOver D.seen D.faults D.limit (Server server) now clients self result }
         ensures goes_on { GoesOnStarted (Server server) self result }
         ensures told { IsSome (D.seen (disk_started result)) ↔ IsSome (D.seen self.disk) }
         ensures limit { D.limit (disk_started result) ≡ D.limit self.disk }

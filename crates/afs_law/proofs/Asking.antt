@@ -414,6 +414,8 @@ own_call {s} fl c past n floor x act ls le kind runs at one dropped late =
         lasts = (
           record {
             client = n;
+            act = act;
+            runs = at_mover fl c n floor x n (λ i v. v.running ≡ Some act) runs (λ ne. absurd (ne refl));
             from = refl;
             epoch = at_mover fl c n floor x n (λ i v. x.epoch ≡ v.epoch) refl (λ ne. absurd (ne refl));
             number = at_mover fl c n floor x n (λ i v. x.last ≡ v.last) refl (λ ne. absurd (ne refl));

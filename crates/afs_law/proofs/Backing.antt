@@ -16,7 +16,7 @@ use Rattle.afs_num.specs.declared.calls.FsCall.{FsCall}
 use Rattle.afs_num.specs.declared.messages.Message.{Message}
 use Rattle.afs_law.proofs.Basics.{both, same_node-refl, Above, Each, IfBack, IfDone, each_more, each_map, if_back, if_done}
 use Rattle.afs_law.proofs.Owing.{CarriedOwe, AllOf, all_map, IsGranted, IsIn, IsNumberIn, AccountedBy, WaitedBy, AllWaitedBy, HeldWaits, IsOwed, CallOut, BackIn, DroppedOwe, IsDone, DoneIn, SeatedIn, BackedIn, Promised, Numbered, Rising, ToClients, is_held}
-use Rattle.afs_law.specs.Breaks.{returned_in, returned_by, is_to_come, is_entry_of, HasStopped, HasSettled, HasDrop, HasTimeout, last_grant, HasCome, Owes, AllOwes, EndedBy, OweAt, live_grant, is_on, last_number, lines_at, drops_of, fids_given_up, has_answer}
+use Rattle.afs_law.specs.Breaks.{runs_now, returned_in, returned_by, is_entry_of, HasStopped, HasSettled, HasDrop, HasTimeout, last_grant, HasCome, Owes, AllOwes, EndedBy, OweAt, live_grant, is_on, last_number, lines_at, drops_of, fids_given_up, has_answer}
 use Rattle.afs_rows.specs.Callbacks.{key_answered, breaks_call}
 use Rattle.afs_law.specs.Legal.{HasChange}
 use Rattle.afs_history.specs.declared.lines.Line.{Line}
@@ -309,7 +309,7 @@ answered_still s false head c = refl
 
 returned_still : (s : Node) (e : Entry) (o : Option Message) (past : List Entry) → all_lines is_still (returned_in s e o past) ≡ true
 returned_still s e None past = refl
-returned_still s e (Some m) past = answered_still s (is_entry_of s e.actor && (is_to_come s (called_key m.head) m.head.boot past && has_answer (called_key m.head) e.sent)) m.head m.carried
+returned_still s e (Some m) past = answered_still s (is_entry_of s e.actor && (runs_now s m.head past && has_answer (called_key m.head) e.sent)) m.head m.carried
 
 -- a grant that lasts behind an entry's own lines lasted before what clients gave up in it
 pub live_given : (c : Node) (f : Fid) (x : ℕ) (e : Entry) (past : List Entry) → live_grant the_server c f (onto (lines_at the_server past) (returned_in the_server e (given_message e.lines (sent_of past)) past)) ≡ Some x → live_grant the_server c f (lines_at the_server past) ≡ Some x

@@ -2,6 +2,7 @@
 use Rattle.afs_rows.specs.Runs.{message_at}
 use Rattle.afs_history.specs.declared.acts.Act.{Act}
 use Rattle.afs_law.proofs.Backing.{all_lines, is_unchanging}
+use Rattle.afs_law.proofs.Booting.{is_standing}
 use Rattle.afs_law.proofs.Basics.{Below, Each, ByClient, IfCall, IfReply, OfCall, OfClient, if_reply, LastSeat, if_call, at_seat, kept_last, some_of, OfNotice, of_client, both, same_node-true, of_notice}
 use Rattle.afs_rows.specs.ClientRow.{Look, Walked, admits_call, awaits, begin_row, body_told, breaks, call_of, calls_again, calls_step, client_row, counts, dead_code, drop_line, dropped, dropped_after, ends_step, entries_told, entry_told, given, given_up_in, gives_by, goes_by, hears, ignores, is_awaited, is_busy_code, is_older, is_spent, is_trusted, look_at, looked, most_busy, most_reads, put_entries, put_entry, read_lines, reborn, refuses, replies_step, runs_carried, status_look, status_told, takes, takes_bulk, takes_bytes, takes_data, takes_entries, takes_entry, takes_list, takes_plain, takes_rights, takes_set, takes_shown, takes_status, takes_stored, timeout_line, timeout_row, told_step, walked, walks_on, whole, with_statuses, takes_given, behind_batch, begins_by, gift_of, in_order, trusted_in, untrusted_in, boot_of, with_boot, boot_or_first}
 use Rattle.afs_rows.specs.Going.{ClientState, Going, Need, answers, began, next, with_read, gives_back}
@@ -102,17 +103,20 @@ pub record Caller : Type 0 where
   pub last : ℕ
   pub callee : Node
   pub boots : List KnownBoot
+  pub running : Option Going
 
 abbrev pub caller_at : ClientState → Caller
-caller_at c = record { epoch = c.epoch; last = c.last; callee = c.callee; boots = c.boots }
+caller_at c = record { epoch = c.epoch; last = c.last; callee = c.callee; boots = c.boots; running = c.running }
 
--- the call is the last one, to its callee
+-- the call is the last one, to its callee, for the act that runs
 pub record IsLastOf (j : ℕ) (c : Caller) (head : Head) : Type 0 where
   pub from : head.from ≡ Client j
   pub epoch : head.epoch ≡ c.epoch
   pub number : head.number ≡ c.last
   pub to : head.to ≡ c.callee
   pub boot : head.boot ≡ boot_of c.callee c.boots
+  pub act : Going
+  pub runs : c.running ≡ Some act
 
 -- the last call is the same, or is a later one
 abbrev pub GoesOn : Caller → Caller → Type 0
@@ -125,9 +129,32 @@ abbrev pub placed : Option ℕ → List Message → Option Message
 placed None sent = None
 placed (Some place) sent = message_at sent place
 
+-- it begins no change, and stops no server and begins none
+abbrev pub is_mild : Line → Bool
+is_mild (lines.Change s k count) = false
+is_mild l = is_standing l
+
+mild_is_unchanging : (l : Line) → is_mild l ≡ true → is_unchanging l ≡ true
+mild_is_unchanging (lines.Change s k count) h = absurd cc
+mild_is_unchanging l h = refl
+
+mild_is_standing : (l : Line) → is_mild l ≡ true → is_standing l ≡ true
+mild_is_standing (lines.Change s k count) h = absurd cc
+mild_is_standing l h = h
+
+all_by : (p q : Line → Bool) → ((l : Line) → p l ≡ true → q l ≡ true) → (ls : List Line) → all_lines p ls ≡ true → all_lines q ls ≡ true
+all_by p q w [] h = refl
+all_by p q w (l ∷ ls) h = let b = both (p l) (all_lines p ls) h in rw (w l b.0, all_by p q w ls b.1) refl
+
+pub mild_unchanging : (ls : List Line) → all_lines is_mild ls ≡ true → all_lines is_unchanging ls ≡ true
+mild_unchanging ls h = all_by is_mild is_unchanging mild_is_unchanging ls h
+
+pub mild_standing : (ls : List Line) → all_lines is_mild ls ≡ true → all_lines is_standing ls ≡ true
+mild_standing ls h = all_by is_mild is_standing mild_is_standing ls h
+
 -- these lines have no change, and tell that just this message was given
 abbrev pub AreOf : Option ℕ → List Line → Type 0
-AreOf D ls = (all_lines is_unchanging ls ≡ true) × ((sent : List Message) → given_message ls sent ≡ placed D sent)
+AreOf D ls = (all_lines is_mild ls ≡ true) × ((sent : List Message) → given_message ls sent ≡ placed D sent)
 
 -- what stands before further lines has no change, and tells what was given
 abbrev pub IsFront : Option ℕ → (List Line → List Line) → Type 0
@@ -139,7 +166,7 @@ pub record Tame (K : Head → Type 0) (L : Head → Type 0) (N : Node → ℕ �
   pub answers : Each (IfReply (λ r. K r.head)) s.sent
   pub notices : Each (λ m. OfNotice (L m.head) m.carried) s.sent
   pub kept : AreReplies K L s.state.seats
-  pub lines : all_lines is_unchanging s.lines ≡ true
+  pub lines : all_lines is_mild s.lines ≡ true
   pub given : (sent : List Message) → given_message s.lines sent ≡ placed D sent
   -- the boot numbers that it knows are some that were told
   pub boots : ((q : Node) → N q (boot_of q x.boots)) → (q : Node) → N q (boot_of q s.state.boots)
@@ -152,7 +179,7 @@ dropped_front : (n : Node) (es : List CacheEntry) → IsFront None (dropped n es
 dropped_front n [] ls h = h
 dropped_front n (e ∷ es) ls h = dropped_front n es ls h
 
-drops_plain : (n : Node) (fs : List Fid) → all_lines is_unchanging (map (drop_line n) fs) ≡ true
+drops_plain : (n : Node) (fs : List Fid) → all_lines is_mild (map (drop_line n) fs) ≡ true
 drops_plain n [] = refl
 drops_plain n (f ∷ fs) = drops_plain n fs
 
@@ -168,7 +195,7 @@ ends_tame : (K : Head → Type 0) (L : Head → Type 0) (N : Node → ℕ → Ty
 ends_tame K L N D j c cache front code k f = record { goes = inl (refl, (refl, refl)); sent = tt; answers = tt; notices = tt; kept = k; lines = (f (lines.Answer (Client j) code ∷ []) (refl, λ sent. refl)).0; given = (f (lines.Answer (Client j) code ∷ []) (refl, λ sent. refl)).1; boots = λ h. h }
 
 calls_tame : (K : Head → Type 0) (L : Head → Type 0) (N : Node → ℕ → Type 0) (D : Option ℕ) (j : ℕ) (c : ClientState) (act : Going) (front : List Line → List Line) → AreReplies K L c.seats → IsFront D front → Tame K L N D j (caller_at c) (calls_step (Client j) c act front)
-calls_tame K L N D j c act front k f = record { goes = inr (inr (refl, omega arith)); sent = (record { from = refl; epoch = refl; number = refl; to = refl; boot = refl }, tt); answers = (tt, tt); notices = (tt, tt); kept = k; lines = (f [] (refl, λ sent. refl)).0; given = (f [] (refl, λ sent. refl)).1; boots = λ h. h }
+calls_tame K L N D j c act front k f = record { goes = inr (inr (refl, omega arith)); sent = (record { from = refl; epoch = refl; number = refl; to = refl; boot = refl; act = act; runs = refl }, tt); answers = (tt, tt); notices = (tt, tt); kept = k; lines = (f [] (refl, λ sent. refl)).0; given = (f [] (refl, λ sent. refl)).1; boots = λ h. h }
 
 goes_tame : (K : Head → Type 0) (L : Head → Type 0) (N : Node → ℕ → Type 0) (D : Option ℕ) (j : ℕ) (c : ClientState) (front : List Line → List Line) (w : Walked) (need : Need) → AreReplies K L c.seats → IsFront D front → Tame K L N D j (caller_at c) (goes_by (Client j) c front w need)
 goes_tame K L N D j c front w (answers n) k f = ends_tame K L N D j c w.cache (λ ls. front (looked (Client j) w.looks ls)) _ k (λ ls h. f _ (looked_front (Client j) w.looks ls h))
@@ -181,7 +208,7 @@ gives_tame : (K : Head → Type 0) (L : Head → Type 0) (N : Node → ℕ → T
 gives_tame K L N D j c front act [] k f = ends_tame K L N D j c c.cache front _ k f
 gives_tame K L N D j c front act (g ∷ gs) k f = calls_tame K L N D j (record c { gifts = g ∷ gs }) act front k f
 
-replies_tame : (K : Head → Type 0) (L : Head → Type 0) (N : Node → ℕ → Type 0) (j : ℕ) (c : ClientState) (place : ℕ) (head : Head) (ls : List Line) (x : Carried) → AreReplies K L c.seats → IsAnswer K L (replied c.epoch head x) → IfCall (λ h user call. IsLastOf j (caller_at c) h) (replied c.epoch head x) → all_lines is_unchanging ls ≡ true
+replies_tame : (K : Head → Type 0) (L : Head → Type 0) (N : Node → ℕ → Type 0) (j : ℕ) (c : ClientState) (place : ℕ) (head : Head) (ls : List Line) (x : Carried) → AreReplies K L c.seats → IsAnswer K L (replied c.epoch head x) → IfCall (λ h user call. IsLastOf j (caller_at c) h) (replied c.epoch head x) → all_lines is_mild ls ≡ true
     → Tame K L N (Some place) j (caller_at c) (replies_step c place head ls x)
 replies_tame K L N j c place head ls x k own call plain = record {
   goes = inl (refl, (refl, refl));
@@ -297,20 +324,20 @@ told_boot N callee boot boots true q e own h =
 told_boot N callee boot boots false q e own h =
     subst (λ (o : Option KnownBoot). N q (boot_or_first o)) (sym (ap (λ (b : Bool). cond b (Some (record { server = callee; boot = boot })) (find (λ (k : KnownBoot). same_node k.server q) (filter (λ (k : KnownBoot). not (same_node k.server callee)) boots))) e ∙ kept_boot callee q boots e)) h
 
-counts_tame : (K : Head → Type 0) (L : Head → Type 0) (N : Node → ℕ → Type 0) (j : ℕ) (c : ClientState) (clock place : ℕ) (act : Going) (head : Head) (x : Carried) → AreReplies K L c.seats → OfNotice (N c.callee head.boot) x → Tame K L N (Some place) j (caller_at c) (counts (Client j) c clock place act head x)
-counts_tame K L N j c clock place act head (carried.Call user call) k n = ignores_tame K L N j c place k
-counts_tame K L N j c clock place act head (carried.Refusal code) k n = either_tame K L N (Some place) (is_spent c act) j (caller_at c) _ _ (again_tame K L N j c place act k) (refuses_tame K L N j c place act code k)
-counts_tame K L N j c clock place act head (carried.Reply (tell.File reply)) k n = either_tame K L N (Some place) (is_spent c act) j (caller_at c) _ _ (again_tame K L N j c place act k) (takes_tame K L N j c clock place act _ reply k)
-counts_tame K L N j c clock place act head (carried.Reply reply) k n = ignores_tame K L N j c place k
-counts_tame K L N j c clock place act head carried.Notice k n = record { goes = inl (refl, (refl, refl)); sent = (record { from = refl; epoch = refl; number = refl; to = refl; boot = refl }, tt); answers = (tt, tt); notices = (tt, tt); kept = k; lines = refl; given = λ sent. refl; boots = λ h q. told_boot N c.callee head.boot c.boots (same_node c.callee q) q refl n (h q) }
+counts_tame : (K : Head → Type 0) (L : Head → Type 0) (N : Node → ℕ → Type 0) (j : ℕ) (c : ClientState) (clock place : ℕ) (act : Going) (head : Head) (x : Carried) → c.running ≡ Some act → AreReplies K L c.seats → OfNotice (N c.callee head.boot) x → Tame K L N (Some place) j (caller_at c) (counts (Client j) c clock place act head x)
+counts_tame K L N j c clock place act head (carried.Call user call) r k n = ignores_tame K L N j c place k
+counts_tame K L N j c clock place act head (carried.Refusal code) r k n = either_tame K L N (Some place) (is_spent c act) j (caller_at c) _ _ (again_tame K L N j c place act k) (refuses_tame K L N j c place act code k)
+counts_tame K L N j c clock place act head (carried.Reply (tell.File reply)) r k n = either_tame K L N (Some place) (is_spent c act) j (caller_at c) _ _ (again_tame K L N j c place act k) (takes_tame K L N j c clock place act _ reply k)
+counts_tame K L N j c clock place act head (carried.Reply reply) r k n = ignores_tame K L N j c place k
+counts_tame K L N j c clock place act head carried.Notice r k n = record { goes = inl (refl, (refl, refl)); sent = (record { from = refl; epoch = refl; number = refl; to = refl; boot = refl; act = act; runs = r }, tt); answers = (tt, tt); notices = (tt, tt); kept = k; lines = refl; given = λ sent. refl; boots = λ h q. told_boot N c.callee head.boot c.boots (same_node c.callee q) q refl n (h q) }
 
-awaited_tame : (K : Head → Type 0) (L : Head → Type 0) (N : Node → ℕ → Type 0) (t : Bool) (j : ℕ) (c : ClientState) (clock place : ℕ) (act : Going) (head : Head) (x : Carried) → is_awaited c act head ≡ t → AreReplies K L c.seats → OfNotice (N head.from head.boot) x → Tame K L N (Some place) j (caller_at c) (cond t (counts (Client j) c clock place act head x) (ignores c place))
-awaited_tame K L N true j c clock place act head x e k n = counts_tame K L N j c clock place act head x k (subst (λ (q : Node). OfNotice (N q head.boot) x) (same_node-true head.from c.callee (both (same_node head.from c.callee) _ e).0) n)
-awaited_tame K L N false j c clock place act head x e k n = ignores_tame K L N j c place k
+awaited_tame : (K : Head → Type 0) (L : Head → Type 0) (N : Node → ℕ → Type 0) (t : Bool) (j : ℕ) (c : ClientState) (clock place : ℕ) (act : Going) (head : Head) (x : Carried) → is_awaited c act head ≡ t → c.running ≡ Some act → AreReplies K L c.seats → OfNotice (N head.from head.boot) x → Tame K L N (Some place) j (caller_at c) (cond t (counts (Client j) c clock place act head x) (ignores c place))
+awaited_tame K L N true j c clock place act head x e r k n = counts_tame K L N j c clock place act head x r k (subst (λ (q : Node). OfNotice (N q head.boot) x) (same_node-true head.from c.callee (both (same_node head.from c.callee) _ e).0) n)
+awaited_tame K L N false j c clock place act head x e r k n = ignores_tame K L N j c place k
 
-awaits_tame : (K : Head → Type 0) (L : Head → Type 0) (N : Node → ℕ → Type 0) (j : ℕ) (c : ClientState) (clock place : ℕ) (head : Head) (x : Carried) (o : Option Going) → AreReplies K L c.seats → OfNotice (N head.from head.boot) x → Tame K L N (Some place) j (caller_at c) (awaits (Client j) c clock place head x o)
-awaits_tame K L N j c clock place head x None k n = ignores_tame K L N j c place k
-awaits_tame K L N j c clock place head x (Some act) k n = awaited_tame K L N (is_awaited c act head) j c clock place act head x refl k n
+awaits_tame : (K : Head → Type 0) (L : Head → Type 0) (N : Node → ℕ → Type 0) (j : ℕ) (c : ClientState) (clock place : ℕ) (head : Head) (x : Carried) (o : Option Going) → c.running ≡ o → AreReplies K L c.seats → OfNotice (N head.from head.boot) x → Tame K L N (Some place) j (caller_at c) (awaits (Client j) c clock place head x o)
+awaits_tame K L N j c clock place head x None r k n = ignores_tame K L N j c place k
+awaits_tame K L N j c clock place head x (Some act) r k n = awaited_tame K L N (is_awaited c act head) j c clock place act head x refl r k n
 
 -- ---- calls to it
 
@@ -336,7 +363,7 @@ admits_tame K L N j c place head x (pairs.wrong_boot boot) k w told e = told_tam
 
 hears_tame : (K : Head → Type 0) (L : Head → Type 0) (N : Node → ℕ → Type 0) (j : ℕ) (c : ClientState) (clock place : ℕ) (head : Head) (x : Carried) → AreReplies K L c.seats → IsCallOf K c.epoch c.seats head x → L (boot_told c.epoch head).head → OfNotice (N head.from head.boot) x → Tame K L N (Some place) j (caller_at c) (hears (Client j) c clock place head x)
 hears_tame K L N j c clock place head (carried.Call user call) k w told n = admits_tame K L N j c place head (carried.Call user call) (admitted c.epoch c.seats head) k w told refl
-hears_tame K L N j c clock place head x k w told n = awaits_tame K L N j c clock place head x c.running k n
+hears_tame K L N j c clock place head x k w told n = awaits_tame K L N j c clock place head x c.running refl k n
 
 -- ---- its steps
 
@@ -352,9 +379,9 @@ pub begins_tame : (K : Head → Type 0) (L : Head → Type 0) (N : Node → ℕ 
 unfolding begin_row
 begins_tame K L N j c clock act k = first_tame K L N None j (record c { busy = 0 }) clock (λ ls. lines.Begin (Client j) act ∷ ls) (began c.table act) (next (began c.table act)) k (λ ls h. h)
 
-pub waits_tame : (K : Head → Type 0) (L : Head → Type 0) (N : Node → ℕ → Type 0) (j : ℕ) (c : ClientState) (act : Going) → AreReplies K L c.seats → Tame K L N None j (caller_at c) (timeout_row (Client j) c act)
-waits_tame K L N j c act k = either_tame K L N None (nat_lt c.tries 2) j (caller_at c) _ _
-    (record { goes = inl (refl, (refl, refl)); sent = (record { from = refl; epoch = refl; number = refl; to = refl; boot = refl }, tt); answers = (tt, tt); notices = (tt, tt); kept = k; lines = refl; given = λ sent. refl; boots = λ h. h })
+pub waits_tame : (K : Head → Type 0) (L : Head → Type 0) (N : Node → ℕ → Type 0) (j : ℕ) (c : ClientState) (act : Going) → c.running ≡ Some act → AreReplies K L c.seats → Tame K L N None j (caller_at c) (timeout_row (Client j) c act)
+waits_tame K L N j c act r k = either_tame K L N None (nat_lt c.tries 2) j (caller_at c) _ _
+    (record { goes = inl (refl, (refl, refl)); sent = (record { from = refl; epoch = refl; number = refl; to = refl; boot = refl; act = act; runs = r }, tt); answers = (tt, tt); notices = (tt, tt); kept = k; lines = refl; given = λ sent. refl; boots = λ h. h })
     (ends_tame K L N None j c _ (λ ls. timeout_line (Client j) c 3 ∷ dropped (Client j) (given_up_in (volume_changed (call_of c act)) c.cache) ls) dead_code k (λ ls h. dropped_front (Client j) (given_up_in (volume_changed (call_of c act)) c.cache) ls h))
 
 pub falls_tame : (K : Head → Type 0) (L : Head → Type 0) (N : Node → ℕ → Type 0) (j : ℕ) (c : ClientState) → ((q : Node) → N q 1) → Tame K L N None j (caller_at c) (record { state = reborn c; lines = lines.Crash (Client j) ∷ []; sent = [] })

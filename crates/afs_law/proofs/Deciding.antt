@@ -1,3 +1,4 @@
+use Rattle.afs_breaks.specs.declared.types.OwedBreak.{OwedBreak}
 use Rattle.afs_law.proofs.Promising.{owes_all, risen_as, risen_is}
 use Rattle.afs_rows.specs.ServerSteps.{start_row, server_row, back_timeout_row, wake_row, stepped}
 use Rattle.afs_num.specs.declared.types.Fid.{Fid}
@@ -6,7 +7,7 @@ use Rattle.std.specs.Option.{option_map}
 use Rattle.afs_shape.specs.Reading.{◌>>=◌}
 use Rattle.afs_records.specs.Durable.{Stored}
 use Rattle.afs_law.proofs.Keeping.{found_started}
-use Rattle.std.proofs.Common.{◌≡◌, ℕ, ◌+◌, ◌<◌, ◌≤◌, ◌⊎◌, inl, inr, Bool, true, false, cond, nat_eq, length, List, [], ◌∷◌, ◌++◌, Option, Some, None, ℤ, pos, refl, sym, ap, subst, ◌∙◌, arith, eq-eqb, eqb-true, le_of_eq, append-nil, nat_lt, ltb-true, ltb-false}
+use Rattle.std.proofs.Common.{map, ◌≡◌, ℕ, ◌+◌, ◌<◌, ◌≤◌, ◌⊎◌, inl, inr, Bool, true, false, cond, nat_eq, length, List, [], ◌∷◌, ◌++◌, Option, Some, None, ℤ, pos, refl, sym, ap, subst, ◌∙◌, arith, eq-eqb, eqb-true, le_of_eq, append-nil, nat_lt, ltb-true, ltb-false}
 use Rattle.afs_ideal.specs.Operations.{the_user, reads, Result, refused, changes, no_operation, op, volume_called, Caller, Shown, Found, shows_body, shows_acl, shows_status, shows_statuses, shows_volume}
 use Rattle.afs_ideal.specs.Tables.{get}
 use Rattle.afs_ideal.specs.Volumes.{Volume, Edit, versions_by, vnode_of}
@@ -25,12 +26,12 @@ use Rattle.afs_law.proofs.Saving.{changed_later, versions_lines, versioned_front
 use Rattle.afs_law.proofs.Serving.{up_boots, shows_goes, answered_goes, noticed_goes, nothing_done, quiet, acts_alone, still_loads, given_plain, Loads, up_backed, seats_of, Gives, noted, Dull, at_told, client_head, Now, call_at, taken, seats_after, views_after, ran_now, served_cell, unheard_later, refuses_goes, server_adds, server_does, IsRead, answer_in, AllSeen, IsSeen, IsLook}
 use Rattle.afs_law.proofs.Turning.{Pumps, pumps, put_call, break_good, reply_key}
 use Rattle.afs_law.specs.Breaks.{HasStopped, last_number, AllOwes}
-use Rattle.afs_rows.specs.Callbacks.{retries, quits, Turn, replies_of, pumped, expired, turn_for, no_turn, repeats_by, key_answered, is_seat_of, alls, put_at, held_under, asked_again, is_ready, is_reply_to}
+use Rattle.afs_rows.specs.Callbacks.{quit_line, still_owed, retries, quits, Turn, replies_of, pumped, expired, turn_for, no_turn, repeats_by, key_answered, is_seat_of, alls, put_at, held_under, asked_again, is_ready, is_reply_to}
 use Rattle.afs_rows.specs.ClientRow.{boot_of}
 use Rattle.afs_law.specs.Ideal.{clock_of, volume_after}
 use Rattle.afs_law.specs.Legal.{IsBy, EndsBoot, IsChanging, RanBefore, code_given, AreGood, IsNew, HasChange, versions_first, IsTold, answer_at, answer_on, GoodRestart, op_on, all_on, statuses_on}
 use Rattle.afs_history.specs.declared.lines.Line.{Line}
-use Rattle.afs_law.specs.Past.{risen, server_boot, onto, lines_of, sent_of, given_message, called_key, IsCallUnder}
+use Rattle.afs_law.specs.Past.{has_given, has_begun, risen, server_boot, onto, lines_of, sent_of, given_message, called_key, IsCallUnder}
 use Rattle.afs_rows.specs.Runs.{Entry, message_at, Armed, unarmed, Luck, Blow, struck, lowered, Fall, at_rest, in_step, in_boot, settled, Outcome, comes_up, fails_early, fails_midway, is_full}
 use Rattle.afs_law.proofs.OneCell.{begun_by_disk, Cell, server_rises, server_ends, server_falls, blow_line, server_stopped, server_restarted, server_served, server_given, back_timed, server_timed, server_wakes, Moved, server_moves, the_server}
 use Rattle.afs_rows.specs.ServerRow.{begun_after, begun_before, not_served, serves_call, shows, Reading, no_room, revived, device_calls, promise_ticks, decides, Decision, drops, tells_boot, repeats, refuses, saves, admits, called, hears, boot_told, versioned, Change, decided, in_volume, with_volume, Sight, lasting_started, sights, reading_in, seat_placed, sight_by, sight_in, no_volume, several, saved}
@@ -596,6 +597,7 @@ revives s b c past x h held backs =
         origins = h.sent.origins;
         acts = h.sent.acts;
         ones = h.sent.ones;
+        lone = h.sent.lone;
         told = h.sent.told;
         waiting = held fl (waiting_over (replies_of c.server.backs.held) (view fl c) (view fl (revived_cell c)) past past (λ j m. revived_reply fl c past j m) h.sent.waiting);
         to_clients = h.sent.to_clients;
@@ -646,7 +648,7 @@ revives_down s c past fall h e =
       booted = r.booted;
       boots = h.boots ∙ ap (λ (d : Option Fall). up_boot d c.server.lasting.boot) e;
       clients = r.clients;
-      sent = record { calls = r.sent.calls; replies = r.sent.replies; notices = r.sent.notices; origins = r.sent.origins; acts = r.sent.acts; ones = r.sent.ones; told = r.sent.told; waiting = r.sent.waiting; to_clients = r.sent.to_clients };
+      sent = record { calls = r.sent.calls; replies = r.sent.replies; notices = r.sent.notices; origins = r.sent.origins; acts = r.sent.acts; ones = r.sent.ones; lone = r.sent.lone; told = r.sent.told; waiting = r.sent.waiting; to_clients = r.sent.to_clients };
       down = tt;
       clock = r.clock;
       top = r.top;
@@ -749,7 +751,7 @@ ran_before c past n h user call vs ls cut boots = record {
   older = cut.ran.older;
   split = cut.ran.split;
   actor = cut.ran.node ∙ ap (λ (m : Message). actors.Node m.head.to) cut.is;
-  ran = record { boot = c.server.lasting.boot; up = cut.up; given = subst (IsCallUnder the_server (called_key (client_head n h)) c.server.lasting.boot) (sym cut.ran.given) ((cut.ran.is_call, cut.ran.callee), (cut.ran.key, cut.ran.boot)); first = cut.ran.first };
+  ran = record { boot = c.server.lasting.boot; up = cut.ran.up; given = subst (IsCallUnder the_server (called_key (client_head n h)) c.server.lasting.boot) (sym cut.ran.given) ((cut.ran.is_call, cut.ran.callee), (cut.ran.key, cut.ran.boot)); first = cut.ran.first };
   stopped = cut.stopped;
   since = cut.since;
 }
@@ -767,7 +769,7 @@ pub after_holds : (y : Way) (s : Script) (now : Option ℕ) (c : Cell) (past : L
     → (now ≡ None → BackedIn (Some fall) after c.server.lasting.boot (seats_after c n h (reply_saved c (client_head n h) time user call id st es shown)) (seats_of c) c.clock (c.sent ++ saved_sent y (reply_saved c (client_head n h) time user call id st es shown)) (NewEntry y n h (versions_by id es st.volume) (reply_saved c (client_head n h) time user call id st es shown) ∷ past))
     → HoldsAt s now (served_cell true c n h (reply_saved c (client_head n h) time user call id st es shown) (stock_after c (client_head n h) time (change_at id user call st es shown)) after (Some fall) unarmed (saved_sent y (reply_saved c (client_head n h) time user call id st es shown))) (NewEntry y n h (versions_by id es st.volume) (reply_saved c (client_head n h) time user call id st es shown) ∷ past)
 after_holds y s now c past after fall n h user call time id st es shown H w q is_cut none fallen boots gives backs =
-    saves_holds y s now c past after unarmed (Some fall) n h user call time id st es shown H w q (record { ran = ran_over _ _ past is_cut.ran; is = is_cut.is; up = is_cut.up; ideal = is_cut.ideal }) boots
+    saves_holds y s now c past after unarmed (Some fall) n h user call time id st es shown H w q (record { ran = ran_over _ _ past is_cut.ran; is = is_cut.is; ideal = is_cut.ideal }) boots
     (λ k x l. (λ z. subst (λ (o : Option Message). IsCallUnder the_server k x o) none z, unheard_later c.down c.server.seats c.server.lasting.boot past H.unheard k x l)) (fallen _ _ _) gives backs
 
 saved_up : (s : Script) (c : Cell) (past : List Entry) (fall : Fall) (n : ℕ) (h : Head) (user : List ℕ) (call : FsCall) (time id : ℕ) (st : Stored) (es : List Edit) (shown : ℕ) → (H : Holds s c past) → c.down ≡ Some fall → Now s c H.floors past n h user call → Change' c past user call id st.volume es shown
@@ -892,7 +894,7 @@ cuts_saved s c past p n h user call stops H up at w =
       volumes = refl;
       holds = still s None (record c { down = Some (in_step m c.clock); armed = unarmed }) (e ∷ past) (rests s None c past e 0 (Some (in_step m c.clock)) unarmed H (cut_boot p stops (lines_of past)) refl (cut_rests s p stops past) (cut_clock p stops (lines_of past))
           (λ k b l. (λ x. let x' : IsCallUnder the_server k b (Some m) = subst (λ (o : Option Message). IsCallUnder the_server k b o) (at_told s c past p m H at) x in let is : h.boot ≡ b = x'.1.1 in absurd (omega arith), unheard_later c.down c.server.seats c.server.lasting.boot past H.unheard k b l))
-          (record { place = p; at = at; ran = ran_now s c past p n h user call e H up at w refl refl; is = refl; up = up_boots s c past H up; stopped = cut_stopped p stops; since = tt; ideal = H.ideal }) (λ z. fall_backed s c past e (in_step m c.clock) (cut_oweless p stops) (cut_still p stops) (λ u o. cut_stops p stops o) H));
+          (record { place = p; at = at; ran = ran_now s c past p n h user call e H up at w refl refl; is = refl; stopped = cut_stopped p stops; since = tt; ideal = H.ideal }) (λ z. fall_backed s c past e (in_step m c.clock) (cut_oweless p stops) (cut_still p stops) (λ u o. cut_stops p stops o) H));
     }
 
 abbrev pub IsSave : Decision → Type 0
@@ -922,17 +924,21 @@ given_goes s c past p luck m (Some fall) i h e at to = voids s c past h
 
 -- ---- the server's own calls are timed out
 
+quits_alone : (n : Node) (os : List OwedBreak) → (has_given (map (quit_line the_server n) os) ≡ false) × (has_begun the_server (map (quit_line the_server n) os) ≡ false)
+quits_alone n [] = (refl, refl)
+quits_alone n (o ∷ os) = quits_alone n os
+
 pub timed_goes : (s : Script) (c : Cell) (past : List Entry) (n : Node) (b : BackCall) (x : Bool) → (H : Holds s c past) → c.down ≡ None → c.server.backs.calls n ≡ Some b → nat_lt b.tries 2 ≡ x → Goes s past (server_adds c c.armed c.server [] (cond x (retries the_server c.server.lasting.boot n b (expired c.clock c.server.backs)) (quits the_server c.server.lasting.boot n b (expired c.clock c.server.backs))))
 timed_goes s c past n b true H up at e =
     let x : Backs = expired c.clock c.server.backs in
-    acts_alone s c past c.armed (retries the_server c.server.lasting.boot n b x) H up (tt, tt) (refl, tt) (λ k held. record { notes = (tt, tt); sent = news_break _ _ _ c.server.lasting.boot n (x.known n) b ((up_backed s c past H up).outs refl n b at).client; outs = tt; held = held })
+    acts_alone s c past c.armed (retries the_server c.server.lasting.boot n b x) H up (tt, tt) ((refl, ((refl, refl), (refl, refl))), tt) (λ k held. record { notes = (tt, tt); sent = news_break _ _ _ c.server.lasting.boot n (x.known n) b ((up_backed s c past H up).outs refl n b at).client; outs = tt; held = held })
     (λ k q. let old = up_backed s c past H up in record {
       backed = retries_backed x c.server.lasting.boot c.server.seats (seats_of c) c.clock c.sent k past n b at (ap (λ (y : Entry). y.lines) q) old;
       sends = record { good = break_good (k ∷ past) c.server.lasting.boot n (x.known n) b (ap (λ (y : Entry). y.actor) q); calls = resent x c.server.lasting.boot c.server.seats (seats_of c) c.clock c.sent past (k ∷ past) n (x.known n) b (put_at n (Some (record b { tries = b.tries + 1 })) x.calls) old at (λ y w. put_call n n (record b { tries = b.tries + 1 }) y x.calls _ w (λ u v. ap (λ (z : BackCall). z.breaks) (sym v)) (λ u. ap (λ (z : BackCall). z.breaks) (some_of y b (sym u ∙ at)))); dones = (tt, tt) };
     })
 timed_goes s c past n b false H up at e =
     let x : Backs = expired c.clock c.server.backs in
-    acts_alone s c past c.armed (quits the_server c.server.lasting.boot n b x) H up (tt, quit_notes n _) (refl, quits_good s n c.server.lasting.boot x.last_call b x past ((up_backed s c past H up).outs refl n b at) e) (λ k held. record { notes = (tt, quit_notes n _); sent = no_news _ _ _; outs = tt; held = held })
+    acts_alone s c past c.armed (quits the_server c.server.lasting.boot n b x) H up (tt, quit_notes n _) ((refl, ((refl, refl), quits_alone n (still_owed b x))), quits_good s n c.server.lasting.boot x.last_call b x past ((up_backed s c past H up).outs refl n b at) e) (λ k held. record { notes = (tt, quit_notes n _); sent = no_news _ _ _; outs = tt; held = held })
     (λ k q. record { backed = quits_backed x c.server.lasting.boot c.server.seats (seats_of c) c.clock c.sent k past n b at (ap (λ (y : Entry). y.lines) q) (up_backed s c past H up); sends = record { good = tt; calls = tt; dones = tt } })
 
 pub back_times : (s : Script) (c : Cell) (past : List Entry) (n : Node) (o : Option BackCall) → (H : Holds s c past) → c.down ≡ None → c.server.backs.calls n ≡ o → Goes s past (back_timed c n o)

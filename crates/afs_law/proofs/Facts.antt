@@ -532,9 +532,11 @@ KeepsPair v w = (v.epoch ≡ w.epoch) × (v.last ≡ w.last)
 abbrev pub RanOn : View → View → Option Going → Going → Type 0
 RanOn v w o a = ((o ≡ Some a) × KeepsPair v w) ⊎ Reading o
 
--- the call is its client's last one
+-- the call is its client's last one, for the act that runs there
 pub record IsLastCall (views : ℕ → View) (head : Head) (user : List ℕ) (call : FsCall) : Type 0 where
   pub client : ℕ
+  pub act : Going
+  pub runs : (views client).running ≡ Some act
   pub from : head.from ≡ Client client
   pub epoch : head.epoch ≡ (views client).epoch
   pub number : head.number ≡ (views client).last
@@ -557,6 +559,22 @@ IsNoticed boot m = m.head.boot ≤ boot
 abbrev pub ToClient : Head → List ℕ → FsCall → Type 0
 ToClient head user call = ((j : ℕ) → head.from ≡ Client j → ⊥) → (head.to ≡ the_server → ⊥) × (head.from ≡ the_server)
 
+-- the call under this key may change things
+pub record IsChangingUnder (k : Key) (sent : List Message) : Type 0 where
+  pub user : List ℕ
+  pub call : FsCall
+  pub one : call_under k sent ≡ Some (user, call)
+  pub changes : volume_changed call ≡ None → ⊥
+
+-- of the calls of the act that the client began last one at most may change things
+abbrev pub IsLone : List Message → List Entry → Type 0
+IsLone sent past = (j : ℕ) (k l : Key) → is_of_act (Client j) k past ≡ true → is_of_act (Client j) l past ≡ true → IsChangingUnder k sent → IsChangingUnder l sent → k ≡ l
+
+-- and so it was in every moment before
+abbrev pub AreLone : List Message → List Entry → Type 0
+AreLone sent [] = ⊤
+AreLone sent (e ∷ past) = IsLone sent (e ∷ past) × AreLone sent past
+
 pub record SentFacts (s : Script) (sent held : List Message) (views : ℕ → View) (boot : ℕ) (past : List Entry) : Type 0 where
   pub calls : Each (IfCall (CallIn views)) sent
   pub replies : Each (IfReply (ReplyIn views past)) sent
@@ -564,6 +582,7 @@ pub record SentFacts (s : Script) (sent held : List Message) (views : ℕ → Vi
   pub origins : Each (IfCall (Origin s past)) sent
   pub acts : Each (IfCall (IsActs s views past)) sent
   pub ones : Each (IfCall (IsOne sent)) sent
+  pub lone : AreLone sent past
   pub told : sent_of past ≡ sent
   pub waiting : Each (HeldIn views past) held
   pub to_clients : Each (λ m. OfCall ToClient m.head m.carried) sent
@@ -618,7 +637,6 @@ pub record IsCut (kept : Lasting) (sent : List Message) (m : Message) (past : Li
   pub at : message_at sent place ≡ Some m
   pub ran : Ran (reply_head kept.boot m.head) past
   pub is : ran.message ≡ m
-  pub up : server_boot the_server (lines_of ran.older) ≡ Some kept.boot
   pub stopped : HasStopped the_server ran.at.lines
   pub since : AreFailed the_server ran.newer
   pub ideal : AreIdeal kept.volumes ran.older
@@ -632,13 +650,6 @@ HasFallen (Some (in_step m clock)) kept sent past = IsCut kept sent m past
 -- each timeout of the client's unanswered call was told
 pub record Tried (j : ℕ) (x : ClientState) (ls : List Line) : Type 0 where
   pub told : (act : Going) → x.running ≡ Some act → (k : ℕ) → 1 ≤ k → k ≤ x.tries → HasTimeout (Client j) the_server x.epoch x.last k ls
-
--- the call under this key may change things
-pub record IsChangingUnder (k : Key) (sent : List Message) : Type 0 where
-  pub user : List ℕ
-  pub call : FsCall
-  pub one : call_under k sent ≡ Some (user, call)
-  pub changes : volume_changed call ≡ None → ⊥
 
 -- `now` is the server's boot by the lines
 pub record HoldsAt (s : Script) (now : Option ℕ) (c : Cell) (past : List Entry) : Type 0 where

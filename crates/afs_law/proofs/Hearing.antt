@@ -1,19 +1,21 @@
 -- What servers hear and answer, however many a cell has: what a server would run it never heard in that boot, and each of its
 -- replies to a client is that of the entry which ran the call.
+use Rattle.std.proofs.Math.Nat.{le_refl}
+use Rattle.afs_law.proofs.Booting.{standing_both, Boots, HasFront, blow_stops, disk_front, down_boots, notes_standing, rise_boots, serves_standing, started_lines, step_boots, still_boots, stop_boots, times_standing, wakes_standing, is_standing}
 use Rattle.afs_law.proofs.Passing.{to_come}
 use Rattle.afs_history.specs.declared.acts.Act.{Act}
 use Rattle.afs_history.specs.declared.lines.Line.{Line}
 use Rattle.afs_history.specs.declared.lines.Line.TheVariants as lines
 use Rattle.afs_law.proofs.Backing.{all_lines, is_unchanging}
 use Rattle.afs_law.proofs.Basics.{Above, Each, IfCall, IfReply, OfCall, OfClient, OfNotice, OfReply, ByClient, above_up, at_put, at_seat, below_not, below_up_to, by_client, each_at, each_map, each_more, if_call, if_reply, not_above, of_notice, own_seat, same_node-refl, up_to_same}
-use Rattle.afs_law.proofs.Calling.{AreReplies, IsAnswer, IsCallOf, IsLastOf, Tame, answer_over, begins_tame, caller_at, falls_tame, given_tame, placed, rises_tame, uncalled_any, waits_tame}
-use Rattle.afs_law.proofs.Facts.{MayRun}
+use Rattle.afs_law.proofs.Calling.{mild_standing, AreReplies, IsAnswer, IsCallOf, IsLastOf, Tame, answer_over, begins_tame, caller_at, falls_tame, given_tame, placed, rises_tame, uncalled_any, waits_tame}
+use Rattle.afs_law.proofs.Facts.{up_boot, MayRun}
 use Rattle.afs_law.proofs.Hosting.{Begins, HasHead, HostStep, IsCutBy, IsDue, IsSound, Memory, decides_due, disk_begins, does_given, memory_of, served_head, serves_step, starts_step, times_step, wakes_step}
-use Rattle.afs_law.proofs.Law.{all_versions, given_first}
+use Rattle.afs_law.proofs.Law.{AreVersions, all_versions, given_first}
 use Rattle.afs_law.proofs.Standing.{runs_admitted}
 use Rattle.afs_law.specs.Ideal.{first_lines, set_up}
 use Rattle.afs_law.specs.Once.{past_of}
-use Rattle.afs_law.specs.Past.{IsToCome, HasCode, IsCall, IsCallUnder, IsUnheard, Ran, called_key, given_message, sent_of}
+use Rattle.afs_law.specs.Past.{lines_of, server_boot, IsToCome, HasCode, IsCall, IsCallUnder, IsUnheard, Ran, called_key, given_message, sent_of}
 use Rattle.afs_model.specs.Calls as pairs
 use Rattle.afs_model.specs.Calls.{Admitted, admitted, call_seat, call_seated, paired}
 use Rattle.afs_num.specs.Nodes.{same_node}
@@ -29,7 +31,7 @@ use Rattle.afs_num.specs.declared.types.Head.{Head}
 use Rattle.afs_num.specs.declared.types.Key.{Key}
 use Rattle.afs_num.specs.declared.types.Node.{Node}
 use Rattle.afs_num.specs.declared.types.Node.TheVariants.{Admin, Client, Loc, Server}
-use Rattle.afs_rows.specs.Callbacks.{expired, put, replies_of, turned_in}
+use Rattle.afs_rows.specs.Callbacks.{risen_turn, expired, put, replies_of, turned_in}
 use Rattle.afs_rows.specs.ClientRow.{boot_of, client_row}
 use Rattle.afs_rows.specs.Going.{ClientState, Going}
 use Rattle.afs_rows.specs.Runs.{is_away, Armed, Blow, Cell, Entry, Fall, Host, Input, Leads, Luck, Moved, Outcome, RunsTo, at_rest, back_timed, begins, begun_by, begun_by_disk, blow_line, client_moves, client_starts, client_stops, comes_up, decided_at, fails_early, fails_midway, given_at, given_to, gives, has_host, in_boot, in_step, is_full, message_at, moved, nothing, server_armed, server_ends, server_falls, server_given, server_moves, server_restarted, server_served, server_stopped, server_timed, server_waits, server_wakes, sets_fail, sets_stop, settled, start, starts_again, stops, struck, ticks, unarmed, voided, waited_by, waits, wakes}
@@ -49,14 +51,14 @@ no_server : (n i : ℕ) → Client n ≡ Server i → ⊥
 no_server n i e = absurd cc
 
 -- that server has begun this boot
-abbrev IsHad : (ℕ → Host) → Node → ℕ → Type 0
+abbrev pub IsHad : (ℕ → Host) → Node → ℕ → Type 0
 IsHad hosts q b = (i : ℕ) → q ≡ Server i → b ≤ (hosts i).state.lasting.boot
 
-abbrev IsNoted : (ℕ → Host) → Head → Type 0
+abbrev pub IsNoted : (ℕ → Host) → Head → Type 0
 IsNoted hosts h = IsHad hosts h.from h.boot
 
 -- a server's reply is that of the entry which ran the call
-abbrev IsRan : List Entry → Head → Type 0
+abbrev pub IsRan : List Entry → Head → Type 0
 IsRan past h = (i : ℕ) → h.from ≡ Server i → Ran h past
 
 had_over : (hosts : ℕ → Host) (i : ℕ) (h : Host) → (hosts i).state.lasting.boot ≤ h.state.lasting.boot → (q : Node) (b : ℕ) → IsHad hosts q b → IsHad (put i h hosts) q b
@@ -67,15 +69,15 @@ own_had : (hosts : ℕ → Host) (i : ℕ) (h : Host) (b : ℕ) → b ≤ h.stat
 own_had hosts i h b l q e j f = at_put i j (λ (x : Host). b ≤ x.state.lasting.boot) h hosts (λ same. l) (λ other. absurd (other (server_is i j (sym e ∙ f))))
 
 ran_later : (e : Entry) (past : List Entry) (h : Head) → Ran h past → Ran h (e ∷ past)
-ran_later e past h r = record { newer = e ∷ r.newer; at = r.at; older = r.older; split = ap (λ (x : List Entry). e ∷ x) r.split; message = r.message; given = r.given; is_call = r.is_call; key = r.key; boot = r.boot; callee = r.callee; node = r.node; first = r.first }
+ran_later e past h r = record { newer = e ∷ r.newer; at = r.at; older = r.older; split = ap (λ (x : List Entry). e ∷ x) r.split; message = r.message; given = r.given; is_call = r.is_call; key = r.key; boot = r.boot; up = r.up; callee = r.callee; node = r.node; first = r.first }
 
 ran_over : (e : Entry) (past : List Entry) (h : Head) → IsRan past h → IsRan (e ∷ past) h
 ran_over e past h w i q = ran_later e past h (w i q)
 
 -- the entry that is given the call
-ran_here : (e : Entry) (past : List Entry) (m : Message) (i boot : ℕ) → e.actor ≡ actors.Node (Server i) → given_message e.lines (sent_of past) ≡ Some m → IsCall m.carried → m.head.to ≡ Server i → m.head.boot ≡ boot → IsToCome (Server i) (called_key m.head) boot past
+ran_here : (e : Entry) (past : List Entry) (m : Message) (i boot : ℕ) → e.actor ≡ actors.Node (Server i) → given_message e.lines (sent_of past) ≡ Some m → IsCall m.carried → m.head.to ≡ Server i → m.head.boot ≡ boot → IsToCome (Server i) (called_key m.head) boot past → server_boot (Server i) (lines_of past) ≡ Some boot
     → Ran (reply_head boot m.head) (e ∷ past)
-ran_here e past m i boot actor given is to own first = record {
+ran_here e past m i boot actor given is to own first up = record {
   newer = [];
   at = e;
   older = past;
@@ -85,6 +87,7 @@ ran_here e past m i boot actor given is to own first = record {
   is_call = is;
   key = refl;
   boot = own;
+  up = subst (λ (q : Node). server_boot q (lines_of past) ≡ Some boot) (sym to) up;
   callee = refl;
   node = actor ∙ ap actors.Node (sym to);
   first = subst (λ (q : Node). IsToCome q (called_key m.head) boot past) (sym to) first;
@@ -103,7 +106,7 @@ cut_by K M w boot seats (in_step m clock) h = if_call (λ x user call. admitted 
 cut_by K M w boot seats at_rest h = tt
 cut_by K M w boot seats in_boot h = tt
 
-abbrev HasCutAt : (Head → Type 0) → ServerState → Option Fall → Type 0
+abbrev pub HasCutAt : (Head → Type 0) → ServerState → Option Fall → Type 0
 HasCutAt K x None = ⊤
 HasCutAt K x (Some fall) = IsCutBy K x.lasting.boot x.seats fall
 
@@ -114,23 +117,24 @@ cut_to K M w x (Some fall) h = cut_by K M w x.lasting.boot x.seats fall h
 -- ---- what holds after every entry
 
 -- of clients' keys
-abbrev AreUnheardAt : ℕ → Option Fall → List Seat → ℕ → List Entry → Type 0
+abbrev pub AreUnheardAt : ℕ → Option Fall → List Seat → ℕ → List Entry → Type 0
 AreUnheardAt i down seats boot past = (j : ℕ) (k : Key) (b : ℕ) → k.node ≡ Client j → MayRun down boot (call_seat k.node seats) k b → IsUnheard (Server i) k b past
 
-record Hears (clients : ℕ → ClientState) (hosts : ℕ → Host) (sent : List Message) (past : List Entry) : Type 0 where
-  told : sent_of past ≡ sent
-  calls : Each (IfCall (λ h user call. IsHad hosts h.to h.boot)) sent
-  notices : Each (λ m. OfNotice (IsNoted hosts m.head) m.carried) sent
-  answers : Each (IfReply (λ r. IsRan past r.head)) sent
-  known : (j : ℕ) (q : Node) → IsHad hosts q (boot_of q (clients j).boots)
-  replies : (j : ℕ) → AreReplies (IsRan past) (IsNoted hosts) (clients j).seats
-  first : (i : ℕ) → 1 ≤ (hosts i).state.lasting.boot
-  unheard : (i : ℕ) → AreUnheardAt i (hosts i).down (hosts i).state.seats (hosts i).state.lasting.boot past
-  sound : (i : ℕ) → IsSound (IsRan past) (IsNoted hosts) (memory_of (hosts i).state)
-  held : (i : ℕ) → Each (IsAnswer (IsRan past) (IsNoted hosts)) (replies_of (hosts i).state.backs.held)
-  falls : (i : ℕ) → HasCutAt (IsRan past) (hosts i).state (hosts i).down
+pub record Hears (clients : ℕ → ClientState) (hosts : ℕ → Host) (sent : List Message) (past : List Entry) : Type 0 where
+  pub told : sent_of past ≡ sent
+  pub boots : Boots hosts past
+  pub calls : Each (IfCall (λ h user call. IsHad hosts h.to h.boot)) sent
+  pub notices : Each (λ m. OfNotice (IsNoted hosts m.head) m.carried) sent
+  pub answers : Each (IfReply (λ r. IsRan past r.head)) sent
+  pub known : (j : ℕ) (q : Node) → IsHad hosts q (boot_of q (clients j).boots)
+  pub replies : (j : ℕ) → AreReplies (IsRan past) (IsNoted hosts) (clients j).seats
+  pub first : (i : ℕ) → 1 ≤ (hosts i).state.lasting.boot
+  pub unheard : (i : ℕ) → AreUnheardAt i (hosts i).down (hosts i).state.seats (hosts i).state.lasting.boot past
+  pub sound : (i : ℕ) → IsSound (IsRan past) (IsNoted hosts) (memory_of (hosts i).state)
+  pub held : (i : ℕ) → Each (IsAnswer (IsRan past) (IsNoted hosts)) (replies_of (hosts i).state.backs.held)
+  pub falls : (i : ℕ) → HasCutAt (IsRan past) (hosts i).state (hosts i).down
 
-abbrev HearsIn : Cell → List Entry → Type 0
+abbrev pub HearsIn : Cell → List Entry → Type 0
 HearsIn c past = Hears c.clients c.hosts c.sent past
 
 abbrev After : List Entry → Moved → Type 0
@@ -169,13 +173,14 @@ none_more (m ∷ ms) = ap (λ (x : List Message). m ∷ x) (none_more ms)
 host_hears : (clients : ℕ → ClientState) (hosts : ℕ → Host) (sent more : List Message) (past : List Entry) (e : Entry) (i : ℕ) (h : Host) → Hears clients hosts sent past → (hosts i).state.lasting.boot ≤ h.state.lasting.boot → sent_of (e ∷ past) ≡ more
     → ((P : Message → Type 0) → Each P sent → Each P e.sent → Each P more) → Each (IsAnswer (IsRan (e ∷ past)) (IsNoted (put i h hosts))) e.sent → IsSound (IsRan (e ∷ past)) (IsNoted (put i h hosts)) (memory_of h.state)
     → Each (IsAnswer (IsRan (e ∷ past)) (IsNoted (put i h hosts))) (replies_of h.state.backs.held) → HasCutAt (IsRan (e ∷ past)) h.state h.down → GivenTo (Server i) (given_message e.lines (sent_of past)) → AreUnheardAt i h.down h.state.seats h.state.lasting.boot (e ∷ past)
-    → Hears clients (put i h hosts) more (e ∷ past)
-host_hears clients hosts sent more past e i h H grows told over new sound held cut given heard =
+    → Boots (put i h hosts) (e ∷ past) → Hears clients (put i h hosts) more (e ∷ past)
+host_hears clients hosts sent more past e i h H grows told over new sound held cut given heard boots =
     let then : ℕ → Host = put i h hosts in
     let w : (x : Head) → IsRan past x → IsRan (e ∷ past) x = ran_over e past in
     let u : (x : Head) → IsNoted hosts x → IsNoted then x = λ x. had_over hosts i h grows x.from x.boot in
     record {
       told = told;
+      boots = boots;
       calls = over (IfCall (λ x user call. IsHad then x.to x.boot))
           (each_map _ _ (if_call (λ x user call. IsHad hosts x.to x.boot) (λ x user call. IsHad then x.to x.boot) (λ x user call. had_over hosts i h grows x.to x.boot)) sent H.calls)
           (each_map (IsAnswer (IsRan (e ∷ past)) (IsNoted then)) _ (λ m a. uncalled_any (λ x user call. IsHad then x.to x.boot) m a.0) e.sent new);
@@ -214,18 +219,19 @@ up_host armed x = record { state = x; down = None; armed = armed }
 -- one that is done
 server_hears : (c : Cell) (past : List Entry) (i : ℕ) (D : Option ℕ) (armed : Armed) (s : Step ServerState) → HearsIn c past → (c.hosts i).state.lasting.boot ≤ s.state.lasting.boot
     → HostStep (IsRan (of_server i s.lines s.sent ∷ past)) (IsNoted (put i (up_host armed s.state) c.hosts)) D (Server i) (c.hosts i).state s → GivenTo (Server i) (placed D (sent_of past)) → AreUnheardAt i None s.state.seats s.state.lasting.boot (of_server i s.lines s.sent ∷ past)
-    → After past (server_moves c i armed s)
-server_hears c past i D armed s H grows h given heard =
+    → Boots (put i (up_host armed s.state) c.hosts) (of_server i s.lines s.sent ∷ past) → After past (server_moves c i armed s)
+server_hears c past i D armed s H grows h given heard boots =
     host_hears c.clients c.hosts c.sent (c.sent ++ s.sent) past (of_server i s.lines s.sent) i (up_host armed s.state) H grows (ap (λ (ms : List Message). ms ++ s.sent) H.told) (λ P. each_more P c.sent s.sent) h.sent h.hosts.sound h.held tt
-    (subst (GivenTo (Server i)) (sym (h.given (sent_of past))) given) heard
+    (subst (GivenTo (Server i)) (sym (h.given (sent_of past))) given) heard boots
 
 -- one that leaves its state
 falls_hears : (c : Cell) (past : List Entry) (i : ℕ) (d : Option Fall) (armed : Armed) (ls : List Line) → HearsIn c past → HasCutAt (IsRan (of_server i ls [] ∷ past)) (c.hosts i).state d → GivenTo (Server i) (given_message ls (sent_of past))
-    → AreUnheardAt i d (c.hosts i).state.seats (c.hosts i).state.lasting.boot (of_server i ls [] ∷ past) → Hears c.clients (put i (record (c.hosts i) { down = d; armed = armed }) c.hosts) c.sent (of_server i ls [] ∷ past)
-falls_hears c past i d armed ls H cut given heard =
+    → AreUnheardAt i d (c.hosts i).state.seats (c.hosts i).state.lasting.boot (of_server i ls [] ∷ past) → Boots (put i (record (c.hosts i) { down = d; armed = armed }) c.hosts) (of_server i ls [] ∷ past)
+    → Hears c.clients (put i (record (c.hosts i) { down = d; armed = armed }) c.hosts) c.sent (of_server i ls [] ∷ past)
+falls_hears c past i d armed ls H cut given heard boots =
     let h : Host = record (c.hosts i) { down = d; armed = armed } in
     let same : (c.hosts i).state.lasting.boot ≤ (c.hosts i).state.lasting.boot = omega arith in
-    host_hears c.clients c.hosts c.sent c.sent past (of_server i ls []) i h H same (none_more (sent_of past) ∙ H.told) (λ P a b. a) tt (sound_on c past (of_server i ls []) i h H same) (held_on c past (of_server i ls []) i h H same) cut given heard
+    host_hears c.clients c.hosts c.sent c.sent past (of_server i ls []) i h H same (none_more (sent_of past) ∙ H.told) (λ P a b. a) tt (sound_on c past (of_server i ls []) i h H same) (held_on c past (of_server i ls []) i h H same) cut given heard boots
 
 -- ---- the seats after a step
 
@@ -346,7 +352,7 @@ of_client_at (Server j) X Y w h = tt
 of_client_at (Admin j) X Y w h = tt
 of_client_at Loc X Y w h = tt
 
-call_is : (P Q : Head → Type 0) (boot : ℕ) (seats : List Seat) (head : Head) (x : Carried) → (IsCall x → (j : ℕ) → head.from ≡ Client j → Q head → admitted boot seats head ≡ pairs.runs → P (reply_head boot head)) → OfCall (ByClient (λ h user call. Q h)) head x → IsCallOf P boot seats head x
+pub call_is : (P Q : Head → Type 0) (boot : ℕ) (seats : List Seat) (head : Head) (x : Carried) → (IsCall x → (j : ℕ) → head.from ≡ Client j → Q head → admitted boot seats head ≡ pairs.runs → P (reply_head boot head)) → OfCall (ByClient (λ h user call. Q h)) head x → IsCallOf P boot seats head x
 call_is P Q boot seats head (carried.Call user (ask.File call)) w h = of_client_at head.from (Q head) (admitted boot seats head ≡ pairs.runs → P (reply_head boot head)) (w tt) h
 call_is P Q boot seats head (carried.Call user call) w h = absurd h
 call_is P Q boot seats head (carried.Refusal code) w h = tt
@@ -365,7 +371,8 @@ call_here c past i e m H actor given to up w =
     (λ is j from q runs k z. let a = runs_admitted (c.hosts i).state.lasting.boot (c.hosts i).state.seats m.head runs in
     ran_here e past m i (c.hosts i).state.lasting.boot actor given is to a.0
     (to_come (Server i) (called_key m.head) (c.hosts i).state.lasting.boot past (λ l node later. H.unheard i j l (c.hosts i).state.lasting.boot (node ∙ from) (subst (λ (d : Option Fall). MayRun d (c.hosts i).state.lasting.boot (call_seat l.node (c.hosts i).state.seats) l (c.hosts i).state.lasting.boot) (sym up)
-    (inr (refl, subst (λ (q : Node). Above (call_seat q (c.hosts i).state.seats) l.epoch l.number) (sym node) (above_up (call_seat m.head.from (c.hosts i).state.seats) m.head.epoch m.head.number l.epoch l.number a.1 later)))))))
+    (inr (refl, subst (λ (q : Node). Above (call_seat q (c.hosts i).state.seats) l.epoch l.number) (sym node) (above_up (call_seat m.head.from (c.hosts i).state.seats) m.head.epoch m.head.number l.epoch l.number a.1 later))))))
+    (H.boots.now i ∙ ap (λ (d : Option Fall). up_boot d (c.hosts i).state.lasting.boot) up))
     w
 
 -- it is to no boot to come
@@ -407,6 +414,7 @@ serves_hears c past i place armed m H up to at =
       λ u. not_again c i place m j k b to w is may (subst (λ (o : Option Message). IsCallUnder (Server i) k b o) given u),
       H.unheard i j k b is (may_back (c.hosts i).down x.lasting.boot s.state.lasting.boot (call_seat k.node x.seats) (call_seat k.node s.state.seats) k b up same (served_grows (IsRan (e ∷ past)) (IsNoted (put i h c.hosts)) i x c.clock place m due k.node k.epoch k.number) may),
     ))
+    (step_boots c.hosts i h e past (serves_standing (Server i) x c.clock place m) (sym up) same H.boots)
 
 blow_given : (i place : ℕ) (t : Bool) (sent : List Message) → given_message (lines.Given place ∷ blow_line i t ∷ []) sent ≡ message_at sent place
 blow_given i place t sent = refl
@@ -421,12 +429,14 @@ cut_hears c past i place m b H up to at =
       λ u. not_next c i m j k x to w is later (subst (λ (o : Option Message). IsCallUnder (Server i) k x o) given u),
       unheard_next i (c.hosts i).down (c.hosts i).state.seats (c.hosts i).state.lasting.boot past (H.unheard i) j k x is later,
     ))
+    (stop_boots c.hosts i (record (c.hosts i) { down = Some (in_step m c.clock); armed = unarmed }) (of_server i ls []) past (lines.Given place ∷ []) (blow_line i b.stops) refl refl (blow_stops i b.stops) refl (le_refl _) H.boots)
 
-still_hears : (clients : ℕ → ClientState) (hosts : ℕ → Host) (sent : List Message) (past : List Entry) (e : Entry) → Hears clients hosts sent past → e.sent ≡ [] → given_message e.lines (sent_of past) ≡ None → Hears clients hosts sent (e ∷ past)
-still_hears clients hosts sent past e H none given =
+still_hears : (clients : ℕ → ClientState) (hosts : ℕ → Host) (sent : List Message) (past : List Entry) (e : Entry) → Hears clients hosts sent past → e.sent ≡ [] → given_message e.lines (sent_of past) ≡ None → all_lines is_standing e.lines ≡ true → Hears clients hosts sent (e ∷ past)
+still_hears clients hosts sent past e H none given stand =
     let w : (x : Head) → IsRan past x → IsRan (e ∷ past) x = ran_over e past in
     record {
       told = ap (λ (ms : List Message). sent_of past ++ ms) none ∙ (none_more (sent_of past) ∙ H.told);
+      boots = still_boots hosts e past stand H.boots;
       calls = H.calls;
       notices = H.notices;
       answers = each_map _ _ (if_reply (λ r. IsRan past r.head) (λ r. IsRan (e ∷ past) r.head) (λ r. w r.head)) sent H.answers;
@@ -440,7 +450,7 @@ still_hears clients hosts sent past e H none given =
     }
 
 void_hears : (c : Cell) (past : List Entry) → HearsIn c past → After past (voided c)
-void_hears c past H = still_hears c.clients c.hosts c.sent past (record { actor = actors.Nobody; lines = lines.Void ∷ []; sent = []; volumes = [] }) H refl refl
+void_hears c past H = still_hears c.clients c.hosts c.sent past (record { actor = actors.Nobody; lines = lines.Void ∷ []; sent = []; volumes = [] }) H refl refl refl
 
 either_hears : (past : List Entry) (t : Bool) (m k : Moved) → After past m → After past k → After past (cond t m k)
 either_hears past true m k a b = a
@@ -465,6 +475,7 @@ stopped_hears : (c : Cell) (past : List Entry) (i : ℕ) (d : Option Fall) → H
 stopped_hears c past i None H =
     let same : (c.hosts i).state.lasting.boot ≤ (c.hosts i).state.lasting.boot = omega arith in
     falls_hears c past i (Some at_rest) unarmed (lines.Crash (Server i) ∷ []) H tt tt (down_heard c past i (of_server i (lines.Crash (Server i) ∷ []) []) at_rest (c.hosts i).state.seats (c.hosts i).state.lasting.boot H refl same)
+    (stop_boots c.hosts i (record (c.hosts i) { down = Some at_rest; armed = unarmed }) (of_server i (lines.Crash (Server i) ∷ []) []) past [] (lines.Crash (Server i)) refl refl (inl refl) refl same H.boots)
 stopped_hears c past i (Some fall) H = void_hears c past H
 
 -- what a restart begins with, by what is told after it
@@ -473,22 +484,22 @@ BeginsBy c past i f = (e : Entry) (h : Host) → (c.hosts i).state.lasting.boot 
 
 -- it stays down
 stays_hears : (c : Cell) (past : List Entry) (i : ℕ) (f : Begun) (l : Line) (fall : Fall) → HearsIn c past → (c.hosts i).state.lasting.boot ≤ f.state.lasting.boot → BeginsBy c past i f → ((sent : List Message) → given_message (l ∷ []) sent ≡ None) → ((K : Head → Type 0) → IsCutBy K f.state.lasting.boot f.state.seats fall)
-    → all_lines is_unchanging (l ∷ []) ≡ true → Hears c.clients (put i (record { state = f.state; down = Some fall; armed = unarmed }) c.hosts) c.sent (of_server i (f.before (l ∷ [])) [] ∷ past)
-stays_hears c past i f l fall H more b none cut plain =
+    → all_lines is_unchanging (l ∷ []) ≡ true → Boots (put i (record { state = f.state; down = Some fall; armed = unarmed }) c.hosts) (of_server i (f.before (l ∷ [])) [] ∷ past) → Hears c.clients (put i (record { state = f.state; down = Some fall; armed = unarmed }) c.hosts) c.sent (of_server i (f.before (l ∷ [])) [] ∷ past)
+stays_hears c past i f l fall H more b none cut plain boots =
     let e : Entry = of_server i (f.before (l ∷ [])) [] in
     let h : Host = record { state = f.state; down = Some fall; armed = unarmed } in
     let q : Begins (IsRan (e ∷ past)) (IsNoted (put i h c.hosts)) (Server i) (c.hosts i).state f = b e h more in
     let given : given_message e.lines (sent_of past) ≡ None = q.ungiven (l ∷ []) (sent_of past) (none (sent_of past)) in
     host_hears c.clients c.hosts c.sent c.sent past e i h H more (none_more (sent_of past) ∙ H.told) (λ P x y. x) tt (q.hosts (l ∷ []) plain).sound q.held (cut (IsRan (e ∷ past))) (none_given (Server i) (given_message e.lines (sent_of past)) given)
-    (down_heard c past i e fall f.state.seats f.state.lasting.boot H given more)
+    (down_heard c past i e fall f.state.seats f.state.lasting.boot H given more) boots
 
 may_next : (boot begun now : ℕ) (o : Option Seat) (k : Key) (b : ℕ) → boot ≤ begun → now ≡ begun + 1 → MayRun None now o k b → boot < b
 may_next boot begun now o k b l e (inl z) = let a : boot ≤ begun = l in let q : now ≡ begun + 1 = e in let y : now < b = z in omega arith
 may_next boot begun now o k b l e (inr z) = let a : boot ≤ begun = l in let q : now ≡ begun + 1 = e in let y : b ≡ now = z.0 in omega arith
 
 -- it comes up
-rises_hears : (c : Cell) (past : List Entry) (i : ℕ) (f : Begun) → HearsIn c past → (c.hosts i).state.lasting.boot ≤ f.state.lasting.boot → BeginsBy c past i f → After past (server_moves c i unarmed (start_row (Server i) c.clock c.count f))
-rises_hears c past i f H more b =
+rises_hears : (c : Cell) (past : List Entry) (i : ℕ) (f : Begun) → HearsIn c past → up_boot (c.hosts i).down (c.hosts i).state.lasting.boot ≡ None → HasFront f → (c.hosts i).state.lasting.boot ≤ f.state.lasting.boot → BeginsBy c past i f → After past (server_moves c i unarmed (start_row (Server i) c.clock c.count f))
+rises_hears c past i f H was front more b =
     let s : Step ServerState = start_row (Server i) c.clock c.count f in
     let e : Entry = of_server i s.lines s.sent in
     let h : Host = up_host unarmed s.state in
@@ -501,38 +512,48 @@ rises_hears c past i f H more b =
       none_under (Server i) k x (given_message s.lines (sent_of past)) (q.given (sent_of past)),
       unheard_next i (c.hosts i).down (c.hosts i).state.seats (c.hosts i).state.lasting.boot past (H.unheard i) j k x is (may_next (c.hosts i).state.lasting.boot f.state.lasting.boot s.state.lasting.boot (call_seat k.node s.state.seats) k x more next may),
     ))
+    (rise_boots c.hosts i h e past (f.before []) (risen_turn (Server i) c.clock c.count).lines
+    (started_lines i c.clock c.count f ∙ (front.before _ ∙ ap (λ (n : ℕ). f.before [] ++ lines.Restart (Server i) n ∷ (risen_turn (Server i) c.clock c.count).lines) (sym next)))
+    front.standing (notes_standing i c.clock c.count) was refl (omega arith) H.boots)
 
-ends_hears : (c : Cell) (past : List Entry) (i : ℕ) (f : Begun) (fall : Fall) (out : Outcome) → HearsIn c past → IsCutBy (IsRan past) (c.hosts i).state.lasting.boot (c.hosts i).state.seats fall → (c.hosts i).state.lasting.boot ≤ f.state.lasting.boot → BeginsBy c past i f → After past (server_ends c i f fall out)
-ends_hears c past i f fall comes_up H cut more b = rises_hears c past i f H more b
-ends_hears c past i f fall fails_early H cut more b =
+full_standing : (f : Begun) (i : ℕ) → HasFront f → all_lines is_standing (f.before (lines.Full (Server i) ∷ [])) ≡ true
+full_standing f i front = subst (λ (ls : List Line). all_lines is_standing ls ≡ true) (sym (front.before _)) (standing_both (f.before []) (lines.Full (Server i) ∷ []) front.standing refl)
+
+ends_hears : (c : Cell) (past : List Entry) (i : ℕ) (f : Begun) (fall : Fall) (out : Outcome) → HearsIn c past → IsCutBy (IsRan past) (c.hosts i).state.lasting.boot (c.hosts i).state.seats fall → up_boot (c.hosts i).down (c.hosts i).state.lasting.boot ≡ None → HasFront f → (c.hosts i).state.lasting.boot ≤ f.state.lasting.boot → BeginsBy c past i f → After past (server_ends c i f fall out)
+ends_hears c past i f fall comes_up H cut was front more b = rises_hears c past i f H was front more b
+ends_hears c past i f fall fails_early H cut was front more b =
     let e : Entry = of_server i (lines.Fault (Server i) ∷ []) [] in
     let same : (c.hosts i).state.lasting.boot ≤ (c.hosts i).state.lasting.boot = omega arith in
     falls_hears c past i (Some fall) unarmed (lines.Fault (Server i) ∷ []) H (cut_by (IsRan past) (IsRan (e ∷ past)) (ran_over e past) (c.hosts i).state.lasting.boot (c.hosts i).state.seats fall cut) tt
     (down_heard c past i e fall (c.hosts i).state.seats (c.hosts i).state.lasting.boot H refl same)
-ends_hears c past i f fall fails_midway H cut more b = stays_hears c past i f (lines.Fault (Server i)) in_boot H more b (λ sent. refl) (λ K. tt) refl
-ends_hears c past i f fall is_full H cut more b = stays_hears c past i f (lines.Full (Server i)) at_rest H more b (λ sent. refl) (λ K. tt) refl
+    (stop_boots c.hosts i (record (c.hosts i) { down = Some fall; armed = unarmed }) e past [] (lines.Fault (Server i)) refl refl (inr refl) refl same H.boots)
+ends_hears c past i f fall fails_midway H cut was front more b = stays_hears c past i f (lines.Fault (Server i)) in_boot H more b (λ sent. refl) (λ K. tt) refl
+    (stop_boots c.hosts i (record { state = f.state; down = Some in_boot; armed = unarmed }) (of_server i (f.before (lines.Fault (Server i) ∷ [])) []) past (f.before []) (lines.Fault (Server i)) (front.before _) front.standing (inr refl) refl more H.boots)
+ends_hears c past i f fall is_full H cut was front more b = stays_hears c past i f (lines.Full (Server i)) at_rest H more b (λ sent. refl) (λ K. tt) refl
+    (down_boots c.hosts i (record { state = f.state; down = Some at_rest; armed = unarmed }) (of_server i (f.before (lines.Full (Server i) ∷ [])) []) past (full_standing f i front) was refl more H.boots)
 
-restarted_hears : (c : Cell) (past : List Entry) (i : ℕ) (after : Bool) (out : Outcome) (d : Option Fall) → HearsIn c past → HasCutAt (IsRan past) (c.hosts i).state d → After past (server_restarted c i after out d)
-restarted_hears c past i after out None H cut = void_hears c past H
-restarted_hears c past i after out (Some fall) H cut =
+restarted_hears : (c : Cell) (past : List Entry) (i : ℕ) (after : Bool) (out : Outcome) (d : Option Fall) → HearsIn c past → (c.hosts i).down ≡ d → HasCutAt (IsRan past) (c.hosts i).state d → After past (server_restarted c i after out d)
+restarted_hears c past i after out None H down cut = void_hears c past H
+restarted_hears c past i after out (Some fall) H down cut =
     let x : ServerState = (c.hosts i).state in
     let f : Begun = begun_by_disk (Server i) x after fall in
-    ends_hears c past i f fall (settled f.state out) H cut (disk_boot (Server i) x after fall)
+    ends_hears c past i f fall (settled f.state out) H cut (ap (λ (d : Option Fall). up_boot d x.lasting.boot) down) (disk_front (Server i) x after fall) (disk_boot (Server i) x after fall)
     (λ e h more. disk_begins (IsRan (e ∷ past)) (IsNoted (put i h c.hosts)) (Server i) x after fall (sound_on c past e i h H more) (held_on c past e i h H more) (cut_by (IsRan past) (IsRan (e ∷ past)) (ran_over e past) x.lasting.boot x.seats fall cut)
     (λ y to. own_had c.hosts i h x.lasting.boot more y.to to))
 
 -- its disk is set
-set_hears : (c : Cell) (past : List Entry) (i : ℕ) (l : Line) (armed : Armed) (d : Option Fall) → ((sent : List Message) → given_message (l ∷ []) sent ≡ None) → HearsIn c past → After past (server_armed c i l armed d)
-set_hears c past i l armed None none H =
+set_hears : (c : Cell) (past : List Entry) (i : ℕ) (l : Line) (armed : Armed) (d : Option Fall) → ((sent : List Message) → given_message (l ∷ []) sent ≡ None) → all_lines is_standing (l ∷ []) ≡ true → HearsIn c past → After past (server_armed c i l armed d)
+set_hears c past i l armed None none stand H =
     let e : Entry = of_server i (l ∷ []) [] in
     falls_hears c past i (c.hosts i).down armed (l ∷ []) H (cut_to (IsRan past) (IsRan (e ∷ past)) (ran_over e past) (c.hosts i).state (c.hosts i).down (H.falls i)) (none_given (Server i) (given_message (l ∷ []) (sent_of past)) (none (sent_of past)))
     (unheard_on i (c.hosts i).down (c.hosts i).state.seats (c.hosts i).state.lasting.boot e past (λ k b. none_under (Server i) k b (given_message (l ∷ []) (sent_of past)) (none (sent_of past))) (H.unheard i))
-set_hears c past i l armed (Some fall) none H = void_hears c past H
+    (step_boots c.hosts i (record (c.hosts i) { armed = armed }) e past stand refl refl H.boots)
+set_hears c past i l armed (Some fall) none stand H = void_hears c past H
 
 -- a step on no message, which leaves its seats and its boot number
 quiet_hears : (c : Cell) (past : List Entry) (i : ℕ) (armed : Armed) (s : Step ServerState) → HearsIn c past → (c.hosts i).down ≡ None → (s.state.seats ≡ (c.hosts i).state.seats) × (s.state.lasting.boot ≡ (c.hosts i).state.lasting.boot)
-    → ((K L : Head → Type 0) → IsSound K L (memory_of (c.hosts i).state) → Each (IsAnswer K L) (replies_of (c.hosts i).state.backs.held) → HostStep K L None (Server i) (c.hosts i).state s) → After past (server_moves c i armed s)
-quiet_hears c past i armed s H up same step =
+    → ((K L : Head → Type 0) → IsSound K L (memory_of (c.hosts i).state) → Each (IsAnswer K L) (replies_of (c.hosts i).state.backs.held) → HostStep K L None (Server i) (c.hosts i).state s) → all_lines is_standing s.lines ≡ true → After past (server_moves c i armed s)
+quiet_hears c past i armed s H up same step stand =
     let e : Entry = of_server i s.lines s.sent in
     let h : Host = up_host armed s.state in
     let boot : s.state.lasting.boot ≡ (c.hosts i).state.lasting.boot = same.1 in
@@ -543,22 +564,23 @@ quiet_hears c past i armed s H up same step =
       none_under (Server i) k b (given_message s.lines (sent_of past)) (q.given (sent_of past)),
       H.unheard i j k b is (may_back (c.hosts i).down (c.hosts i).state.lasting.boot s.state.lasting.boot (call_seat k.node (c.hosts i).state.seats) (call_seat k.node s.state.seats) k b up boot (λ a. subst (λ (x : List Seat). Above (call_seat k.node x) k.epoch k.number) same.0 a) may),
     ))
+    (step_boots c.hosts i h e past stand (sym up) boot H.boots)
 
 back_hears : (c : Cell) (past : List Entry) (i : ℕ) (n : Node) (b : Option BackCall) → HearsIn c past → (c.hosts i).down ≡ None → After past (back_timed c i n b)
 back_hears c past i n None H up = void_hears c past H
-back_hears c past i n (Some b) H up = quiet_hears c past i _ _ H up (timed_state i (c.hosts i).state c.clock n b) (λ K L. times_step K L i (c.hosts i).state c.clock n b)
+back_hears c past i n (Some b) H up = quiet_hears c past i _ _ H up (timed_state i (c.hosts i).state c.clock n b) (λ K L. times_step K L i (c.hosts i).state c.clock n b) (times_standing (Server i) (c.hosts i).state c.clock n b)
 
 timed_hears : (c : Cell) (past : List Entry) (i : ℕ) (n : Node) (d : Option Fall) → HearsIn c past → (c.hosts i).down ≡ d → After past (server_timed c i n d)
 timed_hears c past i n None H up = back_hears c past i n ((c.hosts i).state.backs.calls n) H up
 timed_hears c past i n (Some fall) H up = void_hears c past H
 
 woken_hears : (c : Cell) (past : List Entry) (i : ℕ) (d : Option Fall) → HearsIn c past → (c.hosts i).down ≡ d → After past (server_wakes c i d)
-woken_hears c past i None H up = quiet_hears c past i _ _ H up (woken_state i (c.hosts i).state c.clock) (λ K L. wakes_step K L i (c.hosts i).state c.clock)
+woken_hears c past i None H up = quiet_hears c past i _ _ H up (woken_state i (c.hosts i).state c.clock) (λ K L. wakes_step K L i (c.hosts i).state c.clock) (wakes_standing (Server i) (c.hosts i).state c.clock)
 woken_hears c past i (Some fall) H up = void_hears c past H
 
 -- ---- a step of a client
 
-abbrev of_client_step : ℕ → Step ClientState → Entry
+abbrev pub of_client_step : ℕ → Step ClientState → Entry
 of_client_step n s = record { actor = actors.Node (Client n); lines = s.lines; sent = s.sent; volumes = [] }
 
 last_had : (hosts : ℕ → Host) (n : ℕ) (y : ClientState) (h : Head) → IsHad hosts y.callee (boot_of y.callee y.boots) → IsLastOf n (caller_at y) h → IsHad hosts h.to h.boot
@@ -572,6 +594,7 @@ client_hears c past n D s H t given =
     let to : GivenTo (Client n) (given_message s.lines (sent_of past)) = subst (GivenTo (Client n)) (sym (t.given (sent_of past))) given in
     record {
       told = ap (λ (ms : List Message). ms ++ s.sent) H.told;
+      boots = still_boots c.hosts e past (mild_standing s.lines t.lines) H.boots;
       calls = each_more (IfCall (λ x user call. IsHad c.hosts x.to x.boot)) c.sent s.sent H.calls
           (each_map _ _ (if_call (λ x user call. IsLastOf n (caller_at s.state) x) (λ x user call. IsHad c.hosts x.to x.boot) (λ x user call. last_had c.hosts n s.state x (known s.state.callee))) s.sent t.sent);
       notices = each_more (λ m. OfNotice (IsNoted c.hosts m.head) m.carried) c.sent s.sent H.notices t.notices;
@@ -586,22 +609,25 @@ client_hears c past n D s H t given =
     }
 
 -- what a client keeps, by what is told after the step
-kept_on : (c : Cell) (past : List Entry) (e : Entry) (n : ℕ) → HearsIn c past → AreReplies (IsRan (e ∷ past)) (IsNoted c.hosts) (c.clients n).seats
+pub kept_on : (c : Cell) (past : List Entry) (e : Entry) (n : ℕ) → HearsIn c past → AreReplies (IsRan (e ∷ past)) (IsNoted c.hosts) (c.clients n).seats
 kept_on c past e n H = replies_to (IsRan past) (IsRan (e ∷ past)) (IsNoted c.hosts) (IsNoted c.hosts) (ran_over e past) (λ x z. z) (c.clients n).seats (H.replies n)
 
 -- ---- every input
 
+-- what a client does with a message that it is given
+pub client_given : (c : Cell) (past : List Entry) (n p : ℕ) (m : Message) → HearsIn c past → m.head.to ≡ Client n → message_at c.sent p ≡ Some m
+    → Tame (IsRan (of_client_step n (client_row (Client n) (c.clients n) c.clock p (Whole m)) ∷ past)) (IsNoted c.hosts) (IsHad c.hosts) (Some p) n (caller_at (c.clients n)) (client_row (Client n) (c.clients n) c.clock p (Whole m))
+client_given c past n p m H to at =
+    let e : Entry = of_client_step n (client_row (Client n) (c.clients n) c.clock p (Whole m)) in
+    given_tame (IsRan (e ∷ past)) (IsNoted c.hosts) (IsHad c.hosts) n (c.clients n) c.clock p m (kept_on c past e n H)
+    (call_is (IsRan (e ∷ past)) (λ h. IsHad c.hosts h.to h.boot) (c.clients n).epoch (c.clients n).seats m.head m.carried (λ is j from q runs i z. absurd (no_server n i (sym to ∙ z))) (each_at (IfCall (λ y user call. IsHad c.hosts y.to y.boot)) c.sent p m at H.calls))
+    (λ i z. absurd (no_server n i (sym to ∙ z))) (each_at (λ y. OfNotice (IsNoted c.hosts y.head) y.carried) c.sent p m at H.notices)
+
 to_hears : (c : Cell) (past : List Entry) (p : ℕ) (luck : Luck) (m : Message) (to : Node) → HearsIn c past → m.head.to ≡ to → message_at c.sent p ≡ Some m → After past (given_to c p luck m to)
 to_hears c past p luck m (Server i) H to at = either_hears past (has_host c i) _ _ (received_hears c past i p luck m (c.hosts i).down H refl to at) (void_hears c past H)
 to_hears c past p luck m (Client n) H to at =
-    let s : Step ClientState = client_row (Client n) (c.clients n) c.clock p (Whole m) in
-    let e : Entry = of_client_step n s in
     either_hears past (is_away c n) _ _ (void_hears c past H)
-    (client_hears c past n (Some p) s H
-    (given_tame (IsRan (e ∷ past)) (IsNoted c.hosts) (IsHad c.hosts) n (c.clients n) c.clock p m (kept_on c past e n H)
-    (call_is (IsRan (e ∷ past)) (λ h. IsHad c.hosts h.to h.boot) (c.clients n).epoch (c.clients n).seats m.head m.carried (λ is j from q runs i z. absurd (no_server n i (sym to ∙ z))) (each_at (IfCall (λ y user call. IsHad c.hosts y.to y.boot)) c.sent p m at H.calls))
-    (λ i z. absurd (no_server n i (sym to ∙ z))) (each_at (λ y. OfNotice (IsNoted c.hosts y.head) y.carried) c.sent p m at H.notices))
-    (subst (GivenTo (Client n)) (sym (ap (λ (ms : List Message). message_at ms p) H.told ∙ at)) to))
+    (client_hears c past n (Some p) (client_row (Client n) (c.clients n) c.clock p (Whole m)) H (client_given c past n p m H to at) (subst (GivenTo (Client n)) (sym (ap (λ (ms : List Message). message_at ms p) H.told ∙ at)) to))
 to_hears c past p luck m Loc H to at = void_hears c past H
 to_hears c past p luck m (Admin n) H to at = void_hears c past H
 
@@ -613,27 +639,27 @@ begun_hears : (c : Cell) (past : List Entry) (n : ℕ) (act : Act) (g : Option G
 begun_hears c past n act None H = client_hears c past n None _ H (begins_tame _ (IsNoted c.hosts) (IsHad c.hosts) n (c.clients n) c.clock act (kept_on c past _ n H)) tt
 begun_hears c past n act (Some g) H = void_hears c past H
 
-waited_hears : (c : Cell) (past : List Entry) (n : ℕ) (g : Option Going) → HearsIn c past → After past (waited_by c n g)
-waited_hears c past n None H = void_hears c past H
-waited_hears c past n (Some act) H = client_hears c past n None _ H (waits_tame _ (IsNoted c.hosts) (IsHad c.hosts) n (c.clients n) act (kept_on c past _ n H)) tt
+waited_hears : (c : Cell) (past : List Entry) (n : ℕ) (g : Option Going) → (c.clients n).running ≡ g → HearsIn c past → After past (waited_by c n g)
+waited_hears c past n None e H = void_hears c past H
+waited_hears c past n (Some act) e H = client_hears c past n None _ H (waits_tame _ (IsNoted c.hosts) (IsHad c.hosts) n (c.clients n) act e (kept_on c past _ n H)) tt
 
 -- a client that begins again knows no boot number, and takes each server's to be the first
-first_had : (c : Cell) (past : List Entry) → HearsIn c past → (q : Node) → IsHad c.hosts q 1
+pub first_had : (c : Cell) (past : List Entry) → HearsIn c past → (q : Node) → IsHad c.hosts q 1
 first_had c past H q i e = H.first i
 
-moved_hears : (c : Cell) (past : List Entry) (x : Input) → HearsIn c past → After past (moved c x)
+pub moved_hears : (c : Cell) (past : List Entry) (x : Input) → HearsIn c past → After past (moved c x)
 unfolding moved
 moved_hears c past (begins n act) H = either_hears past (is_away c n) _ _ (void_hears c past H) (begun_hears c past n act (c.clients n).running H)
 moved_hears c past (gives p luck) H = at_hears c past p luck (message_at c.sent p) refl H
-moved_hears c past (waits n) H = either_hears past (is_away c n) _ _ (void_hears c past H) (waited_hears c past n (c.clients n).running H)
+moved_hears c past (waits n) H = either_hears past (is_away c n) _ _ (void_hears c past H) (waited_hears c past n (c.clients n).running refl H)
 moved_hears c past (ticks zero) H = void_hears c past H
-moved_hears c past (ticks (suc n)) H = still_hears c.clients c.hosts c.sent past (record { actor = actors.Clock; lines = lines.Tick (suc n) ∷ []; sent = []; volumes = [] }) H refl refl
+moved_hears c past (ticks (suc n)) H = still_hears c.clients c.hosts c.sent past (record { actor = actors.Clock; lines = lines.Tick (suc n) ∷ []; sent = []; volumes = [] }) H refl refl refl
 moved_hears c past (client_stops n) H = either_hears past (is_away c n) _ _ (void_hears c past H) (client_hears c past n None _ H (falls_tame _ (IsNoted c.hosts) (IsHad c.hosts) n (c.clients n) (first_had c past H)) tt)
 moved_hears c past (client_starts n) H = either_hears past (c.away n) _ _ (client_hears c past n None _ H (rises_tame _ (IsNoted c.hosts) (IsHad c.hosts) n (c.clients n) (kept_on c past _ n H)) tt) (void_hears c past H)
 moved_hears c past (stops i) H = either_hears past (has_host c i) _ _ (stopped_hears c past i (c.hosts i).down H) (void_hears c past H)
-moved_hears c past (starts_again i after out) H = either_hears past (has_host c i) _ _ (restarted_hears c past i after out (c.hosts i).down H (H.falls i)) (void_hears c past H)
-moved_hears c past (sets_stop i calls pick) H = either_hears past (has_host c i) _ _ (set_hears c past i (lines.Stop (Server i) calls pick) _ (c.hosts i).down (λ sent. refl) H) (void_hears c past H)
-moved_hears c past (sets_fail i call) H = either_hears past (has_host c i) _ _ (set_hears c past i (lines.Fail (Server i) call) _ (c.hosts i).down (λ sent. refl) H) (void_hears c past H)
+moved_hears c past (starts_again i after out) H = either_hears past (has_host c i) _ _ (restarted_hears c past i after out (c.hosts i).down H refl (H.falls i)) (void_hears c past H)
+moved_hears c past (sets_stop i calls pick) H = either_hears past (has_host c i) _ _ (set_hears c past i (lines.Stop (Server i) calls pick) _ (c.hosts i).down (λ sent. refl) refl H) (void_hears c past H)
+moved_hears c past (sets_fail i call) H = either_hears past (has_host c i) _ _ (set_hears c past i (lines.Fail (Server i) call) _ (c.hosts i).down (λ sent. refl) refl H) (void_hears c past H)
 moved_hears c past (server_waits i n) H = either_hears past (has_host c i) _ _ (timed_hears c past i n (c.hosts i).down H refl) (void_hears c past H)
 moved_hears c past (wakes i) H = either_hears past (has_host c i) _ _ (woken_hears c past i (c.hosts i).down H refl) (void_hears c past H)
 moved_hears c past nothing H = void_hears c past H
@@ -647,9 +673,19 @@ run_hears (x ∷ xs) c past [] end H r = absurd r
 run_hears (x ∷ xs) c past (e ∷ es) end H r =
     subst (λ (y : Entry). HearsIn end (past_of (y ∷ past) es)) (sym r.0) (run_hears xs (moved c x).cell ((moved c x).entry ∷ past) es end (moved_hears c past x H) r.1)
 
-first_hears : (s : Script) → HearsIn (start s) (set_up s ∷ [])
+-- the set-up tells versions alone
+first_standing : (ls : List Line) → AreVersions ls → all_lines is_standing ls ≡ true
+first_standing [] h = refl
+first_standing (lines.Version v ∷ ls) h = first_standing ls h
+first_standing (l ∷ ls) h = absurd h
+
+first_boots : (s : Script) → Boots (start s).hosts (set_up s ∷ [])
+first_boots s = still_boots (start s).hosts (set_up s) [] (first_standing (first_lines s.volumes) (all_versions s.volumes)) (record { now = λ j. refl; last = λ j. le_refl 1; risen = tt })
+
+pub first_hears : (s : Script) → HearsIn (start s) (set_up s ∷ [])
 first_hears s = record {
   told = refl;
+  boots = first_boots s;
   calls = tt;
   notices = tt;
   answers = tt;
@@ -662,7 +698,7 @@ first_hears s = record {
   falls = λ i. tt;
 }
 
-hears_at : (s : Script) (h : List Entry) (end : Cell) → RunsTo h s end → HearsIn end (past_of (set_up s ∷ []) h)
+pub hears_at : (s : Script) (h : List Entry) (end : Cell) → RunsTo h s end → HearsIn end (past_of (set_up s ∷ []) h)
 hears_at s h end r = run_hears r.inputs (start s) (set_up s ∷ []) h end (first_hears s) r.leads
 
 pub run_unheard : (s : Script) (h : List Entry) (end : Cell) → RunsTo h s end → (i j : ℕ) → (end.hosts i).down ≡ None → (head : Head) → head.from ≡ Client j → admitted (end.hosts i).state.lasting.boot (end.hosts i).state.seats head ≡ pairs.runs

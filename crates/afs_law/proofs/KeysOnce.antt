@@ -3,7 +3,7 @@
 use Rattle.afs_history.specs.declared.acts.Act.{Act}
 use Rattle.afs_law.proofs.Backing.{all_lines, is_unchanging}
 use Rattle.afs_law.proofs.Basics.{a_key, same_key-true, Above, Each, IfCall, IfReply, OfClient, OfReply, by_client, if_reply, UpTo, at_put, below_not, below_up_to, both, client_number, each_at, each_map, each_more, if_call, node_apart, same_key-refl, same_node-true, up_to_below, up_to_same, below-true, below-false, some_of, OfNotice, OfCall, ByClient}
-use Rattle.afs_law.proofs.Calling.{AreReplies, IsAnswer, answer_over, GoesOn, IsLastOf, Tame, begins_tame, caller_at, falls_tame, given_tame, rises_tame, uncalled_any, waits_tame, any_call}
+use Rattle.afs_law.proofs.Calling.{mild_unchanging, AreReplies, IsAnswer, answer_over, GoesOn, IsLastOf, Tame, begins_tame, caller_at, falls_tame, given_tame, rises_tame, uncalled_any, waits_tame, any_call}
 use Rattle.afs_law.proofs.Hosting.{Begins, HasOne, HostStep, Hosts, IsCutBy, IsSound, Memory, decides_due, disk_begins, memory_of, serves_step, starts_step, times_step, wakes_step, IsRunBy}
 use Rattle.afs_law.specs.Laws.{ArePairsKnown, IsKnownTo, AreChanges, HasReply, seat_key}
 use Rattle.afs_law.specs.Legal.{HasChangeBy, IsNew}
@@ -387,8 +387,8 @@ client_keeps c o n D s S t =
       sound = λ i. sound_over (by_key K) (by_key L) wh (memory_of (c.hosts i).state) (S.sound i);
       held = λ i. each_map (IsAnswer (by_key K) any_told) (IsAnswer (by_key L) any_told) (answer_over (by_key K) (by_key L) any_told any_told wh (λ h x. x)) (replies_of (c.hosts i).state.backs.held) (S.held i);
       falls = λ i. cut_over (IsKnown S.callees c.clients) (IsKnown more then) w (c.hosts i).down (S.falls i);
-      ran = plain_each (HasRun more then c.hosts) s.lines o t.lines (each_change _ _ (run_later S.callees more c.clients then c.hosts w) o S.ran);
-      once = plain_once s.lines o t.lines S.once;
+      ran = plain_each (HasRun more then c.hosts) s.lines o (mild_unchanging s.lines t.lines) (each_change _ _ (run_later S.callees more c.clients then c.hosts w) o S.ran);
+      once = plain_once s.lines o (mild_unchanging s.lines t.lines) S.once;
       stored = λ i m seat e. let was = S.stored i m seat e in (by_onto (Server i) (seat_key m seat) s.lines o was.0, was.1);
     }
 
@@ -408,9 +408,9 @@ begun_keeps : (c : Cell) (o : List Line) (n : ℕ) (act : Act) (g : Option Going
 begun_keeps c o n act None S = client_keeps c o n _ _ S (begins_tame (by_key (IsKnown S.callees c.clients)) any_told any_boot n (c.clients n) c.clock act (S.replies n))
 begun_keeps c o n act (Some g) S = nothing_keeps c o S
 
-waited_keeps : (c : Cell) (o : List Line) (n : ℕ) (g : Option Going) → StandsIn c o → Keeps o (waited_by c n g)
-waited_keeps c o n None S = nothing_keeps c o S
-waited_keeps c o n (Some act) S = client_keeps c o n _ _ S (waits_tame (by_key (IsKnown S.callees c.clients)) any_told any_boot n (c.clients n) act (S.replies n))
+waited_keeps : (c : Cell) (o : List Line) (n : ℕ) (g : Option Going) → (c.clients n).running ≡ g → StandsIn c o → Keeps o (waited_by c n g)
+waited_keeps c o n None e S = nothing_keeps c o S
+waited_keeps c o n (Some act) e S = client_keeps c o n _ _ S (waits_tame (by_key (IsKnown S.callees c.clients)) any_told any_boot n (c.clients n) act e (S.replies n))
 
 ticked_keeps : (c : Cell) (o : List Line) (n : ℕ) → StandsIn c o → Stands c.clients c.hosts c.sent (lines.Tick n ∷ o)
 ticked_keeps c o n S = record { callees = S.callees; own = S.own; calls = S.calls; answers = S.answers; replies = S.replies; sound = S.sound; held = S.held; falls = S.falls; ran = (tt, S.ran); once = S.once; stored = S.stored }
@@ -419,7 +419,7 @@ moved_keeps : (c : Cell) (o : List Line) (x : Input) → StandsIn c o → Keeps 
 unfolding moved
 moved_keeps c o (begins n act) S = either_keeps o (is_away c n) _ _ (nothing_keeps c o S) (begun_keeps c o n act (c.clients n).running S)
 moved_keeps c o (gives p luck) S = at_keeps c o p luck (message_at c.sent p) refl S
-moved_keeps c o (waits n) S = either_keeps o (is_away c n) _ _ (nothing_keeps c o S) (waited_keeps c o n (c.clients n).running S)
+moved_keeps c o (waits n) S = either_keeps o (is_away c n) _ _ (nothing_keeps c o S) (waited_keeps c o n (c.clients n).running refl S)
 moved_keeps c o (ticks zero) S = nothing_keeps c o S
 moved_keeps c o (ticks (suc n)) S = ticked_keeps c o (suc n) S
 moved_keeps c o (client_stops n) S = either_keeps o (is_away c n) _ _ (nothing_keeps c o S) (client_keeps c o n _ _ S (falls_tame (by_key (IsKnown S.callees c.clients)) any_told any_boot n (c.clients n) (λ q. tt)))

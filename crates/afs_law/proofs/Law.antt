@@ -20,7 +20,7 @@ use Rattle.afs_law.proofs.Resting.{voids, ticks_goes, stop_set, fail_set}
 use Rattle.afs_law.proofs.Waiting.{waits_goes, client_stops_goes, client_starts_goes}
 use Rattle.afs_law.specs.Breaks.{live_grant, last_number}
 use Rattle.afs_law.specs.Ideal.{first_told, last_version, HasVersion, Accepts, clock_of, Reach, reach_over, first_lines, set_up, is_at, unless, reach, change_key, volume_after, brought, or_before, changed_under}
-use Rattle.afs_law.specs.Legal.{AreRan, IsNew, LegalAfter, Legal}
+use Rattle.afs_law.specs.Legal.{AreRising, IsOfScript, AreRan, IsNew, LegalAfter, Legal}
 use Rattle.afs_history.specs.declared.lines.Line.{Line}
 use Rattle.afs_law.specs.OneServer.{AreAtServer, IsOneServer}
 use Rattle.afs_law.specs.Past.{HasCode, Ran, sent_of, server_boot, running, onto, lines_of, given_message, IsCallUnder}
@@ -99,20 +99,27 @@ are_ran : (views : ℕ → View) (past : List Entry) (ms : List Message) → Eac
 are_ran views past [] h = tt
 are_ran views past (m ∷ ms) h = (λ i j is from to. ran_of views past j m.head m.carried is.1 to h.0, are_ran views past ms h.1)
 
-last_each : (P : Message → Type 0) (a b : List Message) → Each P (a ++ b) → Each P b
+pub last_each : (P : Message → Type 0) (a b : List Message) → Each P (a ++ b) → Each P b
 last_each P [] b h = h
 last_each P (m ∷ a) b h = last_each P a b h.1
 
 sent_ran : (s : Script) (c : Cell) (e : Entry) (past : List Entry) → (h : Holds s c (e ∷ past)) → AreRan (e ∷ past) e.sent
 sent_ran s c e past h = are_ran (view h.floors c) (e ∷ past) e.sent (last_each (IfReply (ReplyIn (view h.floors c) (e ∷ past))) (sent_of past) e.sent (subst (Each (IfReply (ReplyIn (view h.floors c) (e ∷ past)))) (sym h.sent.told) h.sent.replies))
 
-pub legal_after : (s : Script) (xs : List Input) (c : Cell) (past es : List Entry) (end : Cell) → Holds s c past → Leads c xs es end → LegalAfter s past es
-legal_after s [] c past [] end h r = tt
-legal_after s [] c past (e ∷ es) end h r = absurd r
-legal_after s (x ∷ xs) c past [] end h r = absurd r
-legal_after s (x ∷ xs) c past (e ∷ es) end h r =
+-- the entries are of nodes of the script, and boots rise
+abbrev pub AreEntries : Script → List Entry → List Entry → Type 0
+AreEntries s past [] = ⊤
+AreEntries s past (e ∷ es) = (IsOfScript s e.actor × AreRising (lines_of past) e.lines) × AreEntries s (e ∷ past) es
+
+pub legal_after : (s : Script) (xs : List Input) (c : Cell) (past es : List Entry) (end : Cell) → Holds s c past → Leads c xs es end → AreEntries s past es → LegalAfter s past es
+legal_after s [] c past [] end h r sound = tt
+legal_after s [] c past (e ∷ es) end h r sound = absurd r
+legal_after s (x ∷ xs) c past [] end h r sound = absurd r
+legal_after s (x ∷ xs) c past (e ∷ es) end h r sound =
+    let g : Goes s past (moved c x) = goes s c past x h in
+    let own : AreEntries s past ((moved c x).entry ∷ es) = subst (λ (y : Entry). AreEntries s past (y ∷ es)) r.0 sound in
     subst (λ (y : Entry). LegalAfter s past (y ∷ es)) (sym r.0)
-    ((((goes s c past x h).good, (goes s c past x h).replies), ((goes s c past x h).volumes, sent_ran s (moved c x).cell (moved c x).entry past (goes s c past x h).holds)), legal_after s xs (moved c x).cell ((moved c x).entry ∷ past) es end (goes s c past x h).holds r.1)
+    (((g.good, g.replies), (((g.volumes, own.0.0), own.0.1), sent_ran s (moved c x).cell (moved c x).entry past g.holds)), legal_after s xs (moved c x).cell ((moved c x).entry ∷ past) es end g.holds r.1 own.1)
 
 -- ---- the set-up
 
@@ -407,7 +414,7 @@ starts s one =
         gave = λ act x. absurd cc;
         reached = λ f. reached_first (Client j) f _ s;
       };
-      sent = record { calls = tt; replies = tt; notices = tt; origins = tt; acts = tt; ones = tt; told = refl; waiting = tt; to_clients = tt };
+      sent = record { calls = tt; replies = tt; notices = tt; origins = tt; acts = tt; ones = tt; lone = ((λ j k l a b x y. absurd cc), tt); told = refl; waiting = tt; to_clients = tt };
       clock = first_passed (λ (ls : List Line). clock_of ls ≡ 0) (λ v o h. h) s.volumes [] refl;
       top = facts.top;
       one = facts.one;
@@ -428,5 +435,5 @@ starts s one =
     }
 
 -- Every run of a script for one server is legal, whatever is given, how often and in what order.
-pub legal : (s : Script) (h : List Entry) (end : Cell) → IsOneServer s → RunsTo h s end → Legal h s
-legal s h end one r = legal_after s r.inputs (start s) (set_up s ∷ []) h end (starts s one) r.leads
+pub legal : (s : Script) (h : List Entry) (end : Cell) → IsOneServer s → RunsTo h s end → AreEntries s (set_up s ∷ []) h → Legal h s
+legal s h end one r sound = legal_after s r.inputs (start s) (set_up s ∷ []) h end (starts s one) r.leads sound

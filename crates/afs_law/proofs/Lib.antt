@@ -7,6 +7,7 @@ pub mod Owing
 pub mod Backing
 pub mod Turning
 pub mod Facts
+pub mod Booting
 pub mod Loading
 pub mod Ops
 pub mod Apart
@@ -41,6 +42,8 @@ pub mod Hosting
 pub mod KeysOnce
 pub mod Standing
 pub mod Hearing
+pub mod Members
+pub mod Dying
 pub mod Made
 pub mod Worked
 pub mod Wrong

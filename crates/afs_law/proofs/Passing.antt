@@ -4,7 +4,7 @@ use Rattle.afs_law.specs.Breaks.{HasTimeout}
 use Rattle.afs_history.specs.declared.lines.Line.TheVariants as lines
 use Rattle.afs_num.specs.declared.histories.Actor.TheVariants as actors
 use Rattle.afs_law.proofs.Nexts.{asks_change, as_is, asks_is}
-use Rattle.afs_law.proofs.Facts.{IsLastPair, KeepsPair, RanOn, IsChangingUnder, last_key, fids_of_gifts, Tried, AreFetched, FitsBulk, its_call}
+use Rattle.afs_law.proofs.Facts.{AreLone, IsLone, IsLastPair, KeepsPair, RanOn, IsChangingUnder, last_key, fids_of_gifts, Tried, AreFetched, FitsBulk, its_call}
 use Rattle.afs_num.specs.declared.histories.ReadStatus.{ReadStatus}
 use Rattle.afs_history.specs.declared.scripts.Script.{Script}
 use Rattle.std.proofs.Common.{not, zero, suc, ◌+◌, eq-eqb, nat_eq, ◌≡◌, ℕ, ◌≤◌, inl, inr, Bool, true, false, cond, List, [], ◌∷◌, ◌++◌, Option, Some, None, ℤ, refl, sym, ap, ◌∙◌, subst, arith, le_of_eq, le_trans, eqb-true}
@@ -27,7 +27,7 @@ use Rattle.afs_law.specs.Grants.{is_promised, has_fetched, fetch_reply, GrantOf,
 use Rattle.afs_law.specs.Ideal.{WasBefore, IsLast, WasLast, Unless, last_version, HasVersion, reach, change_in, call_in, call_under}
 use Rattle.afs_law.specs.Legal.{IsNew, IsNot, AreDropped, HasDropped, GoodGift, IsResult, IsKey, HasChange, Cause, answer_at, IsTold, as_asked}
 use Rattle.afs_history.specs.declared.lines.Line.{Line}
-use Rattle.afs_law.specs.Past.{IsCallUnder, IsCallFrom, IsToCome, IsUnheard, is_late, begins_act, onto, lines_of, sent_of, given_message, running, has_begun, Ran, called_key, same_key, is_called, has_sent, is_sent_since, answered_key}
+use Rattle.afs_law.specs.Past.{is_of_act, IsCallUnder, IsCallFrom, IsToCome, IsUnheard, is_late, begins_act, onto, lines_of, sent_of, given_message, running, has_begun, Ran, called_key, same_key, is_called, has_sent, is_sent_since, answered_key}
 use Rattle.afs_rows.specs.Runs.{Entry, Fall, at_rest, in_step, in_boot}
 use Rattle.afs_law.proofs.OneCell.{the_server}
 use Rattle.afs_rows.specs.States.{Gift, CacheEntry, Seat, Lasting}
@@ -87,6 +87,7 @@ ran_over reply e past h = record {
   is_call = h.is_call;
   key = h.key;
   boot = h.boot;
+  up = h.up;
   callee = h.callee;
   node = h.node;
   first = h.first;
@@ -158,7 +159,6 @@ cause_over m code call e past h = record {
   is_reply = h.is_reply;
   told = h.told;
   ran = ran_over m.head e past h.ran;
-  up = h.up;
   user = h.user;
   call = h.call;
   carries = h.carries;
@@ -172,7 +172,6 @@ cause_behind m code call past own h = record {
   is_reply = h.is_reply;
   told = h.told;
   ran = h.ran;
-  up = h.up;
   user = h.user;
   call = h.call;
   carries = h.carries;
@@ -622,6 +621,120 @@ ones_more old sent ms h = each_map (IfCall (IsOne sent)) (IfCall (IsOne (sent ++
 pub changing_more : (k : Key) (sent ms : List Message) → IsChangingUnder k sent → IsChangingUnder k (sent ++ ms)
 changing_more k sent ms c = record { user = c.user; call = c.call; one = one_more k sent ms (c.user, c.call) c.one; changes = c.changes }
 
+-- ---- an act has one changing call
+
+pub sent_either : (t x : Bool) → x ≡ true → cond t true x ≡ true
+sent_either true x h = refl
+sent_either false x h = h
+
+sent_more : (t x y : Bool) → cond t true x ≡ true → (x ≡ true → y ≡ true) → cond t true y ≡ true
+sent_more true x y h w = refl
+sent_more false x y h w = w h
+
+pub sent_right : (k : Key) (a b : List Message) → has_sent k b ≡ true → has_sent k (a ++ b) ≡ true
+sent_right k [] b h = h
+sent_right k (m ∷ a) b h = sent_either (is_called k m.head m.carried) (has_sent k (a ++ b)) (sent_right k a b h)
+
+pub sent_left : (k : Key) (a b : List Message) → has_sent k a ≡ true → has_sent k (a ++ b) ≡ true
+sent_left k [] b h = absurd cc
+sent_left k (m ∷ a) b h = sent_more (is_called k m.head m.carried) (has_sent k a) (has_sent k (a ++ b)) h (λ y. sent_left k a b y)
+
+-- a key of the act was sent
+pub was_sent : (n : Node) (k : Key) (past : List Entry) → is_sent_since n k past ≡ true → has_sent k (sent_of past) ≡ true
+was_sent n k [] h = absurd cc
+was_sent n k (e ∷ past) h = since_by (has_sent k e.sent) (has_begun n e.lines) (is_sent_since n k past) (has_sent k (sent_of past ++ e.sent) ≡ true) h (λ y. sent_right k (sent_of past) e.sent y) (λ y. sent_left k (sent_of past) e.sent (was_sent n k past y))
+
+back_by : (t x : Bool) (c : Carried) (o p : Option (List ℕ × FsCall)) → cond t true x ≡ true → (x ≡ true → o ≡ p) → cond t (call_in c) o ≡ cond t (call_in c) p
+back_by true x c o p h w = refl
+back_by false x c o p h w = w h
+
+call_back : (k : Key) (sent ms : List Message) → has_sent k sent ≡ true → call_under k (sent ++ ms) ≡ call_under k sent
+call_back k [] ms h = absurd cc
+call_back k (m ∷ sent) ms h = back_by (is_called k m.head m.carried) (has_sent k sent) m.carried (call_under k (sent ++ ms)) (call_under k sent) h (λ y. call_back k sent ms y)
+
+changing_back : (k : Key) (sent ms : List Message) → has_sent k sent ≡ true → IsChangingUnder k (sent ++ ms) → IsChangingUnder k sent
+changing_back k sent ms h c = record { user = c.user; call = c.call; one = sym (call_back k sent ms h) ∙ c.one; changes = c.changes }
+
+-- what was sent since makes no earlier call another one
+lone_more : (past : List Entry) (sent ms : List Message) → ((k : Key) → has_sent k (sent_of past) ≡ true → has_sent k sent ≡ true) → AreLone sent past → AreLone (sent ++ ms) past
+lone_more [] sent ms w h = tt
+lone_more (e ∷ past) sent ms w h = (
+  (λ j k l a b x y. h.0 j k l a b (changing_back k sent ms (w k (was_sent (Client j) k (e ∷ past) (both (same_node k.node (Client j)) _ a).1)) x) (changing_back l sent ms (w l (was_sent (Client j) l (e ∷ past) (both (same_node l.node (Client j)) _ b).1)) y)),
+  lone_more past sent ms (λ k y. w k (sent_left k (sent_of past) e.sent y)) h.1,
+)
+
+-- a changing call of the act that runs is its client's last one
+pub act_last : (s : Script) → (views : ℕ → View) (past : List Entry) (sent : List Message) (j : ℕ) (k : Key) (a : Going) → sent_of past ≡ sent → Each (IfCall (IsActs s views past)) sent → Each (IfCall (IsOne sent)) sent → running s (Client j) (lines_of past) ≡ Some a → is_of_act (Client j) k past ≡ true → IsChangingUnder k sent
+    → (k.node ≡ Client j) × ((k.epoch ≡ (views j).epoch) × (k.number ≡ (views j).last))
+act_last s views past sent j k a told acts ones runs of_act was =
+    let p = both (same_node k.node (Client j)) (is_sent_since (Client j) k past) of_act in
+    let node : k.node ≡ Client j = same_node-true k.node (Client j) p.0 in
+    let x : IsAmong k (ByClient (λ hd us cl. IsActs s views past hd us cl × IsOne sent hd us cl)) = among_since (Client j) k (λ hd us cl. IsActs s views past hd us cl × IsOne sent hd us cl) past p.1
+    (subst (Each (IfCall (λ hd us cl. IsActs s views past hd us cl × IsOne sent hd us cl))) (sym told) (calls_both (IsActs s views past) (IsOne sent) sent acts ones)) in
+    let key : called_key x.head ≡ k = same_key-true (called_key x.head) k x.key in
+    let from : x.head.from ≡ Client j = ap (λ (l : Key). l.node) key ∙ node in
+    let fact = by_client j x.head.from (IsActs s views past x.head x.user x.call × IsOne sent x.head x.user x.call) from x.fact in
+    let one : (x.user, x.call) ≡ (was.user, was.call) = some_of _ _ (sym fact.1 ∙ (ap (λ (l : Key). call_under l sent) key ∙ was.one)) in
+    let is : x.call ≡ was.call = ap (λ (q : List ℕ × FsCall). q.1) one in
+    elim (fact.0 (subst (λ (l : Key). is_of_act x.head.from l past ≡ true) (sym key) (subst (λ (m : Node). is_of_act m k past ≡ true) (sym from) of_act)) a (subst (λ (m : Node). running s m (lines_of past) ≡ Some a) (sym from) runs)) [
+      | inl none ↦ absurd (was.changes (ap volume_changed (sym is) ∙ none))
+      | inr y ↦ (node, (ap (λ (l : Key). l.epoch) (sym key) ∙ (y.1 j from).0, ap (λ (l : Key). l.number) (sym key) ∙ (y.1 j from).1))
+    ]
+
+abbrev pair_of : Node → ℕ → ℕ → Key
+pair_of q e m = record { node = q; epoch = e; number = m }
+
+one_pair : (k l : Key) (n : Node) (e m : ℕ) → (k.node ≡ n) × ((k.epoch ≡ e) × (k.number ≡ m)) → (l.node ≡ n) × ((l.epoch ≡ e) × (l.number ≡ m)) → k ≡ l
+one_pair k l n e m a b =
+    ap (λ (q : Node). pair_of q k.epoch k.number) (a.0 ∙ sym b.0) ∙ (ap (λ (d : ℕ). pair_of l.node d k.number) (a.1.0 ∙ sym b.1.0) ∙ ap (λ (d : ℕ). pair_of l.node l.epoch d) (a.1.1 ∙ sym b.1.1))
+
+-- what its client sends in an entry is the last call of the act that runs then
+pub last_sent : (w : ℕ → View) (ms : List Message) (j : ℕ) (k : Key) → Each (IfCall (IsLastCall w)) ms → k.node ≡ Client j → has_sent k ms ≡ true → (a : Going) × (((w j).running ≡ Some a) × ((k.node ≡ Client j) × ((k.epoch ≡ (w j).epoch) × (k.number ≡ (w j).last))))
+last_sent w ms j k lasts node sent =
+    let x : IsAmong k (ByClient (IsLastCall w)) = among k (IsLastCall w) ms sent lasts in
+    let key : called_key x.head ≡ k = same_key-true (called_key x.head) k x.key in
+    let from : x.head.from ≡ Client j = ap (λ (l : Key). l.node) key ∙ node in
+    let its : IsLastCall w x.head x.user x.call = by_client j x.head.from (IsLastCall w x.head x.user x.call) from x.fact in
+    let one : its.client ≡ j = client_number its.client j (sym its.from ∙ from) in
+    (its.act, (sym (ap (λ (i : ℕ). (w i).running) one) ∙ its.runs, (node, (sym (ap (λ (l : Key). l.epoch) key) ∙ (its.epoch ∙ ap (λ (i : ℕ). (w i).epoch) one), sym (ap (λ (l : Key). l.number) key) ∙ (its.number ∙ ap (λ (i : ℕ). (w i).last) one)))))
+
+-- of two keys of the act, both sent in this entry, one, or none
+lone_by : (b c t x y : Bool) (S : Type 0) → cond b true (cond t false x) ≡ true → cond c true (cond t false y) ≡ true → (b ≡ true → S) → (c ≡ true → S) → (x ≡ true → y ≡ true → S) → S
+lone_by true c t x y S h k p q r = p refl
+lone_by false true t x y S h k p q r = q refl
+lone_by false false true x y S h k p q r = absurd cc
+lone_by false false false x y S h k p q r = r h k
+
+lone_here : {s : Script} → (w : ℕ → View) (e : Entry) (past : List Entry) (sent : List Message) → sent_of (e ∷ past) ≡ sent → Each (IfCall (IsActs s w (e ∷ past))) sent → Each (IfCall (IsOne sent)) sent → Each (IfCall (IsLastCall w)) e.sent → ((j : ℕ) → ClientFacts s j (w j) (e ∷ past)) → IsLone sent past → IsLone sent (e ∷ past)
+lone_here {s} w e past sent told acts ones lasts now h j k l a b x y =
+    let p = both (same_node k.node (Client j)) (is_sent_since (Client j) k (e ∷ past)) a in
+    let q = both (same_node l.node (Client j)) (is_sent_since (Client j) l (e ∷ past)) b in
+    let both_last : (g : Going) → (w j).running ≡ Some g → k ≡ l = λ g r. let runs : running s (Client j) (lines_of (e ∷ past)) ≡ Some g = (now j).runs g r in
+    one_pair k l (Client j) (w j).epoch (w j).last (act_last s w (e ∷ past) sent j k g told acts ones runs a x) (act_last s w (e ∷ past) sent j l g told acts ones runs b y) in
+    lone_by (has_sent k e.sent) (has_sent l e.sent) (has_begun (Client j) e.lines) (is_sent_since (Client j) k past) (is_sent_since (Client j) l past) (k ≡ l) p.1 q.1
+    (λ z. let f = last_sent w e.sent j k lasts (same_node-true k.node (Client j) p.0) z in both_last f.0 f.1.0)
+    (λ z. let f = last_sent w e.sent j l lasts (same_node-true l.node (Client j) q.0) z in both_last f.0 f.1.0)
+    (λ z u. h j k l (rw (p.0, z) refl) (rw (q.0, u) refl) x y)
+
+lone_first : (sent : List Message) (past : List Entry) → AreLone sent past → IsLone sent past
+lone_first sent [] h = λ j k l a b x y. let no_ : false ≡ true = (both (same_node k.node (Client j)) false a).1 in absurd cc
+lone_first sent (e ∷ past) h = h.0
+
+-- an entry more
+pub lone_over : {s : Script} → (w : ℕ → View) (e : Entry) (past : List Entry) (sent : List Message) → sent_of past ≡ sent → Each (IfCall (IsActs s w (e ∷ past))) (sent ++ e.sent) → Each (IfCall (IsOne (sent ++ e.sent))) (sent ++ e.sent) → Each (IfCall (IsLastCall w)) e.sent → ((j : ℕ) → ClientFacts s j (w j) (e ∷ past)) → AreLone sent past → AreLone (sent ++ e.sent) (e ∷ past)
+lone_over {s} w e past sent told acts ones lasts now h =
+    let more : AreLone (sent ++ e.sent) past = lone_more past sent e.sent (λ k y. subst (λ (ms : List Message). has_sent k ms ≡ true) told y) h in
+    (lone_here w e past (sent ++ e.sent) (ap (λ (ms : List Message). ms ++ e.sent) told) acts ones lasts now (lone_first (sent ++ e.sent) past more), more)
+
+-- one that sends nothing
+pub lone_rest : {s : Script} → (w : ℕ → View) (e : Entry) (past : List Entry) (sent : List Message) → sent_of (e ∷ past) ≡ sent → Each (IfCall (IsActs s w (e ∷ past))) sent → Each (IfCall (IsOne sent)) sent → Each (IfCall (IsLastCall w)) e.sent → ((j : ℕ) → ClientFacts s j (w j) (e ∷ past)) → AreLone sent past → AreLone sent (e ∷ past)
+lone_rest {s} w e past sent told acts ones lasts now h = (lone_here w e past sent told acts ones lasts now (lone_first sent past h), h)
+
+-- in any moment of the past
+pub lone_at : (sent : List Message) (newer older : List Entry) → AreLone sent (newer ++ older) → IsLone sent older
+lone_at sent [] older h = lone_first sent older h
+lone_at sent (e ∷ newer) older h = lone_at sent newer older h.1
+
 -- what is known of the messages that a step sends
 pub record News (s : Script) (ms : List Message) (views : ℕ → View) (boot : ℕ) (past : List Entry) : Type 0 where
   pub calls : Each (IfCall (CallIn views)) ms
@@ -653,6 +766,8 @@ more_sent {s} sent held after v w b d e past h le now k c over pass =
       origins = each_more (IfCall (Origin s (e ∷ past))) sent e.sent (older_origins s sent e past h.origins) n.origins;
       acts = each_more (IfCall (IsActs s w (e ∷ past))) sent e.sent (acts_over sent e past v w n.lasts now k c h.acts) n.acts;
       ones = each_more (IfCall (IsOne (sent ++ e.sent))) sent e.sent (ones_more sent sent e.sent h.ones) (subst (λ (x : List Message). Each (IfCall (IsOne (x ++ e.sent))) e.sent) h.told n.ones);
+      lone = lone_over w e past sent h.told (each_more (IfCall (IsActs s w (e ∷ past))) sent e.sent (acts_over sent e past v w n.lasts now k c h.acts) n.acts)
+          (each_more (IfCall (IsOne (sent ++ e.sent))) sent e.sent (ones_more sent sent e.sent h.ones) (subst (λ (x : List Message). Each (IfCall (IsOne (x ++ e.sent))) e.sent) h.told n.ones)) n.lasts now h.lone;
       told = ap (λ (ms : List Message). ms ++ e.sent) h.told;
       waiting = got.1;
       to_clients = each_more (λ m. OfCall ToClient m.head m.carried) sent e.sent h.to_clients n.to_clients;
@@ -663,7 +778,7 @@ pub fallen_over : (down : Option Fall) (server : Lasting) (sent ms : List Messag
 fallen_over None server sent ms e past w h = tt
 fallen_over (Some at_rest) server sent ms e past w h = tt
 fallen_over (Some in_boot) server sent ms e past w h = tt
-fallen_over (Some (in_step m clock)) server sent ms e past w h = record { place = h.place; at = at_more sent ms h.place m h.at; ran = ran_over _ e past h.ran; is = h.is; up = h.up; stopped = h.stopped; since = (w, h.since); ideal = h.ideal }
+fallen_over (Some (in_step m clock)) server sent ms e past w h = record { place = h.place; at = at_more sent ms h.place m h.at; ran = ran_over _ e past h.ran; is = h.is; stopped = h.stopped; since = (w, h.since); ideal = h.ideal }
 
 -- ---- the timeouts of a client's call
 

@@ -11,9 +11,9 @@ use Rattle.afs_num.specs.declared.histories.Body.{Body}
 use Rattle.afs_law.proofs.Backing.{Plain, all_lines, is_up, is_still, is_oweless, is_unchanging, backed_plain, backed_fall, plain_step, seated_over}
 use Rattle.afs_law.proofs.Basics.{Each, IfCall, each_map, if_call}
 use Rattle.afs_law.proofs.Edits.{index_in, fid_at, sound_same}
-use Rattle.afs_law.proofs.Facts.{IsKnown, HoldsAt, up_boot, IsLastCall, View, view, ClientFacts, IsSafe, CallIn, HasFallen, AreUnheard, Holds, Goes, back_seat}
+use Rattle.afs_law.proofs.Facts.{IsActs, IsKnown, HoldsAt, up_boot, IsLastCall, View, view, ClientFacts, IsSafe, CallIn, HasFallen, AreUnheard, Holds, Goes, back_seat}
 use Rattle.afs_law.proofs.Owing.{BackedIn}
-use Rattle.afs_law.proofs.Passing.{changed_before, tried_more, waiting_over, PassesFile, PassesAct, PassesReach, client_still, replies_over, reply_over, stays, acts_over, fallen_over, older_origins}
+use Rattle.afs_law.proofs.Passing.{lone_rest, changed_before, tried_more, waiting_over, PassesFile, PassesAct, PassesReach, client_still, replies_over, reply_over, stays, acts_over, fallen_over, older_origins}
 use Rattle.afs_law.specs.Breaks.{HasStopped}
 use Rattle.afs_rows.specs.Callbacks.{replies_of}
 use Rattle.afs_rows.specs.Going.{Going}
@@ -96,6 +96,10 @@ pub rests : (s : Script) (b : Option ℕ) (c : Cell) (past : List Entry) (e : En
     → AreUnheard d c.server.seats c.server.lasting.boot (e ∷ past) → HasFallen d c.server.lasting c.sent (e ∷ past) → (b ≡ up_boot d c.server.lasting.boot → BackedIn d c.server.backs c.server.lasting.boot c.server.seats (λ j. back_seat (c.clients j)) (c.clock + n) c.sent (e ∷ past)) → HoldsAt s b (rested c n d armed) (e ∷ past)
 rests s b c past e n d armed h boots none p clock heard fallen backs =
     let now : (j : ℕ) → ClientFacts s j (view h.floors (rested c n d armed) j) (e ∷ past) = λ j. later_client n j (view h.floors c j) (e ∷ past) (client_still j (view h.floors c j) e past (p.file j) (p.reach j) (p.act j) (λ f. p.last f (lines_of past)) (h.clients j)) in
+    let lasts : Each (IfCall (IsLastCall (view h.floors (rested c n d armed)))) e.sent = subst (λ (ms : List Message). Each (IfCall (IsLastCall (view h.floors (rested c n d armed)))) ms) (sym none) tt in
+    let told : sent_of (e ∷ past) ≡ c.sent = ap (λ (ms : List Message). sent_of past ++ ms) none ∙ (append-nil _ ∙ h.sent.told) in
+    let acts : Each (IfCall (IsActs s (view h.floors (rested c n d armed)) (e ∷ past))) c.sent =
+    acts_over c.sent e past (view h.floors c) (view h.floors (rested c n d armed)) lasts now (λ j a x z. inl ((h.clients j).runs a x, (refl, refl))) (calls_rested s c n d armed past h) h.sent.acts in
     record {
       floors = h.floors;
       count = h.count;
@@ -118,9 +122,10 @@ rests s b c past e n d armed h boots none p clock heard fallen backs =
             (λ j m. reply_over j (view h.floors c j) m e past (λ f. (p.file j f).grant) (p.reach j) (λ f. stays j f e past (p.file j f).grant (p.last f (lines_of past))) (p.act j).begins) h.sent.replies;
         notices = h.sent.notices;
         origins = older_origins s c.sent e past h.sent.origins;
-        acts = acts_over c.sent e past (view h.floors c) (view h.floors (rested c n d armed)) (subst (λ (ms : List Message). Each (IfCall (IsLastCall (view h.floors (rested c n d armed)))) ms) (sym none) tt) now (λ j a x z. inl ((h.clients j).runs a x, (refl, refl))) (calls_rested s c n d armed past h) h.sent.acts;
+        acts = acts;
         ones = h.sent.ones;
-        told = ap (λ (ms : List Message). sent_of past ++ ms) none ∙ (append-nil _ ∙ h.sent.told);
+        lone = lone_rest (view h.floors (rested c n d armed)) e past c.sent told acts h.sent.ones lasts now h.sent.lone;
+        told = told;
         waiting = waiting_over (replies_of c.server.backs.held) (view h.floors c) (view h.floors (rested c n d armed)) past (e ∷ past)
             (λ j m. reply_over j (view h.floors c j) m e past (λ f. (p.file j f).grant) (p.reach j) (λ f. stays j f e past (p.file j f).grant (p.last f (lines_of past))) (p.act j).begins) h.sent.waiting;
         to_clients = h.sent.to_clients;

@@ -1,5 +1,5 @@
 use Rattle.afs_law.proofs.Nexts.{asks_scope, served_as}
-use Rattle.afs_law.proofs.Facts.{IsChangingUnder, IsActs, IsOne, View, FitsBulk, its_call}
+use Rattle.afs_law.proofs.Facts.{AreLone, IsChangingUnder, IsActs, IsOne, View, FitsBulk, its_call}
 use Rattle.afs_breaks.specs.declared.types.Promise.{Promise}
 use Rattle.afs_breaks.specs.Promises.{owes_from}
 use Rattle.afs_rows.specs.ServerSteps.{done}
@@ -20,7 +20,7 @@ use Rattle.afs_law.proofs.Naming.{fine_after}
 use Rattle.afs_law.proofs.Notes.{granted_notes, AreNotes, Skips, skips, owe_notes, no_versions}
 use Rattle.afs_law.proofs.Ops.{stored_kind, stored_fid, amend_of, in_scope, changes_is, Storing, storing, stored_vnode}
 use Rattle.afs_law.proofs.Owing.{all_map, BackedIn, IsGranted, Rising, IsClient}
-use Rattle.afs_law.proofs.Passing.{changed_before, IsAmong, among_since, calls_both, no_change, reply_over, PassesBoth, PassesSeen, held_over, fetch_reply_by, cause_over, PassesFile, PassesAct, PassesReach, StaysNewest, client_over, PassesGrant}
+use Rattle.afs_law.proofs.Passing.{act_last, lone_at, changed_before, IsAmong, among_since, calls_both, no_change, reply_over, PassesBoth, PassesSeen, held_over, fetch_reply_by, cause_over, PassesFile, PassesAct, PassesReach, StaysNewest, client_over, PassesGrant}
 use Rattle.afs_law.proofs.Pumping.{no_news, pumped_news}
 use Rattle.afs_law.proofs.Serving.{grant_more, runs_here, up_backed, seats_of, Gives, taken_not, up_boots, reached_at, at_told, client_head, Now, call_at, taken, seats_after, Stock, server_after, caller_view, views_after, durable_before, above_before, not_ran, unheard_after, HasRun, cause_now, running_act, stale_none, served_cell, serves, last_has, has_run, server_does, answer_in}
 use Rattle.afs_law.proofs.Turning.{loaded, Pumps, pumps}
@@ -800,22 +800,16 @@ saved_changing false y l k vs r past sent user call t one some old z =
 -- a changing call of the running act is its client's last, so one that runs now is the first of that act to change something
 changed_once : (s : Script) (c : Cell) (past : List Entry) (n : ℕ) (h : Head) (user : List ℕ) (call : FsCall) → (H : Holds s c past) → Now s c H.floors past n h user call → (a : Going) (l : Key) → running s (Client n) (lines_of past) ≡ Some a → HasChangeBy the_server l (lines_of past) → is_of_act (Client n) l past ≡ true → ⊥
 changed_once s c past n h user call H w a l runs has of_act =
-    let views : ℕ → View = view H.floors c in
-    let p = both (same_node l.node (Client n)) (is_sent_since (Client n) l past) of_act in
-    let node : l.node ≡ Client n = same_node-true l.node (Client n) p.0 in
-    let was : IsChangingUnder l c.sent = H.changing l (any_change the_server l (lines_of past) has) in
-    let x : IsAmong l (ByClient (λ hd us cl. IsActs s views past hd us cl × IsOne c.sent hd us cl)) = among_since (Client n) l (λ hd us cl. IsActs s views past hd us cl × IsOne c.sent hd us cl) past p.1
-    (subst (Each (IfCall (λ hd us cl. IsActs s views past hd us cl × IsOne c.sent hd us cl))) (sym H.sent.told) (calls_both (IsActs s views past) (IsOne c.sent) c.sent H.sent.acts H.sent.ones)) in
-    let key : called_key x.head ≡ l = same_key-true (called_key x.head) l x.key in
-    let from : x.head.from ≡ Client n = ap (λ (k : Key). k.node) key ∙ node in
-    let both_ = by_client n x.head.from (IsActs s views past x.head x.user x.call × IsOne c.sent x.head x.user x.call) from x.fact in
-    let one : (x.user, x.call) ≡ (was.user, was.call) = some_of _ _ (sym both_.1 ∙ (ap (λ (k : Key). call_under k c.sent) key ∙ was.one)) in
-    let is : x.call ≡ was.call = ap (λ (q : List ℕ × FsCall). q.1) one in
-    let later : IsLater (called_key (client_head n h)) l = changed_later s c past n h user call H w l has node in
-    elim (both_.0 (subst (λ (k : Key). is_of_act x.head.from k past ≡ true) (sym key) (subst (λ (m : Node). is_of_act m l past ≡ true) (sym from) of_act)) a (subst (λ (m : Node). running s m (lines_of past) ≡ Some a) (sym from) runs)) [
-      | inl none ↦ was.changes (ap volume_changed (sym is) ∙ none)
-      | inr y ↦ later_not (called_key (client_head n h)) l (c.clients n).epoch (c.clients n).last (ap (λ (k : Key). k.epoch) (sym key) ∙ (y.1 n from).0) (ap (λ (k : Key). k.number) (sym key) ∙ (y.1 n from).1) w.fact.behind later
-    ]
+    let last = act_last s (view H.floors c) past c.sent n l a H.sent.told H.sent.acts H.sent.ones runs of_act (H.changing l (any_change the_server l (lines_of past) has)) in
+    later_not (called_key (client_head n h)) l (c.clients n).epoch (c.clients n).last last.1.0 last.1.1 w.fact.behind (changed_later s c past n h user call H w l has last.0)
+
+-- nor did another key of its act, were that over: this one is new
+changed_alone : (s : Script) (c : Cell) (past : List Entry) (n : ℕ) (h : Head) (user : List ℕ) (call : FsCall) → (H : Holds s c past) → Now s c H.floors past n h user call → (volume_changed call ≡ None → ⊥) → (newer older : List Entry) → past ≡ newer ++ older → is_of_act (Client n) (called_key (client_head n h)) older ≡ true
+    → (l : Key) → HasChange l (lines_of past) → is_of_act (Client n) l older ≡ true → ⊥
+changed_alone s c past n h user call H w some newer older split own l has of_act =
+    let k : Key = called_key (client_head n h) in
+    let same : k ≡ l = lone_at c.sent newer older (subst (AreLone c.sent) split H.sent.lone) n k l own of_act (record { user = user; call = call; one = ap (call_under k) (sym H.sent.told) ∙ w.one; changes = some }) (H.changing l has) in
+    no_change k (lines_of past) (H.new k w.above_durable) (subst (λ (x : Key). HasChange x (lines_of past)) (sym same) has)
 
 pub saves_change_good : (s : Script) (c : Cell) (past : List Entry) (own tail : List Line) (n : ℕ) (h : Head) (user : List ℕ) (call : FsCall) (id : ℕ) (v : Volume) (es : List Edit) (shown : ℕ) → (H : Holds s c past) → Now s c H.floors past n h user call → Change' c past user call id v es shown
     → RunsHere the_server (called_key (client_head n h)) past own ⊎ RanBefore the_server (called_key (client_head n h)) past own (versioned (versions_by id es v) tail) → IsNew (called_key (client_head n h)) (own ++ lines_of past) → ((l : Key) → HasChangeBy the_server l (own ++ lines_of past) → l.node ≡ Client n → IsLater (called_key (client_head n h)) l) → (HasStopped the_server own → ⊥) → change_key own ≡ None → Accepts s id the_server (own ++ lines_of past) → versions_first tail ≡ [] → ((j : ℕ) (f : Fid) (x : ℕ) → (Client j ≡ Client n → ⊥) → IsChanged f (versions_by id es v) → live_grant the_server (Client j) f (own ++ lines_at the_server past) ≡ Some x → clock_of (own ++ lines_of past) < x → HasOwe the_server (Client j) (Some f) (versioned (versions_by id es v) tail))
@@ -824,6 +818,7 @@ saves_change_good s c past own tail n h user call id v es shown H w q place new 
   fresh = new;
   latest = latest;
   once = λ a runs l has of_act. changed_once s c past n h user call H w a l runs has of_act;
+  alone = changed_alone s c past n h user call H w (changes_is id (the_user user) call v es shown q.of_volume q.result);
   place = place;
   going = going;
   only = only;

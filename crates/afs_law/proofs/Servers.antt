@@ -1,9 +1,8 @@
 use Rattle.afs_law.proofs.OneCell as one
 use Rattle.afs_law.proofs.Agreeing.{held, trusted_good}
-use Rattle.afs_law.proofs.Law.{legal}
 use Rattle.afs_law.specs.Ideal.{set_up}
 use Rattle.afs_law.specs.Laws.{IsHeld}
-use Rattle.afs_law.specs.Legal.{GoodRead, Legal}
+use Rattle.afs_law.specs.Legal.{GoodRead}
 use Rattle.afs_law.specs.Once.{past_of}
 use Rattle.afs_law.specs.OneServer.{AreAtServer, IsOneServer}
 use Rattle.afs_ideal.specs.Tables.{Table, get, set}
@@ -45,16 +44,16 @@ seen_in c = record {
   clock = c.clock;
 }
 
-abbrev seen_of : Moved → one.Moved
+abbrev pub seen_of : Moved → one.Moved
 seen_of m = record { entry = m.entry; cell = seen_in m.cell }
 
 -- what is given to a server that there isn't is nothing
-abbrev if_one : ℕ → one.Input → one.Input
+abbrev pub if_one : ℕ → one.Input → one.Input
 if_one zero x = one.nothing
 if_one (suc zero) x = x
 if_one (suc (suc n)) x = one.nothing
 
-abbrev as_one : Input → one.Input
+abbrev pub as_one : Input → one.Input
 as_one (begins n act) = one.begins n act
 as_one (gives place luck) = one.gives place luck
 as_one (waits n) = one.waits n
@@ -70,9 +69,9 @@ as_one (wakes i) = if_one i one.wakes
 as_one nothing = one.nothing
 
 -- the same is done, and there is still one server
-record IsSame (m : Moved) (k : one.Moved) : Type 0 where
-  same : k ≡ seen_of m
-  hosts : m.cell.host_count ≡ 1
+pub record IsSame (m : Moved) (k : one.Moved) : Type 0 where
+  pub same : k ≡ seen_of m
+  pub hosts : m.cell.host_count ≡ 1
 
 nothing_same : (c : Cell) → c.host_count ≡ 1 → IsSame (voided c) (one.voided (seen_in c))
 nothing_same c e = record { same = refl; hosts = e }
@@ -182,7 +181,7 @@ woken_same : (c : Cell) (d : Option Fall) → c.host_count ≡ 1 → IsSame (ser
 woken_same c None e = record { same = refl; hosts = e }
 woken_same c (Some fall) e = nothing_same c e
 
-moved_same : (c : Cell) (x : Input) → c.host_count ≡ 1 → IsSame (moved c x) (one.moved (seen_in c) (as_one x))
+pub moved_same : (c : Cell) (x : Input) → c.host_count ≡ 1 → IsSame (moved c x) (one.moved (seen_in c) (as_one x))
 unfolding moved one.moved
 moved_same c (begins n act) e = either_same (is_away c n) _ _ _ _ (nothing_same c e) (begun_same c n act (c.clients n).running e)
 moved_same c (gives p luck) e = given_same c p luck (message_at c.sent p) e
@@ -220,11 +219,11 @@ placed_same true b id v vs ws e q = q
 placed_same false true id v vs ws e q = ap (set id v) q
 placed_same false false id v vs ws e q = absurd cc
 
-all_at_one : (vs : List VolumeLine) → AreAtServer vs → volumes_at 1 vs ≡ first_volumes vs
+pub all_at_one : (vs : List VolumeLine) → AreAtServer vs → volumes_at 1 vs ≡ first_volumes vs
 all_at_one [] h = refl
 all_at_one (v ∷ vs) h = placed_same (is_some (get v.id (first_volumes vs))) (nat_eq v.server 1) v.id (first_volume v) (volumes_at 1 vs) (first_volumes vs) (ap (λ (n : ℕ). nat_eq n 1) h.0) (all_at_one vs h.1)
 
-abbrev begun_at : Script → Table Volume → one.Cell
+abbrev pub begun_at : Script → Table Volume → one.Cell
 begun_at s volumes = record { server = first_server s.capacity volumes; count = s.clients; down = None; armed = unarmed; clients = first_client s; away = λ n. false; sent = []; clock = 0 }
 
 pub run_same : (s : Script) (h : List Entry) (end : Cell) → IsOneServer s → RunsTo h s end → one.RunsTo h s (seen_in end)
@@ -234,9 +233,6 @@ run_same s h end is r = record {
 }
 
 -- ---- the laws
-
-pub runs_legal : (s : Script) (h : List Entry) (end : Cell) → IsOneServer s → RunsTo h s end → Legal h s
-runs_legal s h end is r = legal s h (seen_in end) is (run_same s h end is r)
 
 pub run_held : (s : Script) (h : List Entry) (end : Cell) → IsOneServer s → RunsTo h s end → (id : ℕ) → IsHeld id (end.hosts 1).state.lasting.volumes (past_of (set_up s ∷ []) h)
 run_held s h end is r = held s h (seen_in end) is (run_same s h end is r)

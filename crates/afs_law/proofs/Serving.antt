@@ -56,7 +56,7 @@ use Rattle.afs_num.specs.Nodes.{same_node}
 use Rattle.afs_breaks.specs.declared.types.Promise.{Promise}
 use Rattle.afs_law.proofs.Promising.{Owed, without_promises, shows_turn, shows_turn_is}
 use Rattle.afs_law.specs.Grants.{has_fetched, IsDropped}
-use Rattle.afs_law.specs.Breaks.{is_call_from, is_to_come, returned_in, returned_by, is_call, lines_at, fids_given_up, has_answer, drops_of, is_told}
+use Rattle.afs_law.specs.Breaks.{is_in, is_call_from, is_to_come, returned_in, returned_by, is_call, lines_at, fids_given_up, has_answer, drops_of, is_told}
 use Rattle.afs_rows.specs.ServerSteps.{stepped, done}
 use Rattle.afs_law.proofs.Keeping.{at_placed}
 use Rattle.afs_records.specs.Durable.{Stored}
@@ -399,6 +399,7 @@ ran_now s c past p n h user call e H up sent w is at = record {
   is_call = tt;
   key = refl;
   boot = w.boot;
+  up = up_boots s c past H up;
   callee = refl;
   node = at;
   first = next_call s c past n h user call H up w;
@@ -417,7 +418,6 @@ runs_here s c past p n h user call H up sent w = record {
 pub record HasRun (c : Cell) (n : ℕ) (h : Head) (user : List ℕ) (call : FsCall) (past : List Entry) : Type 0 where
   pub ran : Ran (reply_head c.server.lasting.boot (client_head n h)) past
   pub is : ran.message ≡ call_at n h user call
-  pub up : server_boot the_server (lines_of ran.older) ≡ Some c.server.lasting.boot
   pub ideal : AreIdeal c.server.lasting.volumes ran.older
 
 -- the reply has the code of the ideal operation
@@ -428,7 +428,6 @@ cause_now c n h user call x code past g has told result = record {
   is_reply = (refl, has);
   told = told;
   ran = g.ran;
-  up = g.up;
   user = user;
   call = call;
   carries = ap (λ (m : Message). m.carried) g.is;
@@ -666,7 +665,7 @@ serves_still s c past n h user call x e H w pf pr pa l ideal home new before clo
 -- the call runs now
 abbrev pub has_run : (s : Script) (c : Cell) (past : List Entry) (p n : ℕ) (h : Head) (user : List ℕ) (call : FsCall) (e : Entry) → (H : Holds s c past) → c.down ≡ None → message_at c.sent p ≡ Some (call_at n h user call) → Now s c H.floors past n h user call
     → given_message e.lines (sent_of past) ≡ message_at (sent_of past) p → e.actor ≡ actors.Node the_server → HasRun c n h user call (e ∷ past)
-has_run s c past p n h user call e H up at w is by = record { ran = ran_now s c past p n h user call e H up at w is by; is = refl; up = up_boots s c past H up; ideal = H.ideal }
+has_run s c past p n h user call e H up at w is by = record { ran = ran_now s c past p n h user call e H up at w is by; is = refl; ideal = H.ideal }
 
 -- the reply to a call that runs now, in the server's memory
 pub taken_not : (seats : List Seat) (n : ℕ) (h : Head) (r : Message) → Above (call_seat (Client n) (call_seated (taken n h r) seats)) h.epoch h.number → ⊥
@@ -1009,8 +1008,9 @@ shows_by s c past armed p n h user call r H up at w is code done =
     let boots : server_boot the_server (lines_of (e ∷ past)) ≡ Some c.server.lasting.boot = k.boot (lines.Given p ∷ lines_of past) ∙ up_boots s c past H up in
     let answered : has_answer (called_key (client_head n h)) ms ≡ true = first_answer c.server.lasting.boot turn.backs.lists.owed (called_key (client_head n h)) (record { backs = held_after turn; sent = given_out turn }) (rw (same_node-refl (Client n), eq-eqb h.epoch h.epoch refl, eq-eqb h.number h.number refl) refl) in
     let first : is_to_come the_server (called_key (client_head n h)) (client_head n h).boot past ≡ true = comes the_server (called_key (client_head n h)) (client_head n h).boot past (subst (λ (b : ℕ). IsToCome the_server (called_key (client_head n h)) b past) (sym w.boot) (next_call s c past n h user call H up w)) in
+    let now : is_in (client_head n h).boot (server_boot the_server (lines_of past)) ≡ true = ap (is_in (client_head n h).boot) (up_boots s c past H up) ∙ eq-eqb (client_head n h).boot c.server.lasting.boot w.boot in
     let gave : returned_in the_server e (given_message e.lines (sent_of past)) past ≡ drops_of (Client n) r.given_up =
-    ap (λ (o : Option Message). returned_in the_server e o past) (at_told s c past p _ H at) ∙ (ap (λ (b : Bool). returned_by the_server b (client_head n h) (carried.Call user (ask.File call))) (and_true _ _ first answered)
+    ap (λ (o : Option Message). returned_in the_server e o past) (at_told s c past p _ H at) ∙ (ap (λ (b : Bool). returned_by the_server b (client_head n h) (carried.Call user (ask.File call))) (and_true _ _ (and_true _ _ now first) answered)
     ∙ ap (λ (gs : List Fid). drops_of (Client n) gs) (sym (gives_up_as c call r is))) in
     let given : Promised None (without_promises (Client n) r.given_up ps) c.clock (before_own e past) = subst (λ (ds : List Line). Promised None (without_promises (Client n) r.given_up ps) c.clock (onto (lines_at the_server past) ds)) (sym gave) (gone_promised (Client n) c.clock r.given_up (lines_at the_server past) ps B.promised) in
     let pump : Pumps c.server.lasting.boot (seats_after c n h m) (seats_of c) c.clock c.sent (e ∷ past) turn = pumps c.server.lasting.boot (seats_after c n h m) (seats_of c) c.clock c.sent e past turn refl refl (k.clock (lines.Given p ∷ lines_of past) ∙ H.clock)

@@ -23,7 +23,7 @@ use Rattle.afs_law.specs.Ideal.{last_version, user_of}
 use Rattle.afs_law.specs.Breaks.{HasTimeout}
 use Rattle.afs_law.specs.Legal.{AreGood, as_asked}
 use Rattle.afs_history.specs.declared.lines.Line.{Line}
-use Rattle.afs_law.specs.Past.{lines_of, has_begun, running, CalledSince}
+use Rattle.afs_law.specs.Past.{has_given, lines_of, has_begun, running, CalledSince}
 use Rattle.afs_rows.specs.Runs.{Entry}
 use Rattle.afs_law.proofs.OneCell.{the_server, Cell, Moved, client_moves, turned, client_falls, client_rises, waited_by}
 use Rattle.afs_rows.specs.States.{CacheEntry}
@@ -72,7 +72,7 @@ tries_goes s c past n act h runs =
     let kind : IsClient s n y = record { table = (h.own n).table; user = (h.own n).user; callee = λ a z. (h.own n).callee a z; needs = λ a z. (h.own n).needs a z; apart = (h.own n).apart; gifts = (h.own n).gifts } in
     let ms : List Message = call_message (Client n) x act ∷ [] in
     let e : Entry = step_entry n (lines.Timeout (Client n) q x.epoch x.last (x.tries + 1) ∷ []) ms in
-    moves s c past n (h.floors n) (tries_again (Client n) x act) h kind (refl, tt) (timeout_passes s q n x.epoch x.last (x.tries + 1) ms past)
+    moves s c past n (h.floors n) (tries_again (Client n) x act) h kind ((refl, ((refl, refl), (refl, refl))), tt) (timeout_passes s q n x.epoch x.last (x.tries + 1) ms past)
     (client_kept s c past n (boot_of the_server x.boots) e h (h.clients n).known (timeout_file q n n x.epoch x.last (x.tries + 1) ms past) (timeout_reach q n n x.epoch x.last (x.tries + 1) ms past) (timeout_act q n n x.epoch x.last (x.tries + 1) ms past) (λ f. refl))
     (λ head call f. call_known (view h.floors c n) (boot_of the_server x.boots) head call f)
     (reply_still n (view h.floors c n) e past (timeout_file q n n x.epoch x.last (x.tries + 1) ms past) (timeout_reach q n n x.epoch x.last (x.tries + 1) ms past) (λ f. refl) refl)
@@ -85,6 +85,10 @@ not_raised true = refl
 not_raised false = refl
 
 -- ---- a call is given up
+
+drops_alone : (n : ℕ) (es : List CacheEntry) → (has_given (dropped (Client n) es (last_line n dead_code)) ≡ false) × (has_begun (Client n) (dropped (Client n) es (last_line n dead_code)) ≡ false)
+drops_alone n [] = (refl, refl)
+drops_alone n (e ∷ es) = drops_alone n es
 
 -- the answer is good behind the drops
 pub dead_good : (s : Script) (n : ℕ) (act : Going) (callee : Node) (epoch number : ℕ) (past : List Entry) (es : List CacheEntry) (own : List Line) → running s (Client n) (own ++ lines_of past) ≡ Some act → HasTimeout (Client n) callee epoch number 3 own → HasTimeout (Client n) callee epoch number 1 (lines_of past) → HasTimeout (Client n) callee epoch number 2 (lines_of past)
@@ -119,7 +123,7 @@ gives_up_by s c past n act h runs twice =
     let held : ℕ = (h.floors n).held in
     let g : Ghost = holding h.floors n held in
     moves s c past n g (gives_up_on the_server n x (volume_changed call)) h (client_ended s x cache (h.own n) (left_as (volume_changed call) x.cache (h.own n).apart))
-    (refl, dead_good s n act the_server x.epoch x.last past es (lines.Timeout (Client n) the_server x.epoch x.last 3 ∷ []) ((h.clients n).runs act runs) (inl (refl, (refl, (refl, (refl, refl))))) ((h.tried n).told act runs 1 (omega arith) (omega arith)) ((h.tried n).told act runs 2 (omega arith) twice) refl (its_call x.gifts act) (asks_is x.gifts act) ((h.clients n).asked act runs))
+    ((refl, ((refl, refl), drops_alone n es)), dead_good s n act the_server x.epoch x.last past es (lines.Timeout (Client n) the_server x.epoch x.last 3 ∷ []) ((h.clients n).runs act runs) (inl (refl, (refl, (refl, (refl, refl))))) ((h.tried n).told act runs 1 (omega arith) (omega arith)) ((h.tried n).told act runs 2 (omega arith) twice) refl (its_call x.gifts act) (asks_is x.gifts act) ((h.clients n).asked act runs))
     (drop_passes s c past n (timed x.epoch x.last) dead_code es (λ k boot y. y))
     (ended_facts s c past n cache held e h (h.clients n).holds (ended_running s n dead_code es (lines.Timeout (Client n) the_server x.epoch x.last 3 ∷ lines_of past))
     (λ k u found lasts.
@@ -167,7 +171,7 @@ away_again s c past a h = record {
   booted = h.booted;
   boots = h.boots;
   clients = h.clients;
-  sent = record { calls = h.sent.calls; replies = h.sent.replies; notices = h.sent.notices; origins = h.sent.origins; acts = h.sent.acts; ones = h.sent.ones; told = h.sent.told; waiting = h.sent.waiting; to_clients = h.sent.to_clients };
+  sent = record { calls = h.sent.calls; replies = h.sent.replies; notices = h.sent.notices; origins = h.sent.origins; acts = h.sent.acts; ones = h.sent.ones; lone = h.sent.lone; told = h.sent.told; waiting = h.sent.waiting; to_clients = h.sent.to_clients };
   down = h.down;
   clock = h.clock;
   top = h.top;

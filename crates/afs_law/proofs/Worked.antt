@@ -151,7 +151,9 @@ six_front = begins 1 (acts.Open (operands.Fid file)) ∷ gives 1 steady ∷ begi
 
 -- with them it is: so far they are told
 owed_is_legal : (c : Cell) → Leads (start (script 2)) six_front (entries (start (script 2)) six_front) c → Legal (entries (start (script 2)) six_front) (script 2)
+unfolding moved begin_row client_row server_row back_timeout_row wake_row start_row record_bytes head_form volume_form spelled opaque pad word laid_at led name_ok directory_bytes name_bytes rights_of image acl_text digits entry_text
 owed_is_legal c r = legal (script 2) (entries (start (script 2)) six_front) c (refl, (refl, tt)) (record { inputs = six_front; leads = r })
+    (((omega arith, omega arith), (tt, tt)), (((omega arith, omega arith), (tt, (tt, tt))), (((omega arith, omega arith), (tt, tt)), (((omega arith, omega arith), (tt, (tt, (tt, (tt, tt))))), tt))))
 
 not_owed : Legal (map without (entries (start (script 2)) six_front)) (script 2) → ⊥
 unfolding moved begin_row client_row server_row back_timeout_row wake_row start_row record_bytes head_form volume_form spelled opaque pad word laid_at led name_ok directory_bytes name_bytes rights_of image acl_text digits entry_text
@@ -316,7 +318,7 @@ no_table p ps e = absurd cc
 
 brought_one : Legal (six_by 2 brings) (script 2) → ⊥
 unfolding moved begin_row client_row server_row back_timeout_row wake_row start_row record_bytes head_form volume_form spelled opaque pad word laid_at led name_ok directory_bytes name_bytes rights_of image acl_text digits entry_text
-brought_one h = no_table _ _ h.1.1.0.1.0
+brought_one h = no_table _ _ h.1.1.0.1.0.0.0
 
 -- what is read isn't what its version holds; or it has another index
 abbrev open_front : List Input

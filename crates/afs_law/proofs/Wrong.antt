@@ -18,8 +18,8 @@ use Rattle.afs_law.proofs.Homes.{accepts_first}
 use Rattle.afs_law.specs.Grants.{GrantOf, until}
 use Rattle.afs_num.specs.declared.histories.Actor.{Actor}
 use Rattle.afs_num.specs.declared.types.Node.{Node}
-use Rattle.afs_law.proofs.OneCell.{stops, the_server, server_waits, Input, begins, gives, moved, nothing, sets_stop, start, starts_again, waits}
-use Rattle.afs_law.proofs.Worked.{alters, answer, begun, entries, file, root, script, six_front}
+use Rattle.afs_law.proofs.OneCell.{Cell, stops, the_server, server_waits, Input, begins, gives, moved, nothing, sets_stop, start, starts_again, waits}
+use Rattle.afs_law.proofs.Worked.{by_lines, stores, alters, answer, begun, entries, file, root, script, six_front}
 use Rattle.afs_law.specs.Breaks.{HasTimeout, HasStopped}
 use Rattle.afs_law.specs.Legal.{Cause, EndsAct, IsResult, Legal, answer_at, code_given}
 use Rattle.afs_model.specs.Messages.{spelled}
@@ -31,7 +31,7 @@ use Rattle.afs_rows.specs.Runs.{Entry, comes_up, steady}
 use Rattle.afs_xdr.specs.Words.{opaque, pad, word, opaque_at, word_at, counted_at}
 use Rattle.afs_law.specs.Ideal.{set_up}
 use Rattle.afs_law.specs.Once.{past_of}
-use Rattle.afs_law.specs.Past.{CalledSince, IsToCome, called_key, AreWithin, has_begun, IsUnheard, IsCallUnder, Ran, answered_key, code_told, given_message, lines_of, sent_of}
+use Rattle.afs_law.specs.Past.{server_boot, CalledSince, IsToCome, called_key, AreWithin, has_begun, IsUnheard, IsCallUnder, Ran, answered_key, code_told, given_message, lines_of, sent_of}
 use Rattle.afs_num.specs.declared.calls.FsCall.{FsCall}
 use Rattle.afs_num.specs.declared.calls.FsCall.TheVariants as calls
 use Rattle.afs_num.specs.declared.histories.Actor.TheVariants as actors
@@ -42,9 +42,11 @@ use Rattle.afs_num.specs.declared.histories.ReadBody.TheVariants as seen
 use Rattle.afs_num.specs.declared.histories.ReadSource.{ReadSource}
 use Rattle.afs_num.specs.declared.histories.ReadSource.TheVariants.{Cached, Fetched}
 use Rattle.afs_num.specs.declared.messages.Carried.TheVariants as carried
+use Rattle.afs_num.specs.declared.messages.Reply.TheVariants as tell
+use Rattle.afs_num.specs.declared.calls.FsReply.TheVariants as replies
 use Rattle.afs_num.specs.declared.messages.Message.{Message}
 use Rattle.afs_num.specs.declared.types.Node.TheVariants.{Client, Server}
-use Rattle.std.proofs.Common.{arith, ◌<◌, ◌≡◌, ◌∙◌, true, false, ℕ, ℤ, List, [], ◌∷◌, ◌++◌, ◌⊎◌, Option, None, Some, ap, sym, subst, refl, inl, inr, negsuc, pos}
+use Rattle.std.proofs.Common.{arith, ◌<◌, ◌≤◌, ◌≡◌, ◌∙◌, true, false, ℕ, ℤ, List, [], ◌∷◌, ◌++◌, ◌⊎◌, Option, None, Some, ap, sym, subst, refl, inl, inr, negsuc, pos}
 use Rattle.std.specs.Fmt.{digits}
 use Rattle.std.specs.Prelude.{codes, drop, map, take}
 
@@ -453,6 +455,62 @@ ran_behind_a_later_one h =
       ]
     ]
 
+abbrev gift_answer : Message
+gift_answer = record { head = record { half = halves.Reply; from = Server 1; to = Client 1; epoch = 1; number = 2; boot = 1; stamp = 0; opcode = 147 }; carried = carried.Reply (tell.File replies.GiveUpCallBacks) }
+
+-- ---- a server that is in one boot answers a call to another
+
+abbrev refusal_in_two : Message
+refusal_in_two = record refusal_of_one { head = record refusal_of_one.head { boot = 2 } }
+
+-- what that says of the entry that ran it
+record RanInTwo (e : Entry) (older : List Entry) : Type 0 where
+  up : server_boot (Server 1) (lines_of older) ≡ Some 2
+
+ran_in_two : (past : List Entry) → Ran refusal_in_two.head past → Among RanInTwo past
+ran_in_two past r = subst (Among RanInTwo) (sym r.split) (is_among RanInTwo r.newer r.at r.older (record { up = r.up }))
+
+was_in_one : (e : Entry) (older : List Entry) → server_boot (Server 1) (lines_of older) ≡ Some 1 → RanInTwo e older → ⊥
+was_in_one e older one x = let no_ : 1 ≡ 2 = some_of 1 2 (sym one ∙ x.up) in absurd (omega (arith, no_))
+
+answered_in_another_boot : Legal (alters 0 to_boot_two (alters 1 (λ e. record e { lines = lines.Given 1 ∷ []; sent = refusal_in_two ∷ [] }) (entries (start (script 1)) (begins 1 (acts.Open (operands.Fid file)) ∷ gives 1 steady ∷ [])))) (script 1) → ⊥
+unfolding moved begin_row client_row server_row back_timeout_row wake_row start_row record_bytes head_form volume_form spelled opaque pad word laid_at led name_ok directory_bytes name_bytes rights_of image acl_text digits entry_text directory_of names_at opaque_at word_at counted_at whole_at count_at name_at spelled_at bytes_below
+answered_in_another_boot h =
+    elim (ran_in_two _ (h.1.0.1.1.0 1 1 (refl, tt) refl refl)) [
+      | inl x ↦ was_in_one _ _ refl x
+      | inr y ↦ elim y [ inl x ↦ was_in_one _ _ refl x | inr z ↦ elim z [ inl x ↦ was_in_one _ _ refl x | inr w ↦ w ] ]
+    ]
+
+-- A client gives a promise back by a call that is late: the server began again meanwhile, and the client was promised the file anew.
+-- The server takes the call for its own boot, forgets the new promise, and the store behind that owes nothing
+abbrev late_gift_front : List Input
+late_gift_front = begins 1 (acts.Open (operands.Fid file)) ∷ gives 1 steady ∷ gives 2 steady ∷ begins 1 acts.GiveUp ∷ waits 1 ∷ waits 1 ∷ waits 1 ∷ stops ∷ starts_again false comes_up ∷ gives 6 steady ∷ gives 8 steady ∷ gives 7 steady ∷ gives 9 steady ∷ []
+
+-- what the client sends and is sent behind the restart
+abbrev asked_anew : List Message → List Message
+asked_anew ms = map (λ (m : Message). record m { head = record m.head { number = 3; boot = 2 } }) ms
+
+abbrev sent_by : Cell → List Input → List Message
+sent_by c [] = []
+sent_by c (x ∷ []) = (moved c x).entry.sent
+sent_by c (x ∷ y ∷ xs) = sent_by (moved c x).cell (y ∷ xs)
+
+abbrev step_of : Node → List Line → List Message → Entry
+step_of n ls ms = record { actor = actors.Node n; lines = ls; sent = ms; volumes = [] }
+
+abbrev late_gift_rest : List Entry
+late_gift_rest =
+    step_of (Client 1) (begun 1 ∷ []) (asked_anew (sent_by (start (script 2)) (begins 1 (acts.Open (operands.Fid file)) ∷ [])))
+    ∷ step_of (Server 1) (lines.Given 10 ∷ lines.Grant (Server 1) (Client 1) file 1 7200 ∷ []) (asked_anew (sent_by (start (script 2)) (begins 1 (acts.Open (operands.Fid file)) ∷ gives 1 steady ∷ [])))
+    ∷ step_of (Client 1) (lines.Given 11 ∷ shown Fetched ∷ answer 1 ∷ []) []
+    ∷ step_of (Server 1) (lines.Given 3 ∷ []) (gift_answer ∷ [])
+    ∷ to_boot_two (step_of (Client 2) (stores 2 ∷ []) (sent_by (start (script 2)) (begins 2 (acts.Close (operands.Fid file) (Hex (codes "def"))) ∷ [])))
+    ∷ step_of (Server 1) (lines.Given 13 ∷ lines.Change (Server 1) (record { node = Client 2; epoch = 1; number = 1 }) 1 ∷ lines.Version (record { fid = file; index = 2; data_version = 2; body = bodies.File (codes "def") }) ∷ []) [] ∷ []
+
+given_back_late : Legal (entries (start (script 2)) late_gift_front ++ late_gift_rest) (script 2) → ⊥
+unfolding moved begin_row client_row server_row back_timeout_row wake_row start_row record_bytes head_form volume_form spelled opaque pad word laid_at led name_ok directory_bytes name_bytes rights_of image acl_text digits entry_text directory_of names_at opaque_at word_at counted_at whole_at count_at name_at spelled_at bytes_below
+given_back_late h = h.1.1.1.1.1.1.1.1.1.1.1.1.1.1.1.1.1.1.0.0.0.1.0.1.owed 1 file 7200 (λ e. absurd cc) (inl refl) refl (omega arith)
+
 -- ---- the second of two acts that ask the same sends its call under the key of the first, whose reply would answer it
 
 abbrev twice_front : List Input
@@ -576,3 +634,41 @@ gave_back_what_is_new h = h.1.1.0.0.1.0.gift.0
 given_two : Legal (alters 2 (instead (lines.Given 2 ∷ lines.Given 2 ∷ [])) (entries (start (script 1)) (begins 1 (acts.Open (operands.Fid file)) ∷ gives 1 steady ∷ gives 2 steady ∷ []))) (script 1) → ⊥
 unfolding moved begin_row client_row server_row back_timeout_row wake_row start_row record_bytes head_form volume_form spelled opaque pad word laid_at led name_ok directory_bytes name_bytes rights_of image acl_text digits entry_text directory_of names_at opaque_at word_at counted_at whole_at count_at name_at spelled_at bytes_below
 given_two h = let e : true ≡ false = h.1.1.0.0.0.1.0 in absurd cc
+
+-- ---- whose an entry is, and which boot a server begins
+
+-- a client acts that the script doesn't have
+acted_by_a_stranger : Legal (entries (start (script 2)) (begins 2 (acts.Open (operands.Fid file)) ∷ [])) (script 1) → ⊥
+unfolding moved begin_row client_row server_row back_timeout_row wake_row start_row record_bytes head_form volume_form spelled opaque pad word laid_at led name_ok directory_bytes name_bytes rights_of image acl_text digits entry_text directory_of names_at opaque_at word_at counted_at whole_at count_at name_at spelled_at bytes_below
+acted_by_a_stranger h = let e : 2 ≤ 1 = h.0.1.0.0.1.1 in absurd (omega arith)
+
+-- a server that stopped begins the boot in which it was: a call from before the stop would run again
+abbrev in_boot_one : Line → Line
+in_boot_one (lines.Restart n boot) = lines.Restart n 1
+in_boot_one l = l
+
+begun_in_the_old_boot : Legal (alters 1 (by_lines in_boot_one) (entries (start (script 1)) (stops ∷ starts_again false comes_up ∷ []))) (script 1) → ⊥
+unfolding moved begin_row client_row server_row back_timeout_row wake_row start_row record_bytes head_form volume_form spelled opaque pad word laid_at led name_ok directory_bytes name_bytes rights_of image acl_text digits entry_text directory_of names_at opaque_at word_at counted_at whole_at count_at name_at spelled_at bytes_below
+begun_in_the_old_boot h = let e : 1 < 1 = h.1.0.1.0.1.0 in absurd (omega arith)
+
+-- ---- an act changes things once, were it long over
+
+-- an act sends two calls, and is over before the server runs either: it runs both
+abbrev twice_asked : Entry → Entry
+twice_asked e = record e { sent = e.sent ++ map (λ (m : Message). record m { head = record m.head { number = 2 } }) e.sent }
+
+abbrev changed_as : ℕ → ℕ → Entry
+changed_as n index = step_of (Server 1) (lines.Given n ∷ lines.Change (Server 1) (key_of_one n) 1 ∷ lines.Version (record { fid = file; index = index; data_version = index; body = bodies.File (codes "def") }) ∷ []) []
+
+abbrev changes_twice : List Entry
+changes_twice = alters 0 twice_asked (entries (start (script 1)) (begins 1 (acts.Close (operands.Fid file) (Hex (codes "def"))) ∷ waits 1 ∷ waits 1 ∷ waits 1 ∷ [])) ++ changed_as 1 2 ∷ changed_as 2 3 ∷ []
+
+changed_twice : Legal changes_twice (script 1) → ⊥
+unfolding moved begin_row client_row server_row back_timeout_row wake_row start_row record_bytes head_form volume_form spelled opaque pad word laid_at led name_ok directory_bytes name_bytes rights_of image acl_text digits entry_text directory_of names_at opaque_at word_at counted_at whole_at count_at name_at spelled_at bytes_below
+changed_twice h = h.1.1.1.1.1.0.0.0.1.0.1.alone (past_of [] (drop 1 (take 5 changes_twice))) (past_of (set_up (script 1) ∷ []) (take 1 changes_twice)) refl refl (key_of_one 1) (inl refl) refl
+
+-- ---- a step that times a call out is given no message
+
+timed_out_beside_a_reply : Legal (alters 2 (instead (lines.Given 2 ∷ lines.Timeout (Client 1) (Server 1) 1 1 1 ∷ [])) (entries (start (script 1)) open_front)) (script 1) → ⊥
+unfolding moved begin_row client_row server_row back_timeout_row wake_row start_row record_bytes head_form volume_form spelled opaque pad word laid_at led name_ok directory_bytes name_bytes rights_of image acl_text digits entry_text directory_of names_at opaque_at word_at counted_at whole_at count_at name_at spelled_at bytes_below
+timed_out_beside_a_reply h = let e : true ≡ false = h.1.1.0.0.0.1.0.1.0.0 in absurd cc

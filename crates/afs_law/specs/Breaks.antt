@@ -12,7 +12,7 @@ use Rattle.afs_num.specs.declared.calls.FsCall.{FsCall}
 use Rattle.afs_num.specs.declared.calls.FsCall.TheVariants as calls
 use Rattle.afs_law.specs.Ideal.{clock_of}
 use Rattle.afs_history.specs.declared.lines.Line.{Line}
-use Rattle.afs_law.specs.Past.{onto, lines_on, lines_of, sent_of, given_message, IsCallUnder, Sends, answered_key, called_key, same_key}
+use Rattle.afs_law.specs.Past.{server_boot, onto, lines_on, lines_of, sent_of, given_message, IsCallUnder, Sends, answered_key, called_key, same_key}
 use Rattle.afs_num.specs.declared.types.Head.{Head}
 use Rattle.afs_num.specs.declared.messages.Carried.{Carried}
 use Rattle.afs_num.specs.declared.messages.Carried.TheVariants as carried
@@ -115,11 +115,21 @@ abbrev pub is_to_come : Node → Key → ℕ → List Entry → Bool
 is_to_come s k boot [] = true
 is_to_come s k boot (e ∷ past) = not (is_call_from s k boot (given_message e.lines (sent_of past))) && is_to_come s k boot past
 
--- the fids of the message that this entry of the server was given, and answers: it was the first that was given its key in its
--- boot, before any later call of its node, for a reply that is sent again drops nothing, and an old call isn't run
+-- whether a server, which is in this boot or down, is in that one
+abbrev pub is_in : ℕ → Option ℕ → Bool
+is_in boot None = false
+is_in boot (Some now) = nat_eq boot now
+
+-- whether an entry behind this past that is given the call runs it: it is to the boot in which the server is, and the first there
+-- under its key, before any later call of its node
+abbrev pub runs_now : Node → Head → List Entry → Bool
+runs_now s head past = is_in head.boot (server_boot s (lines_of past)) && is_to_come s (called_key head) head.boot past
+
+-- the fids of the message that this entry of the server was given, runs and answers: a reply that is sent again drops nothing, and
+-- a call that is old, or to another boot, isn't run
 abbrev pub returned_in : Node → Entry → Option Message → List Entry → List Line
 returned_in s e None past = []
-returned_in s e (Some m) past = returned_by s (is_entry_of s e.actor && (is_to_come s (called_key m.head) m.head.boot past && has_answer (called_key m.head) e.sent)) m.head m.carried
+returned_in s e (Some m) past = returned_by s (is_entry_of s e.actor && (runs_now s m.head past && has_answer (called_key m.head) e.sent)) m.head m.carried
 
 abbrev pub lines_at : Node → List Entry → List Line
 lines_at s [] = []

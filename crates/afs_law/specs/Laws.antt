@@ -3,7 +3,7 @@ use Rattle.afs_num.specs.declared.types.Key.{Key}
 use Rattle.afs_breaks.specs.declared.types.Promise.{Promise}
 use Rattle.afs_breaks.specs.declared.types.OwedBreak.{OwedBreak}
 use Rattle.afs_rows.specs.Scopes.{is_in_scope}
-use Rattle.afs_law.specs.Breaks.{AllOwes, EndedBy, Owes, GoodSettle, live_grant, lines_at}
+use Rattle.afs_law.specs.Breaks.{AllOwes, EndedBy, HasTimeout, Owes, GoodSettle, live_grant, lines_at}
 use Rattle.afs_model.specs.Calls.{admitted, call_seat}
 use Rattle.afs_rows.specs.Going.{ClientState, asked, Going}
 use Rattle.afs_ideal.specs.Operations.{Caller, the_user, Result, refused, reads, changes, no_operation, op, volume_called, volume_changed}
@@ -274,3 +274,11 @@ UnawaitedAreUntrusted =
     → volume_changed call ≡ Some id → admitted (end.hosts 1).state.lasting.boot (end.hosts 1).state.seats head ≡ pairs.runs → (IsAwaited (end.clients j) head → ⊥)
     → (f : Fid) (e : CacheEntry) → is_in_scope call f ≡ true → find_cached f (end.clients j).cache ≡ Some e → end.clock < e.expiry
     → (reply : Message) × ((fetch_reply (Client j) f (past_of (set_up s ∷ []) history) ≡ Some reply) × (reply.head.boot < (end.hosts 1).state.lasting.boot))
+
+-- A changing call that its client gave up at the third timeout and that the server, which is up, would run: the client trusts nothing of
+-- the volume that it may change
+abbrev pub DeadAreUntrusted : Type 0
+DeadAreUntrusted =
+    (s : Script) (history : List Entry) (end : Cell) → IsOneServer s → RunsTo history s end → (j place : ℕ) (head : Head) (user : List ℕ) (call : FsCall) (id : ℕ) → message_at end.sent place ≡ Some (record { head = head; carried = carried.Call user (ask.File call) }) → head.from ≡ Client j
+    → volume_changed call ≡ Some id → HasTimeout (Client j) (Server 1) head.epoch head.number 3 (lines_of (past_of (set_up s ∷ []) history)) → (end.hosts 1).down ≡ None → admitted (end.hosts 1).state.lasting.boot (end.hosts 1).state.seats head ≡ pairs.runs
+    → (f : Fid) (e : CacheEntry) → f.volume ≡ id → find_cached f (end.clients j).cache ≡ Some e → end.clock < e.expiry → ⊥

@@ -19,7 +19,7 @@ use Rattle.afs_rows.specs.Going.{Going, Need, answers, asks_for, next, asked, gi
 use Rattle.afs_law.specs.Grants.{is_promised, read_reply, GrantOf, since, until, IsWithdrawn, IsDropped}
 use Rattle.afs_law.specs.Ideal.{last_version, Unless, set_up, IsLast, WasLast, HasBeen, HasVersion, Accepts, clock_of, user_of, seen, change_in, change_key, call_under, volume_after}
 use Rattle.afs_history.specs.declared.lines.Line.{Line}
-use Rattle.afs_law.specs.Past.{is_late, called_key, IsToCome, is_of_act, lines_of, sent_of, given_message, answered_key, code_told, IsReply, running, has_begun, has_given, Called, CalledSince, IsCallUnder, Ran, server_boot}
+use Rattle.afs_law.specs.Past.{last_boot, is_late, called_key, IsToCome, is_of_act, lines_of, sent_of, given_message, answered_key, code_told, IsReply, running, has_begun, has_given, Called, CalledSince, IsCallUnder, Ran, server_boot}
 use Rattle.afs_rows.specs.Runs.{Entry}
 use Rattle.afs_history.specs.declared.scripts.Script.{Script}
 use Rattle.afs_num.specs.declared.histories.Actor.{Actor}
@@ -128,6 +128,15 @@ abbrev pub IsNew : Key → List Line → Type 0
 IsNew k [] = ⊤
 IsNew k (l ∷ older) = IsNot k (change_in l) (IsNew k older)
 
+-- a change under this key is among the lines
+abbrev pub IsKey : Key → Option Key → Type 0 → Type 0
+IsKey k None before = before
+IsKey k (Some l) before = (l ≡ k) ⊎ before
+
+abbrev pub HasChange : Key → List Line → Type 0
+HasChange k [] = ⊥
+HasChange k (l ∷ ls) = IsKey k (change_in l) (HasChange k ls)
+
 -- the server changed something under this key
 abbrev pub HasChangeBy : Node → Key → List Line → Type 0
 HasChangeBy s k [] = ⊥
@@ -184,7 +193,7 @@ pub record RanBefore (server : Node) (k : Key) (past : List Entry) (own next : L
 
 -- A change runs a key for the first time, at a server that accepts stores of the volume, and is the only one of its entry. What
 -- the server changed before for the same node it did under keys of earlier calls, and while an act runs there, under none of
--- that act: an act changes things once. The entry ran the key's call, or is the restart behind the one that was interrupted in that.
+-- that act. No server did under another key of this key's act, were that long over: an act changes things once. The entry ran the key's call, or is the restart behind the one that was interrupted in that.
 -- The key's call was sent by its node, for its user, and is that of the act that ran there, with the act's own bytes. The
 -- versions that follow are just those of the ideal operation on the ideal volume. Each other client's last grant on one of their
 -- fids that lasts has a break behind the change
@@ -192,6 +201,7 @@ pub record GoodChange (s : Script) (server : Node) (k : Key) (count : ℕ) (past
   pub fresh : IsNew k (own ++ lines_of past)
   pub latest : (l : Key) → HasChangeBy server l (own ++ lines_of past) → l.node ≡ k.node → IsLater k l
   pub once : (a : Going) → running s k.node (lines_of past) ≡ Some a → (l : Key) → HasChangeBy server l (lines_of past) → is_of_act k.node l past ≡ true → ⊥
+  pub alone : (newer older : List Entry) → past ≡ newer ++ older → is_of_act k.node k older ≡ true → (l : Key) → HasChange l (lines_of past) → is_of_act k.node l older ≡ true → ⊥
   pub place : RunsHere server k past own ⊎ RanBefore server k past own next
   pub going : HasStopped server own → ⊥
   pub only : change_key own ≡ None
@@ -240,15 +250,6 @@ IsUnderChange (lines.Version v ∷ own) = IsUnderChange own
 IsUnderChange own = ⊥
 
 -- ---- answers
-
--- a change under this key is among the lines
-abbrev pub IsKey : Key → Option Key → Type 0 → Type 0
-IsKey k None before = before
-IsKey k (Some l) before = (l ≡ k) ⊎ before
-
-abbrev pub HasChange : Key → List Line → Type 0
-HasChange k [] = ⊥
-HasChange k (l ∷ ls) = IsKey k (change_in l) (HasChange k ls)
 
 -- the ideal operation on a volume; one that isn't there is 103
 abbrev pub op_on : ℕ → Caller → FsCall → Option Volume → Result
@@ -302,13 +303,12 @@ abbrev pub as_asked : FsCall → FsCall
 as_asked (calls.GiveUpCallBacks fids callbacks) = calls.GiveUpCallBacks [] []
 as_asked call = call
 
--- the reply has this code, and so has the ideal operation where the call ran, in the boot in which its server then was; the call
--- is the one that the act asks; and where the operation makes versions, their change stands before
+-- the reply has this code, and so has the ideal operation where the call ran; the call is the one that the act asks; and where
+-- the operation makes versions, their change stands before
 pub record Cause (reply : Message) (code : ℤ) (asks_for : FsCall) (past : List Entry) (own : List Line) : Type 0 where
   pub is_reply : IsReply reply
   pub told : code_told reply.carried ≡ Some code
   pub ran : Ran reply.head past
-  pub up : server_boot reply.head.from (lines_of ran.older) ≡ Some reply.head.boot
   pub user : List ℕ
   pub call : FsCall
   pub carries : ran.message.carried ≡ carried.Call user (ask.File call)
@@ -439,6 +439,15 @@ abbrev pub GoodRestart : Script → Node → List Line → Type 0
 GoodRestart s (Server i) next = (j : ℕ) → 1 ≤ j → j ≤ s.clients → HasOwe (Server i) (Client j) None next
 GoodRestart s n next = ⊤
 
+-- its boot is above all that it began before
+abbrev pub IsRising : Line → List Line → Type 0
+IsRising (lines.Restart (Server i) boot) older = last_boot (Server i) older < boot
+IsRising l older = ⊤
+
+abbrev pub AreRising : List Line → List Line → Type 0
+AreRising older [] = ⊤
+AreRising older (l ∷ ls) = IsRising l older × AreRising (l ∷ older) ls
+
 -- ---- histories
 
 -- it is this client's entry, and this server's
@@ -450,6 +459,10 @@ abbrev pub IsOfServer : Actor → Node → Type 0
 IsOfServer who (Server i) = who ≡ actors.Node (Server i)
 IsOfServer who n = ⊥
 
+-- a step that times a call out is given no message, and begins no act
+abbrev pub IsTimed : Node → List Line → List Line → Type 0
+IsTimed c own next = ((has_given own ≡ false) × (has_begun c own ≡ false)) × ((has_given next ≡ false) × (has_begun c next ≡ false))
+
 -- An entry is given one message at most, and each line stands in an entry of its own node: a begin, a read, an answer, a drop in one of its client, a change, a grant, a
 -- break in one of its server, a tick in the clock's, and that nothing happened in nobody's
 abbrev pub IsGood : Script → Actor → Line → List Entry → List Line → List Line → Type 0
@@ -460,7 +473,7 @@ IsGood s who (lines.Change server k count) past own next = IsOfServer who server
 IsGood s who (lines.Version v) past own next = IsUnderChange own
 IsGood s who (lines.Read c f index source body) past own next = (IsOfClient who c × HasAct s c past own) × GoodReadBy s (is_promised body) c f index source body past own
 IsGood s who (lines.Answer c code) past own next = IsOfClient who c × GoodCode s c code past own
-IsGood s who (lines.Timeout c callee epoch number count) past own next = who ≡ actors.Node c
+IsGood s who (lines.Timeout c callee epoch number count) past own next = (who ≡ actors.Node c) × IsTimed c own next
 IsGood s who (lines.Tick n) past own next = who ≡ actors.Clock
 IsGood s who (lines.Stop n calls pick) past own next = IsOfServer who n
 IsGood s who (lines.Fail n call) past own next = IsOfServer who n
@@ -479,10 +492,21 @@ abbrev pub AreGood : Script → Actor → List Entry → List Line → List Line
 AreGood s who past own [] = ⊤
 AreGood s who past own (l ∷ next) = IsGood s who l past own next × AreGood s who past (l ∷ own) next
 
--- an entry lays no volumes, for the set-up alone does
+-- the script has the node whose entry this is; a tick and what is void are of none
+abbrev pub IsOfScript : Script → Actor → Type 0
+IsOfScript s (actors.Node (Client j)) = (1 ≤ j) × (j ≤ s.clients)
+IsOfScript s (actors.Node (Server i)) = (1 ≤ i) × (i ≤ s.servers)
+IsOfScript s (actors.Node n) = ⊥
+IsOfScript s actors.Clock = ⊤
+IsOfScript s actors.Nobody = ⊤
+
+-- an entry lays no volumes, for the set-up alone does; it is of a node of the script, and no server begins a boot twice
+abbrev pub IsEntryOf : Script → List Entry → Entry → Type 0
+IsEntryOf s past e = ((e.volumes ≡ []) × IsOfScript s e.actor) × AreRising (lines_of past) e.lines
+
 abbrev pub LegalAfter : Script → List Entry → List Entry → Type 0
 LegalAfter s past [] = ⊤
-LegalAfter s past (e ∷ es) = ((AreGood s e.actor past [] e.lines × AreGoodSent (e ∷ past) e.sent) × ((e.volumes ≡ []) × AreRan (e ∷ past) e.sent)) × LegalAfter s (e ∷ past) es
+LegalAfter s past (e ∷ es) = ((AreGood s e.actor past [] e.lines × AreGoodSent (e ∷ past) e.sent) × (IsEntryOf s past e × AreRan (e ∷ past) e.sent)) × LegalAfter s (e ∷ past) es
 
 abbrev pub Legal : List Entry → Script → Type 0
 Legal history s = LegalAfter s (set_up s ∷ []) history

@@ -163,6 +163,12 @@ server_boot s (lines.Fault n ∷ older) = if same_node n s then None else server
 server_boot s (lines.Restart n boot ∷ older) = if same_node n s then risen (server_boot s older) boot else server_boot s older
 server_boot s (l ∷ older) = server_boot s older
 
+-- the boot that it began last, up or down
+abbrev pub last_boot : Node → List Line → ℕ
+last_boot s [] = 1
+last_boot s (lines.Restart n boot ∷ older) = if same_node n s then boot else last_boot s older
+last_boot s (l ∷ older) = last_boot s older
+
 -- ---- the entry that ran a call
 
 -- a call to this callee under this key, to this boot
@@ -189,8 +195,8 @@ IsToCome s k boot [] = ⊤
 IsToCome s k boot (e ∷ past) = (IsCallFrom s k boot (given_message e.lines (sent_of past)) → ⊥) × IsToCome s k boot past
 
 -- The past, split at the entry that ran the call which this is the reply to: the callee's first that was given it, in
--- the boot that the reply tells, and before any later call of that node. A later entry finds the kept reply, and a callee runs
--- no call to another boot.
+-- the boot that the reply tells, and before any later call of that node. In this boot the callee then was, for it runs no call to
+-- another one; and a later entry finds the kept reply.
 pub record Ran (reply : Head) (past : List Entry) : Type 0 where
   pub newer : List Entry
   pub at : Entry
@@ -201,6 +207,7 @@ pub record Ran (reply : Head) (past : List Entry) : Type 0 where
   pub is_call : IsCall message.carried
   pub key : called_key message.head ≡ answered_key reply
   pub boot : message.head.boot ≡ reply.boot
+  pub up : server_boot reply.from (lines_of older) ≡ Some reply.boot
   pub callee : message.head.to ≡ reply.from
   pub node : at.actor ≡ actors.Node message.head.to
   pub first : IsToCome reply.from (answered_key reply) reply.boot older

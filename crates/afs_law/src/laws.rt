@@ -1,6 +1,6 @@
 //! Laws about the runs of a script. Each is the contract of a function that does nothing.
 
-ghost use Rattle.afs_law.specs.Laws.{AcknowledgedAreMade, AnswersAreRecent, ChangesAreFolded, EffectsAreTold, KeysRunOnce, ReadsAreNewest, RunsAreLegal, RunsAreOne, SetUpsAreFirst, StartsAreFolded, VolumesAreTold, PairsAreKnown, TrustedIsGood, RoomlessAreRefused, UnservedAreRefused, CallsRunOnce, RepliesAreCaused, RepliesAreRan, KeptAreRan, DurableAreChanges, GrantsAreKept, BreaksAreOwed, RepliesFollowDrops, UnawaitedAreUntrusted};
+ghost use Rattle.afs_law.specs.Laws.{AcknowledgedAreMade, AnswersAreRecent, ChangesAreFolded, EffectsAreTold, KeysRunOnce, ReadsAreNewest, RunsAreLegal, RunsAreOne, SetUpsAreFirst, StartsAreFolded, VolumesAreTold, PairsAreKnown, TrustedIsGood, RoomlessAreRefused, UnservedAreRefused, CallsRunOnce, RepliesAreCaused, RepliesAreRan, KeptAreRan, DurableAreChanges, GrantsAreKept, BreaksAreOwed, RepliesFollowDrops, UnawaitedAreUntrusted, DeadAreUntrusted};
 
 /// Every run of a script for one server is legal.
 pub fn runs_are_legal()
@@ -120,4 +120,9 @@ pub fn replies_follow_drops()
 /// What a client trusts of the fids that a call may change for which it waits no more, it was promised in an older boot.
 pub fn unawaited_are_untrusted()
     ensures { UnawaitedAreUntrusted }
+{}
+
+/// Of the volume of a changing call that was given up and may still run its client trusts nothing.
+pub fn dead_are_untrusted()
+    ensures { DeadAreUntrusted }
 {}

@@ -1,5 +1,6 @@
 pub mod Forms
 pub mod Outside
 pub mod Parts
+pub mod Reading
 pub mod Statuses
 pub mod Top

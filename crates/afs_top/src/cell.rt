@@ -7,16 +7,13 @@ ghost use Rattle.afs_top.specs.Outside.{span, RoseBy};
 ghost use Rattle.afs_top.specs.Top.{Ends, IsBeforeReplay, IsScript, SetUpLeaves};
 
 use crate::replaying::replay;
-use crate::scripts::{refusal_of_long, script};
+use crate::scripts::script_in;
 use crate::statuses::{Form, Status, form_of};
 use afs_disk::Bank;
 use afs_grammar::laws::scripts_are_of_cells;
-use afs_outside::outside::{ReadError, Sink, Source, read_all};
+use afs_outside::outside::{Sink, Source};
 use afs_scripts::laws::one_server_at_six;
 use std::alloc::Global;
-
-/// The most bytes of a script.
-const MOST_BYTES: u32 = 16_777_216;
 
 /// Plays the script that the source holds and writes its text to the sink, over disks that the bank lends. The words are those
 /// behind the program's name: `replay`, with `--wire` where the bytes of each message are asked for, and `--disks DIR` where the disks
@@ -47,16 +44,10 @@ pub fn cell_main<S: Source, K: Sink, B: Bank<D: Drop>>(
         Ok(None) => return Status::Usage,
         Err(_) => return Status::OutOfMemory,
     };
-    let input = match read_all(alloc, source, MOST_BYTES) {
-        Ok(input) => input,
-        Err(ReadError::Failed) => return Status::ReadFault,
-        Err(ReadError::TooLong(front)) => return refusal_of_long(alloc, front.as_slice()).status(),
-        Err(ReadError::OutOfMemory) => return Status::OutOfMemory,
-    };
     scripts_are_of_cells();
     one_server_at_six();
-    match script(alloc, input.as_slice()) {
+    match script_in(alloc, source) {
         Ok(script) => replay(alloc, &script, wire, &place, sink, bank),
-        Err(refusal) => refusal.status(),
+        Err(status) => status,
     }
 }

@@ -3,8 +3,11 @@
 
 pub mod cell;
 pub mod program;
+mod replaying;
+mod scripts;
 pub mod statuses;
 
+use afs_disk::HostBank;
 use afs_outside::outside::{HostSink, HostSource};
 use program::run;
 use std::alloc::Global;
@@ -22,7 +25,15 @@ fn main(rt: HostRuntime) -> ExitCode {
     let mut source = HostSource::new(rt.reader());
     let mut sink = HostSink::new(buffered(alloc, rt.stdout()));
     let mut errors = HostSink::new(rt.stderr());
-    let ended = run(alloc, words.as_slice(), &mut source, &mut sink, &mut errors);
+    let mut bank = HostBank::new(&rt, alloc);
+    let ended = run(
+        alloc,
+        words.as_slice(),
+        &mut source,
+        &mut sink,
+        &mut errors,
+        &mut bank,
+    );
     ExitCode::from(ended.number)
 }
 
@@ -45,6 +56,3 @@ fn buffered(alloc: Global, stream: Stdout) -> BufWriter<Stdout> {
     };
     writer
 }
-
-#[cfg(test)]
-mod tests;

@@ -1,14 +1,15 @@
 //! What the program does with its words and its streams.
 
-ghost use Rattle.std.specs.Prelude.{◌≡◌, ◌⊎◌, ◌+◌, ◌↔◌, map, string_bytes};
-ghost use Rattle.std.specs.Io.KnownBytes.{IsAtEnd};
-ghost use Rattle.afs_outside.specs.Outside.{Rose, TakesAtMost, Gives, Puts, Prints, PrintsFront};
+ghost use Rattle.std.specs.Prelude.{◌≡◌, ◌⊎◌, ◌+◌, map, string_bytes};
+ghost use Rattle.afs_outside.specs.Outside.{Gives, Puts, TakesAtMost};
 ghost use Rattle.afs_top.specs.Forms.{HaveForm};
-ghost use Rattle.afs_top.specs.Statuses.{Refuses, Shows, status_line, status_number};
-ghost use Rattle.afs_top.specs.Top.{IsAnswer, IsScript, IsBad, IsScriptStatus};
+ghost use Rattle.afs_top.specs.Outside.{span, RoseBy};
+ghost use Rattle.afs_top.specs.Statuses.{Shows, status_line, status_number};
+ghost use Rattle.afs_top.specs.Top.{Ends, IsBeforeReplay, IsScript, SetUpLeaves};
 
 use crate::cell::cell_main;
 use crate::statuses::Status;
+use afs_disk::Bank;
 use afs_outside::outside::{Failed, Sink, Source, pass_on};
 use afs_text::pieces::Print;
 use std::alloc::Global;
@@ -28,34 +29,29 @@ fn put_status<E: Sink>(errors: &mut E, status: Status) -> Result<(), Failed>
     pass_on(errors)
 }
 
-/// All that the program does: the top call over its streams, and then its status on the stream of errors, as far as that
-/// takes it.
-pub fn run<S: Source, K: Sink, E: Sink>(
+/// All that the program does: the top call over its streams and the bank of its disks, and then its status on the stream of
+/// errors, as far as that takes it.
+pub fn run<S: Source, K: Sink, E: Sink, B: Bank<D: Drop>>(
     alloc: Global,
     words: &[String],
     source: &mut S,
     sink: &mut K,
     errors: &mut E,
+    bank: &mut B,
 ) -> Ended
-    ensures usage { (result.status ≡ Status.Usage) ↔ ¬ HaveForm (map string_bytes words.now) }
-    ensures usage_quiet { result.status ≡ Status.Usage → (source.new ≡ source.old) × (sink.new ≡ sink.old) }
-    ensures done { result.status ≡ Status.Done → Prints (IsAnswer (map string_bytes words.now)) (S.left source.old) (K.held sink.old) (K.held sink.new) }
-    ensures done_read { result.status ≡ Status.Done → IsAtEnd (S.left source.new) }
-    ensures script { Refuses IsBad result.status (S.left source.old) }
-    ensures script_quiet { IsScriptStatus result.status → sink.new ≡ sink.old }
-    ensures read_fault { result.status ≡ Status.ReadFault → Rose (S.faults source.old) (S.faults source.new) }
-    ensures read_quiet { result.status ≡ Status.ReadFault → sink.new ≡ sink.old }
-    ensures write_fault { result.status ≡ Status.WriteFault → Rose (K.faults sink.old) (K.faults sink.new) }
-    ensures write_front { result.status ≡ Status.WriteFault → PrintsFront (IsAnswer (map string_bytes words.now)) (S.left source.old) (K.held sink.old) (K.held sink.new) }
-    ensures memory_quiet { result.status ≡ Status.OutOfMemory → sink.new ≡ sink.old }
-    ensures complete { HaveForm (map string_bytes words.now) → Gives IsScript (S.left source.old) → ¬ Rose (S.faults source.old) (S.faults source.new) → ¬ Rose (K.faults sink.old) (K.faults sink.new) → (result.status ≡ Status.Done) ⊎ (result.status ≡ Status.OutOfMemory) }
+    ensures ends { Ends (map string_bytes words.now) (span (S.left source.old) (S.left source.new)) (span (S.faults source.old) (S.faults source.new)) (B.tells bank.old) (SetUpLeaves B.D.seen B.D.may_leave B.D.faults) (record { sink = span (K.held sink.old) (K.held sink.new); lends = span (B.lends bank.old) (B.lends bank.new); given = span (B.given bank.old) (B.given bank.new); sink_faults = span (K.faults sink.old) (K.faults sink.new); bank_faults = span (B.faults bank.old) (B.faults bank.new); disk_faults = span (B.lent_faults bank.old) (B.lent_faults bank.new) }) result.status }
+    ensures quiet { IsBeforeReplay result.status → (sink.new ≡ sink.old) × (bank.new ≡ bank.old) }
+    ensures unread { result.status ≡ Status.Usage → source.new ≡ source.old }
+    ensures no_form { ¬ HaveForm (map string_bytes words.now) → result.status ≡ Status.Usage }
+    ensures complete { HaveForm (map string_bytes words.now) → Gives IsScript (S.left source.old) → ¬ RoseBy 1 (span (S.faults source.old) (S.faults source.new)) → ¬ RoseBy 1 (span (K.faults sink.old) (K.faults sink.new)) → ¬ RoseBy 1 (span (B.faults bank.old) (B.faults bank.new)) → ¬ RoseBy 1 (span (B.lent_faults bank.old) (B.lent_faults bank.new))
+        → (result.status ≡ Status.Done) ⊎ ((result.status ≡ Status.OutOfMemory) ⊎ (result.status ≡ Status.Limit)) }
     ensures stops { TakesAtMost (16777216 + 1) (S.left source.old) (S.left source.new) }
 
     // The status is told: by its number, and by its line.
     ensures number { result.number ≡ status_number result.status }
     ensures told { Shows result.status (E.held errors.old) (E.held errors.new) (E.faults errors.old) (E.faults errors.new) }
 {
-    let status = cell_main(alloc, words, source, sink);
+    let status = cell_main(alloc, words, source, sink, bank);
     let _shown = put_status(errors, status);
     Ended {
         status,

@@ -12,7 +12,7 @@ use Rattle.afs_volstore.specs.Stores.{IsEarly, SameBut, Store}
 use Rattle.afs_host.specs.Seats.{Resting}
 use Rattle.afs_host.specs.Starting.{Stays}
 use Rattle.afs_host.proofs.Blows.{none_cause}
-use Rattle.afs_host.proofs.Booting.{failed_boots, fits_boot, full_boots, is_true, risen_boots, starts_are_kept, still_there, was_failed}
+use Rattle.afs_host.proofs.Booting.{failed_boots, failed_over, fits_boot, full_boots, full_over, is_true, risen_boots, risen_over, starts_are_kept, still_there, was_failed}
 use Rattle.afs_host.proofs.starting.boot.Goals as goal
 
 pub returns-in-Ok-clause-boots : goal.returns-in-Ok-clause-boots
@@ -61,3 +61,26 @@ returns-in-Err-OutOfMemory-clause-boots g c = λ begun records found.
     (still_there g.D.Disk.seen g.D.Disk.may_leave g.D.Disk.moment g.D.Disk.left_since g.met.D.Disk.counts_now begun records c.args.front store c.boot.new.self found same (c.of.ensures.kept up) (c.of.ensures.counted up) (λ bytes told.
     let only = e.any_moment bytes told in
     record { later = only.later; each = only.each; before = only.before }))
+
+pub returns-in-Ok-clause-over : goal.returns-in-Ok-clause-over
+returns-in-Ok-clause-over g c =
+    let can : can_boot c.args.store.durable ≡ true = is_true (can_boot c.args.store.durable) (λ none. (c.in-Ok.ensures.room none).1 refl) in
+    risen_over g.D.Disk.faults c.args.front c.args.store c.boot.new.self c.args.now c.args.clients can c.in-Ok.ensures.started c.rise.result c.rise.ensures
+
+pub returns-in-Err-Full-clause-over : goal.returns-in-Err-Full-clause-over
+returns-in-Err-Full-clause-over g c =
+    let is = c.in-Err-Full.field-0-is in
+    let err : IsErrOf {T = List Line} {E = StoreFault} (Err c.in-Err-Full.field-0) (refusals.Full c.in-Err-Full.field-0-0 c.in-Err-Full.field-0-1) = ap (λ (f : StoreFault). Err f) is in
+    full_over g.D.Disk.faults c.args.front c.args.store c.boot.new.self c.args.now c.args.clients (c.in-Err-Full.ensures.full c.in-Err-Full.field-0-0 c.in-Err-Full.field-0-1 err).0
+    c.stay.result (subst (λ (n : Node). Stays c.boot.new.self c.args.front (lines.Full n) c.stay.result) c.node-node.ensures c.stay.ensures.stays)
+
+pub returns-in-Err-Failed-clause-over : goal.returns-in-Err-Failed-clause-over
+returns-in-Err-Failed-clause-over g c =
+    let store = c.args.store in
+    let e = c.in-Err-Failed.ensures in
+    let is = c.in-Err-Failed.field-0-is in
+    let err : IsErrOf {T = List Line} {E = StoreFault} (Err c.in-Err-Failed.field-0) refusals.Failed = ap (λ (f : StoreFault). Err f) is in
+    let can : can_boot store.durable ≡ true = is_true (can_boot store.durable) (λ none. was_failed c.in-Err-Failed.field-0 store.durable.journal store.durable.capacity is (e.room none).0) in
+    failed_over g.D.Disk.faults c.args.front store c.boot.new.self c.args.now c.args.clients can
+    (none_cause (record { stop = store.disk.stop; fail = store.disk.fail }) c.boot.new.self.disk.calls _ c.requires.unset.0 c.requires.unset.1 (e.served.failed err).1)
+    c.stay-in-Err-Failed.result (subst (λ (n : Node). Stays c.boot.new.self c.args.front (lines.Fault n) c.stay-in-Err-Failed.result) c.node-node.ensures c.stay-in-Err-Failed.ensures.stays)

@@ -1,4 +1,4 @@
-use Rattle.afs_law.proofs.Servers.{runs_legal}
+use Rattle.afs_law.proofs.Members.{runs_legal}
 use Rattle.afs_law.proofs.laws.runs_are_legal.Goals as goal
 
 pub returns : goal.returns

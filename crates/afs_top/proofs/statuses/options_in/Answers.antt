@@ -1,5 +1,5 @@
 use Rattle.std.proofs.Common.{string_bytes}
-use Rattle.afs_top.proofs.Words.{four_ask_nothing}
+use Rattle.afs_top.proofs.FewWords.{four_ask_nothing}
 use Rattle.afs_top.proofs.statuses.options_in.Goals as goal
 
 pub returns-in-len4-up : goal.returns-in-len4-up

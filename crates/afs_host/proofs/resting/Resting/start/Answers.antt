@@ -3,12 +3,12 @@ use Rattle.std.proofs.Common.{refl, ap, sym, subst, ◌∙◌}
 use Rattle.afs_num.specs.declared.faults.StoreFault.{StoreFault}
 use Rattle.afs_num.specs.declared.faults.StoreFault.TheVariants as refusals
 use Rattle.afs_num.specs.declared.types.Node.TheVariants.{Server}
-use Rattle.afs_disk.specs.Disk.{Setting}
+use Rattle.afs_disk.specs.Disk.{Rose, Setting}
 use Rattle.afs_disk.specs.Fuses.{Fused}
 use Rattle.afs_volstore.specs.Stores.{IsCaused, Store}
 use Rattle.afs_host.specs.Seats.{Resting}
-use Rattle.afs_host.specs.Starting.{IsStarted}
-use Rattle.afs_host.proofs.Started.{own_cause, refused_so, taken_up, Refused}
+use Rattle.afs_host.specs.Starting.{IsStarted, StartsOver}
+use Rattle.afs_host.proofs.Started.{boots_over, own_cause, refused_over, refused_so, taken_up, Refused}
 use Rattle.afs_host.proofs.resting.Resting.start.Goals as goal
 
 pub returns-in-Ok-clause-started : goal.returns-in-Ok-clause-started
@@ -57,3 +57,28 @@ returns-in-Err-clause-started g c =
       bad = λ number is bytes told. e.bad number is bytes told;
       failed = own_cause (record { stop = fuse.stop; fail = fuse.fail }) c.in-Err.fuse.calls _ _ _ _ c.in-Err.refusal (ap (λ (f : Fused g.row.D.Denot). f.stop) c.new.ensures) (ap (λ (f : Fused g.row.D.Denot). f.fail) c.new.ensures) e.err.1;
     })) c.refused.result c.refused.ensures)
+
+pub returns-in-Ok-clause-over : goal.returns-in-Ok-clause-over
+returns-in-Ok-clause-over g c =
+    let fuse = c.new.result in
+    let old : Resting g.row.D.Denot = record { disk = fuse.disk; mark = c.self.inside.mark } in
+    let s = c.in-Ok.store in
+    let e = c.in-Ok.ensures in
+    let b = c.boot.ensures in
+    let is : old ≡ c.args.self = ap (λ (d : g.row.D.Denot). record { disk = d; mark = c.self.inside.mark }) (ap (λ (f : Fused g.row.D.Denot). f.disk) c.new.ensures) ∙ c.self.view_is in
+    subst (λ (x : Resting g.row.D.Denot). StartsOver g.D.Disk.seen g.D.Disk.faults g.D.Disk.limit (Server c.args.server) c.args.now c.args.clients x c.boot.result) is
+    (boots_over g.D.Disk.seen g.D.Disk.faults g.D.Disk.limit (Server c.args.server) c.args.now c.args.clients old s c.in-Ok.front (ap (λ (t : Store (Fused g.row.D.Denot)). t.node) e.rest) e.capacity e.ok.0.own_never_falls c.boot.result b.faults b.over)
+
+pub returns-in-Err-clause-over : goal.returns-in-Err-clause-over
+returns-in-Err-clause-over g c =
+    let fuse = c.new.result in
+    let old : Resting g.row.D.Denot = record { disk = fuse.disk; mark = c.self.inside.mark } in
+    let new : Resting g.row.D.Denot = record { disk = c.into_inner.result; mark = c.self.inside.mark } in
+    let e = c.in-Err.ensures in
+    let is : old ≡ c.args.self = ap (λ (d : g.row.D.Denot). record { disk = d; mark = c.self.inside.mark }) (ap (λ (f : Fused g.row.D.Denot). f.disk) c.new.ensures) ∙ c.self.view_is in
+    let inner : new.disk ≡ c.in-Err.fuse.disk = c.into_inner.ensures in
+    subst (λ (x : Resting g.row.D.Denot). StartsOver g.D.Disk.seen g.D.Disk.faults g.D.Disk.limit (Server c.args.server) c.args.now c.args.clients x c.refused.result) is
+    (refused_over g.D.Disk.seen g.D.Disk.faults g.D.Disk.limit (Server c.args.server) c.args.now c.args.clients old new c.in-Err.refusal refl e.refusals (λ number is bytes told. e.bad number is bytes told)
+    (λ failed. subst (λ (d : g.row.D.Denot). Rose (g.D.Disk.faults old.disk) (g.D.Disk.faults d)) (sym inner)
+    (own_cause (record { stop = fuse.stop; fail = fuse.fail }) c.in-Err.fuse.calls _ _ _ _ c.in-Err.refusal (ap (λ (f : Fused g.row.D.Denot). f.stop) c.new.ensures) (ap (λ (f : Fused g.row.D.Denot). f.fail) c.new.ensures) e.err.1 failed))
+    c.refused.result c.refused.ensures)

@@ -16,10 +16,11 @@ use Rattle.afs_server.specs.Handling.{calls_served, record_decided, server_seen,
 use Rattle.afs_server.specs.declared.faults.NodeFault.{NodeFault}
 use Rattle.afs_server.specs.declared.faults.NodeFault.TheVariants as nodes
 use Rattle.afs_host.specs.Seats.{CanRun, Running}
-use Rattle.afs_host.specs.Serving.{IsBroken, IsHandled}
+use Rattle.afs_host.specs.Serving.{IsBroken, IsHandled, RunsRow}
 use Rattle.afs_host.specs.Setting.{armed_seen}
 use Rattle.afs_host.proofs.Breaking.{ended_lies, saves_calls}
-use Rattle.afs_host.proofs.Handled.{Passed, passed_goes_on, passed_step, quiet_then, same_goes_on}
+use Rattle.afs_host.proofs.Handled.{row_made, Passed, passed_goes_on, passed_step, quiet_then, same_goes_on}
+use Rattle.afs_host.proofs.Heard.{message_of, stands_there}
 use Rattle.afs_host.proofs.Stepping.{made_calls, same_row}
 use Rattle.afs_host.proofs.running.Running.handle.Goals as goal
 
@@ -49,6 +50,18 @@ returns-in-Ok-clause-handled g c =
     } in
     subst (λ (x : Running g.row.D.Denot). IsHandled g.D.Disk.seen g.D.Disk.left_by g.D.Disk.size g.D.Disk.may_leave g.D.Disk.moment g.D.Disk.left_since g.D.Disk.faults g.D.Disk.limit x c.args.now (received c.args.bytes.now) new (Ok c.in-Ok.outs)) c.self.view_is
     (passed_step c.args.now c.args.bytes.now old new c.in-Ok.outs can passed, passed_goes_on c.args.now c.args.bytes.now old new c.in-Ok.outs can passed)
+
+pub returns-in-Ok-clause-row : goal.returns-in-Ok-clause-row
+returns-in-Ok-clause-row g c =
+    let inside = c.self.inside in
+    let old : Running g.row.D.Denot = record { memory = inside.server; store = inside.store; armed = armed_seen inside.armed } in
+    let new : Running g.row.D.Denot = record { memory = c.handle.new.self; store = c.handle.new.store; armed = armed_seen c.lowered-self-inside.result } in
+    let e = c.in-Ok.ensures in
+    let d = decides inside.store.node (server_seen inside.server inside.store) c.args.now (received_by calls_served c.args.bytes.now) in
+    let made : c.saturating_sub-made.result * 4 ≡ device_calls d = ap (λ (n : ℕ). n * 4) (c.saturating_sub-made.ensures ∙ (ap (λ (m : Mark). m.records - c.mark-before.result.records) c.mark.ensures.value ∙ ap (λ (m : Mark). new.store.count - m.records) c.mark-before.ensures.value))
+    ∙ made_calls inside.store.durable.boot c.args.now d inside.store c.handle.new.store e.kept in
+    subst (λ (x : Running g.row.D.Denot). RunsRow x c.args.now c.args.bytes.now new (Ok c.in-Ok.outs)) c.self.view_is
+    (row_made c.args.now c.args.bytes.now old new c.in-Ok.outs e.step (c.lowered-self-inside.ensures ∙ ap (λ (n : ℕ). lowered n (armed_seen inside.armed)) made))
 
 pub returns-in-Err-OutOfMemory-clause-handled : goal.returns-in-Err-OutOfMemory-clause-handled
 returns-in-Err-OutOfMemory-clause-handled g c =
@@ -123,3 +136,11 @@ returns-in-Err-Down-clause-handled g c =
       cause = (e.ran.down err).1;
       capacity = c.mark-before.ensures.capacity ∙ sym e.limit;
     })
+
+pub returns-in-Err-Down-clause-row : goal.returns-in-Err-Down-clause-row
+returns-in-Err-Down-clause-row g c =
+    let inside = c.self.inside in
+    let e = c.in-Err-Down.ensures in
+    let err : IsErrOf {T = Outs} {E = NodeFault} (Err c.in-Err-Down.field-0) nodes.Down = ap (λ (f : NodeFault). Err f) c.in-Err-Down.field-0-is in
+    let of = message_of inside.store.node (server_seen inside.server inside.store) inside.store.durable.boot c.args.now (received_by calls_served c.args.bytes.now) (e.down err) in
+    (of.0, stands_there c.args.bytes.now of.0 of.1)

@@ -1,0 +1,42 @@
+-- In a safe world each node can be given the next input.
+use Rattle.std.proofs.Common.{refl, arith, sym, subst, ◌∙◌, ◌≡◌, ◌≤◌, ◌<◌, ◌+◌, ◌*◌, ℕ, List, length, Bool, false, Some}
+use Rattle.afs_num.specs.Places.{at_place}
+use Rattle.afs_num.specs.declared.types.Node.TheVariants.{Server}
+use Rattle.afs_history.specs.declared.scripts.Script.{Script}
+use Rattle.afs_host.specs.declared.seats.Seat.TheVariants.{Down, Up}
+use Rattle.afs_cell.specs.Happening.{CanStep, IsSeatOf}
+use Rattle.afs_cell.specs.Ready.{AllCanStep, AllReady, CanTake, IsReadySeatOf}
+use Rattle.afs_cell.specs.Worlds.{most_entries, IsReadyClient, IsReadySeat, IsSafe, ServerSeat, WorldState}
+use Rattle.afs_cell.specs.declared.clients.ClientSeat.{ClientSeat}
+use Rattle.afs_cell.proofs.Handed.{server_is_node}
+use Rattle.afs_cell.proofs.Numbers.{place_within}
+
+can_step : {D : Type 0} (i entries : ℕ) (seat : ServerSeat D) → entries < most_entries → IsReadySeat i entries seat → CanStep seat
+can_step {D} i entries (Up r) few h = (h.can_run, (record { calls = omega (arith, h.calls_drawn, few); breaks = omega (arith, h.breaks_drawn, few) }, omega (arith, h.device_calls, few)))
+can_step {D} i entries (Down s) few h = tt
+
+own_seat : {D : Type 0} (i entries : ℕ) (seat : ServerSeat D) → IsReadySeat i entries seat → IsSeatOf i seat
+own_seat {D} i entries (Up r) h = h.node
+own_seat {D} i entries (Down s) h = tt
+
+pub all_can : {D : Type 0} (limit : D → ℕ) (s : Script) (w : WorldState D) → IsSafe limit s w → w.is_lost ≡ false → length w.history < most_entries → AllCanStep limit w.servers
+all_can {D} limit s w safe going few i seat found =
+    let within = place_within w.servers i seat found in
+    let ready = safe.servers going i seat found in
+    record {
+      can = can_step i (length w.history) seat few ready;
+      own = own_seat i (length w.history) seat ready;
+      node = server_is_node i within.0 (omega (arith, within.1, safe.server_count, safe.cell_script.servers.1));
+      few = omega (arith, safe.disks i seat found, safe.cell_script.capacity.1);
+    }
+
+pub all_ready : {D : Type 0} (limit : D → ℕ) (s : Script) (w : WorldState D) → IsSafe limit s w → w.is_lost ≡ false → length w.history < most_entries → AllReady s w.clients
+all_ready {D} limit s w safe going few n seat found =
+    let within = place_within w.clients n seat found in
+    let ready = safe.clients going n seat found in
+    record {
+      handed = ready.handed;
+      number = (within.0, omega (arith, within.1, safe.client_count, safe.cell_script.clients));
+      last = omega (arith, ready.last, few);
+      epoch = omega (arith, ready.epoch, few);
+    }

@@ -1,0 +1,125 @@
+-- The servers at set-up, one after the other, and the disks that are handed back.
+use Rattle.std.proofs.Common.{refl, append_assoc, arith, ap, sym, subst, ◌∙◌, ◌≡◌, ◌≤◌, ◌+◌, ◌⊎◌, inl, inr, ℕ, zero, suc, List, [], ◌∷◌, ◌++◌, length, Option, Some, None}
+use Rattle.std.specs.Prelude.{IsSome, ◌↔◌}
+use Rattle.afs_num.specs.Places.{at_place}
+use Rattle.afs_num.specs.declared.types.Node.{Node}
+use Rattle.afs_history.specs.declared.scripts.Script.{Script}
+use Rattle.afs_disk.specs.declared.disks.Lent.{Lent}
+use Rattle.afs_host.specs.Seats.{disk_of, Resting, Running}
+use Rattle.afs_host.specs.declared.seats.Seat.TheVariants.{Down, Up}
+use Rattle.afs_cell.specs.Ends.{AreLeft, IsRefusedBy, NoneFell, OneRose}
+use Rattle.afs_cell.specs.FirstSeats.{AreBack, AreFirstSeats, IsBack, IsFirstSeat, IsFirstServer, IsRefusedAt}
+use Rattle.afs_cell.specs.Steps.{lent_from, AreLent}
+use Rattle.afs_cell.specs.Worlds.{seat_disk, ServerSeat}
+use Rattle.afs_cell.specs.declared.faults.SetupFault.{SetupFault}
+use Rattle.afs_cell.specs.declared.faults.SetupFault.TheVariants as setup
+use Rattle.afs_cell.proofs.FirstStores.{same_back}
+
+abbrev handed : {D : Type 0} → Lent D → D → Lent D
+handed {D} l d = record { node = l.node; disk = d }
+
+-- all disks are handed back, and if one of them is why, its count of faults rose
+pub record IsRefusedSetUp {D : Type 0} (seen : D → Option (List ℕ)) (may_leave : D → List ℕ → Type 0) (faults limit : D → ℕ) (s : Script) (disks : List (Lent D)) (e : SetupFault × List (Lent D)) : Type 0 where
+  pub back : AreBack seen may_leave faults limit s 1 disks e.1
+  pub cause : IsRefusedBy faults disks e.0 e.1
+
+pub length_lent : {D : Type 0} (i : ℕ) (ss : List (ServerSeat D)) → length (lent_from i ss) ≡ length ss
+length_lent {D} i [] = refl
+length_lent {D} i (s ∷ ss) = ap (λ (n : ℕ). suc n) (length_lent (i + 1) ss)
+
+-- as the program gives them
+pub handed_all : {D : Type 0} (back one two three all ls rest : List (Lent D)) (x : Lent D) → back ≡ [] → one ≡ back ++ ls → two ≡ one ++ x ∷ [] → three ≡ two ++ rest → all ≡ three → all ≡ ls ++ (x ∷ rest)
+handed_all {D} back one two three all ls rest x none a b c d =
+    d ∙ (c ∙ (ap (λ (bs : List (Lent D)). bs ++ rest) (b ∙ ap (λ (bs : List (Lent D)). bs ++ x ∷ []) (a ∙ ap (λ (bs : List (Lent D)). bs ++ ls) none)) ∙ append_assoc ls (x ∷ []) rest))
+
+module _ {D : Type 0} (seen : D → Option (List ℕ)) (may_leave : D → List ℕ → Type 0) (faults limit : D → ℕ) (s : Script) where
+  -- one server more
+  pub one_seat_more : (i j : ℕ) (ls : List (Lent D)) (seats : List (ServerSeat D)) (l : Lent D) (rest : List (Lent D)) (r : Running D) → AreFirstSeats seen may_leave faults limit s i ls seats (l ∷ rest) → j ≡ i + length seats → IsFirstServer seen may_leave faults limit s j l.disk r
+      → AreFirstSeats seen may_leave faults limit s i ls (seats ++ Up r ∷ []) rest
+  one_seat_more i j ls [] l rest r e at first =
+      let here : j ≡ i = omega (arith, at) in
+      subst (λ (xs : List (Lent D)). AreFirstSeats seen may_leave faults limit s i xs (Up r ∷ []) rest) (sym e) (subst (λ (k : ℕ). IsFirstServer seen may_leave faults limit s k l.disk r) here first, refl)
+  one_seat_more i j [] (seat ∷ seats) l rest r h at first = absurd h
+  one_seat_more i j (k ∷ ls) (seat ∷ seats) l rest r h at first = (h.0, one_seat_more (i + 1) j ls seats l rest r h.1 (omega (arith, at)) first)
+
+  -- the disk that comes next is that of the next number
+  pub next_lent : (capacity i : ℕ) (ls : List (Lent D)) (seats : List (ServerSeat D)) (l : Lent D) (rest : List (Lent D)) → AreLent limit capacity i ls → AreFirstSeats seen may_leave faults limit s i ls seats (l ∷ rest) → (l.node ≡ i + length seats) × (limit l.disk ≡ capacity)
+  next_lent capacity i ls [] l rest lent e =
+      let here : AreLent limit capacity i (l ∷ rest) = subst (λ (xs : List (Lent D)). AreLent limit capacity i xs) e lent in
+      (let node = here.0 in omega (arith, node), here.1.0)
+  next_lent capacity i [] (seat ∷ seats) l rest lent h = absurd h
+  next_lent capacity i (k ∷ ls) (seat ∷ seats) l rest lent h =
+      let more = next_lent capacity (i + 1) ls seats l rest lent.1.1 h.1 in
+      (let node = more.0 in omega (arith, node), more.1)
+
+  pub count_seats : (i : ℕ) (ls : List (Lent D)) (seats : List (ServerSeat D)) (rest : List (Lent D)) → AreFirstSeats seen may_leave faults limit s i ls seats rest → length ls ≡ length seats + length rest
+  count_seats i ls [] rest e =
+      let same = ap (λ (xs : List (Lent D)). length xs) e in
+      omega (arith, same)
+  count_seats i [] (seat ∷ seats) rest h = absurd h
+  count_seats i (k ∷ ls) (seat ∷ seats) rest h =
+      let more = count_seats (i + 1) ls seats rest h.1 in
+      omega (arith, more)
+
+  -- ---- disks go back
+
+  pub all_same : (i : ℕ) (ls : List (Lent D)) → AreBack seen may_leave faults limit s i ls ls
+  all_same i [] = tt
+  all_same i (l ∷ ls) = (refl, (same_back seen may_leave faults limit s i l.disk, all_same (i + 1) ls))
+
+  seat_back : (i : ℕ) (old : D) (seat : ServerSeat D) → IsFirstSeat seen may_leave faults limit s i old seat → IsBack seen may_leave faults limit s i old (seat_disk seat)
+  seat_back i old (Up r) h = record { same_limit = h.same_limit; no_fewer = h.no_fewer; left = h.left }
+  seat_back i old (Down r) h = absurd h
+
+  -- those of the servers that were set up, the one that was refused, and the rest
+  seats_back : (capacity i j : ℕ) (ls : List (Lent D)) (seats : List (ServerSeat D)) (l : Lent D) (rest : List (Lent D)) (d : D) → AreLent limit capacity i ls → AreFirstSeats seen may_leave faults limit s i ls seats (l ∷ rest) → j ≡ i + length seats → IsBack seen may_leave faults limit s j l.disk d
+      → AreBack seen may_leave faults limit s i ls (lent_from i seats ++ (handed l d ∷ rest))
+  seats_back capacity i j ls [] l rest d lent e at back =
+      let here : j ≡ i = omega (arith, at) in
+      subst (λ (xs : List (Lent D)). AreBack seen may_leave faults limit s i xs (handed l d ∷ rest)) (sym e) (refl, (subst (λ (k : ℕ). IsBack seen may_leave faults limit s k l.disk d) here back, all_same (i + 1) rest))
+  seats_back capacity i j [] (seat ∷ seats) l rest d lent h at back = absurd h
+  seats_back capacity i j (k ∷ ls) (seat ∷ seats) l rest d lent h at back = (sym lent.0, (seat_back i k.disk seat h.0, seats_back capacity (i + 1) j ls seats l rest d lent.1.1 h.1 (omega (arith, at)) back))
+
+  one_rose : (i : ℕ) (ls : List (Lent D)) (seats : List (ServerSeat D)) (l : Lent D) (rest : List (Lent D)) (n : Node) (d : D) → AreFirstSeats seen may_leave faults limit s i ls seats (l ∷ rest) → IsRefusedBy faults (l ∷ []) (setup.Disk n) (handed l d ∷ [])
+      → OneRose faults ls (lent_from i seats ++ (handed l d ∷ rest))
+  one_rose i ls [] l rest n d e (inl rose) = subst (λ (xs : List (Lent D)). OneRose faults xs (handed l d ∷ rest)) (sym e) (inl rose)
+  one_rose i ls [] l rest n d e (inr none) = absurd none
+  one_rose i [] (seat ∷ seats) l rest n d h rose = absurd h
+  one_rose i (k ∷ ls) (seat ∷ seats) l rest n d h rose = inr (one_rose (i + 1) ls seats l rest n d h.1 rose)
+
+  cause_by : (fault : SetupFault) (j i : ℕ) (ls : List (Lent D)) (seats : List (ServerSeat D)) (l : Lent D) (rest : List (Lent D)) (d : D) → AreFirstSeats seen may_leave faults limit s i ls seats (l ∷ rest) → IsRefusedAt seen may_leave faults limit s j l.disk (fault, d)
+      → IsRefusedBy faults ls fault (lent_from i seats ++ (handed l d ∷ rest))
+  cause_by (setup.Disk n) j i ls seats l rest d h refused = one_rose i ls seats l rest n d h (inl refused.cause)
+  cause_by setup.OutOfMemory j i ls seats l rest d h refused = tt
+
+  pub refused_set_up : (capacity j : ℕ) (ls : List (Lent D)) (seats : List (ServerSeat D)) (l : Lent D) (rest : List (Lent D)) (fault : SetupFault) (d : D) → AreLent limit capacity 1 ls → AreFirstSeats seen may_leave faults limit s 1 ls seats (l ∷ rest) → j ≡ 1 + length seats
+      → IsRefusedAt seen may_leave faults limit s j l.disk (fault, d) → IsRefusedSetUp seen may_leave faults limit s ls (fault, lent_from 1 seats ++ (handed l d ∷ rest))
+  refused_set_up capacity j ls seats l rest fault d lent first at refused = record {
+    back = seats_back capacity 1 j ls seats l rest d lent first at refused.back;
+    cause = cause_by fault j 1 ls seats l rest d first refused;
+  }
+
+  -- ---- what a refusal tells
+
+  pub none_fell : (i : ℕ) (olds news : List (Lent D)) → AreBack seen may_leave faults limit s i olds news → NoneFell faults olds news
+  none_fell i [] news h = tt
+  none_fell i (a ∷ olds) [] h = absurd h
+  none_fell i (a ∷ olds) (b ∷ news) h = (h.1.0.no_fewer, none_fell (i + 1) olds news h.1.1)
+
+  pub are_left : (i : ℕ) (olds news : List (Lent D)) → AreBack seen may_leave faults limit s i olds news → AreLeft seen may_leave s i olds news
+  are_left i [] [] h = tt
+  are_left i [] (b ∷ news) h = absurd h
+  are_left i (a ∷ olds) [] h = absurd h
+  are_left i (a ∷ olds) (b ∷ news) h = (h.1.0.left, are_left (i + 1) olds news h.1.1)
+
+  pub lent_back : (capacity i : ℕ) (olds news : List (Lent D)) → AreLent limit capacity i olds → AreBack seen may_leave faults limit s i olds news → AreLent limit capacity i news
+  lent_back capacity i [] [] lent h = tt
+  lent_back capacity i [] (b ∷ news) lent h = absurd h
+  lent_back capacity i (a ∷ olds) [] lent h = absurd h
+  lent_back capacity i (a ∷ olds) (b ∷ news) lent h = (h.0 ∙ lent.0, (h.1.0.same_limit ∙ lent.1.0, lent_back capacity (i + 1) olds news lent.1.1 h.1.1))
+
+  pub as_many_back : (i : ℕ) (olds news : List (Lent D)) → AreBack seen may_leave faults limit s i olds news → length news ≡ length olds
+  as_many_back i [] [] h = refl
+  as_many_back i [] (b ∷ news) h = absurd h
+  as_many_back i (a ∷ olds) [] h = absurd h
+  as_many_back i (a ∷ olds) (b ∷ news) h = ap (λ (n : ℕ). suc n) (as_many_back (i + 1) olds news h.1.1)

@@ -1,0 +1,213 @@
+-- A cell at set-up.
+use Rattle.std.proofs.Common.{refl, arith, ap, ap₂, sym, subst, ◌∙◌, ◌≡◌, ◌≤◌, ◌+◌, ℕ, zero, suc, List, [], ◌∷◌, ◌++◌, length, false, Option, Some, None}
+use Rattle.std.specs.Prelude.{IsSome, ◌↔◌}
+use Rattle.afs_num.specs.Places.{at_place}
+use Rattle.afs_num.specs.declared.types.Parcel.{Parcel}
+use Rattle.afs_history.specs.declared.acts.Act.{Act}
+use Rattle.afs_history.specs.declared.lines.Entry as kept
+use Rattle.afs_history.specs.declared.scripts.Script.{Script}
+use Rattle.afs_disk.specs.declared.disks.Lent.{Lent}
+use Rattle.afs_grammar.specs.CellScripts.{IsCellScript}
+use Rattle.afs_rows.specs.Going.{ClientState}
+use Rattle.afs_rows.specs.Runs.{first_client, first_host, start}
+use Rattle.afs_host.specs.Seats.{Resting, Running}
+use Rattle.afs_host.specs.declared.seats.Seat.TheVariants.{Down, Up}
+use Rattle.afs_schedule.specs.Schedules.{acts_of}
+use Rattle.afs_cell.specs.FirstSeats.{AreFirstSeats, IsFirstSeat}
+use Rattle.afs_cell.specs.Places.{Each}
+use Rattle.afs_cell.specs.Refusing.{AreFirstClients}
+use Rattle.afs_cell.specs.Seating.{IsFirstClient}
+use Rattle.afs_cell.specs.Steps.{AreLent, IsFirst, LentTell}
+use Rattle.afs_cell.specs.Worlds.{seat_disk, AllHold, AllTell, IsCell, IsClient, IsHost, IsReadyClient, IsReadySeat, IsSafe, IsWorld, ServerSeat, WorldState}
+use Rattle.afs_cell.specs.declared.clients.ClientSeat.{ClientSeat}
+use Rattle.afs_cell.proofs.FirstSeated.{count_seats}
+use Rattle.afs_cell.proofs.Numbers.{none_some, some_is}
+use Rattle.afs_cell.proofs.UnderWay.{runs_none}
+
+-- ---- each of a list
+
+-- so it is of each, with its number, from this one on
+abbrev pub EachFrom : {A : Type 0} → (ℕ → A → Type 0) → ℕ → List A → Type 0
+EachFrom {A} P i [] = Unit {0}
+EachFrom {A} P i (x ∷ xs) = P i x × EachFrom P (i + 1) xs
+
+each_at : {A : Type 0} (P : ℕ → A → Type 0) (i : ℕ) (xs : List A) → EachFrom P i xs → (n : ℕ) (x : A) → at_place xs (suc n) ≡ Some x → P (i + n) x
+each_at {A} P i [] h n x e = absurd (none_some x e)
+each_at {A} P i (y ∷ ys) h zero x e =
+    let here : i ≡ i + 0 = omega arith in
+    subst (λ (k : ℕ). P k x) here (subst (λ (z : A). P i z) (some_is y x e) h.0)
+each_at {A} P i (y ∷ ys) h (suc n) x e =
+    let here : (i + 1) + n ≡ i + suc n = omega arith in
+    subst (λ (k : ℕ). P k x) here (each_at P (i + 1) ys h.1 n x e)
+
+no_place : {A : Type 0} (xs : List A) (x : A) → at_place xs zero ≡ Some x → ⊥
+no_place [] x e = absurd (none_some x e)
+no_place (y ∷ ys) x e = absurd (none_some x e)
+
+pub each_from : {A : Type 0} (P : ℕ → A → Type 0) (xs : List A) → EachFrom P 1 xs → Each P xs
+each_from {A} P xs h zero x e = absurd (no_place xs x e)
+each_from {A} P xs h (suc n) x e =
+    let here : 1 + n ≡ suc n = omega arith in
+    subst (λ (k : ℕ). P k x) here (each_at P 1 xs h n x e)
+
+pub each_behind : {A : Type 0} (P : ℕ → A → Type 0) (i : ℕ) (xs : List A) (x : A) → EachFrom P i xs → P (i + length xs) x → EachFrom P i (xs ++ x ∷ [])
+each_behind {A} P i [] x h one =
+    let here : i + 0 ≡ i = omega arith in
+    (subst (λ (k : ℕ). P k x) here one, tt)
+each_behind {A} P i (y ∷ ys) x h one =
+    let here : i + suc (length ys) ≡ (i + 1) + length ys = omega arith in
+    (h.0, each_behind P (i + 1) ys x h.1 (subst (λ (k : ℕ). P k x) here one))
+
+-- ---- clients
+
+pub client_more : (s : Script) (i j : ℕ) (cs : List ClientSeat) (c : ClientSeat) → AreFirstClients s i cs → j ≡ i + length cs → IsFirstClient s j c → AreFirstClients s i (cs ++ c ∷ [])
+client_more s i j [] c h at one =
+    let here : j ≡ i = omega (arith, at) in
+    (subst (λ (k : ℕ). IsFirstClient s k c) here one, tt)
+client_more s i j (k ∷ cs) c h at one = (h.0, client_more s (i + 1) j cs c h.1 (omega (arith, at)) one)
+
+clients_from : (s : Script) (Q : ℕ → ClientSeat → Type 0) (i : ℕ) (cs : List ClientSeat) → ((n : ℕ) (c : ClientSeat) → IsFirstClient s n c → Q n c) → AreFirstClients s i cs → EachFrom Q i cs
+clients_from s Q i [] f h = tt
+clients_from s Q i (c ∷ cs) f h = (f i c h.0, clients_from s Q (i + 1) cs f h.1)
+
+each_client : (s : Script) (Q : ℕ → ClientSeat → Type 0) (cs : List ClientSeat) → ((n : ℕ) (c : ClientSeat) → IsFirstClient s n c → Q n c) → AreFirstClients s 1 cs → Each Q cs
+each_client s Q cs f h = each_from Q cs (clients_from s Q 1 cs f h)
+
+ready_client : (s : Script) (n : ℕ) (c : ClientSeat) → IsFirstClient s n c → IsReadyClient s n 0 c
+ready_client s n c h =
+    let epoch = h.epoch in
+    let last : c.client.state.last ≡ 0 = ap (λ (x : ClientState). x.last) h.state in
+    record { handed = h.handed; epoch = omega (arith, epoch); last = omega (arith, last) }
+
+no_more : {A : Type 0} (x : A) (xs : List A) → x ∷ xs ≡ [] → ⊥
+no_more x xs e = absurd cc
+
+module _ {D : Type 0} (seen : D → Option (List ℕ)) (may_leave : D → List ℕ → Type 0) (faults limit : D → ℕ) (s : Script) where
+  -- ---- servers
+
+  seats_from : (Q : ℕ → ServerSeat D → Type 0) (capacity i : ℕ) (ls : List (Lent D)) (ss : List (ServerSeat D)) (rest : List (Lent D)) → ((n : ℕ) (l : Lent D) (seat : ServerSeat D) → limit l.disk ≡ capacity → IsFirstSeat seen may_leave faults limit s n l.disk seat → Q n seat)
+      → AreLent limit capacity i ls → AreFirstSeats seen may_leave faults limit s i ls ss rest → EachFrom Q i ss
+  seats_from Q capacity i ls [] rest f lent h = tt
+  seats_from Q capacity i [] (seat ∷ ss) rest f lent h = absurd h
+  seats_from Q capacity i (l ∷ ls) (seat ∷ ss) rest f lent h = (f i l seat lent.1.0 h.0, seats_from Q capacity (i + 1) ls ss rest f lent.1.1 h.1)
+
+  ready_seat : (capacity n : ℕ) (l : Lent D) (seat : ServerSeat D) → limit l.disk ≡ capacity → IsFirstSeat seen may_leave faults limit s n l.disk seat → IsReadySeat n 0 seat
+  ready_seat capacity n l (Up r) e h = h.ready
+  ready_seat capacity n l (Down r) e h = absurd h
+
+  host_seat : (capacity n : ℕ) (l : Lent D) (seat : ServerSeat D) → limit l.disk ≡ capacity → IsFirstSeat seen may_leave faults limit s n l.disk seat → IsHost seen may_leave limit n seat (first_host s n)
+  host_seat capacity n l (Up r) e h = h.host
+  host_seat capacity n l (Down r) e h = absurd h
+
+  held_seat : (capacity n : ℕ) (l : Lent D) (seat : ServerSeat D) → limit l.disk ≡ capacity → IsFirstSeat seen may_leave faults limit s n l.disk seat → limit (seat_disk seat) ≡ capacity
+  held_seat capacity n l (Up r) e h = h.same_limit ∙ e
+  held_seat capacity n l (Down r) e h = absurd h
+
+  told_seat : (n : ℕ) (old : D) (seat : ServerSeat D) → IsFirstSeat seen may_leave faults limit s n old seat → IsSome (seen (seat_disk seat)) ↔ IsSome (seen old)
+  told_seat n old (Up r) h = h.left.told
+  told_seat n old (Down r) h = absurd h
+
+  -- the world as set-up makes it
+  abbrev first_world : List (ServerSeat D) → List ClientSeat → WorldState D
+  first_world ss cs = record { script = s; servers = ss; clients = cs; wire = []; history = []; clock = 0; is_lost = false }
+
+  module _ (h : IsCellScript s) (ls : List (Lent D)) (ss : List (ServerSeat D)) (cs : List ClientSeat) (lent : AreLent limit s.capacity 1 ls) (all : length ls ≡ s.servers) (seats : AreFirstSeats seen may_leave faults limit s 1 ls ss []) (clients : AreFirstClients s 1 cs) (count : length cs ≡ s.clients) where
+    seats_are : length ss ≡ s.servers
+    seats_are =
+        let counted = count_seats seen may_leave faults limit s 1 ls ss [] seats in
+        omega (arith, counted, all)
+
+    is_cell : IsCell seen may_leave limit (first_world ss cs) (start s)
+    is_cell = record {
+      host_count = sym seats_are;
+      hosts = each_from (λ (i : ℕ) (seat : ServerSeat D). IsHost seen may_leave limit i seat (first_host s i)) ss (seats_from (λ (i : ℕ) (seat : ServerSeat D). IsHost seen may_leave limit i seat (first_host s i)) s.capacity 1 ls ss [] (host_seat s.capacity) lent seats);
+      count = sym count;
+      clients = each_client s (λ (n : ℕ) (c : ClientSeat). IsClient c (first_client s n) false) cs (λ n c first. record { state_is = first.state; away_is = first.up }) clients;
+      sent = refl;
+      clock = refl;
+    }
+
+    pub is_first : IsFirst seen may_leave limit s (first_world ss cs)
+    is_first = record {
+      history = refl;
+      wire = refl;
+      clock = refl;
+      going = refl;
+      acts = each_client s (λ (n : ℕ) (c : ClientSeat). acts_of n s.tasks ≡ c.plan) cs (λ n c first. sym first.plan) clients;
+      cell = λ tell. is_cell;
+    }
+
+    is_safe : IsSafe limit s (first_world ss cs)
+    is_safe = record {
+      script = refl;
+      cell_script = h;
+      server_count = seats_are;
+      client_count = count;
+      servers = λ still. each_from (λ (i : ℕ) (seat : ServerSeat D). IsReadySeat i 0 seat) ss (seats_from (λ (i : ℕ) (seat : ServerSeat D). IsReadySeat i 0 seat) s.capacity 1 ls ss [] (ready_seat s.capacity) lent seats);
+      clients = λ still. each_client s (λ (n : ℕ) (c : ClientSeat). IsReadyClient s n 0 c) cs (ready_client s) clients;
+      disks = each_from (λ (i : ℕ) (seat : ServerSeat D). limit (seat_disk seat) ≡ s.capacity) ss (seats_from (λ (i : ℕ) (seat : ServerSeat D). limit (seat_disk seat) ≡ s.capacity) s.capacity 1 ls ss [] (held_seat s.capacity) lent seats);
+      sent = refl;
+      entries = omega arith;
+      ticks = omega arith;
+    }
+
+    pub is_world_first : IsWorld seen may_leave faults limit s (first_world ss cs)
+    is_world_first = record {
+      safe = is_safe;
+      run = λ tell. record { inputs = []; cell = start s; runs = runs_none seen may_leave faults limit s (first_world ss cs) is_first tell };
+    }
+
+    -- as the program makes it
+    module _ (ts : List (ServerSeat D)) (ds : List ClientSeat) (wire : List Parcel) (history : List kept.Entry) (servers_are : ts ≡ ss) (clients_are : ds ≡ cs) (no_wire : wire ≡ []) (no_history : history ≡ []) where
+      abbrev made_world : WorldState D
+      made_world = record { script = s; servers = ts; clients = ds; wire = wire; history = history; clock = 0; is_lost = false }
+
+      made_is : made_world ≡ first_world ss cs
+      made_is =
+          ap₂ (λ (a : List (ServerSeat D)) (b : List ClientSeat). record (first_world a b) { wire = wire; history = history }) servers_are clients_are
+          ∙ ap₂ (λ (a : List Parcel) (b : List kept.Entry). record (first_world ss cs) { wire = a; history = b }) no_wire no_history
+
+      pub world_made : IsWorld seen may_leave faults limit s made_world
+      world_made = subst (λ (w : WorldState D). IsWorld seen may_leave faults limit s w) (sym made_is) is_world_first
+
+      pub first_made : IsFirst seen may_leave limit s made_world
+      first_made = subst (λ (w : WorldState D). IsFirst seen may_leave limit s w) (sym made_is) is_first
+
+  -- ---- which disks tell
+
+  -- the disk at a number, before set-up and after it
+  pub record IsPair (ls : List (Lent D)) (ss : List (ServerSeat D)) (n : ℕ) : Type 0 where
+    pub lent : Lent D
+    pub seat : ServerSeat D
+    pub lent_at : at_place ls n ≡ Some lent
+    pub seat_at : at_place ss n ≡ Some seat
+    pub told : IsSome (seen (seat_disk seat)) ↔ IsSome (seen lent.disk)
+
+  pair_by_seat : (i : ℕ) (ls : List (Lent D)) (ss : List (ServerSeat D)) → AreFirstSeats seen may_leave faults limit s i ls ss [] → (n : ℕ) (seat : ServerSeat D) → at_place ss n ≡ Some seat → IsPair ls ss n
+  pair_by_seat i ls [] h n seat e = absurd (none_some seat e)
+  pair_by_seat i [] (x ∷ ss) h n seat e = absurd h
+  pair_by_seat i (l ∷ ls) (x ∷ ss) h zero seat e = absurd (none_some seat e)
+  pair_by_seat i (l ∷ ls) (x ∷ ss) h (suc zero) seat e = record { lent = l; seat = x; lent_at = refl; seat_at = refl; told = told_seat i l.disk x h.0 }
+  pair_by_seat i (l ∷ ls) (x ∷ ss) h (suc (suc n)) seat e =
+      let more = pair_by_seat (i + 1) ls ss h.1 (suc n) seat e in
+      record { lent = more.lent; seat = more.seat; lent_at = more.lent_at; seat_at = more.seat_at; told = more.told }
+
+  pair_by_lent : (i : ℕ) (ls : List (Lent D)) (ss : List (ServerSeat D)) → AreFirstSeats seen may_leave faults limit s i ls ss [] → (n : ℕ) (l : Lent D) → at_place ls n ≡ Some l → IsPair ls ss n
+  pair_by_lent i [] [] h n l e = absurd (none_some l e)
+  pair_by_lent i (k ∷ ls) [] h n l e = absurd (no_more k ls h)
+  pair_by_lent i [] (x ∷ ss) h n l e = absurd h
+  pair_by_lent i (k ∷ ls) (x ∷ ss) h zero l e = absurd (none_some l e)
+  pair_by_lent i (k ∷ ls) (x ∷ ss) h (suc zero) l e = record { lent = k; seat = x; lent_at = refl; seat_at = refl; told = told_seat i k.disk x h.0 }
+  pair_by_lent i (k ∷ ls) (x ∷ ss) h (suc (suc n)) l e =
+      let more = pair_by_lent (i + 1) ls ss h.1 (suc n) l e in
+      record { lent = more.lent; seat = more.seat; lent_at = more.lent_at; seat_at = more.seat_at; told = more.told }
+
+  pub tell_so : (ls : List (Lent D)) (ss : List (ServerSeat D)) → AreFirstSeats seen may_leave faults limit s 1 ls ss [] → LentTell seen ls ↔ AllTell seen ss
+  tell_so ls ss h = (
+    λ tell n seat e.
+        let p = pair_by_seat 1 ls ss h n seat e in
+        subst (λ (x : ServerSeat D). IsSome (seen (seat_disk x))) (some_is p.seat seat (sym p.seat_at ∙ e)) (p.told.1 (tell n p.lent p.lent_at)),
+    λ tell n l e.
+        let p = pair_by_lent 1 ls ss h n l e in
+        subst (λ (x : Lent D). IsSome (seen x.disk)) (some_is p.lent l (sym p.lent_at ∙ e)) (p.told.0 (tell n p.seat p.seat_at)),
+  )

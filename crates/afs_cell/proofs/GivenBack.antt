@@ -1,0 +1,112 @@
+-- The disks at the end of a cell's run.
+use Rattle.std.proofs.Common.{refl, arith, append_assoc, ap, sym, subst, ◌∙◌, ◌≡◌, ◌+◌, ◌⊎◌, inl, inr, ℕ, zero, suc, List, [], ◌∷◌, ◌++◌, length, true, false, Option, Some, None}
+use Rattle.std.specs.Prelude.{IsSome}
+use Rattle.afs_num.specs.Places.{at_place}
+use Rattle.afs_num.specs.declared.messages.Received.TheVariants.{Whole}
+use Rattle.afs_num.specs.declared.types.Node.{Node}
+use Rattle.afs_num.specs.declared.types.Node.TheVariants.{Server}
+use Rattle.afs_history.specs.declared.scripts.Script.{Script}
+use Rattle.afs_disk.specs.declared.disks.Lent.{Lent}
+use Rattle.afs_journal.specs.Records.{whole_records}
+use Rattle.afs_records.specs.Durable.{Durable}
+use Rattle.afs_records.specs.Stands.{Stands}
+use Rattle.afs_rows.specs.Runs.{at_rest, begun_by_disk, in_boot, in_step, Cell, Fall, Host}
+use Rattle.afs_rows.specs.ServerRow.{begun_after, decides, drops, refuses, repeats, saves, shows, tells_boot, Decision}
+use Rattle.afs_rows.specs.States.{Lasting, ServerState}
+use Rattle.afs_server.specs.Seen.{lasting_of}
+use Rattle.afs_host.specs.Seats.{IsDown, IsUp, Resting, Running}
+use Rattle.afs_host.specs.Standing.{LiesIn}
+use Rattle.afs_host.specs.declared.seats.Seat.TheVariants.{Down, Up}
+use Rattle.afs_cell.specs.FirstSeats.{AreKeptSeats, IsKeptSeat}
+use Rattle.afs_cell.specs.Places.{Each}
+use Rattle.afs_cell.specs.Steps.{lent_from, AreLent, AreStanding, IsReadAfter, MayBeRead}
+use Rattle.afs_cell.specs.Worlds.{seat_disk, AllHold, AllTell, IsCell, IsHost, IsReadySeat, IsSafe, ServerSeat, WorldState}
+use Rattle.afs_cell.proofs.Numbers.{none_some, some_is}
+
+-- ---- a step leaves the capacity as it is
+
+decided_capacity : (me : Node) (s : ServerState) (clock : ℕ) (d : Decision) → (begun_after me s clock d).state.lasting.capacity ≡ s.lasting.capacity
+decided_capacity me s clock drops = refl
+decided_capacity me s clock (tells_boot head) = refl
+decided_capacity me s clock (repeats reply) = refl
+decided_capacity me s clock (refuses head code) = refl
+decided_capacity me s clock (shows head reading) = refl
+decided_capacity me s clock (saves head change) = refl
+
+capacity_after : (me : Node) (s : ServerState) (fall : Fall) → (begun_by_disk me s true fall).state.lasting.capacity ≡ s.lasting.capacity
+capacity_after me s at_rest = refl
+capacity_after me s (in_step m clock) = decided_capacity me s clock (decides me s clock (Whole m))
+capacity_after me s in_boot = refl
+
+each_tail : {A : Type 0} (P : A → Type 0) (x : A) (xs : List A) → ((n : ℕ) (y : A) → at_place (x ∷ xs) n ≡ Some y → P y) → (n : ℕ) (y : A) → at_place xs n ≡ Some y → P y
+each_tail P x [] h n y e = absurd (none_some y e)
+each_tail P x (z ∷ zs) h zero y e = absurd (none_some y e)
+each_tail P x (z ∷ zs) h (suc n) y e = h (suc (suc n)) y e
+
+-- nothing is left
+pub none_left : {A : Type 0} (xs : List A) (n : ℕ) → n ≡ length xs → n ≡ 0 → xs ≡ []
+none_left [] n e none = refl
+none_left (x ∷ xs) n e none = absurd (omega (arith, e, none))
+
+-- one disk more goes back
+pub gives_on : {D : Type 0} (n : ℕ) (back new all : List (Lent D)) (seat : ServerSeat D) (seats rest : List (ServerSeat D)) (d : D) → seats ≡ seat ∷ rest → new ≡ back ++ record { node = n + 1; disk = d } ∷ [] → d ≡ seat_disk seat → back ++ lent_from (n + 1) seats ≡ all
+    → new ++ lent_from ((n + 1) + 1) rest ≡ all
+gives_on {D} n back new all seat seats rest d are given is so_far =
+    ap (λ (ls : List (Lent D)). ls ++ lent_from ((n + 1) + 1) rest) given
+    ∙ (append_assoc back (record { node = n + 1; disk = d } ∷ []) (lent_from ((n + 1) + 1) rest)
+    ∙ (ap (λ (x : D). back ++ record { node = n + 1; disk = x } ∷ lent_from ((n + 1) + 1) rest) is
+    ∙ (ap (λ (ss : List (ServerSeat D)). back ++ lent_from (n + 1) ss) (sym are) ∙ so_far)))
+
+module _ {D : Type 0} (seen : D → Option (List ℕ)) (left_by : D → ℕ → Option (List ℕ)) (may_leave : D → List ℕ → Type 0) (limit : D → ℕ) (leaves : (disk : D) (pick : ℕ) (bytes : List ℕ) → left_by disk pick ≡ Some bytes → may_leave disk bytes) (shows_now : (disk : D) → left_by disk 1 ≡ seen disk) where
+  pub lent_all : (capacity i : ℕ) (ss : List (ServerSeat D)) → AllHold limit capacity ss → AreLent limit capacity i (lent_from i ss)
+  lent_all capacity i [] h = tt
+  lent_all capacity i (s ∷ ss) h = (refl, (h 1 s refl, lent_all capacity (i + 1) ss (each_tail (λ (x : ServerSeat D). limit (seat_disk x) ≡ capacity) s ss h)))
+
+  -- the place of the disk that stands at a number
+  pub record HasSeat (ss : List (ServerSeat D)) (n : ℕ) (l : Lent D) : Type 0 where
+    pub seat : ServerSeat D
+    pub found : at_place ss n ≡ Some seat
+    pub kept : IsKeptSeat seen may_leave limit seat
+    pub is : l.disk ≡ seat_disk seat
+
+  seat_of : (i : ℕ) (ss : List (ServerSeat D)) → AreKeptSeats seen may_leave limit ss → (n : ℕ) (l : Lent D) → at_place (lent_from i ss) n ≡ Some l → HasSeat ss n l
+  seat_of i [] kept n l e = absurd (none_some l e)
+  seat_of i (s ∷ ss) kept zero l e = absurd (none_some l e)
+  seat_of i (s ∷ ss) kept (suc zero) l e = record { seat = s; found = refl; kept = kept.0; is = sym (ap (λ (x : Lent D). x.disk) (some_is (record { node = i; disk = seat_disk s }) l e)) }
+  seat_of i (s ∷ ss) kept (suc (suc n)) l e =
+      let more = seat_of (i + 1) ss kept.1 (suc n) l e in
+      record { seat = more.seat; found = more.found; kept = more.kept; is = more.is }
+
+  -- ---- what a disk stands for
+
+  abbrev StandsFor : Cell → ℕ → D → List ℕ → Type 0
+  StandsFor c i disk bytes = (d : Durable) × (MayBeRead c i d × (Stands bytes d × (d.capacity ≡ limit disk)))
+
+  lies_so : (c : Cell) (i : ℕ) (x : Resting D) (down : IsDown seen may_leave limit (Server i) x (c.hosts i)) (bytes : List ℕ) → LiesIn (Server i) (c.hosts i).state down.fall x.mark (whole_records bytes) → StandsFor c i x.disk bytes
+  lies_so c i x down bytes (inl before) =
+      let d = before.before.durable in
+      (d, (inl before.before.read, (before.before.stands, ap (λ (l : Lasting). l.capacity) before.before.read ∙ down.capacity)))
+  lies_so c i x down bytes (inr after) =
+      let d = after.after.durable in (
+        d,
+        (
+          inr (subst (λ (o : Option Fall). IsReadAfter (Server i) (c.hosts i).state o d) (sym down.down) after.after.read),
+          (after.after.stands, ap (λ (l : Lasting). l.capacity) after.after.read ∙ (capacity_after (Server i) (c.hosts i).state down.fall ∙ down.capacity)),
+        ),
+      )
+
+  told_some : (disk : D) (bytes : List ℕ) → seen disk ≡ Some bytes → IsSome (seen disk)
+  told_some disk bytes e = subst (λ (o : Option (List ℕ)). IsSome o) (sym e) refl
+
+  seat_stands : (c : Cell) (i entries : ℕ) (seat : ServerSeat D) → IsHost seen may_leave limit i seat (c.hosts i) → IsReadySeat i entries seat → IsKeptSeat seen may_leave limit seat → (bytes : List ℕ) → seen (seat_disk seat) ≡ Some bytes → StandsFor c i (seat_disk seat) bytes
+  seat_stands c i entries (Up r) up ready kept bytes e =
+      let stands = kept.0 ready.can_run.up in
+      (r.store.durable, (inl (sym (ap (λ (x : ServerState). x.lasting) up.state)), (stands.stands bytes e, kept.1)))
+  seat_stands c i entries (Down x) down ready kept bytes e =
+      lies_so c i x down bytes (down.lies (told_some x.disk bytes e) bytes (leaves x.disk 1 bytes (shows_now x.disk ∙ e)))
+
+  pub standing : (s : Script) (w : WorldState D) → IsSafe limit s w → w.is_lost ≡ false → AreKeptSeats seen may_leave limit w.servers → (c : Cell) → IsCell seen may_leave limit w c → AreStanding seen limit c (lent_from 1 w.servers)
+  standing s w safe going kept c cell n l found bytes e =
+      let at = seat_of 1 w.servers kept n l found in
+      subst (λ (disk : D). seen disk ≡ Some bytes → StandsFor c n disk bytes) (sym at.is)
+      (seat_stands c n (length w.history) at.seat (cell.hosts n at.seat at.found) (safe.servers going n at.seat at.found) at.kept bytes) e

@@ -1,0 +1,87 @@
+-- What a step of the world is in its run.
+use Rattle.std.proofs.Common.{refl, arith, ap, ap₂, sym, subst, ◌∙◌, ◌≡◌, ◌+◌, ◌⊎◌, inl, inr, ℕ, List, [], ◌∷◌, ◌++◌, length, Bool, true, false, Option, Some, None, Result, Ok, Err}
+use Rattle.afs_num.specs.Places.{at_place}
+use Rattle.afs_num.specs.declared.types.Parcel.{Parcel}
+use Rattle.afs_history.specs.declared.acts.Act.{Act}
+use Rattle.afs_history.specs.declared.scripts.Script.{Script}
+use Rattle.afs_rows.specs.Runs.{moved, start, Cell, Entry, Input, Leads, Moved}
+use Rattle.afs_schedule.specs.Schedules.{left_by, Turn}
+use Rattle.afs_text.specs.Telling.{told, AreRead}
+use Rattle.afs_cell.specs.Places.{Each}
+use Rattle.afs_cell.specs.Steps.{IsAt, Plays, PlaysOne, StandsStill, Stays, Steps, Stepped, TellsNothing}
+use Rattle.afs_cell.specs.Worlds.{falls, own_falls, AllTell, Counts, HasRun, IsCell, IsSafe, IsWorld, Runs, WorldState}
+use Rattle.afs_cell.specs.declared.clients.ClientSeat.{ClientSeat}
+use Rattle.afs_cell.specs.declared.faults.WorldFault.{WorldFault}
+use Rattle.afs_cell.specs.declared.faults.WorldFault.TheVariants as faulty
+use Rattle.afs_cell.proofs.Parcels.{are_read}
+
+-- one input more
+pub leads_behind : (c : Cell) (xs : List Input) (es : List Entry) (end : Cell) (x : Input) → Leads c xs es end → Leads c (xs ++ x ∷ []) (es ++ (moved end x).entry ∷ []) (moved end x).cell
+leads_behind c [] [] end x e = (ap (λ (k : Cell). (moved k x).entry) e, ap (λ (k : Cell). (moved k x).cell) e)
+leads_behind c [] (f ∷ fs) end x h = absurd h
+leads_behind c (y ∷ ys) [] end x h = absurd h
+leads_behind c (y ∷ ys) (f ∷ fs) end x h = (h.0, leads_behind (moved c y).cell ys fs end x h.1)
+
+pub falls_behind : (xs : List Input) (x : Input) → own_falls (xs ++ x ∷ []) ≡ own_falls xs + falls x
+falls_behind [] x = omega arith
+falls_behind (y ∷ ys) x =
+    let more = falls_behind ys x in
+    omega (arith, more)
+
+-- the acts that the seats have left
+abbrev plan_or : Option ClientSeat → List Act
+plan_or None = []
+plan_or (Some s) = s.plan
+
+abbrev plans_of : List ClientSeat → ℕ → List Act
+plans_of cs n = plan_or (at_place cs n)
+
+true_false : true ≡ false → ⊥
+true_false e = absurd cc
+
+module _ {D : Type 0} (seen : D → Option (List ℕ)) (may_leave : D → List ℕ → Type 0) (faults limit : D → ℕ) (s : Script) where
+  -- the world stands for the cell to which its inputs lead
+  stands : (w : WorldState D) (inputs : List Input) (c : Cell) → Runs seen may_leave faults limit s w inputs c → w.is_lost ≡ false → IsAt seen may_leave limit w c (plans_of w.clients)
+  stands w inputs c runs going = record { cell = runs.cell_is going; acts = λ n seat found. ap plan_or found }
+
+  -- it has run so once it has played one more
+  pub runs_on : (is : Input → Type 0) (t : Turn) (old new : WorldState D) (inputs : List Input) → Runs seen may_leave faults limit s old inputs t.cell → (p : Plays seen may_leave faults limit is t old new)
+      → Runs seen may_leave faults limit s new (inputs ++ p.input ∷ []) (moved t.cell p.input).cell
+  runs_on is t old new inputs runs p = record {
+    leads = subst (λ (h : List Entry). Leads (start s) (inputs ++ p.input ∷ []) h (moved t.cell p.input).cell) (sym p.history) (leads_behind (start s) inputs (told old.wire old.history) t.cell p.input runs.leads);
+    read = are_read new.wire (moved t.cell p.input).cell.sent p.at.cell.sent;
+    cell_is = λ going. p.at.cell;
+    counts = subst (λ (n : ℕ). Counts faults n new.servers) (sym (falls_behind inputs p.input)) (p.counts (own_falls inputs) runs.counts);
+  }
+
+  same_told : (old new : WorldState D) → TellsNothing old new → told new.wire new.history ≡ told old.wire old.history
+  same_told old new same = ap₂ (λ ps es. told ps es) same.wire same.history
+
+  stays_cell : (old new : WorldState D) (inputs : List Input) (c : Cell) → Runs seen may_leave faults limit s old inputs c → (new.is_lost ≡ true) ⊎ StandsStill seen may_leave limit old new → new.is_lost ≡ false → IsCell seen may_leave limit new c
+  stays_cell old new inputs c runs (inl lost) going = absurd (true_false (sym lost ∙ going))
+  stays_cell old new inputs c runs (inr still) going = (still.at c (plans_of old.clients) (stands old inputs c runs (sym still.lost_as ∙ going))).cell
+
+  -- and where memory was wanting
+  pub runs_still : (old new : WorldState D) (inputs : List Input) (c : Cell) → Runs seen may_leave faults limit s old inputs c → Stays seen may_leave limit old new faulty.OutOfMemory
+      → ((n : ℕ) → Counts faults n old.servers → Counts faults n new.servers) → Runs seen may_leave faults limit s new inputs c
+  runs_still old new inputs c runs stays counts = record {
+    leads = subst (λ (h : List Entry). Leads (start s) inputs h c) (sym (same_told old new stays.0)) runs.leads;
+    read = subst (λ (ps : List Parcel). AreRead ps) (sym stays.0.wire) runs.read;
+    cell_is = stays_cell old new inputs c runs stays.1;
+    counts = counts (own_falls inputs) runs.counts;
+  }
+
+  world_by : (is : Turn → Input → Type 0) (old new : WorldState D) (result : Result (Unit {0}) WorldFault) → old.is_lost ≡ false → HasRun seen may_leave faults limit s old → AllTell seen old.servers → Stepped seen may_leave faults limit s is old new result → HasRun seen may_leave faults limit s new
+  world_by is old new (Ok done) going run tell stepped =
+      let t : Turn = record { cell = run.cell; left = plans_of old.clients; named = [] } in
+      let p = stepped.steps.plays tell t (stands old run.inputs run.cell run.runs going) in
+      record { inputs = run.inputs ++ p.input ∷ []; cell = (moved run.cell p.input).cell; runs = runs_on (is t) t old new run.inputs run.runs p }
+  world_by is old new (Err faulty.OutOfMemory) going run tell stepped = record { inputs = run.inputs; cell = run.cell; runs = runs_still old new run.inputs run.cell run.runs stepped.steps stepped.counts }
+  world_by is old new (Err faulty.Limit) going run tell stepped = subst (λ (w : WorldState D). HasRun seen may_leave faults limit s w) (sym stepped.steps.1) run
+
+  -- a step of a world makes a world
+  pub is_world : (is : Turn → Input → Type 0) (old new : WorldState D) (result : Result (Unit {0}) WorldFault) → old.is_lost ≡ false → IsWorld seen may_leave faults limit s old → Stepped seen may_leave faults limit s is old new result → IsWorld seen may_leave faults limit s new
+  is_world is old new result going world stepped = record {
+    safe = stepped.safe;
+    run = λ tell. world_by is old new result going (world.run (stepped.tells.1 tell)) (stepped.tells.1 tell) stepped;
+  }

@@ -1,0 +1,214 @@
+-- Which input of the definitions a server's input is, and when nothing comes of it.
+use Rattle.std.proofs.Common.{refl, ap, sym, subst, ◌∙◌, ◌≡◌, ◌+◌, ◌⊎◌, inl, inr, ℕ, List, [], ◌∷◌, length, Bool, true, false, cond, Option, Some, None}
+use Rattle.afs_num.specs.Places.{at_place}
+use Rattle.afs_num.specs.declared.messages.Message.{Message}
+use Rattle.afs_num.specs.declared.messages.Received.TheVariants.{Whole}
+use Rattle.afs_num.specs.declared.types.Node.{Node}
+use Rattle.afs_num.specs.declared.types.Node.TheVariants.{Server}
+use Rattle.afs_num.specs.declared.types.Parcel.{Parcel}
+use Rattle.afs_history.specs.declared.lines.Line.{Line}
+use Rattle.afs_history.specs.declared.lines.Line.TheVariants as lines
+use Rattle.afs_history.specs.declared.lines.Outs.{Outs}
+use Rattle.afs_history.specs.declared.scripts.Event.TheVariants as events
+use Rattle.afs_disk.specs.Disk.{Rose}
+use Rattle.afs_model.specs.Messages.{received}
+use Rattle.afs_rows.specs.Runs.{back_timed, comes_up, fails_early, fails_midway, given_at, given_to, gives, gives_out, has_host, if_host, is_full, message_at, moved, server_armed, server_given, server_restarted, server_stopped, server_timed, server_waits, server_wakes, sets_fail, sets_stop, starts_again, steady, stops, voided, wakes, Armed, Cell, Fall, Host, Input, Luck, Moved, Outcome}
+use Rattle.afs_rows.specs.States.{BackCall}
+use Rattle.afs_schedule.specs.Schedules.{left_by, IsInput, IsLuck, Turn}
+use Rattle.afs_host.specs.Hosts as host
+use Rattle.afs_host.specs.Hosts.{crashed, restarted, served, set_to_fail, set_to_stop, timed_out, woken, Fails, GivesOut, HostStep}
+use Rattle.afs_host.specs.Serving.{HasServed}
+use Rattle.afs_host.specs.Starting.{HasStarted}
+use Rattle.afs_host.proofs.Placed.{moved_crashed, moved_restarted, moved_served, moved_set_to_fail, moved_set_to_stop, moved_timed_out, moved_woken}
+use Rattle.afs_cell.specs.Happening.{HasHeard, HasStep, IsFallen, IsGiven, IsSeatStep, IsVoidServer}
+use Rattle.afs_cell.specs.Worlds.{falls, seat_disk, IsCell, ServerSeat, WorldState}
+use Rattle.afs_cell.specs.declared.happening.ServerInput.{ServerInput}
+use Rattle.afs_cell.specs.declared.happening.ServerInput.TheVariants as server
+use Rattle.afs_cell.proofs.Counts.{Blames}
+use Rattle.afs_cell.proofs.Parcels.{places_agree, AtPlace, Carries}
+use Rattle.afs_cell.proofs.Numbers.{host_there}
+use Rattle.afs_cell.proofs.HostSteps.{Linked}
+
+-- ---- the same words of two crates
+
+luck_is : (luck : Luck) → host.IsLuck luck → IsLuck luck
+luck_is steady h = h
+luck_is (gives_out call) h = h
+
+abbrev steady_input : ℕ → ServerInput → Input
+steady_input i (server.TimeOut callee) = server_waits i callee
+steady_input i server.Wake = wakes i
+steady_input i (server.Crash pick) = stops i
+steady_input i server.Restart = starts_again i false comes_up
+steady_input i (server.Stop calls pick) = sets_stop i calls pick
+steady_input i (server.Fail call) = sets_fail i call
+
+-- the message that stands at the place of a parcel
+pub record Found (sent : List Message) (place : ℕ) (p : Parcel) : Type 0 where
+  pub message : Message
+  pub at : message_at sent place ≡ Some message
+  pub carries : Carries p message
+
+found_by : (sent : List Message) (place : ℕ) (p : Parcel) (o : Option Message) → at_place sent place ≡ o → AtPlace (Some p) o → Found sent place p
+found_by sent place p None e h = absurd h
+found_by sent place p (Some m) e h = record { message = m; at = e; carries = h }
+
+parcel_found : (sent : List Message) (place : ℕ) (p : Parcel) (o : Option Parcel) → o ≡ Some p → AtPlace o (at_place sent place) → Found sent place p
+parcel_found sent place p o e h = found_by sent place p (at_place sent place) refl (subst (λ (q : Option Parcel). AtPlace q (at_place sent place)) e h)
+
+module _ {D : Type 0} (seen : D → Option (List ℕ)) (may_leave : D → List ℕ → Type 0) (faults limit : D → ℕ) where
+  pub message_found : (w : WorldState D) (c : Cell) (place : ℕ) (p : Parcel) → IsCell seen may_leave limit w c → at_place w.wire place ≡ Some p → Found c.sent place p
+  message_found w c place p cell e = parcel_found c.sent place p (at_place w.wire place) e (places_agree w.wire c.sent cell.sent place)
+
+  luck_blames : (luck : Luck) (place : ℕ) (was now : ServerSeat D) → (GivesOut luck → Rose (faults (seat_disk was)) (faults (seat_disk now))) → Blames faults (falls (gives place luck)) was now
+  luck_blames steady place was now h = inl refl
+  luck_blames (gives_out call) place was now h = inr (refl, h tt)
+
+  -- a message
+  pub link_message : (t : Turn) (w : WorldState D) (i place : ℕ) (p : Parcel) (was now : ServerSeat D) (outs : Outs) → IsCell seen may_leave limit w t.cell → at_place w.servers i ≡ Some was → at_place w.wire place ≡ Some p → p.head.to ≡ Server i
+      → HasHeard (Server i) t.cell.clock place p.bytes (t.cell.hosts i) (IsSeatStep seen may_leave limit i now (lines.Given place ∷ []) outs) (Rose (faults (seat_disk was)) (faults (seat_disk now)))
+      → Linked seen may_leave faults limit (IsInput t (events.Deliver place)) t i was now (lines.Given place ∷ []) outs
+  link_message t w i place p was now outs cell here at to heard =
+      let f = message_found w t.cell place p cell at in
+      let s = heard.1 f.message f.carries.bytes in
+      record {
+        input = gives place s.luck;
+        is_one = (s.luck, (refl, luck_is s.luck s.is_luck));
+        step = served (Server i) (t.cell.hosts i) t.cell.clock place s.luck f.message;
+        moves = moved_served t.cell i place s.luck f.message f.at (sym (ap (λ h. h.to) f.carries.head) ∙ to) (host_there w.servers i was t.cell here cell.host_count) heard.0;
+        left = refl;
+        good = s.is;
+        blames = luck_blames s.luck place was now s.blame;
+      }
+
+  outcome_blames : (i : ℕ) (after : Bool) (outcome : Outcome) (was now : ServerSeat D) → (Fails outcome → Rose (faults (seat_disk was)) (faults (seat_disk now))) → Blames faults (falls (starts_again i after outcome)) was now
+  outcome_blames i after comes_up was now h = inl refl
+  outcome_blames i after fails_early was now h = inr (refl, h tt)
+  outcome_blames i after fails_midway was now h = inr (refl, h tt)
+  outcome_blames i after is_full was now h = inl refl
+
+  -- what it is given else
+  pub link_input : (t : Turn) (w : WorldState D) (i : ℕ) (input : ServerInput) (was now : ServerSeat D) (outs : Outs) → IsCell seen may_leave limit w t.cell → at_place w.servers i ≡ Some was
+      → HasStep (Server i) t.cell.clock t.cell.count input (t.cell.hosts i) (IsSeatStep seen may_leave limit i now [] outs) (Rose (faults (seat_disk was)) (faults (seat_disk now)))
+      → Linked seen may_leave faults limit (IsGiven i input) t i was now [] outs
+  link_input t w i (server.TimeOut callee) was now outs cell here h = record {
+    input = server_waits i callee;
+    is_one = refl;
+    step = timed_out (Server i) (t.cell.hosts i) t.cell.clock callee h.1.0;
+    moves = moved_timed_out t.cell i callee h.1.0 h.1.1.0 (host_there w.servers i was t.cell here cell.host_count) h.0;
+    left = refl;
+    good = h.1.1.1;
+    blames = inl refl;
+  }
+  link_input t w i server.Wake was now outs cell here h = record {
+    input = wakes i;
+    is_one = refl;
+    step = woken (Server i) (t.cell.hosts i) t.cell.clock;
+    moves = moved_woken t.cell i (host_there w.servers i was t.cell here cell.host_count) h.0;
+    left = refl;
+    good = h.1;
+    blames = inl refl;
+  }
+  link_input t w i (server.Crash pick) was now outs cell here h = record {
+    input = stops i;
+    is_one = refl;
+    step = crashed (Server i) (t.cell.hosts i);
+    moves = moved_crashed t.cell i (host_there w.servers i was t.cell here cell.host_count) h.0;
+    left = refl;
+    good = h.1;
+    blames = inl refl;
+  }
+  link_input t w i server.Restart was now outs cell here h = record {
+    input = starts_again i h.1.1.after h.1.1.outcome;
+    is_one = (h.1.1.after, (h.1.1.outcome, refl));
+    step = restarted (Server i) (t.cell.hosts i) t.cell.clock t.cell.count h.1.1.after h.1.1.outcome h.0;
+    moves = moved_restarted t.cell i h.1.1.after h.1.1.outcome h.0 (host_there w.servers i was t.cell here cell.host_count) h.1.0;
+    left = refl;
+    good = h.1.1.is;
+    blames = outcome_blames i h.1.1.after h.1.1.outcome was now h.1.1.blame;
+  }
+  link_input t w i (server.Stop calls pick) was now outs cell here h = record {
+    input = sets_stop i calls pick;
+    is_one = refl;
+    step = set_to_stop (Server i) (t.cell.hosts i) calls pick;
+    moves = moved_set_to_stop t.cell i calls pick (host_there w.servers i was t.cell here cell.host_count) h.0;
+    left = refl;
+    good = h.1;
+    blames = inl refl;
+  }
+  link_input t w i (server.Fail call) was now outs cell here h = record {
+    input = sets_fail i call;
+    is_one = refl;
+    step = set_to_fail (Server i) (t.cell.hosts i) call;
+    moves = moved_set_to_fail t.cell i call (host_there w.servers i was t.cell here cell.host_count) h.0;
+    left = refl;
+    good = h.1;
+    blames = inl refl;
+  }
+
+-- ---- void
+
+pub cond_same : {A : Type 0} (b : Bool) (x : A) → cond b x x ≡ x
+cond_same true x = refl
+cond_same false x = refl
+
+gone : (c : Cell) (i : ℕ) (m : Moved) → (has_host c i ≡ false) ⊎ (m ≡ voided c) → if_host c i m ≡ voided c
+gone c i m (inl e) = ap (λ (b : Bool). cond b m (voided c)) e
+gone c i m (inr e) = ap (λ (n : Moved). cond (has_host c i) n (voided c)) e ∙ cond_same (has_host c i) (voided c)
+
+-- no server of this number, or it is down
+either : (c : Cell) (i : ℕ) (f : Option Fall → Moved) → ((fall : Fall) → f (Some fall) ≡ voided c) → (has_host c i ≡ false) ⊎ IsFallen (c.hosts i) → (has_host c i ≡ false) ⊎ (f (c.hosts i).down ≡ voided c)
+either c i f void (inl e) = inl e
+either c i f void (inr fallen) = inr (ap f fallen.1 ∙ void fallen.0)
+
+pub void_message : (c : Cell) (i place : ℕ) (m : Message) → message_at c.sent place ≡ Some m → m.head.to ≡ Server i → (has_host c i ≡ false) ⊎ IsFallen (c.hosts i) → moved c (gives place steady) ≡ voided c
+unfolding moved
+void_message c i place m at to none =
+    ap (given_at c place steady) at ∙ (ap (given_to c place steady m) to
+    ∙ gone c i (server_given c i place steady m (c.hosts i).down) (either c i (server_given c i place steady m) (λ fall. refl) none))
+
+timed_none : (c : Cell) (i : ℕ) (n : Node) (down : Option Fall) → (c.hosts i).state.backs.calls n ≡ None → server_timed c i n down ≡ voided c
+timed_none c i n None e = ap (back_timed c i n) e
+timed_none c i n (Some fall) e = refl
+
+timed_void : (c : Cell) (i : ℕ) (n : Node) → (has_host c i ≡ false) ⊎ IsVoidServer (server.TimeOut n) (c.hosts i) → (has_host c i ≡ false) ⊎ (server_timed c i n (c.hosts i).down ≡ voided c)
+timed_void c i n (inl e) = inl e
+timed_void c i n (inr (inl fallen)) = inr (ap (server_timed c i n) fallen.1)
+timed_void c i n (inr (inr e)) = inr (timed_none c i n (c.hosts i).down e)
+
+-- it is up
+up_void : (c : Cell) (i : ℕ) (after : Bool) (outcome : Outcome) → (has_host c i ≡ false) ⊎ ((c.hosts i).down ≡ None) → (has_host c i ≡ false) ⊎ (server_restarted c i after outcome (c.hosts i).down ≡ voided c)
+up_void c i after outcome (inl e) = inl e
+up_void c i after outcome (inr up) = inr (ap (server_restarted c i after outcome) up)
+
+void_input : (c : Cell) (i : ℕ) (input : ServerInput) → (has_host c i ≡ false) ⊎ IsVoidServer input (c.hosts i) → moved c (steady_input i input) ≡ voided c
+unfolding moved
+void_input c i (server.TimeOut callee) none = gone c i (server_timed c i callee (c.hosts i).down) (timed_void c i callee none)
+void_input c i server.Wake none = gone c i (server_wakes c i (c.hosts i).down) (either c i (server_wakes c i) (λ fall. refl) none)
+void_input c i (server.Crash pick) none = gone c i (server_stopped c i (c.hosts i).down) (either c i (server_stopped c i) (λ fall. refl) none)
+void_input c i server.Restart none = gone c i (server_restarted c i false comes_up (c.hosts i).down) (up_void c i false comes_up none)
+void_input c i (server.Stop calls pick) none =
+    gone c i (server_armed c i (lines.Stop (Server i) calls pick) (record (c.hosts i).armed { stop = Some (calls, pick) }) (c.hosts i).down)
+    (either c i (server_armed c i (lines.Stop (Server i) calls pick) (record (c.hosts i).armed { stop = Some (calls, pick) })) (λ fall. refl) none)
+void_input c i (server.Fail call) none =
+    gone c i (server_armed c i (lines.Fail (Server i) call) (record (c.hosts i).armed { fail = Some call }) (c.hosts i).down)
+    (either c i (server_armed c i (lines.Fail (Server i) call) (record (c.hosts i).armed { fail = Some call })) (λ fall. refl) none)
+
+-- an input that nothing comes of
+pub record Voided (is : Input → Type 0) (t : Turn) : Type 0 where
+  pub input : Input
+  pub is_one : is input
+  pub moves : moved t.cell input ≡ voided t.cell
+  pub left : left_by input t.left ≡ t.left
+  pub harmless : falls input ≡ 0
+
+pub link_void_message : (t : Turn) (i place : ℕ) (m : Message) → message_at t.cell.sent place ≡ Some m → m.head.to ≡ Server i → (has_host t.cell i ≡ false) ⊎ IsFallen (t.cell.hosts i) → Voided (IsInput t (events.Deliver place)) t
+link_void_message t i place m at to none = record { input = gives place steady; is_one = (steady, (refl, tt)); moves = void_message t.cell i place m at to none; left = refl; harmless = refl }
+
+pub link_void : (t : Turn) (i : ℕ) (input : ServerInput) → (has_host t.cell i ≡ false) ⊎ IsVoidServer input (t.cell.hosts i) → Voided (IsGiven i input) t
+link_void t i (server.TimeOut callee) none = record { input = server_waits i callee; is_one = refl; moves = void_input t.cell i (server.TimeOut callee) none; left = refl; harmless = refl }
+link_void t i server.Wake none = record { input = wakes i; is_one = refl; moves = void_input t.cell i server.Wake none; left = refl; harmless = refl }
+link_void t i (server.Crash pick) none = record { input = stops i; is_one = refl; moves = void_input t.cell i (server.Crash pick) none; left = refl; harmless = refl }
+link_void t i server.Restart none = record { input = starts_again i false comes_up; is_one = (false, (comes_up, refl)); moves = void_input t.cell i server.Restart none; left = refl; harmless = refl }
+link_void t i (server.Stop calls pick) none = record { input = sets_stop i calls pick; is_one = refl; moves = void_input t.cell i (server.Stop calls pick) none; left = refl; harmless = refl }
+link_void t i (server.Fail call) none = record { input = sets_fail i call; is_one = refl; moves = void_input t.cell i (server.Fail call) none; left = refl; harmless = refl }

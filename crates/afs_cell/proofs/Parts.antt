@@ -1,0 +1,110 @@
+-- What a step of the world is by its parts.
+use Rattle.std.proofs.Common.{arith, sym, subst, ◌≡◌, ◌≤◌, ◌<◌, ◌+◌, ℕ, zero, suc, List, [], ◌∷◌, length, Bool, true, false, Option, Some, None, Result}
+use Rattle.afs_num.specs.Places.{at_place}
+use Rattle.afs_num.specs.declared.types.Node.TheVariants.{Admin, Client, Loc, Server}
+use Rattle.afs_num.specs.declared.types.Parcel.{Parcel}
+use Rattle.afs_history.specs.declared.lines.Line.TheVariants as lines
+use Rattle.afs_history.specs.declared.scripts.Event.TheVariants as events
+use Rattle.afs_history.specs.declared.scripts.Script.{Script}
+use Rattle.afs_grammar.specs.CellScripts.{IsCellScript}
+use Rattle.afs_schedule.specs.Schedules.{IsInput, Turn}
+use Rattle.afs_cell.specs.Happening.{ClientHears, ClientsHappened, ClientTakes, HasHeard, HasStep, IsAsked, IsFallen, IsGiven, IsVoidClient, IsVoidServer, NothingSettles, ServersHappened, Settles}
+use Rattle.afs_cell.specs.Ready.{AllCanStep, AllReady}
+use Rattle.afs_cell.specs.Steps.{Stepped}
+use Rattle.afs_cell.specs.Worlds.{most_entries, IsSafe, ServerSeat, WorldState}
+use Rattle.afs_cell.specs.declared.clients.ClientSeat.{ClientSeat}
+use Rattle.afs_cell.specs.declared.faults.WorldFault.{WorldFault}
+use Rattle.afs_cell.specs.declared.happening.ClientInput.{ClientInput}
+use Rattle.afs_cell.specs.declared.happening.Happened.{Happened}
+use Rattle.afs_cell.specs.declared.happening.ServerInput.{ServerInput}
+use Rattle.afs_cell.proofs.Able.{all_can, all_ready}
+use Rattle.afs_cell.proofs.ClientsTold.{asked_settles, heard_settles}
+use Rattle.afs_cell.proofs.Eventful.{no_message, skip_as, to_admin, to_loc}
+use Rattle.afs_cell.proofs.ServersTold.{input_settles, message_settles}
+
+none_inside : {A : Type 0} (xs : List A) (n : ℕ) → at_place xs n ≡ None → 1 ≤ n → n ≤ length xs → ⊥
+none_inside [] n e low high = absurd (omega (arith, low, high))
+none_inside (x ∷ xs) zero e low high = absurd (omega (arith, low))
+none_inside (x ∷ xs) (suc zero) e low high = absurd cc
+none_inside (x ∷ xs) (suc (suc n)) e low high = none_inside xs (suc n) e (omega arith) (omega (arith, high))
+
+-- these parts are those of the world
+module _ {D : Type 0} (limit : D → ℕ) (parts w : WorldState D) (same : parts ≡ w) (safe : IsSafe limit w.script w) where
+  safe_parts : IsSafe limit parts.script parts
+  safe_parts = subst (λ (v : WorldState D). IsSafe limit v.script v) (sym same) safe
+
+  pub cell_script : IsCellScript parts.script
+  cell_script = safe_parts.cell_script
+
+  pub few_clients : parts.script.clients ≤ 16
+  few_clients = safe_parts.cell_script.clients
+
+  pub soon : parts.clock ≤ 1000000000
+  soon = safe_parts.ticks
+
+  -- a client of these numbers is there
+  pub inside_clients : (n : ℕ) → (1 ≤ n) × (n ≤ w.script.clients) → at_place parts.clients n ≡ None → ⊥
+  inside_clients n inside none =
+      let here : at_place w.clients n ≡ None = subst (λ (v : WorldState D). at_place v.clients n ≡ None) same none in
+      none_inside w.clients n here inside.0 (omega (arith, inside.1, safe.client_count))
+
+  pub can_all : w.is_lost ≡ false → length w.history < most_entries → AllCanStep limit parts.servers
+  can_all going few = subst (λ (v : WorldState D). AllCanStep limit v.servers) (sym same) (all_can limit w.script w safe going few)
+
+  pub ready_all : w.is_lost ≡ false → length w.history < most_entries → AllReady parts.script parts.clients
+  ready_all going few = subst (λ (v : WorldState D). AllReady v.script v.clients) (sym same) (all_ready limit w.script w safe going few)
+
+module _ {D : Type 0} (seen : D → Option (List ℕ)) (may_leave : D → List ℕ → Type 0) (faults limit : D → ℕ) (parts w : WorldState D) (same : parts ≡ w) (safe : IsSafe limit w.script w) (going : w.is_lost ≡ false) (few : length w.history < most_entries)
+    (new : WorldState D) (result : Result (Unit {0}) WorldFault) where
+  -- a server was given something that is no message
+  pub served : (i : ℕ) (input : ServerInput) (servers : List (ServerSeat D)) (what : Happened)
+      → ServersHappened seen may_leave faults limit i [] (IsVoidServer input) (HasStep (Server i) parts.clock parts.script.clients input) parts.servers servers what → Settles (Server i) None what (record parts { servers = servers }) new result
+      → Stepped seen may_leave faults limit w.script (λ (t : Turn). IsGiven i input) w new result
+  served i input servers what happened settled =
+      subst (λ (v : WorldState D). IsSafe limit v.script v → v.is_lost ≡ false → length v.history < most_entries → Stepped seen may_leave faults limit v.script (λ (t : Turn). IsGiven i input) v new result) same
+      (λ safe going few. input_settles seen may_leave faults limit parts.script parts i input servers what new result safe going few happened settled)
+      safe going few
+
+  -- a client
+  pub asked : (n : ℕ) (input : ClientInput) (clients : List ClientSeat) (what : Happened) → (at_place parts.clients n ≡ None → ⊥)
+      → ClientsHappened parts.script n (IsVoidClient input) (ClientTakes n parts.clock input) parts.clients clients what → Settles (Client n) None what (record parts { clients = clients }) new result
+      → Stepped seen may_leave faults limit w.script (IsAsked input n) w new result
+  asked n input clients what inside happened settled =
+      subst (λ (v : WorldState D). IsSafe limit v.script v → v.is_lost ≡ false → length v.history < most_entries → Stepped seen may_leave faults limit v.script (IsAsked input n) v new result) same
+      (λ safe going few. asked_settles seen may_leave faults limit parts.script parts n input clients what new result safe going few inside happened settled)
+      safe going few
+
+  -- a server was given the message of this place
+  pub message_served : (place : ℕ) (p : Parcel) (i : ℕ) (bytes : List ℕ) (servers : List (ServerSeat D)) (what : Happened) → at_place parts.wire place ≡ Some p → p.head.to ≡ Server i → bytes ≡ p.bytes
+      → ServersHappened seen may_leave faults limit i (lines.Given place ∷ []) IsFallen (HasHeard (Server i) parts.clock place bytes) parts.servers servers what
+      → Settles (Server i) (Some (lines.Given place)) what (record parts { servers = servers }) new result
+      → Stepped seen may_leave faults limit w.script (λ (t : Turn). IsInput t (events.Deliver place)) w new result
+  message_served place p i bytes servers what found to spelled happened settled =
+      subst (λ (v : WorldState D). IsSafe limit v.script v → v.is_lost ≡ false → length v.history < most_entries → Stepped seen may_leave faults limit v.script (λ (t : Turn). IsInput t (events.Deliver place)) v new result) same
+      (λ safe going few. message_settles seen may_leave faults limit parts.script parts i place p servers what new result safe going few found to
+      (subst (λ (b : List ℕ). ServersHappened seen may_leave faults limit i (lines.Given place ∷ []) IsFallen (HasHeard (Server i) parts.clock place b) parts.servers servers what) spelled happened) settled)
+      safe going few
+
+  -- a client
+  pub message_heard : (place : ℕ) (p : Parcel) (n : ℕ) (bytes : List ℕ) (clients : List ClientSeat) (what : Happened) → at_place parts.wire place ≡ Some p → p.head.to ≡ Client n → bytes ≡ p.bytes
+      → ClientsHappened parts.script n (λ (seat : ClientSeat). seat.is_away ≡ true) (ClientHears n parts.clock place bytes) parts.clients clients what
+      → Settles (Client n) (Some (lines.Given place)) what (record parts { clients = clients }) new result
+      → Stepped seen may_leave faults limit w.script (λ (t : Turn). IsInput t (events.Deliver place)) w new result
+  message_heard place p n bytes clients what found to spelled happened settled =
+      subst (λ (v : WorldState D). IsSafe limit v.script v → v.is_lost ≡ false → length v.history < most_entries → Stepped seen may_leave faults limit v.script (λ (t : Turn). IsInput t (events.Deliver place)) v new result) same
+      (λ safe going few. heard_settles seen may_leave faults limit parts.script parts n place p clients what new result safe going few found to
+      (subst (λ (b : List ℕ). ClientsHappened parts.script n (λ (seat : ClientSeat). seat.is_away ≡ true) (ClientHears n parts.clock place b) parts.clients clients what) spelled happened) settled)
+      safe going few
+
+  -- no node was: nothing was sent there, or it is to the location database or to an administrator
+  pub nobody_heard : (place : ℕ) → at_place parts.wire place ≡ None → NothingSettles w new result → Stepped seen may_leave faults limit w.script (λ (t : Turn). IsInput t (events.Deliver place)) w new result
+  nobody_heard place none settled =
+      skip_as seen may_leave faults limit w.script (λ (t : Turn). IsInput t (events.Deliver place)) w new result safe going few (λ tell t at. no_message seen may_leave faults limit w place t at (subst (λ (v : WorldState D). at_place v.wire place ≡ None) same none)) settled
+
+  pub loc_heard : (place : ℕ) (p : Parcel) → at_place parts.wire place ≡ Some p → p.head.to ≡ Loc → NothingSettles w new result → Stepped seen may_leave faults limit w.script (λ (t : Turn). IsInput t (events.Deliver place)) w new result
+  loc_heard place p found to settled =
+      skip_as seen may_leave faults limit w.script (λ (t : Turn). IsInput t (events.Deliver place)) w new result safe going few (λ tell t at. to_loc seen may_leave faults limit w place t p at (subst (λ (v : WorldState D). at_place v.wire place ≡ Some p) same found) to) settled
+
+  pub admin_heard : (place : ℕ) (p : Parcel) (k : ℕ) → at_place parts.wire place ≡ Some p → p.head.to ≡ Admin k → NothingSettles w new result → Stepped seen may_leave faults limit w.script (λ (t : Turn). IsInput t (events.Deliver place)) w new result
+  admin_heard place p k found to settled =
+      skip_as seen may_leave faults limit w.script (λ (t : Turn). IsInput t (events.Deliver place)) w new result safe going few (λ tell t at. to_admin seen may_leave faults limit w place t p k at (subst (λ (v : WorldState D). at_place v.wire place ≡ Some p) same found) to) settled

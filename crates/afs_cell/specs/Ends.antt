@@ -1,0 +1,52 @@
+-- How a cell is set up, and how its schedule ends.
+use Rattle.std.specs.Prelude.{◌≡◌, ◌≤◌, ◌⊎◌, ◌+◌, ◌↔◌, ℕ, List, [], ◌∷◌, false, Option, Some, IsSome}
+use Rattle.afs_history.specs.declared.scripts.Script.{Script}
+use Rattle.afs_disk.specs.Disk.{LeavesJust, Rose}
+use Rattle.afs_disk.specs.declared.disks.Lent.{Lent}
+use Rattle.afs_grammar.specs.Lines.{volumes_at}
+use Rattle.afs_volstore.specs.Opening.{IsSetUpSoFar}
+use Rattle.afs_cell.specs.Steps.{HasPlayedAll, HasPlayedFirst}
+use Rattle.afs_cell.specs.Worlds.{AllTell, IsWorld, WorldState}
+use Rattle.afs_cell.specs.declared.faults.SetupFault.{SetupFault}
+use Rattle.afs_cell.specs.declared.faults.SetupFault.TheVariants as setup
+use Rattle.afs_cell.specs.declared.playing.Ended.{Ended}
+use Rattle.afs_cell.specs.declared.playing.Ended.TheVariants as ended
+
+-- ---- set-up
+
+-- no count of faults fell
+abbrev pub NoneFell : {D : Type 0} → (D → ℕ) → List (Lent D) → List (Lent D) → Type 0
+NoneFell {D} faults [] news = Unit {0}
+NoneFell {D} faults (a ∷ olds) [] = ⊥
+NoneFell {D} faults (a ∷ olds) (b ∷ news) = (faults a.disk ≤ faults b.disk) × NoneFell faults olds news
+
+-- that of one rose
+abbrev pub OneRose : {D : Type 0} → (D → ℕ) → List (Lent D) → List (Lent D) → Type 0
+OneRose {D} faults (a ∷ olds) (b ∷ news) = Rose (faults a.disk) (faults b.disk) ⊎ OneRose faults olds news
+OneRose {D} faults olds news = ⊥
+
+abbrev pub IsRefusedBy : {D : Type 0} → (D → ℕ) → List (Lent D) → SetupFault → List (Lent D) → Type 0
+IsRefusedBy {D} faults disks (setup.Disk n) back = OneRose faults disks back
+IsRefusedBy {D} faults disks setup.OutOfMemory back = Unit {0}
+
+abbrev pub IsRefused : {D : Type 0} → (D → ℕ) → List (Lent D) → SetupFault × List (Lent D) → Type 0
+IsRefused {D} faults disks e = NoneFell faults disks e.1 × IsRefusedBy faults disks e.0 e.1
+
+-- A disk that set-up hands back tells as before. Where it was empty, it holds no record, or just that of the set-up.
+pub record IsLeftAt {D : Type 0} (seen : D → Option (List ℕ)) (may_leave : D → List ℕ → Type 0) (s : Script) (i : ℕ) (old new : D) : Type 0 where
+  pub told : IsSome (seen new) ↔ IsSome (seen old)
+  pub holds : seen old ≡ Some [] → LeavesJust [] (may_leave old) → (bytes : List ℕ) → seen new ≡ Some bytes → IsSetUpSoFar s.capacity (volumes_at i s.volumes) bytes
+
+-- so it is of each, in order of number from this one on
+abbrev pub AreLeft : {D : Type 0} → (D → Option (List ℕ)) → (D → List ℕ → Type 0) → Script → ℕ → List (Lent D) → List (Lent D) → Type 0
+AreLeft {D} seen may_leave s i [] [] = Unit {0}
+AreLeft {D} seen may_leave s i (a ∷ olds) (b ∷ news) = IsLeftAt seen may_leave s i a.disk b.disk × AreLeft seen may_leave s (i + 1) olds news
+AreLeft {D} seen may_leave s i olds news = ⊥
+
+-- ---- the schedule
+
+-- how a script was played, where the disks told at its beginning
+abbrev pub IsEnded : {D : Type 0} → (D → Option (List ℕ)) → (D → List ℕ → Type 0) → (D → ℕ) → (D → ℕ) → Script → Type 0 → Ended (WorldState D) → Type 0
+IsEnded {D} seen may_leave faults limit s told (ended.Done w) = IsWorld seen may_leave faults limit s w × ((w.is_lost ≡ false) × (told → AllTell seen w.servers × HasPlayedAll seen may_leave faults limit s w))
+IsEnded {D} seen may_leave faults limit s told (ended.Limit w) = IsWorld seen may_leave faults limit s w × ((w.is_lost ≡ false) × (told → AllTell seen w.servers × HasPlayedFirst seen may_leave faults limit s w))
+IsEnded {D} seen may_leave faults limit s told (ended.OutOfMemory w) = IsWorld seen may_leave faults limit s w

@@ -1,0 +1,13 @@
+pub mod Places
+pub mod Worlds
+pub mod Steps
+pub mod Happening
+pub mod Seating
+pub mod Ready
+pub mod Meaning
+pub mod Noting
+pub mod Picks
+pub mod Ends
+pub mod UnderWay
+pub mod FirstSeats
+pub mod Refusing

@@ -1,0 +1,125 @@
+-- What the calls of a world promise.
+use Rattle.std.specs.Prelude.{◌≡◌, ◌≤◌, ◌+◌, ◌⊎◌, ◌↔◌, ℕ, List, [], ◌∷◌, ◌++◌, length, Bool, true, false, Option, Some, None, Result, Ok, Err, IsSome}
+use Rattle.afs_history.specs.declared.acts.Act.{Act}
+use Rattle.afs_history.specs.declared.scripts.Script.{Script}
+use Rattle.afs_disk.specs.declared.disks.Lent.{Lent}
+use Rattle.afs_num.specs.declared.types.Node.{Node}
+use Rattle.afs_num.specs.declared.types.Node.TheVariants.{Server}
+use Rattle.afs_rows.specs.Runs.{begun_by_disk, moved, start, Cell, Fall, Input}
+use Rattle.afs_rows.specs.States.{ServerState}
+use Rattle.afs_server.specs.Seen.{lasting_of}
+use Rattle.afs_records.specs.Durable.{Durable}
+use Rattle.afs_records.specs.Stands.{Stands}
+use Rattle.afs_schedule.specs.Schedules.{events_of, first_turn, left_by, acts_of, AreFirst, AreInputs, Turn}
+use Rattle.afs_cell.specs.Places.{Each}
+use Rattle.afs_text.specs.Telling.{told}
+use Rattle.afs_cell.specs.Worlds.{falls, most_entries, seat_disk, AllTell, Counts, IsCell, IsSafe, Runs, ServerSeat, WorldState}
+use Rattle.afs_cell.specs.declared.clients.ClientSeat.{ClientSeat}
+use Rattle.afs_cell.specs.declared.faults.WorldFault.{WorldFault}
+use Rattle.afs_cell.specs.declared.faults.WorldFault.TheVariants as faults
+
+-- ---- set-up
+
+-- the disks of these servers, in order of number from this one on, each for so many bytes
+abbrev pub AreLent : {D : Type 0} → (D → ℕ) → ℕ → ℕ → List (Lent D) → Type 0
+AreLent {D} limit capacity i [] = Unit {0}
+AreLent {D} limit capacity i (l ∷ ls) = (l.node ≡ i) × ((limit l.disk ≡ capacity) × AreLent limit capacity (i + 1) ls)
+
+abbrev pub LentTell : {D : Type 0} → (D → Option (List ℕ)) → List (Lent D) → Type 0
+LentTell {D} seen lent = Each (λ (i : ℕ) (l : Lent D). IsSome (seen l.disk)) lent
+
+-- the world at set-up: nothing has happened, and it stands for the script's first cell
+pub record IsFirst {D : Type 0} (seen : D → Option (List ℕ)) (may_leave : D → List ℕ → Type 0) (limit : D → ℕ) (s : Script) (w : WorldState D) : Type 0 where
+  pub history : w.history ≡ []
+  pub wire : w.wire ≡ []
+  pub clock : w.clock ≡ 0
+  pub going : w.is_lost ≡ false
+  pub acts : Each (λ (n : ℕ) (seat : ClientSeat). acts_of n s.tasks ≡ seat.plan) w.clients
+  pub cell : AllTell seen w.servers → IsCell seen may_leave limit w (start s)
+
+-- ---- one event
+
+-- the world stands for this cell, and these acts of its clients are left
+pub record IsAt {D : Type 0} (seen : D → Option (List ℕ)) (may_leave : D → List ℕ → Type 0) (limit : D → ℕ) (w : WorldState D) (c : Cell) (left : ℕ → List Act) : Type 0 where
+  pub cell : IsCell seen may_leave limit w c
+  pub acts : Each (λ (n : ℕ) (s : ClientSeat). left n ≡ s.plan) w.clients
+
+-- One entry more, that of such an input; the world stands for what comes of it. Where a disk fails by itself, that is counted.
+pub record Plays {D : Type 0} (seen : D → Option (List ℕ)) (may_leave : D → List ℕ → Type 0) (faults limit : D → ℕ) (is : Input → Type 0) (t : Turn) (old new : WorldState D) : Type 0 where
+  pub input : Input
+  pub is_one : is input
+  pub history : told new.wire new.history ≡ told old.wire old.history ++ (moved t.cell input).entry ∷ []
+  pub at : IsAt seen may_leave limit new (moved t.cell input).cell (left_by input t.left)
+  pub counts : (n : ℕ) → Counts faults n old.servers → Counts faults (n + falls input) new.servers
+
+-- So it is for each cell and the acts for which the world stands, while its disks tell.
+pub record PlaysOne {D : Type 0} (seen : D → Option (List ℕ)) (may_leave : D → List ℕ → Type 0) (faults limit : D → ℕ) (is : Turn → Input → Type 0) (old new : WorldState D) : Type 0 where
+  pub count : length new.history ≡ length old.history + 1
+  pub going : new.is_lost ≡ false
+  pub plays : AllTell seen old.servers → (t : Turn) → IsAt seen may_leave limit old t.cell t.left → Plays seen may_leave faults limit (is t) t old new
+
+-- nothing was told and nothing was sent
+pub record TellsNothing {D : Type 0} (old new : WorldState D) : Type 0 where
+  pub script : new.script ≡ old.script
+  pub history : new.history ≡ old.history
+  pub wire : new.wire ≡ old.wire
+  pub clock : new.clock ≡ old.clock
+
+-- the world stands for each cell for which it stood
+pub record StandsStill {D : Type 0} (seen : D → Option (List ℕ)) (may_leave : D → List ℕ → Type 0) (limit : D → ℕ) (old new : WorldState D) : Type 0 where
+  pub lost_as : new.is_lost ≡ old.is_lost
+  pub clients : new.clients ≡ old.clients
+  pub at : (c : Cell) (left : ℕ → List Act) → IsAt seen may_leave limit old c left → IsAt seen may_leave limit new c left
+
+-- Memory was wanting: the world can't go on, or is what it was. Its last entry was made: nothing changes.
+abbrev pub Stays : {D : Type 0} → (D → Option (List ℕ)) → (D → List ℕ → Type 0) → (D → ℕ) → WorldState D → WorldState D → WorldFault → Type 0
+Stays {D} seen may_leave limit old new faults.OutOfMemory = TellsNothing old new × ((new.is_lost ≡ true) ⊎ StandsStill seen may_leave limit old new)
+Stays {D} seen may_leave limit old new faults.Limit = (length old.history ≡ most_entries) × (new ≡ old)
+
+-- such an input was played, or nothing was told
+abbrev pub Steps : {D : Type 0} → (D → Option (List ℕ)) → (D → List ℕ → Type 0) → (D → ℕ) → (D → ℕ) → (Turn → Input → Type 0) → WorldState D → WorldState D → Result (Unit {0}) WorldFault → Type 0
+Steps {D} seen may_leave faults limit is old new (Ok done) = PlaysOne seen may_leave faults limit is old new
+Steps {D} seen may_leave faults limit is old new (Err fault) = Stays seen may_leave limit old new fault
+
+-- A step of a world of this script, whatever came of it: it is safe, its disks tell as before, and no count of faults fell.
+pub record Stepped {D : Type 0} (seen : D → Option (List ℕ)) (may_leave : D → List ℕ → Type 0) (faults limit : D → ℕ) (s : Script) (is : Turn → Input → Type 0) (w new : WorldState D) (result : Result (Unit {0}) WorldFault) : Type 0 where
+  pub steps : Steps seen may_leave faults limit is w new result
+  pub safe : IsSafe limit s new
+  pub tells : AllTell seen w.servers ↔ AllTell seen new.servers
+  pub counts : (n : ℕ) → Counts faults n w.servers → Counts faults n new.servers
+
+-- ---- the disks that are given back
+
+-- the disks of these servers, in order of number from this one on
+abbrev pub lent_from : {D : Type 0} → ℕ → List (ServerSeat D) → List (Lent D)
+lent_from {D} i [] = []
+lent_from {D} i (s ∷ ss) = record { node = i; disk = seat_disk s } ∷ lent_from (i + 1) ss
+
+-- What is read from this part is what the server keeps after the interrupted step, while it is down.
+abbrev pub IsReadAfter : Node → ServerState → Option Fall → Durable → Type 0
+IsReadAfter me s None d = lasting_of d ≡ s.lasting
+IsReadAfter me s (Some fall) d = lasting_of d ≡ (begun_by_disk me s true fall).state.lasting
+
+-- A server reads from this part what it keeps in the cell; or, while it is down, what it keeps there after the interrupted step.
+abbrev pub MayBeRead : Cell → ℕ → Durable → Type 0
+MayBeRead c i d = (lasting_of d ≡ (c.hosts i).state.lasting) ⊎ IsReadAfter (Server i) (c.hosts i).state (c.hosts i).down d
+
+-- each server's disk stands for such a part, of the capacity that the disk has
+abbrev pub AreStanding : {D : Type 0} → (D → Option (List ℕ)) → (D → ℕ) → Cell → List (Lent D) → Type 0
+AreStanding {D} seen limit c lent = Each (λ (i : ℕ) (l : Lent D). (bytes : List ℕ) → seen l.disk ≡ Some bytes → (d : Durable) × (MayBeRead c i d × (Stands bytes d × (d.capacity ≡ limit l.disk)))) lent
+
+-- ---- a whole schedule
+
+-- the world has played the events of the script, as far as these inputs go
+pub record HasPlayed {D : Type 0} (seen : D → Option (List ℕ)) (may_leave : D → List ℕ → Type 0) (faults limit : D → ℕ) (IsPlayed : List Input → Type 0) (s : Script) (w : WorldState D) : Type 0 where
+  pub inputs : List Input
+  pub cell : Cell
+  pub runs : Runs seen may_leave faults limit s w inputs cell
+  pub played : IsPlayed inputs
+
+-- all of them, or the first as many as a history may have
+abbrev pub HasPlayedAll : {D : Type 0} → (D → Option (List ℕ)) → (D → List ℕ → Type 0) → (D → ℕ) → (D → ℕ) → Script → WorldState D → Type 0
+HasPlayedAll {D} seen may_leave faults limit s w = HasPlayed seen may_leave faults limit (AreInputs (first_turn s) (events_of s)) s w
+
+abbrev pub HasPlayedFirst : {D : Type 0} → (D → Option (List ℕ)) → (D → List ℕ → Type 0) → (D → ℕ) → (D → ℕ) → Script → WorldState D → Type 0
+HasPlayedFirst {D} seen may_leave faults limit s w = HasPlayed seen may_leave faults limit (AreFirst (first_turn s) (events_of s)) s w × (length w.history ≡ most_entries)

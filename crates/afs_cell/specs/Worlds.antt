@@ -1,0 +1,168 @@
+-- The program's cell, and the cell of the definitions that it stands for.
+use Rattle.std.specs.Prelude.{◌≡◌, ◌≤◌, ◌⊎◌, ◌+◌, ◌-◌, ◌*◌, ◌^◌, ℕ, List, [], ◌∷◌, Bool, false, Option, length, IsSome}
+use Rattle.std.specs.List.{All}
+use Rattle.afs_num.specs.declared.types.Node.{Node}
+use Rattle.afs_num.specs.declared.types.Node.TheVariants.{Server, Client}
+use Rattle.afs_num.specs.declared.types.Parcel.{Parcel}
+use Rattle.afs_history.specs.declared.acts.Act.{Act}
+use Rattle.afs_history.specs.declared.lines.Entry as kept
+use Rattle.afs_history.specs.declared.scripts.Script.{Script}
+use Rattle.afs_grammar.specs.CellScripts.{IsCellScript}
+use Rattle.afs_model.specs.Messages.{messages_spelled, parcels_read}
+use Rattle.afs_rows.specs.Going.{ClientState}
+use Rattle.afs_rows.specs.Runs.{fails_early, fails_midway, gives, gives_out, locations, start, starts_again, user_at, Cell, Host, Input, Leads}
+use Rattle.afs_acts.specs.Acts.{IsShortAct}
+use Rattle.afs_host.specs.Seats.{CanRun, IsDown, IsUp, Resting, Running}
+use Rattle.afs_host.specs.declared.seats.Seat.{Seat}
+use Rattle.afs_host.specs.declared.seats.Seat.TheVariants.{Up, Down}
+use Rattle.afs_cell.specs.Places.{Each}
+use Rattle.afs_text.specs.Telling.{told, sent_by, AreRead}
+use Rattle.afs_cell.specs.declared.clients.ClientSeat.{ClientSeat}
+
+abbrev pub ServerSeat : Type 0 → Type 0
+ServerSeat D = Seat (Running D) (Resting D)
+
+-- The script; the servers and the clients in order of number; the messages that were sent; the entries of the history; the
+-- clock; and whether memory was wanting behind a node's step, so that the cell can't go on.
+pub record WorldState (D : Type 0) : Type 0 where
+  pub script : Script
+  pub servers : List (ServerSeat D)
+  pub clients : List ClientSeat
+  pub wire : List Parcel
+  pub history : List kept.Entry
+  pub clock : ℕ
+  pub is_lost : Bool
+
+-- the messages that were sent, and the entries of the history
+pub record HistoryTold : Type 0 where
+  pub wire : List Parcel
+  pub history : List kept.Entry
+
+-- ---- the cell
+
+-- the server of this number is the host, up or down
+abbrev pub IsHost : {D : Type 0} → (D → Option (List ℕ)) → (D → List ℕ → Type 0) → (D → ℕ) → ℕ → ServerSeat D → Host → Type 0
+IsHost {D} seen may_leave limit i (Up r) h = IsUp r h
+IsHost {D} seen may_leave limit i (Down s) h = IsDown seen may_leave limit (Server i) s h
+
+-- a client's seat has the state that the cell has, and is away where the cell has it away
+pub record IsClient (s : ClientSeat) (state : ClientState) (away : Bool) : Type 0 where
+  pub state_is : s.client.state ≡ state
+  pub away_is : s.is_away ≡ away
+
+-- the cell that the world stands for
+pub record IsCell {D : Type 0} (seen : D → Option (List ℕ)) (may_leave : D → List ℕ → Type 0) (limit : D → ℕ) (w : WorldState D) (c : Cell) : Type 0 where
+  pub host_count : c.host_count ≡ length w.servers
+  pub hosts : Each (λ (i : ℕ) (s : ServerSeat D). IsHost seen may_leave limit i s (c.hosts i)) w.servers
+  pub count : c.count ≡ length w.clients
+  pub clients : Each (λ (n : ℕ) (s : ClientSeat). IsClient s (c.clients n) (c.away n)) w.clients
+  pub sent : parcels_read w.wire ≡ messages_spelled c.sent
+  pub clock : c.clock ≡ w.clock
+
+-- ---- what the next input may rely on
+
+-- A server can be given what comes next, in a history of so many entries: no step draws more than so many numbers, nor makes more
+-- than four device calls; setting up makes at most twelve, a restart ten.
+pub record IsReady {D : Type 0} (i entries : ℕ) (r : Running D) : Type 0 where
+  pub node : r.store.node ≡ Server i
+  pub can_run : CanRun r
+  pub calls_drawn : r.store.drawn ≤ 204 * (entries + 1)
+  pub breaks_drawn : r.memory.lists.last_owed + length r.memory.lists.promises ≤ 50 * (entries + 1)
+  pub device_calls : r.store.disk.calls ≤ 12 + 4 * entries
+
+abbrev pub IsReadySeat : {D : Type 0} → ℕ → ℕ → ServerSeat D → Type 0
+IsReadySeat {D} i entries (Up r) = IsReady i entries r
+IsReadySeat {D} i entries (Down s) = Unit {0}
+
+-- What a client was handed at its start, or when it began again, is the script's; so are the acts that it has not begun.
+pub record IsHanded (s : Script) (n : ℕ) (seat : ClientSeat) : Type 0 where
+  pub node : seat.client.node ≡ Client n
+  pub epoch : seat.client.state.epoch ≡ seat.epoch
+  pub capacity : seat.client.state.capacity ≡ s.cache
+  pub user : seat.client.state.user ≡ user_at s n
+  pub table : seat.client.state.table ≡ locations s
+  pub acts : All IsShortAct seat.plan
+
+-- A client can be given what comes next, too: no step makes more than one call, or begins more than one epoch.
+pub record IsReadyClient (s : Script) (n entries : ℕ) (seat : ClientSeat) : Type 0 where
+  pub handed : IsHanded s n seat
+  pub epoch : seat.epoch ≤ entries + 1
+  pub last : seat.client.state.last ≤ entries
+
+-- ---- disks
+
+abbrev pub seat_disk : {D : Type 0} → ServerSeat D → D
+seat_disk {D} (Up r) = r.store.disk.disk
+seat_disk {D} (Down s) = s.disk
+
+-- each server's disk tells its bytes
+abbrev pub AllTell : {D : Type 0} → (D → Option (List ℕ)) → List (ServerSeat D) → Type 0
+AllTell {D} seen servers = Each (λ (i : ℕ) (s : ServerSeat D). IsSome (seen (seat_disk s))) servers
+
+-- each has room for so many bytes
+abbrev pub AllHold : {D : Type 0} → (D → ℕ) → ℕ → List (ServerSeat D) → Type 0
+AllHold {D} limit capacity servers = Each (λ (i : ℕ) (s : ServerSeat D). limit (seat_disk s) ≡ capacity) servers
+
+-- the faults of all disks
+abbrev pub all_faults : {D : Type 0} → (D → ℕ) → List (ServerSeat D) → ℕ
+all_faults {D} faults [] = 0
+all_faults {D} faults (s ∷ ss) = faults (seat_disk s) + all_faults faults ss
+
+-- the count of one of them stands at the last value of a counter
+abbrev pub OneIsFull : {D : Type 0} → (D → ℕ) → List (ServerSeat D) → Type 0
+OneIsFull {D} faults [] = ⊥
+OneIsFull {D} faults (s ∷ ss) = (2 ^ 64 - 1 ≤ faults (seat_disk s)) ⊎ OneIsFull faults ss
+
+-- the disks count so many faults, as far as they can count
+abbrev pub Counts : {D : Type 0} → (D → ℕ) → ℕ → List (ServerSeat D) → Type 0
+Counts {D} faults n servers = (n ≤ all_faults faults servers) ⊎ OneIsFull faults servers
+
+-- the disk of a server fails by itself with this input
+abbrev pub falls : Input → ℕ
+falls (gives place (gives_out call)) = 1
+falls (starts_again i after fails_early) = 1
+falls (starts_again i after fails_midway) = 1
+falls x = 0
+
+abbrev pub own_falls : List Input → ℕ
+own_falls [] = 0
+own_falls (x ∷ xs) = falls x + own_falls xs
+
+-- ---- what every world is, between any two of its steps
+
+abbrev pub most_entries : ℕ
+most_entries = 4194304
+
+abbrev pub most_ticks : ℕ
+most_ticks = 1000000000
+
+-- whatever its disks tell
+pub record IsSafe {D : Type 0} (limit : D → ℕ) (s : Script) (w : WorldState D) : Type 0 where
+  pub script : w.script ≡ s
+  pub cell_script : IsCellScript s
+  pub server_count : length w.servers ≡ s.servers
+  pub client_count : length w.clients ≡ s.clients
+  pub servers : w.is_lost ≡ false → Each (λ (i : ℕ) (seat : ServerSeat D). IsReadySeat i (length w.history) seat) w.servers
+  pub clients : w.is_lost ≡ false → Each (λ (n : ℕ) (seat : ClientSeat). IsReadyClient s n (length w.history) seat) w.clients
+  pub disks : AllHold limit s.capacity w.servers
+  pub sent : sent_by w.history ≡ length w.wire
+  pub entries : length w.history ≤ most_entries
+  pub ticks : w.clock ≤ most_ticks
+
+-- These inputs lead from the script's set-up through the history that the world tells to this cell, and the world stands for it.
+-- Each time that a disk failed by itself is counted.
+pub record Runs {D : Type 0} (seen : D → Option (List ℕ)) (may_leave : D → List ℕ → Type 0) (faults limit : D → ℕ) (s : Script) (w : WorldState D) (inputs : List Input) (cell : Cell) : Type 0 where
+  pub leads : Leads (start s) inputs (told w.wire w.history) cell
+  pub read : AreRead w.wire
+  pub cell_is : w.is_lost ≡ false → IsCell seen may_leave limit w cell
+  pub counts : Counts faults (own_falls inputs) w.servers
+
+pub record HasRun {D : Type 0} (seen : D → Option (List ℕ)) (may_leave : D → List ℕ → Type 0) (faults limit : D → ℕ) (s : Script) (w : WorldState D) : Type 0 where
+  pub inputs : List Input
+  pub cell : Cell
+  pub runs : Runs seen may_leave faults limit s w inputs cell
+
+-- Where the disks tell, what the world tells is a run of its script.
+pub record IsWorld {D : Type 0} (seen : D → Option (List ℕ)) (may_leave : D → List ℕ → Type 0) (faults limit : D → ℕ) (s : Script) (w : WorldState D) : Type 0 where
+  pub safe : IsSafe limit s w
+  pub run : AllTell seen w.servers → HasRun seen may_leave faults limit s w

@@ -1,0 +1,103 @@
+//! One node of the cell is given something.
+
+ghost use Rattle.std.specs.Prelude.{◌≡◌, ◌≤◌, ℕ, true, [], ◌∷◌};
+ghost use Rattle.afs_num.specs.declared.types.Node.TheVariants.{Server};
+ghost use Rattle.afs_history.specs.declared.lines.Line.TheVariants as lines;
+ghost use Rattle.afs_grammar.specs.CellScripts.{IsCellScript};
+ghost use Rattle.afs_cell.specs.Happening.{ClientHears, ClientsHappened, ClientTakes, HasHeard, HasStep, IsDue, IsFallen, IsVoidClient, IsVoidServer, ServersHappened};
+ghost use Rattle.afs_cell.specs.Picks.{OneLeavesPick};
+ghost use Rattle.afs_cell.specs.Ready.{AllCanStep, AllReady};
+
+use crate::clients::ClientSeat;
+use crate::happening::{ClientInput, Happened, ServerInput};
+use crate::places::Places;
+use crate::servers;
+use afs_disk::Disk;
+use afs_history::scripts::Script;
+use afs_host::ServerSeat;
+use std::alloc::Global;
+
+/// A server is given a message.
+pub fn server_hears<D: Disk>(
+    alloc: Global,
+    servers: &mut Places<ServerSeat<D>>,
+    server: u8,
+    bytes: &[u8],
+    now: u32,
+) -> Happened
+    requires can { AllCanStep D.limit servers.old.items }
+    requires now { now ≤ 1000000000 }
+    ensures { (place : ℕ) → ServersHappened D.seen D.may_leave D.faults D.limit server (lines.Given place ∷ []) IsFallen (HasHeard (Server server) now place bytes.now) servers.old.items servers.new.items result }
+{
+    let Some(seat) = servers.lift(server) else {
+        return Happened::Nothing;
+    };
+    let (seat, happened) = servers::hear(alloc, seat, bytes, now);
+    servers.put(server, seat);
+    happened
+}
+
+/// A server is given something that is no message.
+pub fn server_takes<D: Disk>(
+    alloc: Global,
+    servers: &mut Places<ServerSeat<D>>,
+    server: u8,
+    clients: u8,
+    now: u32,
+    given: ServerInput,
+) -> Happened
+    requires can { AllCanStep D.limit servers.old.items }
+    requires clients { clients ≤ 16 }
+    requires due { IsDue given }
+    requires now { now ≤ 1000000000 }
+    ensures happened { ServersHappened D.seen D.may_leave D.faults D.limit server [] (IsVoidServer given) (HasStep (Server server) now clients given) servers.old.items servers.new.items result }
+    ensures picked { OneLeavesPick D.seen D.left_by server result given servers.old.items servers.new.items }
+{
+    let Some(seat) = servers.lift(server) else {
+        return Happened::Nothing;
+    };
+    let (seat, happened) = servers::take(alloc, seat, server, clients, now, given);
+    servers.put(server, seat);
+    happened
+}
+
+/// A client is given a message.
+pub fn client_hears<'a>(
+    clients: &mut Places<ClientSeat<'a>>,
+    script: &Script,
+    client: u8,
+    bytes: &[u8],
+    now: u32,
+) -> Happened
+    requires ready { AllReady script.now clients.old.items }
+    ensures { (place : ℕ) → ClientsHappened script.now client (λ seat. seat.is_away ≡ true) (ClientHears client now place bytes.now) clients.old.items clients.new.items result }
+{
+    let _script = script;
+    let Some(mut seat) = clients.lift(client) else {
+        return Happened::Nothing;
+    };
+    let happened = seat.hear(client, bytes, now);
+    clients.put(client, seat);
+    happened
+}
+
+/// A client is given something that is no message.
+pub fn client_takes<'a>(
+    alloc: Global,
+    clients: &mut Places<ClientSeat<'a>>,
+    script: &Script,
+    client: u8,
+    now: u32,
+    given: ClientInput,
+) -> Happened
+    requires script { IsCellScript script.now }
+    requires ready { AllReady script.now clients.old.items }
+    ensures { ClientsHappened script.now client (IsVoidClient given) (ClientTakes client now given) clients.old.items clients.new.items result }
+{
+    let Some(mut seat) = clients.lift(client) else {
+        return Happened::Nothing;
+    };
+    let happened = seat.take(alloc, script, client, now, given);
+    clients.put(client, seat);
+    happened
+}

@@ -1,0 +1,21 @@
+//! The cell in one thread: its servers with their disks, its clients, the messages under way, and what is told of its run.
+#![tactic(auto)]
+
+mod clients;
+mod disks;
+mod ending;
+mod events;
+pub mod faults;
+mod giving;
+mod happening;
+mod places;
+mod playing;
+mod servers;
+mod setup;
+mod telling;
+mod world;
+
+pub use ending::Told;
+pub use playing::{Ended, play};
+pub use setup::set_up;
+pub use world::World;

@@ -1,0 +1,233 @@
+//! What a cell's servers are given.
+
+ghost use Rattle.std.specs.Prelude.{◌≡◌, ◌≤◌, [], ◌∷◌, ℕ};
+ghost use Rattle.afs_num.specs.Nodes.{IsNode};
+ghost use Rattle.afs_num.specs.declared.types.Node.TheVariants.{Server};
+ghost use Rattle.afs_history.specs.declared.lines.Line.TheVariants as lines;
+ghost use Rattle.afs_host.specs.declared.seats.Seat.TheVariants as seat;
+ghost use Rattle.afs_cell.specs.Happening.{CanStep, HasHeard, HasStep, IsDue, IsFallen, IsSeatOf, IsVoidServer, SeatGoes, SeatHappens, SeatKeeps};
+ghost use Rattle.afs_cell.specs.Picks.{LeavesPick};
+ghost use Rattle.afs_cell.specs.Worlds.{seat_disk};
+ghost use Rattle.afs_cell.specs.declared.happening.ServerInput.TheVariants as input;
+
+use crate::happening::{Happened, ServerInput};
+use crate::telling::told_alone;
+use afs_disk::Disk;
+use afs_history::lines::{Line, Outs};
+use afs_host::{Resting, Running, Seat, Served, ServerSeat, Start};
+use afs_num::sequences::Sequence;
+use afs_num::types::Node;
+use std::alloc::Global;
+
+/// A server is given a message, if it is up.
+pub fn hear<D: Disk>(
+    alloc: Global,
+    seat: ServerSeat<D>,
+    bytes: &[u8],
+    now: u32,
+) -> (ServerSeat<D>, Happened)
+    requires can { CanStep seat }
+    requires now { now ≤ 1000000000 }
+    ensures happens { (i place : ℕ) → IsSeatOf i seat → SeatHappens D.seen D.may_leave D.faults D.limit i (lines.Given place ∷ []) IsFallen (HasHeard (Server i) now place bytes.now) seat result.0 result.1 }
+    ensures goes { (i : ℕ) → IsSeatOf i seat → SeatGoes i seat result.0 result.1 }
+    ensures keeps { SeatKeeps D.seen D.faults D.limit seat result.0 }
+{
+    match seat {
+        Seat::Up(running) => match running.serve(bytes, now) {
+            Served::Up(running, outs) => (Seat::Up(running), Happened::Step(outs)),
+            Served::Down(resting, line) => match told_alone(alloc, line) {
+                Ok(outs) => (Seat::Down(resting), Happened::Step(outs)),
+                Err(_) => (Seat::Down(resting), Happened::Lost),
+            },
+            Served::Unchanged(running) => (Seat::Up(running), Happened::Unchanged),
+        },
+        Seat::Down(resting) => (Seat::Down(resting), Happened::Nothing),
+    }
+}
+
+/// The server's unanswered call to this node times out.
+fn time_out<D: Disk>(mut running: Running<D>, callee: Node, now: u32) -> (ServerSeat<D>, Happened)
+    requires can { CanStep (seat.Up running) }
+    requires now { now ≤ 1000000000 }
+    ensures happens { (i count : ℕ) → IsSeatOf i (seat.Up running) → SeatHappens D.seen D.may_leave D.faults D.limit i [] (IsVoidServer (input.TimeOut callee)) (HasStep (Server i) now count (input.TimeOut callee)) (seat.Up running) result.0 result.1 }
+    ensures goes { (i : ℕ) → IsSeatOf i (seat.Up running) → SeatGoes i (seat.Up running) result.0 result.1 }
+    ensures keeps { SeatKeeps D.seen D.faults D.limit (seat.Up running) result.0 }
+{
+    if !running.waits_on(callee) {
+        return (Seat::Up(running), Happened::Nothing);
+    }
+    match running.time_out(callee, now) {
+        Ok(outs) => (Seat::Up(running), Happened::Step(outs)),
+        Err(_) => (Seat::Up(running), Happened::Unchanged),
+    }
+}
+
+/// Time has passed at the server.
+fn wake<D: Disk>(mut running: Running<D>, now: u32) -> (ServerSeat<D>, Happened)
+    requires can { CanStep (seat.Up running) }
+    requires now { now ≤ 1000000000 }
+    ensures happens { (i : ℕ) → IsSeatOf i (seat.Up running) → SeatHappens D.seen D.may_leave D.faults D.limit i [] (IsVoidServer input.Wake) (HasStep (Server i) now 0 input.Wake) (seat.Up running) result.0 result.1 }
+    ensures goes { (i : ℕ) → IsSeatOf i (seat.Up running) → SeatGoes i (seat.Up running) result.0 result.1 }
+    ensures keeps { SeatKeeps D.seen D.faults D.limit (seat.Up running) result.0 }
+{
+    match running.wake(now) {
+        Ok(outs) => (Seat::Up(running), Happened::Step(outs)),
+        Err(_) => (Seat::Up(running), Happened::Unchanged),
+    }
+}
+
+/// The server crashes, and its disk with this pick.
+fn crash<D: Disk>(
+    alloc: Global,
+    running: Running<D>,
+    server: u8,
+    pick: u8,
+) -> (ServerSeat<D>, Happened)
+    requires can { CanStep (seat.Up running) }
+    requires server { IsSeatOf server (seat.Up running) }
+    ensures happens { SeatHappens D.seen D.may_leave D.faults D.limit server [] (IsVoidServer (input.Crash pick)) (HasStep (Server server) 0 0 (input.Crash pick)) (seat.Up running) result.0 result.1 }
+    ensures goes { SeatGoes server (seat.Up running) result.0 result.1 }
+    ensures keeps { SeatKeeps D.seen D.faults D.limit (seat.Up running) result.0 }
+    ensures picked { LeavesPick D.seen D.left_by result.1 (input.Crash pick) (seat.Up running) result.0 }
+{
+    let node = Node::Server(server);
+    match told_alone(alloc, Line::Crash { node }) {
+        Ok(outs) => (Seat::Down(running.crash(pick)), Happened::Step(outs)),
+        Err(_) => (Seat::Up(running), Happened::Unchanged),
+    }
+}
+
+/// The disk is set to stop the server.
+fn set_to_stop<D: Disk>(
+    alloc: Global,
+    mut running: Running<D>,
+    server: u8,
+    calls: u32,
+    pick: u8,
+) -> (ServerSeat<D>, Happened)
+    requires can { CanStep (seat.Up running) }
+    requires server { IsSeatOf server (seat.Up running) }
+    ensures happens { SeatHappens D.seen D.may_leave D.faults D.limit server [] (IsVoidServer (input.Stop calls pick)) (HasStep (Server server) 0 0 (input.Stop calls pick)) (seat.Up running) result.0 result.1 }
+    ensures goes { SeatGoes server (seat.Up running) result.0 result.1 }
+    ensures keeps { SeatKeeps D.seen D.faults D.limit (seat.Up running) result.0 }
+{
+    let node = Node::Server(server);
+    match told_alone(alloc, Line::Stop { node, calls, pick }) {
+        Ok(outs) => {
+            running.stop_after(calls, pick);
+            (Seat::Up(running), Happened::Step(outs))
+        }
+        Err(_) => (Seat::Up(running), Happened::Unchanged),
+    }
+}
+
+/// The disk is set to fail.
+fn set_to_fail<D: Disk>(
+    alloc: Global,
+    mut running: Running<D>,
+    server: u8,
+    call: u32,
+) -> (ServerSeat<D>, Happened)
+    requires can { CanStep (seat.Up running) }
+    requires server { IsSeatOf server (seat.Up running) }
+    requires due { 1 ≤ call }
+    ensures happens { SeatHappens D.seen D.may_leave D.faults D.limit server [] (IsVoidServer (input.Fail call)) (HasStep (Server server) 0 0 (input.Fail call)) (seat.Up running) result.0 result.1 }
+    ensures goes { SeatGoes server (seat.Up running) result.0 result.1 }
+    ensures keeps { SeatKeeps D.seen D.faults D.limit (seat.Up running) result.0 }
+{
+    let node = Node::Server(server);
+    match told_alone(alloc, Line::Fail { node, calls: call }) {
+        Ok(outs) => {
+            running.fail_at(call);
+            (Seat::Up(running), Happened::Step(outs))
+        }
+        Err(_) => (Seat::Up(running), Happened::Unchanged),
+    }
+}
+
+/// A server that is up is given something that is no message.
+fn take_up<D: Disk>(
+    alloc: Global,
+    running: Running<D>,
+    server: u8,
+    now: u32,
+    given: ServerInput,
+) -> (ServerSeat<D>, Happened)
+    requires can { CanStep (seat.Up running) }
+    requires server { IsSeatOf server (seat.Up running) }
+    requires due { IsDue given }
+    requires now { now ≤ 1000000000 }
+    ensures happens { (count : ℕ) → SeatHappens D.seen D.may_leave D.faults D.limit server [] (IsVoidServer given) (HasStep (Server server) now count given) (seat.Up running) result.0 result.1 }
+    ensures goes { SeatGoes server (seat.Up running) result.0 result.1 }
+    ensures keeps { SeatKeeps D.seen D.faults D.limit (seat.Up running) result.0 }
+    ensures picked { LeavesPick D.seen D.left_by result.1 given (seat.Up running) result.0 }
+{
+    match given {
+        ServerInput::TimeOut(callee) => time_out(running, callee, now),
+        ServerInput::Wake => wake(running, now),
+        ServerInput::Crash(pick) => crash(alloc, running, server, pick),
+        ServerInput::Restart => (Seat::Up(running), Happened::Nothing),
+        ServerInput::Stop { calls, pick } => set_to_stop(alloc, running, server, calls, pick),
+        ServerInput::Fail { call } => set_to_fail(alloc, running, server, call),
+    }
+}
+
+/// A server that is down begins again.
+fn begin_again<D: Disk>(
+    alloc: Global,
+    resting: Resting<D>,
+    server: u8,
+    clients: u8,
+    now: u32,
+) -> (ServerSeat<D>, Happened)
+    requires node { IsNode (Server server) }
+    requires limit { D.limit resting.disk ≤ 268435456 }
+    requires clients { clients ≤ 16 }
+    requires now { now ≤ 1000000000 }
+    ensures happens { SeatHappens D.seen D.may_leave D.faults D.limit server [] (IsVoidServer input.Restart) (HasStep (Server server) now clients input.Restart) (seat.Down resting) result.0 result.1 }
+    ensures goes { SeatGoes server (seat.Down resting) result.0 result.1 }
+    ensures keeps { SeatKeeps D.seen D.faults D.limit (seat.Down resting) result.0 }
+{
+    match resting.start(alloc, server, clients, now) {
+        Start::Up(running, outs) => (Seat::Up(running), Happened::Step(outs)),
+        Start::Down(resting, lines) => (
+            Seat::Down(resting),
+            Happened::Step(Outs {
+                parcels: Sequence::new(alloc),
+                lines,
+            }),
+        ),
+        Start::Unchanged(resting) => (Seat::Down(resting), Happened::Unchanged),
+        Start::Lost(resting) => (Seat::Down(resting), Happened::Lost),
+    }
+}
+
+/// A server is given something that is no message, in a cell of so many clients.
+pub fn take<D: Disk>(
+    alloc: Global,
+    seat: ServerSeat<D>,
+    server: u8,
+    clients: u8,
+    now: u32,
+    given: ServerInput,
+) -> (ServerSeat<D>, Happened)
+    requires can { CanStep seat }
+    requires server { IsSeatOf server seat }
+    requires node { IsNode (Server server) }
+    requires limit { D.limit (seat_disk seat) ≤ 268435456 }
+    requires clients { clients ≤ 16 }
+    requires due { IsDue given }
+    requires now { now ≤ 1000000000 }
+    ensures happens { SeatHappens D.seen D.may_leave D.faults D.limit server [] (IsVoidServer given) (HasStep (Server server) now clients given) seat result.0 result.1 }
+    ensures goes { SeatGoes server seat result.0 result.1 }
+    ensures keeps { SeatKeeps D.seen D.faults D.limit seat result.0 }
+    ensures picked { LeavesPick D.seen D.left_by result.1 given seat result.0 }
+{
+    match seat {
+        Seat::Up(running) => take_up(alloc, running, server, now, given),
+        Seat::Down(resting) => match given {
+            ServerInput::Restart => begin_again(alloc, resting, server, clients, now),
+            _ => (Seat::Down(resting), Happened::Nothing),
+        },
+    }
+}

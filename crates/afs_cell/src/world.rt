@@ -1,0 +1,314 @@
+//! The cell: its nodes, the messages under way, and what is told of its run.
+
+ghost use Rattle.std.specs.Prelude.{◌≡◌, ◌≤◌, ◌<◌, ◌+◌, ◌↔◌, [], None, Some, Ok, Err, false, true, length, ℕ};
+ghost use Rattle.afs_num.specs.declared.types.Node.TheVariants.{Server};
+ghost use Rattle.afs_history.specs.declared.scripts.Event.TheVariants as events;
+ghost use Rattle.afs_grammar.specs.CellScripts.{counts_of, FitsEvent};
+ghost use Rattle.afs_grammar.specs.Lines.{ticks_of};
+ghost use Rattle.afs_rows.specs.Runs.{nothing};
+ghost use Rattle.afs_rows.specs.Runs as runs;
+ghost use Rattle.afs_schedule.specs.Schedules.{IsInput};
+ghost use Rattle.afs_cell.specs.Happening.{IsAsked, IsDue, IsGiven, NothingSettles, Settles};
+ghost use Rattle.afs_cell.specs.Noting.{given_line, Notes};
+ghost use Rattle.afs_cell.specs.Picks.{IsPicked};
+ghost use Rattle.afs_cell.specs.Steps.{Steps, Stepped};
+ghost use Rattle.afs_cell.specs.Worlds.{most_entries, most_ticks, AllTell, Counts, IsSafe, IsWorld};
+ghost use Rattle.afs_cell.specs.declared.faults.WorldFault.TheVariants as faults;
+ghost use Rattle.afs_cell.specs.declared.happening.Happened.TheVariants as happened;
+ghost use Rattle.afs_cell.specs.declared.happening.ServerInput.TheVariants as input;
+
+use crate::clients::ClientSeat;
+use crate::events::{Given, meaning_of};
+use crate::faults::WorldFault;
+use crate::giving::{client_hears, client_takes, server_hears, server_takes};
+use crate::happening::{ClientInput, Happened, ServerInput};
+use crate::places::Places;
+use crate::telling::{one_line, tell};
+use afs_disk::{Disk, Lent};
+use afs_history::lines::{Entry, Line, Outs};
+use afs_history::scripts::{Event, Script};
+use afs_host::ServerSeat;
+use afs_num::histories::Actor;
+use afs_num::types::{Node, Parcel};
+use afs_wire::Wire;
+use std::alloc::Global;
+use std::marker::Model;
+
+/// The most entries of a history.
+const MOST_ENTRIES: usize = 4_194_304;
+
+/// The line of a message that is given to a node, if there is one.
+fn given_line(place: Option<u64>) -> Option<Line>
+    ensures { result ≡ given_line place }
+{
+    match place {
+        Some(place) => Some(Line::Given { place }),
+        None => None,
+    }
+}
+
+/// The servers and the clients of a cell in order of number, all messages that were sent, the history so far and the clock.
+/// Where memory was wanting behind the step of a node, the cell is lost: it tells nothing any more, and its history is that from
+/// before the step.
+#[derive(Drop)]
+pub struct World<'a, D: Disk> {
+    pub(crate) alloc: Global,
+    pub(crate) script: &'a Script,
+    pub(crate) servers: Places<ServerSeat<D>>,
+    pub(crate) clients: Places<ClientSeat<'a>>,
+    pub(crate) wire: Wire,
+    pub(crate) history: Vec<Entry>,
+    pub(crate) clock: u32,
+    pub(crate) is_lost: bool,
+    /// Room for the disks to go back into.
+    pub(crate) back: Vec<Lent<D>>,
+}
+
+impl<'a, D: Disk> Model for World<'a, D> {
+    ghost use Rattle.std.specs.Prelude.{◌≤◌, ◌≡◌, []};
+    ghost use Rattle.std.specs.Vec.{vec_capacity};
+    ghost use Rattle.afs_cell.specs.Worlds.{WorldState};
+
+    ghost Value = { WorldState D };
+
+    ghost view = { λ w. record { script = w.script.now; servers = w.servers.items; clients = w.clients.items; wire = w.wire.messages; history = w.history.items; clock = w.clock; is_lost = w.is_lost } };
+
+    ghost invariant = { λ w. record { empty : w.back.items ≡ []; room : w.script.now.servers ≤ vec_capacity w.back } };
+}
+
+impl<'a, D: Disk> World<'a, D> {
+    // ---- entries
+
+    /// One entry more, of one line; no message is sent.
+    fn note(&mut self, actor: Actor, line: Line) -> Result<(), WorldFault>
+        ensures { Notes actor line self.old self.new result }
+    {
+        let lines = one_line(self.alloc, line)?;
+        self.history.push(Entry {
+            actor,
+            lines,
+            sent: 0,
+        })?;
+        Ok(())
+    }
+
+    /// Nothing happens.
+    fn skip(&mut self) -> Result<(), WorldFault>
+        ensures { NothingSettles self.old self.new result }
+    {
+        self.note(Actor::Nobody, Line::Void)
+    }
+
+    /// A step of this node is told, behind the message of this place if it was given one. The cell is lost where memory is
+    /// wanting for that.
+    fn told(&mut self, node: Node, place: Option<u64>, outs: Outs) -> Result<(), WorldFault>
+        ensures { Settles node (given_line place) (happened.Step outs) self.old self.new result }
+    {
+        match tell(
+            self.alloc,
+            &mut self.wire,
+            &mut self.history,
+            node,
+            given_line(place),
+            outs,
+        ) {
+            Ok(()) => Ok(()),
+            Err(_) => self.lose(),
+        }
+    }
+
+    /// What happened at this node is told.
+    fn settle(
+        &mut self,
+        node: Node,
+        place: Option<u64>,
+        happened: Happened,
+    ) -> Result<(), WorldFault>
+        ensures { Settles node (given_line place) happened self.old self.new result }
+    {
+        match happened {
+            Happened::Nothing => self.skip(),
+            Happened::Step(outs) => self.told(node, place, outs),
+            Happened::Unchanged => Err(WorldFault::OutOfMemory),
+            Happened::Lost => self.lose(),
+        }
+    }
+
+    /// The cell is lost.
+    fn lose(&mut self) -> Result<(), WorldFault>
+        ensures value { self.new ≡ record self.old { is_lost = true } }
+        ensures refused { result ≡ Err faults.OutOfMemory }
+    {
+        self.is_lost = true;
+        Err(WorldFault::OutOfMemory)
+    }
+
+    // ---- one node
+
+    /// A server is given something that is no message.
+    fn serve(&mut self, server: u8, given: ServerInput) -> Result<(), WorldFault>
+        requires safe { IsSafe D.limit self.old.script self.old }
+        requires going { self.old.is_lost ≡ false }
+        requires few { length self.old.history < most_entries }
+        requires due { IsDue given }
+        ensures stepped { Stepped D.seen D.may_leave D.faults D.limit self.old.script (λ t. IsGiven server given) self.old self.new result }
+        ensures clock { self.new.clock ≡ self.old.clock }
+        ensures picked { (pick : ℕ) → given ≡ input.Crash pick → IsPicked D.seen D.left_by server pick self.old.servers self.new.servers result }
+    {
+        let happened = server_takes(
+            self.alloc,
+            &mut self.servers,
+            server,
+            self.script.clients,
+            self.clock,
+            given,
+        );
+        self.settle(Node::Server(server), None, happened)
+    }
+
+    /// A client is given something that is no message.
+    fn ask(&mut self, client: u8, given: ClientInput) -> Result<(), WorldFault>
+        requires safe { IsSafe D.limit self.old.script self.old }
+        requires going { self.old.is_lost ≡ false }
+        requires few { length self.old.history < most_entries }
+        requires inside { (1 ≤ client) × (client ≤ self.old.script.clients) }
+        ensures stepped { Stepped D.seen D.may_leave D.faults D.limit self.old.script (IsAsked given client) self.old self.new result }
+        ensures clock { self.new.clock ≡ self.old.clock }
+    {
+        let happened = client_takes(
+            self.alloc,
+            &mut self.clients,
+            self.script,
+            client,
+            self.clock,
+            given,
+        );
+        self.settle(Node::Client(client), None, happened)
+    }
+
+    /// The message of this place is given to its receiver.
+    fn deliver(&mut self, place: u64) -> Result<(), WorldFault>
+        requires safe { IsSafe D.limit self.old.script self.old }
+        requires going { self.old.is_lost ≡ false }
+        requires few { length self.old.history < most_entries }
+        ensures stepped { Stepped D.seen D.may_leave D.faults D.limit self.old.script (λ t. IsInput t (events.Deliver place)) self.old self.new result }
+        ensures clock { self.new.clock ≡ self.old.clock }
+    {
+        let Some(parcel) = self.wire.get(place) else {
+            return self.skip();
+        };
+        let bytes = parcel.bytes.as_slice();
+        match parcel.head.to {
+            Node::Server(server) => {
+                let happened = server_hears(
+                    self.alloc,
+                    &mut self.servers,
+                    server,
+                    bytes,
+                    self.clock,
+                );
+                self.settle(Node::Server(server), Some(place), happened)
+            }
+            Node::Client(client) => {
+                let happened = client_hears(
+                    &mut self.clients,
+                    self.script,
+                    client,
+                    bytes,
+                    self.clock,
+                );
+                self.settle(Node::Client(client), Some(place), happened)
+            }
+            Node::Loc => self.skip(),
+            Node::Admin(_) => self.skip(),
+        }
+    }
+
+    /// The clock rises.
+    fn tick(&mut self, ticks: u32) -> Result<(), WorldFault>
+        requires safe { IsSafe D.limit self.old.script self.old }
+        requires going { self.old.is_lost ≡ false }
+        requires few { length self.old.history < most_entries }
+        requires some { 1 ≤ ticks }
+        requires within { self.old.clock + ticks ≤ most_ticks }
+        ensures stepped { Stepped D.seen D.may_leave D.faults D.limit self.old.script (λ t. IsInput t (events.Tick ticks)) self.old self.new result }
+        ensures clock { self.new.clock ≤ self.old.clock + ticks }
+    {
+        self.note(Actor::Clock, Line::Tick { ticks })?;
+        self.clock += ticks;
+        Ok(())
+    }
+
+    // ---- one event
+
+    /// One event of the schedule, which isn't a drain.
+    fn play_event(&mut self, event: Event) -> Result<(), WorldFault>
+        requires safe { IsSafe D.limit self.old.script self.old }
+        requires going { self.old.is_lost ≡ false }
+        requires few { length self.old.history < most_entries }
+        requires fits { FitsEvent (counts_of self.old.script) event }
+        requires one { event ≡ events.Drain → ⊥ }
+        requires ticks { self.old.clock + ticks_of event ≤ most_ticks }
+        ensures stepped { Stepped D.seen D.may_leave D.faults D.limit self.old.script (λ t. IsInput t event) self.old self.new result }
+        ensures clock { self.new.clock ≤ self.old.clock + ticks_of event }
+        ensures picked { (i pick : ℕ) → event ≡ events.CrashDisk (Server i) pick → IsPicked D.seen D.left_by i pick self.old.servers self.new.servers result }
+    {
+        match meaning_of(event) {
+            Given::Nothing => self.skip(),
+            Given::Client(client, what) => self.ask(client, what),
+            Given::Server(server, what) => self.serve(server, what),
+            Given::Message(place) => self.deliver(place),
+            Given::Ticks(ticks) => self.tick(ticks),
+        }
+    }
+
+    /// Whether the history is as long as one may be.
+    fn is_full(&self) -> bool
+        requires { length self.now.history ≤ most_entries }
+        ensures full { result ≡ true → length self.now.history ≡ most_entries }
+        ensures room { result ≡ false → length self.now.history < most_entries }
+    {
+        self.history.len() == MOST_ENTRIES
+    }
+
+    /// Plays one event, which isn't a drain: its deliveries are events of their own. `Limit` where the history is as long as one
+    /// may be.
+    pub fn step(&mut self, event: &Event) -> Result<(), WorldFault>
+        requires world { IsWorld D.seen D.may_leave D.faults D.limit self.old.script self.old }
+        requires fits { FitsEvent (counts_of self.old.script) event.now }
+        requires one { event.now ≡ events.Drain → ⊥ }
+        requires ticks { self.old.clock + ticks_of event.now ≤ most_ticks }
+        ensures world { IsWorld D.seen D.may_leave D.faults D.limit self.old.script self.new }
+        ensures steps { Steps D.seen D.may_leave D.faults D.limit (λ t. IsInput t event.now) self.old self.new result }
+        ensures tells { AllTell D.seen self.old.servers ↔ AllTell D.seen self.new.servers }
+        ensures counts { (n : ℕ) → Counts D.faults n self.old.servers → Counts D.faults n self.new.servers }
+        ensures clock { self.new.clock ≤ self.old.clock + ticks_of event.now }
+        ensures lost { self.old.is_lost ≡ true → (result ≡ Err faults.OutOfMemory) × (self.new ≡ self.old) }
+        ensures full { self.old.is_lost ≡ false → length self.old.history ≡ most_entries → (result ≡ Err faults.Limit) × (self.new ≡ self.old) }
+        ensures picked { (i pick : ℕ) → event.now ≡ events.CrashDisk (Server i) pick → IsPicked D.seen D.left_by i pick self.old.servers self.new.servers result }
+    {
+        if self.is_lost {
+            return Err(WorldFault::OutOfMemory);
+        }
+        if self.is_full() {
+            return Err(WorldFault::Limit);
+        }
+        self.play_event(*event)
+    }
+
+    // ---- what is told
+
+    /// The entries of the history, one for each event; the messages of an entry are the next of the parcels.
+    pub fn history(&self) -> &[Entry]
+        ensures { result.now ≡ self.now.history }
+    {
+        self.history.as_slice()
+    }
+
+    /// The messages that were sent, each with its bytes.
+    pub fn parcels(&self) -> &[Parcel]
+        ensures { result.now ≡ self.now.wire }
+    {
+        self.wire.as_slice()
+    }
+}

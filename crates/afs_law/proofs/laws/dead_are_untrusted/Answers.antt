@@ -1,0 +1,5 @@
+use Rattle.afs_law.proofs.Dying.{run_dead}
+use Rattle.afs_law.proofs.laws.dead_are_untrusted.Goals as goal
+
+pub returns : goal.returns
+returns c = run_dead

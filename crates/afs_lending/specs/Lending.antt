@@ -1,0 +1,64 @@
+-- The disks of a cell's servers are lent, and given back.
+use Rattle.std.specs.Prelude.{◌≡◌, ◌⊎◌, ℕ, zero, suc, ◌+◌, List, [], ◌∷◌, ◌++◌, Option, Some, min, map, take, option_map, IsSome}
+use Rattle.afs_num.specs.Places.{at_place}
+use Rattle.afs_disk.specs.Banks.{GivesBack}
+use Rattle.afs_disk.specs.Fuses.{last_count}
+use Rattle.afs_disk.specs.declared.bank.Lend.{Lend}
+use Rattle.afs_disk.specs.declared.bank.Place.{Place}
+use Rattle.afs_disk.specs.declared.disks.Lent.{Lent}
+use Rattle.afs_volstore.specs.Stores.{Store}
+use Rattle.afs_final.specs.Reading.{kept_disk}
+use Rattle.afs_final.specs.declared.reading.Left.{Left}
+
+-- ---- lends
+
+-- one disk for each of so many servers, by their numbers from this one on, each of this capacity
+abbrev pub lends : Place → ℕ → ℕ → ℕ → List Lend
+lends place capacity i zero = []
+lends place capacity i (suc more) = record { place = place; node = i; capacity = capacity } ∷ lends place capacity (i + 1) more
+
+-- the first of them were lent, however many, and nothing else
+abbrev pub LendsSome : List Lend → Option (List Lend) → Option (List Lend) → Type 0
+LendsSome all old new = (n : ℕ) × (new ≡ option_map (λ ls. ls ++ take n all) old)
+
+-- ---- disks that were lent
+
+-- the disks of these servers, by their numbers from this one on, each of this capacity
+abbrev pub AreLent : {D : Type 0} → (D → ℕ) → ℕ → ℕ → List (Lent D) → Type 0
+AreLent {D} limit capacity i [] = Unit {0}
+AreLent {D} limit capacity i (l ∷ ls) = (l.node ≡ i) × ((limit l.disk ≡ capacity) × AreLent limit capacity (i + 1) ls)
+
+-- each of them tells what it holds
+abbrev pub LentTell : {D : Type 0} → (D → Option (List ℕ)) → List (Lent D) → Type 0
+LentTell {D} seen ls = (n : ℕ) (l : Lent D) → at_place ls n ≡ Some l → IsSome (seen l.disk)
+
+-- none of them has failed yet
+abbrev pub AreUnused : {D : Type 0} → (D → ℕ) → List (Lent D) → Type 0
+AreUnused {D} faults [] = Unit {0}
+AreUnused {D} faults (l ∷ ls) = (faults l.disk ≡ 0) × AreUnused faults ls
+
+-- ---- disks that are given back
+
+-- the disks behind what was read of them, by their servers' numbers from this one on
+abbrev pub kept_disks : {D : Type 0} → ℕ → List (Left (Store D) D) → List (Lent D)
+kept_disks {D} i [] = []
+kept_disks {D} i (f ∷ fs) = record { node = i; disk = kept_disk f } ∷ kept_disks (i + 1) fs
+
+-- each of these is given back, in their order, and nothing else
+abbrev pub GivesBackAll : {D : Type 0} → (D → Option (List ℕ)) → List (Lent D) → Option (List (ℕ × List ℕ)) → Option (List (ℕ × List ℕ)) → Type 0
+GivesBackAll {D} seen [] old new = new ≡ old
+GivesBackAll {D} seen (l ∷ ls) old new = (next : Option (List (ℕ × List ℕ))) × (GivesBack l.node (seen l.disk) old next × GivesBackAll seen ls next new)
+
+-- some of these are given back, in their order, and nothing else
+abbrev pub GivesBackSome : {D : Type 0} → (D → Option (List ℕ)) → List (Lent D) → Option (List (ℕ × List ℕ)) → Option (List (ℕ × List ℕ)) → Type 0
+GivesBackSome {D} seen [] old new = new ≡ old
+GivesBackSome {D} seen (l ∷ ls) old new = (next : Option (List (ℕ × List ℕ))) × ((GivesBack l.node (seen l.disk) old next ⊎ (next ≡ old)) × GivesBackSome seen ls next new)
+
+-- how often each of them has failed
+abbrev pub faults_of : {D : Type 0} → (D → ℕ) → List (Lent D) → List ℕ
+faults_of {D} faults ls = map (λ (l : Lent D). faults l.disk) ls
+
+-- A sum of faults with those of more disks, one after the other: it stands still at the last value of a counter.
+abbrev pub with_faults : List ℕ → ℕ → ℕ
+with_faults [] sum = sum
+with_faults (n ∷ ns) sum = with_faults ns (min (sum + n) last_count)

@@ -1,0 +1,120 @@
+//! The bank lends the disks of a cell's servers, and takes them back.
+
+ghost use Rattle.std.specs.Prelude.{◌≡◌, ◌≤◌, ◌<◌, ◌^◌, ◌++◌, ◌∷◌, ◌⊎◌, [], length, option_map, vec_capacity, vec_len, IfErr, IfOk, OnErr, OnOk};
+ghost use Rattle.afs_disk.specs.Banks.{GivesBack};
+ghost use Rattle.afs_disk.specs.Disk.{Rose};
+ghost use Rattle.afs_lending.specs.Lending.{faults_of, kept_disks, lends, with_faults, AreLent, AreUnused, GivesBackAll, GivesBackSome, LendsSome, LentTell};
+
+use afs_disk::{Bank, Disks, LendFault, Lent, Place};
+use afs_final::{Left, disk_in};
+use afs_num::devices::Failed;
+use afs_volstore::VolStore;
+use std::alloc::Global;
+
+/// One more, for which there is a place.
+fn put_last<T>(all: &mut Vec<T>, one: T)
+    requires { vec_len all.old < vec_capacity all.old }
+    ensures items { all.new.items ≡ all.old.items ++ one ∷ [] }
+    ensures room { vec_capacity all.old ≤ vec_capacity all.new }
+{
+    match all.push(one) {
+        Ok(()) => {}
+        Err(_) => unreachable!(),
+    }
+}
+
+/// One disk for each server, in order of number, of this capacity. At the first lend that fails no more are asked for, and the
+/// disks of those before it come back as they were lent.
+pub fn lend_all<B: Bank<D: Drop>>(
+    alloc: Global,
+    bank: &mut B,
+    place: &Place,
+    servers: u8,
+    capacity: u32,
+) -> Result<Disks<B::D>, (LendFault, Disks<B::D>)>
+    ensures lent { IfOk result (AreLent B.D.limit capacity 1) }
+    ensures all { IfOk result (λ ds. length ds ≡ servers) }
+    ensures lends { OnOk result (B.lends bank.new ≡ option_map (λ ls. ls ++ lends place.now capacity 1 servers) (B.lends bank.old)) }
+    ensures some { LendsSome (lends place.now capacity 1 servers) (B.lends bank.old) (B.lends bank.new) }
+    ensures tells { B.tells bank.old place.now → IfOk result (LentTell B.D.seen) }
+    ensures unused { IfOk result (AreUnused B.D.faults) }
+    ensures back { IfErr result (λ e. AreUnused B.D.faults e.1) }
+    ensures back_lent { IfErr result (λ e. AreLent B.D.limit capacity 1 e.1) }
+    ensures back_lends { IfErr result (λ e. B.lends bank.new ≡ option_map (λ ls. ls ++ lends place.now capacity 1 (length e.1)) (B.lends bank.old)) }
+    ensures faults { B.lent_faults bank.new ≡ B.lent_faults bank.old }
+    ensures given { B.given bank.new ≡ B.given bank.old }
+    ensures cause { IfErr result (λ e. e.0 ≡ LendFault.Failed → Rose (B.faults bank.old) (B.faults bank.new)) }
+    ensures never_falls { B.faults bank.old ≤ B.faults bank.new }
+{
+    let Ok(mut disks) = Vec::with_capacity(alloc, servers as usize) else {
+        return Err((LendFault::OutOfMemory, Disks::new(alloc)));
+    };
+    for before in 0..servers {
+        let node = before as u32 + 1;
+        match bank.lend(place, node, capacity as u64) {
+            Ok(disk) => put_last(&mut disks, Lent { node, disk }),
+            Err(fault) => return Err((fault, Disks::from_vec(disks))),
+        }
+    }
+    Ok(Disks::from_vec(disks))
+}
+
+/// A disk goes back; whether all did so far.
+fn give_one<B: Bank<D: Drop>>(
+    bank: &mut B,
+    node: u32,
+    disk: B::D,
+    all: Result<(), Failed>,
+) -> Result<(), Failed>
+    ensures given { OnOk result (GivesBack node (B.D.seen disk) (B.given bank.old) (B.given bank.new)) }
+    ensures kept { GivesBack node (B.D.seen disk) (B.given bank.old) (B.given bank.new) ⊎ (B.given bank.new ≡ B.given bank.old) }
+    ensures all { OnOk result (all ≡ result) }
+    ensures cause { OnErr result (Rose (B.faults bank.old) (B.faults bank.new) ⊎ (all ≡ result)) }
+    ensures faults { B.lent_faults bank.new ≡ with_faults (B.D.faults disk ∷ []) (B.lent_faults bank.old) }
+    ensures lends { B.lends bank.new ≡ B.lends bank.old }
+    ensures never_falls { B.faults bank.old ≤ B.faults bank.new }
+{
+    match bank.give_back(node, disk) {
+        Ok(()) => all,
+        Err(fault) => Err(fault),
+    }
+}
+
+/// All disks go back, also behind one that the bank doesn't take.
+pub fn give_back_all<B: Bank<D: Drop>>(bank: &mut B, disks: Disks<B::D>) -> Result<(), Failed>
+    ensures all { OnOk result (GivesBackAll B.D.seen disks (B.given bank.old) (B.given bank.new)) }
+    ensures some { GivesBackSome B.D.seen disks (B.given bank.old) (B.given bank.new) }
+    ensures cause { OnErr result (Rose (B.faults bank.old) (B.faults bank.new)) }
+    ensures faults { B.lent_faults bank.new ≡ with_faults (faults_of B.D.faults disks) (B.lent_faults bank.old) }
+    ensures lends { B.lends bank.new ≡ B.lends bank.old }
+    ensures never_falls { B.faults bank.old ≤ B.faults bank.new }
+{
+    let mut all = Ok(());
+    for lent in disks.into_vec() {
+        let Lent { node, disk } = lent;
+        all = give_one(bank, node, disk, all);
+    }
+    all
+}
+
+/// The disks go back behind what was read of them, those of the servers from number 1 on.
+pub fn give_back<B: Bank<D: Drop>>(
+    bank: &mut B,
+    left: Vec<Left<VolStore<B::D>, B::D>>,
+) -> Result<(), Failed>
+    requires { length left.items < 2 ^ 32 }
+    ensures all { OnOk result (GivesBackAll B.D.seen (kept_disks 1 left.items) (B.given bank.old) (B.given bank.new)) }
+    ensures some { GivesBackSome B.D.seen (kept_disks 1 left.items) (B.given bank.old) (B.given bank.new) }
+    ensures cause { OnErr result (Rose (B.faults bank.old) (B.faults bank.new)) }
+    ensures faults { B.lent_faults bank.new ≡ with_faults (faults_of B.D.faults (kept_disks 1 left.items)) (B.lent_faults bank.old) }
+    ensures lends { B.lends bank.new ≡ B.lends bank.old }
+    ensures never_falls { B.faults bank.old ≤ B.faults bank.new }
+{
+    let mut all = Ok(());
+    let mut node = 0;
+    for found in left {
+        node += 1;
+        all = give_one(bank, node, disk_in(found), all);
+    }
+    all
+}

@@ -1,2 +1,0 @@
-pub mod FirstPart
-pub mod LineByLine

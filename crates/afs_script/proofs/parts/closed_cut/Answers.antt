@@ -1,5 +1,0 @@
-use Rattle.afs_script.proofs.FirstPart.{some_part}
-use Rattle.afs_script.proofs.parts.closed_cut.Goals as goal
-
-pub returns-clause-more : goal.returns-clause-more
-returns-clause-more c = some_part c.args.cut c.in_ok-more.more.now

@@ -1,9 +1,0 @@
-use Rattle.std.proofs.Common.{◌∙◌, sym}
-use Rattle.afs_script.proofs.LineByLine.{line_by_line}
-use Rattle.afs_script.proofs.reader.read_lines.Goals as goal
-
-pub loop-line-preserved : goal.loop-line-preserved
-loop-line-preserved c = record {
-  so_far = sym (line_by_line _ _ _ _ _ _ _ c.in-Some.ensures.0 c.in-Some.ensures.1 c.in_ok-reading.ensures.value) ∙ c.loop-line.invariant.so_far;
-  few = c.in_ok-reading.ensures.few;
-}

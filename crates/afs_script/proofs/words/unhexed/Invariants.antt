@@ -1,9 +1,0 @@
-use Rattle.std.proofs.Common.{◌≡◌, [], length}
-use Rattle.afs_model.specs.ScriptWords.{hex_from}
-use Rattle.afs_script.proofs.words.unhexed.Given as goal
-
-abbrev pub invariant-loop-high : goal.invariant-loop-high
-invariant-loop-high l = hex_from l.bytes l.rest ≡ hex_from [] l.digits
-
-abbrev pub decreases-loop-high : goal.decreases-loop-high
-decreases-loop-high l = length l.rest

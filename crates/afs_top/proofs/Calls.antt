@@ -1,0 +1,143 @@
+-- How a call of the program ends, by how its parts end.
+use Rattle.std.specs.Prelude.{◌≡◌, ◌<◌, ◌⊎◌, ℕ, List, [], ◌++◌, length, Bool, Option, Some, None, IsSome, Result, Ok, Err}
+use Rattle.std.proofs.Common.{refl, ap, sym, subst, ◌∙◌, inl, inr}
+use Rattle.std.specs.Io.KnownBytes.{Consumes, IsAtEnd}
+use Rattle.afs_num.specs.declared.scripts.Reason.{Reason}
+use Rattle.afs_history.specs.declared.scripts.Script.{Script}
+use Rattle.afs_disk.specs.declared.bank.Place.{Place}
+use Rattle.afs_grammar.specs.Lines.{script_of}
+use Rattle.afs_grammar.proofs.TooLong.{longer_as_front}
+use Rattle.afs_outside.specs.Outside.{Gives, HadAll}
+use Rattle.afs_top.specs.Forms.{form_in, Asks, HaveForm}
+use Rattle.afs_top.specs.Outside.{Outside, RoseBy, Span}
+use Rattle.afs_top.specs.Parts.{refusal_status, IsLongRefusal, RefusedBy}
+use Rattle.afs_top.specs.Reading.{GivesNone, GivesScript}
+use Rattle.afs_top.specs.Top.{level, AtBankFault, DoesNothing, Ends, EndsReplay, IsBeforeReplay, IsScript}
+use Rattle.afs_top.specs.declared.scripts.Refusal.{Refusal}
+use Rattle.afs_top.specs.declared.scripts.Refusal.TheVariants as refusals
+use Rattle.afs_top.specs.declared.statuses.Form.{Form}
+use Rattle.afs_top.specs.declared.statuses.Form.TheVariants.{Replay}
+use Rattle.afs_top.specs.declared.statuses.Status.{Status}
+use Rattle.afs_top.specs.declared.statuses.Status.TheVariants as statuses
+use Rattle.afs_top.proofs.Asked.{asked_as_read}
+
+-- ---- an input that is no script
+
+pub long_refusal : (bytes : List ℕ) (r : Refusal) → 16777216 < length bytes → RefusedBy {A = Script} bytes (Err r) → IsLongRefusal bytes r
+long_refusal bytes (refusals.Script line reason) long bad = λ rest. longer_as_front level bytes rest long ∙ bad
+long_refusal bytes refusals.OutOfMemory long bad = tt
+
+-- a front of all that the source had left
+had_behind : (before after : Option (List ℕ)) (front : List ℕ) → Consumes before after front → (rest : List ℕ) × HadAll before (front ++ rest)
+had_behind None after front taken = ([], tt)
+had_behind (Some left) None front taken = absurd taken
+had_behind (Some left) (Some rest) front taken = (rest, taken)
+
+pub none_of_long : (source : Span (Option (List ℕ))) (faults : Span ℕ) (front : List ℕ) (r : Refusal) → Consumes source.before source.after front → IsLongRefusal front r → GivesNone source faults (refusal_status r)
+none_of_long source faults front (refusals.Script line reason) taken bad =
+    let all = had_behind source.before source.after front taken in
+    record { input = front ++ all.0; had = all.1; bad = bad all.0 }
+none_of_long source faults front refusals.OutOfMemory taken bad = tt
+
+pub none_of_bad : (source : Span (Option (List ℕ))) (faults : Span ℕ) (input : List ℕ) (r : Refusal) → HadAll source.before input → RefusedBy {A = Script} input (Err r) → GivesNone source faults (refusal_status r)
+none_of_bad source faults input (refusals.Script line reason) had bad = record { input = input; had = had; bad = bad }
+none_of_bad source faults input refusals.OutOfMemory had bad = tt
+
+-- ---- a call that ends before a replay
+
+pub ends_unread : (words : List (List ℕ)) (source : Span (Option (List ℕ))) (faults : Span ℕ) (Tells : Place → Type 0) (Left : Script → Outside → Type 0) (o : Outside) (status : Status) → HaveForm words → DoesNothing o → GivesNone source faults status → Ends words source faults Tells Left o status
+ends_unread words source faults Tells Left o statuses.Done form nothing none = absurd none
+ends_unread words source faults Tells Left o statuses.Usage form nothing none = absurd none
+ends_unread words source faults Tells Left o (statuses.Script line reason) form nothing none = record { asked = form; input = none.input; had = none.had; bad = none.bad }
+ends_unread words source faults Tells Left o statuses.ReadFault form nothing none = (form, none)
+ends_unread words source faults Tells Left o statuses.WriteFault form nothing none = absurd none
+ends_unread words source faults Tells Left o statuses.BankFault form nothing none = absurd none
+ends_unread words source faults Tells Left o statuses.OutOfMemory form nothing none = (form, inl nothing)
+ends_unread words source faults Tells Left o statuses.Limit form nothing none = absurd none
+
+pub none_isnt_usage : (source : Span (Option (List ℕ))) (faults : Span ℕ) (status : Status) → GivesNone source faults status → status ≡ statuses.Usage → ⊥
+none_isnt_usage source faults statuses.Done none is = none
+none_isnt_usage source faults statuses.Usage none is = none
+none_isnt_usage source faults (statuses.Script line reason) none is = absurd cc
+none_isnt_usage source faults statuses.ReadFault none is = absurd cc
+none_isnt_usage source faults statuses.WriteFault none is = none
+none_isnt_usage source faults statuses.BankFault none is = none
+none_isnt_usage source faults statuses.OutOfMemory none is = absurd cc
+none_isnt_usage source faults statuses.Limit none is = none
+
+not_both : (o : Result Script (ℕ × Reason)) (s : Script) (line : ℕ) (reason : Reason) → o ≡ Ok s → o ≡ Err (line, reason) → ⊥
+not_both o s line reason ok err = absurd cc
+
+-- a script isn't refused
+isnt_bad : (before : Option (List ℕ)) (input : List ℕ) (line : ℕ) (reason : Reason) → Gives IsScript before → HadAll before input → script_of level input ≡ Err (line, reason) → ⊥
+isnt_bad None input line reason gives had bad = absurd gives
+isnt_bad (Some left) input line reason gives had bad = not_both (script_of level left) gives.0 line reason gives.1 (ap (script_of level) had ∙ bad)
+
+abbrev Completes : Status → Type 0
+Completes status = (status ≡ statuses.Done) ⊎ ((status ≡ statuses.OutOfMemory) ⊎ (status ≡ statuses.Limit))
+
+pub completes_unread : (source : Span (Option (List ℕ))) (faults : Span ℕ) (status : Status) → GivesNone source faults status → Gives IsScript source.before → (RoseBy 1 faults → ⊥) → Completes status
+completes_unread source faults statuses.Done none gives fine = absurd none
+completes_unread source faults statuses.Usage none gives fine = absurd none
+completes_unread source faults (statuses.Script line reason) none gives fine = absurd (isnt_bad source.before none.input line reason gives none.had none.bad)
+completes_unread source faults statuses.ReadFault none gives fine = absurd (fine none)
+completes_unread source faults statuses.WriteFault none gives fine = absurd none
+completes_unread source faults statuses.BankFault none gives fine = absurd none
+completes_unread source faults statuses.OutOfMemory none gives fine = inr (inl refl)
+completes_unread source faults statuses.Limit none gives fine = absurd none
+
+-- ---- a call with a replay
+
+pub ends_replayed : (words : List (List ℕ)) (source : Span (Option (List ℕ))) (faults : Span ℕ) (Tells : Place → Type 0) (Left : Script → Outside → Type 0) (o : Outside) (status : Status) (wire : Bool) (place : Place) (s : Script) → Asks (Replay wire place) words → GivesScript source s → EndsReplay s wire place (Tells place) (Left s o) o status → Ends words source faults Tells Left o status
+ends_replayed words source faults Tells Left o statuses.Done wire place s asked gives ends = record { wire = wire; place = place; asked = asked; input = gives.input; had = gives.had; at_end = gives.at_end; script = s; read = gives.read; ends = ends }
+ends_replayed words source faults Tells Left o statuses.Usage wire place s asked gives ends = absurd ends.run
+ends_replayed words source faults Tells Left o (statuses.Script line reason) wire place s asked gives ends = absurd ends.run
+ends_replayed words source faults Tells Left o statuses.ReadFault wire place s asked gives ends = absurd ends.run
+ends_replayed words source faults Tells Left o statuses.WriteFault wire place s asked gives ends = record { wire = wire; place = place; asked = asked; input = gives.input; had = gives.had; at_end = gives.at_end; script = s; read = gives.read; ends = ends }
+ends_replayed words source faults Tells Left o statuses.BankFault wire place s asked gives ends = record { wire = wire; place = place; asked = asked; input = gives.input; had = gives.had; at_end = gives.at_end; script = s; read = gives.read; ends = ends }
+ends_replayed words source faults Tells Left o statuses.OutOfMemory wire place s asked gives ends = ((Replay wire place, asked), inr (record { wire = wire; place = place; asked = asked; input = gives.input; had = gives.had; at_end = gives.at_end; script = s; read = gives.read; ends = ends }))
+ends_replayed words source faults Tells Left o statuses.Limit wire place s asked gives ends = record { wire = wire; place = place; asked = asked; input = gives.input; had = gives.had; at_end = gives.at_end; script = s; read = gives.read; ends = ends }
+
+pub replay_isnt_before : (s : Script) (wire : Bool) (place : Place) (tells left : Type 0) (o : Outside) (status : Status) → EndsReplay s wire place tells left o status → IsBeforeReplay status → ⊥
+replay_isnt_before s wire place tells left o statuses.Done ends before = before
+replay_isnt_before s wire place tells left o statuses.Usage ends before = ends.run
+replay_isnt_before s wire place tells left o (statuses.Script line reason) ends before = ends.run
+replay_isnt_before s wire place tells left o statuses.ReadFault ends before = ends.run
+replay_isnt_before s wire place tells left o statuses.WriteFault ends before = before
+replay_isnt_before s wire place tells left o statuses.BankFault ends before = before
+replay_isnt_before s wire place tells left o statuses.OutOfMemory ends before = before
+replay_isnt_before s wire place tells left o statuses.Limit ends before = before
+
+is_before : (status : Status) → status ≡ statuses.Usage → IsBeforeReplay status
+is_before status is = subst IsBeforeReplay (sym is) tt
+
+pub replay_isnt_usage : (s : Script) (wire : Bool) (place : Place) (tells left : Type 0) (o : Outside) (status : Status) → EndsReplay s wire place tells left o status → status ≡ statuses.Usage → ⊥
+replay_isnt_usage s wire place tells left o status ends is = replay_isnt_before s wire place tells left o status ends (is_before status is)
+
+pub completes_replayed : (s : Script) (wire : Bool) (place : Place) (tells left : Type 0) (o : Outside) (status : Status) → EndsReplay s wire place tells left o status → (RoseBy 1 o.sink_faults → ⊥) → (RoseBy 1 o.bank_faults → ⊥) → (RoseBy 1 o.disk_faults → ⊥) → Completes status
+completes_replayed s wire place tells left o statuses.Done ends sink bank disks = inl refl
+completes_replayed s wire place tells left o statuses.Usage ends sink bank disks = absurd ends.run
+completes_replayed s wire place tells left o (statuses.Script line reason) ends sink bank disks = absurd ends.run
+completes_replayed s wire place tells left o statuses.ReadFault ends sink bank disks = absurd ends.run
+completes_replayed s wire place tells left o statuses.WriteFault ends sink bank disks = absurd (sink ends.run.rose)
+completes_replayed s wire place tells left o statuses.BankFault ends sink bank disks = absurd (either ends.run) where
+  either : AtBankFault s wire tells left o → ⊥
+  either (inl lending) = bank lending.rose
+  either (inr (inl setting_up)) = disks setting_up.rose
+  either (inr (inr (inl reading))) = disks reading.rose
+  either (inr (inr (inr returning))) = bank returning.rose
+completes_replayed s wire place tells left o statuses.OutOfMemory ends sink bank disks = inr (inl refl)
+completes_replayed s wire place tells left o statuses.Limit ends sink bank disks = inr (inr refl)
+
+-- ---- the words
+
+some_form : (o : Option Form) → IsSome o → (form : Form) × (o ≡ Some form)
+some_form None some = absurd cc
+some_form (Some form) some = (form, refl)
+
+pub have_form : (words : List (List ℕ)) → IsSome (form_in words) → HaveForm words
+have_form words some = let form = some_form (form_in words) some in (form.0, asked_as_read words form.0 form.1)
+
+-- a replay as the words ask
+pub ends_read : (words : List (List ℕ)) (source : Span (Option (List ℕ))) (faults : Span ℕ) (Tells : Place → Type 0) (Left : Script → Outside → Type 0) (o : Outside) (status : Status) (wire : Bool) (place : Place) (s : Script) → EndsReplay s wire place (Tells place) (Left s o) o status → GivesScript source s → form_in words ≡ Some (Replay wire place) → Ends words source faults Tells Left o status
+ends_read words source faults Tells Left o status wire place s ends gives form = ends_replayed words source faults Tells Left o status wire place s (asked_as_read words (Replay wire place) form) gives ends

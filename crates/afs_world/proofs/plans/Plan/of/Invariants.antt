@@ -1,6 +1,0 @@
-use Rattle.std.proofs.Common.{◌≡◌, ◌++◌, drop, map}
-use Rattle.afs_model.specs.Acts.{acts_of}
-use Rattle.afs_world.proofs.plans.Plan.of.Given as goal
-
-abbrev pub invariant-loop-task : goal.invariant-loop-task
-invariant-loop-task l = map (λ a. a.now) l.acts.items ++ acts_of l.node (drop l.task-index l.tasks) ≡ acts_of l.fn.node l.fn.tasks

@@ -1,3 +1,0 @@
-pub mod Serving
-pub mod Asking
-pub mod Worlds
