@@ -1,6 +1,8 @@
 //! Three servers at the end of a run: one whose volumes were changed, one without a record, one as set-up left it. The reference
 //! program tells what these records make so.
 
+ghost use Rattle.std.specs.Prelude.{◌≡◌, ◌∷◌, [], IfOk};
+
 use crate::vectors::{change, first};
 use afs_disk::{Disk, Disks, Lent, MemDisk};
 use afs_final::{fault_in, left_of, put_final, told_of};
@@ -70,7 +72,9 @@ fn disk(alloc: Global, changed: bool) -> Option<MemDisk> {
 }
 
 /// The disks of the servers 1 to 3.
-fn lent<D: Disk + Drop>(alloc: Global, one: D, two: D, three: D) -> Mem<Disks<D>> {
+fn lent<D: Disk + Drop>(alloc: Global, one: D, two: D, three: D) -> Mem<Disks<D>>
+    ensures { IfOk result (λ ds. ds ≡ record { node = 1; disk = one } ∷ record { node = 2; disk = two } ∷ record { node = 3; disk = three } ∷ []) }
+{
     let mut disks = Disks::new(alloc);
     disks.push(Lent { node: 1, disk: one })?;
     disks.push(Lent { node: 2, disk: two })?;

@@ -4,7 +4,7 @@ ghost use Rattle.std.specs.Prelude.{◌≡◌, false, IfSome};
 ghost use Rattle.afs_num.specs.Nodes.{IsNode};
 ghost use Rattle.afs_node_tests.specs.Playing.{GoesOn};
 
-use crate::vectors::{Hostile, given, hostile};
+use crate::vectors::{Hostile, given, heard};
 use afs_disk::{Disk, Fuse, MemDisk};
 use afs_history::lines::{Lines, Outs};
 use afs_num::records::Mark;
@@ -206,7 +206,7 @@ pub(crate) fn play(alloc: Global, running: Running, step: Step) -> Option<Runnin
             handled(alloc, running, bytes.as_slice())
         }
         Step::Hears(message) => {
-            let bytes = hostile(alloc, message).ok()?;
+            let bytes = heard(alloc, message).ok()?;
             handled(alloc, running, bytes.as_slice())
         }
         Step::Falls(place, Blow::Fails(call)) => {

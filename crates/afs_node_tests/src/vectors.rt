@@ -110,7 +110,7 @@ pub(crate) fn given(alloc: Global, place: u8) -> Mem<Octets> {
 }
 
 /// The hostile message of this kind.
-pub(crate) fn hostile(alloc: Global, message: Hostile) -> Mem<Octets> {
+pub(crate) fn heard(alloc: Global, message: Hostile) -> Mem<Octets> {
     let mut bytes = GIVEN_7;
     match message {
         Hostile::UnknownOperation => bytes[31] = 161,
