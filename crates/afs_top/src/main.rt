@@ -56,3 +56,6 @@ fn buffered(alloc: Global, stream: Stdout) -> BufWriter<Stdout> {
     };
     writer
 }
+
+#[cfg(test)]
+mod tests;
