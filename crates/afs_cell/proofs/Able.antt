@@ -1,13 +1,10 @@
 -- In a safe world each node can be given the next input.
-use Rattle.std.proofs.Common.{refl, arith, sym, subst, ◌∙◌, ◌≡◌, ◌≤◌, ◌<◌, ◌+◌, ◌*◌, ℕ, List, length, Bool, false, Some}
-use Rattle.afs_num.specs.Places.{at_place}
-use Rattle.afs_num.specs.declared.types.Node.TheVariants.{Server}
+use Rattle.std.proofs.Common.{arith, ◌≡◌, ◌<◌, ℕ, length, false}
 use Rattle.afs_history.specs.declared.scripts.Script.{Script}
 use Rattle.afs_host.specs.declared.seats.Seat.TheVariants.{Down, Up}
 use Rattle.afs_cell.specs.Happening.{CanStep, IsSeatOf}
-use Rattle.afs_cell.specs.Ready.{AllCanStep, AllReady, CanTake, IsReadySeatOf}
-use Rattle.afs_cell.specs.Worlds.{most_entries, IsReadyClient, IsReadySeat, IsSafe, ServerSeat, WorldState}
-use Rattle.afs_cell.specs.declared.clients.ClientSeat.{ClientSeat}
+use Rattle.afs_cell.specs.Ready.{AllCanStep, AllReady}
+use Rattle.afs_cell.specs.Worlds.{most_entries, IsReadySeat, IsSafe, ServerSeat, WorldState}
 use Rattle.afs_cell.proofs.Handed.{server_is_node}
 use Rattle.afs_cell.proofs.Numbers.{place_within}
 

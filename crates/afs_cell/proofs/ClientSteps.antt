@@ -14,24 +14,24 @@ use Rattle.afs_history.specs.declared.lines.Line.{Line}
 use Rattle.afs_history.specs.declared.lines.Line.TheVariants as lines
 use Rattle.afs_history.specs.declared.lines.Outs.{Outs}
 use Rattle.afs_history.specs.declared.scripts.Event.TheVariants as events
-use Rattle.afs_model.specs.Messages.{messages_spelled, parcels_read, received}
+use Rattle.afs_model.specs.Messages.{messages_spelled, parcels_read}
 use Rattle.afs_rows.specs.Callbacks.{put}
 use Rattle.afs_rows.specs.ClientRow.{begin_row, client_row, reborn, timeout_row}
 use Rattle.afs_rows.specs.Going.{ClientState, Going}
 use Rattle.afs_rows.specs.Runs.{begins, begun_by, client_falls, client_moves, client_rises, client_starts, client_stops, given_at, given_to, gives, has_client, is_away, message_at, moved, nothing, steady, turned, voided, waited_by, waits, Cell, Entry, Host, Input, Moved}
 use Rattle.afs_rows.specs.Steps.{Step}
 use Rattle.afs_schedule.specs.Schedules.{act_input, is_idle, left_by, timeout_input, IsInput, Turn}
-use Rattle.afs_text.specs.Telling.{messages_of, told, sent_by}
-use Rattle.afs_cell.specs.Happening.{entry_of, ClientHears, ClientMakes, HasBegun, HasFallen, HasRisen, HasTimedOut, IsAsked, IsBusy, IsVoidClient}
-use Rattle.afs_cell.specs.Places.{put_place, Each}
+use Rattle.afs_text.specs.Telling.{told, sent_by}
+use Rattle.afs_cell.specs.Happening.{entry_of, ClientHears, ClientMakes, HasBegun, HasFallen, HasRisen, HasTimedOut, IsAsked, IsVoidClient}
+use Rattle.afs_cell.specs.Places.{put_place}
 use Rattle.afs_cell.specs.Steps.{IsAt, Plays}
-use Rattle.afs_cell.specs.Worlds.{falls, Counts, IsCell, IsClient, IsHost, WorldState}
+use Rattle.afs_cell.specs.Worlds.{falls, Counts, IsClient, IsHost, WorldState}
 use Rattle.afs_cell.specs.declared.clients.ClientSeat.{ClientSeat}
 use Rattle.afs_cell.specs.declared.happening.ClientInput.{ClientInput}
 use Rattle.afs_cell.specs.declared.happening.ClientInput.TheVariants as client
 use Rattle.afs_cell.proofs.Links.{cond_same, message_found, Voided}
 use Rattle.afs_cell.proofs.Parcels.{messages_of-read, messages_spelled-append, parcels_read-append, told-push}
-use Rattle.afs_cell.proofs.Numbers.{client_there, each_put, length_put, no_client}
+use Rattle.afs_cell.proofs.Numbers.{client_there, each_put, length_put}
 use Rattle.afs_cell.proofs.HostSteps.{entry_with}
 
 -- the world once a client's step was told

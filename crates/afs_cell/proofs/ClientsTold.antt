@@ -1,5 +1,5 @@
 -- What the world does with what happened at a client.
-use Rattle.std.proofs.Common.{refl, arith, ap, sym, subst, ◌∙◌, ◌≡◌, ◌+◌, ◌<◌, ◌⊎◌, inl, inr, ℕ, List, [], ◌∷◌, ◌++◌, length, Bool, true, false, Option, Some, None, Result, Ok, Err}
+use Rattle.std.proofs.Common.{refl, arith, ap, sym, subst, ◌∙◌, ◌≡◌, ◌+◌, ◌<◌, inl, inr, ℕ, List, [], ◌∷◌, ◌++◌, length, true, false, Option, Some, None, Result, Ok, Err}
 use Rattle.std.proofs.lemmas.List.{length-append}
 use Rattle.afs_num.specs.Places.{at_place}
 use Rattle.afs_num.specs.declared.types.Node.TheVariants.{Client}
@@ -9,9 +9,9 @@ use Rattle.afs_history.specs.declared.lines.Line.TheVariants as lines
 use Rattle.afs_history.specs.declared.lines.Outs.{Outs}
 use Rattle.afs_history.specs.declared.scripts.Event.TheVariants as events
 use Rattle.afs_history.specs.declared.scripts.Script.{Script}
-use Rattle.afs_rows.specs.Runs.{has_client, Input}
+use Rattle.afs_rows.specs.Runs.{Input}
 use Rattle.afs_schedule.specs.Schedules.{IsInput, Turn}
-use Rattle.afs_cell.specs.Happening.{entry_of, front_lines, void_entry, ClientGoes, ClientHappened, ClientHappens, ClientHears, ClientsHappened, ClientTakes, IsAsked, IsVoidClient, NoneHappened, Settles}
+use Rattle.afs_cell.specs.Happening.{entry_of, front_lines, void_entry, ClientGoes, ClientHappened, ClientHears, ClientsHappened, ClientTakes, IsAsked, IsVoidClient, Settles}
 use Rattle.afs_cell.specs.Places.{put_place}
 use Rattle.afs_cell.specs.Steps.{IsAt, Stepped}
 use Rattle.afs_cell.specs.Worlds.{most_entries, AllTell, IsReadyClient, IsSafe, WorldState}

@@ -1,5 +1,5 @@
 -- The faults that the disks count, as one server makes a step.
-use Rattle.std.proofs.Common.{arith, subst, ap, sym, ◌≡◌, ◌≤◌, ◌<◌, ◌+◌, ◌-◌, ◌^◌, ◌⊎◌, inl, inr, ℕ, zero, suc, List, [], ◌∷◌, Option, Some, None}
+use Rattle.std.proofs.Common.{arith, ap, ◌≡◌, ◌≤◌, ◌+◌, ◌-◌, ◌^◌, ◌⊎◌, inl, inr, ℕ, zero, suc, List, [], ◌∷◌, Some}
 use Rattle.afs_num.specs.Places.{at_place}
 use Rattle.afs_disk.specs.Disk.{Rose}
 use Rattle.afs_cell.specs.Places.{put_place}

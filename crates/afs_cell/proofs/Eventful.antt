@@ -1,5 +1,5 @@
 -- An event of the schedule is a step of the world.
-use Rattle.std.proofs.Common.{refl, arith, ap, sym, subst, ◌∙◌, ◌≡◌, ◌≤◌, ◌<◌, ◌+◌, ℕ, zero, suc, List, [], ◌∷◌, ◌++◌, length, Bool, false, Option, Some, None, Result, Ok, Err}
+use Rattle.std.proofs.Common.{refl, arith, ap, sym, subst, ◌∙◌, ◌≡◌, ◌≤◌, ◌<◌, ◌+◌, ℕ, zero, suc, List, [], ◌∷◌, ◌++◌, length, false, Option, Some, None, Result, Ok, Err}
 use Rattle.afs_num.specs.declared.histories.Actor.TheVariants as actors
 use Rattle.afs_history.specs.declared.lines.Entry as kept
 use Rattle.afs_history.specs.declared.lines.Line.TheVariants as lines
@@ -13,8 +13,8 @@ use Rattle.afs_num.specs.declared.types.Parcel.{Parcel}
 use Rattle.afs_rows.specs.Runs.{given_at, given_to, gives, message_at, moved, nothing, steady, ticks, voided, Cell, Input}
 use Rattle.afs_schedule.specs.Schedules.{IsInput, Turn}
 use Rattle.afs_text.specs.Telling.{sent_by}
-use Rattle.afs_cell.specs.Happening.{void_entry, NothingSettles, Wants}
-use Rattle.afs_cell.specs.Steps.{IsAt, Plays, Stays, Stepped, Steps}
+use Rattle.afs_cell.specs.Happening.{NothingSettles}
+use Rattle.afs_cell.specs.Steps.{IsAt, Plays, Stepped, Steps}
 use Rattle.afs_cell.specs.Worlds.{most_entries, most_ticks, AllTell, Counts, IsSafe, WorldState}
 use Rattle.afs_cell.specs.declared.faults.WorldFault.{WorldFault}
 use Rattle.afs_cell.specs.declared.faults.WorldFault.TheVariants as faulty

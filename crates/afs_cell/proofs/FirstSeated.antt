@@ -1,13 +1,11 @@
 -- The servers at set-up, one after the other, and the disks that are handed back.
-use Rattle.std.proofs.Common.{refl, append_assoc, arith, ap, sym, subst, ◌∙◌, ◌≡◌, ◌≤◌, ◌+◌, ◌⊎◌, inl, inr, ℕ, zero, suc, List, [], ◌∷◌, ◌++◌, length, Option, Some, None}
-use Rattle.std.specs.Prelude.{IsSome, ◌↔◌}
-use Rattle.afs_num.specs.Places.{at_place}
+use Rattle.std.proofs.Common.{refl, append_assoc, arith, ap, sym, subst, ◌∙◌, ◌≡◌, ◌+◌, inl, inr, ℕ, suc, List, [], ◌∷◌, ◌++◌, length, Option}
 use Rattle.afs_num.specs.declared.types.Node.{Node}
 use Rattle.afs_history.specs.declared.scripts.Script.{Script}
 use Rattle.afs_disk.specs.declared.disks.Lent.{Lent}
-use Rattle.afs_host.specs.Seats.{disk_of, Resting, Running}
+use Rattle.afs_host.specs.Seats.{Running}
 use Rattle.afs_host.specs.declared.seats.Seat.TheVariants.{Down, Up}
-use Rattle.afs_cell.specs.Ends.{AreLeft, IsRefusedBy, NoneFell, OneRose}
+use Rattle.afs_cell.specs.Ends.{AreLeft, IsRefused, IsRefusedBy, NoneFell, OneRose}
 use Rattle.afs_cell.specs.FirstSeats.{AreBack, AreFirstSeats, IsBack, IsFirstSeat, IsFirstServer, IsRefusedAt}
 use Rattle.afs_cell.specs.Steps.{lent_from, AreLent}
 use Rattle.afs_cell.specs.Worlds.{seat_disk, ServerSeat}
@@ -60,6 +58,19 @@ module _ {D : Type 0} (seen : D → Option (List ℕ)) (may_leave : D → List �
   count_seats i (k ∷ ls) (seat ∷ seats) rest h =
       let more = count_seats (i + 1) ls seats rest h.1 in
       omega (arith, more)
+
+  -- the disk that comes next, behind those of the servers that stand
+  pub record ComesNext (capacity : ℕ) (ls : List (Lent D)) (seats : List (ServerSeat D)) (l : Lent D) (rest : List (Lent D)) : Type 0 where
+    pub first : AreFirstSeats seen may_leave faults limit s 1 ls seats (l ∷ rest)
+    pub node : l.node ≡ 1 + length seats
+    pub room : limit l.disk ≡ capacity
+    pub count : length ls ≡ length seats + suc (length rest)
+
+  pub comes_next : (capacity : ℕ) (ls : List (Lent D)) (seats : List (ServerSeat D)) (left : List (Lent D)) (l : Lent D) (rest : List (Lent D)) → left ≡ l ∷ rest → AreLent limit capacity 1 ls → AreFirstSeats seen may_leave faults limit s 1 ls seats left → ComesNext capacity ls seats l rest
+  comes_next capacity ls seats left l rest e lent first =
+      let here = subst (λ (xs : List (Lent D)). AreFirstSeats seen may_leave faults limit s 1 ls seats xs) e first in
+      let at = next_lent capacity 1 ls seats l rest lent here in
+      record { first = here; node = at.0; room = at.1; count = count_seats 1 ls seats (l ∷ rest) here }
 
   -- ---- disks go back
 
@@ -123,3 +134,20 @@ module _ {D : Type 0} (seen : D → Option (List ℕ)) (may_leave : D → List �
   as_many_back i [] (b ∷ news) h = absurd h
   as_many_back i (a ∷ olds) [] h = absurd h
   as_many_back i (a ∷ olds) (b ∷ news) h = ap (λ (n : ℕ). suc n) (as_many_back (i + 1) olds news h.1.1)
+
+  -- a set-up that is refused
+  pub record IsGivenBack (capacity : ℕ) (ls : List (Lent D)) (fault : SetupFault) (back : List (Lent D)) : Type 0 where
+    pub lent : AreLent limit capacity 1 back × (length back ≡ length ls)
+    pub refused : IsRefused faults ls (fault, back)
+    pub left : AreLeft seen may_leave s 1 ls back
+
+  pub given_back : (capacity : ℕ) (ls : List (Lent D)) (seats : List (ServerSeat D)) (l : Lent D) (rest back : List (Lent D)) (fault : SetupFault) (d : D) → AreLent limit capacity 1 ls → ComesNext capacity ls seats l rest → IsRefusedAt seen may_leave faults limit s l.node l.disk (fault, d)
+      → back ≡ lent_from 1 seats ++ (handed l d ∷ rest) → IsGivenBack capacity ls fault back
+  given_back capacity ls seats l rest back fault d lent next refused is =
+      let r = refused_set_up capacity l.node ls seats l rest fault d lent next.first next.node refused in
+      let all : List (Lent D) = lent_from 1 seats ++ (handed l d ∷ rest) in
+      subst (λ (bs : List (Lent D)). IsGivenBack capacity ls fault bs) (sym is) (record {
+        lent = (lent_back capacity 1 ls all lent r.back, as_many_back 1 ls all r.back);
+        refused = (none_fell 1 ls all r.back, r.cause);
+        left = are_left 1 ls all r.back;
+      })

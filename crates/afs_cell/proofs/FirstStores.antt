@@ -1,30 +1,25 @@
 -- One server at set-up.
-use Rattle.std.proofs.Common.{refl, arith, ap, ap₂, sym, subst, ◌∙◌, ◌≡◌, ◌≤◌, ◌+◌, ◌⊎◌, inl, inr, ℕ, List, [], ◌∷◌, length, false, Option, Some, None}
+use Rattle.std.proofs.Common.{refl, arith, ap, ap₂, sym, subst, ◌∙◌, ◌≡◌, ◌≤◌, ◌+◌, inl, inr, ℕ, List, [], length, false, Option, Some, None}
 use Rattle.std.specs.Prelude.{IsSome, ◌↔◌}
 use Rattle.std.proofs.lemmas.List.Elements.{All-nil}
 use Rattle.afs_num.specs.declared.faults.StoreFault.{StoreFault}
 use Rattle.afs_num.specs.declared.faults.StoreFault.TheVariants as store
 use Rattle.afs_num.specs.declared.types.Node.{Node}
 use Rattle.afs_num.specs.declared.types.Node.TheVariants.{Server}
-use Rattle.afs_num.specs.Nodes.{IsNode}
 use Rattle.afs_history.specs.declared.scripts.Script.{Script}
 use Rattle.afs_history.specs.declared.scripts.VolumeLine.{VolumeLine}
-use Rattle.afs_disk.specs.Disk.{LeavesJust, LeavesOnly, Rose, Setting}
-use Rattle.afs_disk.specs.Fuses.{last_count, Fused}
+use Rattle.afs_disk.specs.Disk.{LeavesJust, Rose, Setting}
+use Rattle.afs_disk.specs.Fuses.{Fused}
 use Rattle.afs_journal.specs.Records.{whole_records}
 use Rattle.afs_records.specs.Changes.{set_up}
 use Rattle.afs_records.specs.Durable.{Durable}
-use Rattle.afs_breaks.specs.Promises.{no_lists}
-use Rattle.afs_rows.specs.Runs as runs
-use Rattle.afs_rows.specs.Runs.{first_host, first_lasting, first_stored}
-use Rattle.afs_rows.specs.States.{durable_of}
 use Rattle.afs_grammar.specs.CellScripts.{IsCellScript}
 use Rattle.afs_grammar.specs.Lines.{volumes_at}
 use Rattle.afs_law.specs.Laws.{SetUpsAreFirst}
 use Rattle.afs_scripts.specs.SetUps.{NumbersAscend, SetUpsAreAccepted}
 use Rattle.afs_server.specs.Seen.{first_memory, state_seen, IsPromiseToNode, Memory, Serves}
 use Rattle.afs_server_parts.specs.Turning.{IsBreakToNode}
-use Rattle.afs_volstore.specs.Opening.{IsSetUpFault, IsSetUpSoFar, Moved}
+use Rattle.afs_volstore.specs.Opening.{IsSetUpFault, IsSetUpSoFar}
 use Rattle.afs_volstore.specs.Stores.{IsCaused, IsKept, Store}
 use Rattle.afs_host.specs.Seats.{CanRun, Running}
 use Rattle.afs_cell.specs.Ends.{IsLeftAt}

@@ -1,16 +1,14 @@
 -- A cell at set-up.
-use Rattle.std.proofs.Common.{refl, arith, ap, ap₂, sym, subst, ◌∙◌, ◌≡◌, ◌≤◌, ◌+◌, ℕ, zero, suc, List, [], ◌∷◌, ◌++◌, length, false, Option, Some, None}
+use Rattle.std.proofs.Common.{refl, arith, ap, ap₂, sym, subst, ◌∙◌, ◌≡◌, ◌+◌, ℕ, zero, suc, List, [], ◌∷◌, ◌++◌, length, false, Option, Some}
 use Rattle.std.specs.Prelude.{IsSome, ◌↔◌}
 use Rattle.afs_num.specs.Places.{at_place}
 use Rattle.afs_num.specs.declared.types.Parcel.{Parcel}
-use Rattle.afs_history.specs.declared.acts.Act.{Act}
 use Rattle.afs_history.specs.declared.lines.Entry as kept
 use Rattle.afs_history.specs.declared.scripts.Script.{Script}
 use Rattle.afs_disk.specs.declared.disks.Lent.{Lent}
 use Rattle.afs_grammar.specs.CellScripts.{IsCellScript}
 use Rattle.afs_rows.specs.Going.{ClientState}
 use Rattle.afs_rows.specs.Runs.{first_client, first_host, start}
-use Rattle.afs_host.specs.Seats.{Resting, Running}
 use Rattle.afs_host.specs.declared.seats.Seat.TheVariants.{Down, Up}
 use Rattle.afs_schedule.specs.Schedules.{acts_of}
 use Rattle.afs_cell.specs.FirstSeats.{AreFirstSeats, IsFirstSeat}
@@ -18,7 +16,7 @@ use Rattle.afs_cell.specs.Places.{Each}
 use Rattle.afs_cell.specs.Refusing.{AreFirstClients}
 use Rattle.afs_cell.specs.Seating.{IsFirstClient}
 use Rattle.afs_cell.specs.Steps.{AreLent, IsFirst, LentTell}
-use Rattle.afs_cell.specs.Worlds.{seat_disk, AllHold, AllTell, IsCell, IsClient, IsHost, IsReadyClient, IsReadySeat, IsSafe, IsWorld, ServerSeat, WorldState}
+use Rattle.afs_cell.specs.Worlds.{seat_disk, AllTell, IsCell, IsClient, IsHost, IsReadyClient, IsReadySeat, IsSafe, IsWorld, ServerSeat, WorldState}
 use Rattle.afs_cell.specs.declared.clients.ClientSeat.{ClientSeat}
 use Rattle.afs_cell.proofs.FirstSeated.{count_seats}
 use Rattle.afs_cell.proofs.Numbers.{none_some, some_is}

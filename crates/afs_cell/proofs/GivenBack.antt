@@ -1,5 +1,5 @@
 -- The disks at the end of a cell's run.
-use Rattle.std.proofs.Common.{refl, arith, append_assoc, ap, sym, subst, ◌∙◌, ◌≡◌, ◌+◌, ◌⊎◌, inl, inr, ℕ, zero, suc, List, [], ◌∷◌, ◌++◌, length, true, false, Option, Some, None}
+use Rattle.std.proofs.Common.{refl, arith, append_assoc, ap, sym, subst, ◌∙◌, ◌≡◌, ◌+◌, inl, inr, ℕ, zero, suc, List, [], ◌∷◌, ◌++◌, length, true, false, Option, Some}
 use Rattle.std.specs.Prelude.{IsSome}
 use Rattle.afs_num.specs.Places.{at_place}
 use Rattle.afs_num.specs.declared.messages.Received.TheVariants.{Whole}
@@ -10,17 +10,15 @@ use Rattle.afs_disk.specs.declared.disks.Lent.{Lent}
 use Rattle.afs_journal.specs.Records.{whole_records}
 use Rattle.afs_records.specs.Durable.{Durable}
 use Rattle.afs_records.specs.Stands.{Stands}
-use Rattle.afs_rows.specs.Runs.{at_rest, begun_by_disk, in_boot, in_step, Cell, Fall, Host}
+use Rattle.afs_rows.specs.Runs.{at_rest, begun_by_disk, in_boot, in_step, Cell, Fall}
 use Rattle.afs_rows.specs.ServerRow.{begun_after, decides, drops, refuses, repeats, saves, shows, tells_boot, Decision}
 use Rattle.afs_rows.specs.States.{Lasting, ServerState}
-use Rattle.afs_server.specs.Seen.{lasting_of}
-use Rattle.afs_host.specs.Seats.{IsDown, IsUp, Resting, Running}
+use Rattle.afs_host.specs.Seats.{IsDown, Resting}
 use Rattle.afs_host.specs.Standing.{LiesIn}
 use Rattle.afs_host.specs.declared.seats.Seat.TheVariants.{Down, Up}
 use Rattle.afs_cell.specs.FirstSeats.{AreKeptSeats, IsKeptSeat}
-use Rattle.afs_cell.specs.Places.{Each}
 use Rattle.afs_cell.specs.Steps.{lent_from, AreLent, AreStanding, IsReadAfter, MayBeRead}
-use Rattle.afs_cell.specs.Worlds.{seat_disk, AllHold, AllTell, IsCell, IsHost, IsReadySeat, IsSafe, ServerSeat, WorldState}
+use Rattle.afs_cell.specs.Worlds.{seat_disk, AllHold, IsCell, IsHost, IsReadySeat, IsSafe, ServerSeat, WorldState}
 use Rattle.afs_cell.proofs.Numbers.{none_some, some_is}
 
 -- ---- a step leaves the capacity as it is

@@ -1,15 +1,14 @@
 -- What a step of the world is in its run.
-use Rattle.std.proofs.Common.{refl, arith, ap, ap₂, sym, subst, ◌∙◌, ◌≡◌, ◌+◌, ◌⊎◌, inl, inr, ℕ, List, [], ◌∷◌, ◌++◌, length, Bool, true, false, Option, Some, None, Result, Ok, Err}
+use Rattle.std.proofs.Common.{arith, ap, ap₂, sym, subst, ◌∙◌, ◌≡◌, ◌+◌, ◌⊎◌, inl, inr, ℕ, List, [], ◌∷◌, ◌++◌, true, false, Option, Some, None, Result, Ok, Err}
 use Rattle.afs_num.specs.Places.{at_place}
 use Rattle.afs_num.specs.declared.types.Parcel.{Parcel}
 use Rattle.afs_history.specs.declared.acts.Act.{Act}
 use Rattle.afs_history.specs.declared.scripts.Script.{Script}
-use Rattle.afs_rows.specs.Runs.{moved, start, Cell, Entry, Input, Leads, Moved}
-use Rattle.afs_schedule.specs.Schedules.{left_by, Turn}
+use Rattle.afs_rows.specs.Runs.{moved, start, Cell, Entry, Input, Leads}
+use Rattle.afs_schedule.specs.Schedules.{Turn}
 use Rattle.afs_text.specs.Telling.{told, AreRead}
-use Rattle.afs_cell.specs.Places.{Each}
-use Rattle.afs_cell.specs.Steps.{IsAt, Plays, PlaysOne, StandsStill, Stays, Steps, Stepped, TellsNothing}
-use Rattle.afs_cell.specs.Worlds.{falls, own_falls, AllTell, Counts, HasRun, IsCell, IsSafe, IsWorld, Runs, WorldState}
+use Rattle.afs_cell.specs.Steps.{IsAt, Plays, StandsStill, Stays, Stepped, TellsNothing}
+use Rattle.afs_cell.specs.Worlds.{falls, own_falls, AllTell, Counts, HasRun, IsCell, IsWorld, Runs, WorldState}
 use Rattle.afs_cell.specs.declared.clients.ClientSeat.{ClientSeat}
 use Rattle.afs_cell.specs.declared.faults.WorldFault.{WorldFault}
 use Rattle.afs_cell.specs.declared.faults.WorldFault.TheVariants as faulty

@@ -1,7 +1,6 @@
 -- A client does with a message what it does with what it finds in its bytes.
-use Rattle.std.proofs.Common.{refl, ap, sym, ◌∙◌, ◌≡◌, ℕ, List, [], ◌∷◌, Bool, false, if◌then◌else◌}
+use Rattle.std.proofs.Common.{refl, ap, sym, ◌∙◌, ◌≡◌, ℕ, List, [], ◌∷◌, false, if◌then◌else◌}
 use Rattle.afs_num.specs.Nodes.{same_node}
-use Rattle.afs_num.specs.declared.calls.FsCall.{FsCall}
 use Rattle.afs_num.specs.declared.calls.FsCall.TheVariants as calls
 use Rattle.afs_num.specs.declared.messages.Call.{Call}
 use Rattle.afs_num.specs.declared.messages.Call.TheVariants as ask

@@ -1,26 +1,23 @@
 -- A server's step, in the world and in the cell for which it stands.
-use Rattle.std.proofs.Common.{refl, arith, ap, ap₂, sym, subst, ◌∙◌, ◌≡◌, ◌≤◌, ◌<◌, ◌+◌, ◌⊎◌, inl, inr, ℕ, zero, suc, List, [], ◌∷◌, ◌++◌, length, Bool, true, false, cond, Option, Some, None, nat_eq}
+use Rattle.std.proofs.Common.{refl, ap, ap₂, sym, subst, ◌∙◌, ◌≡◌, ◌≤◌, ℕ, List, [], ◌∷◌, ◌++◌, length, Bool, cond, Option, Some}
 use Rattle.std.proofs.lemmas.Bool.{eq-eqb}
 use Rattle.afs_num.specs.Places.{at_place}
 use Rattle.afs_num.specs.declared.histories.Actor.{Actor}
 use Rattle.afs_num.specs.declared.histories.Actor.TheVariants as actors
 use Rattle.afs_num.specs.declared.messages.Message.{Message}
 use Rattle.afs_num.specs.declared.types.Node.TheVariants.{Server}
-use Rattle.afs_num.specs.declared.types.Parcel.{Parcel}
 use Rattle.afs_history.specs.declared.acts.Act.{Act}
-use Rattle.afs_history.specs.declared.lines.Entry as kept
 use Rattle.afs_history.specs.declared.lines.Line.{Line}
 use Rattle.afs_history.specs.declared.lines.Outs.{Outs}
-use Rattle.afs_model.specs.Messages.{messages_spelled, parcels_read}
 use Rattle.afs_rows.specs.Callbacks.{put}
-use Rattle.afs_rows.specs.Runs.{moved, voided, Cell, Entry, Host, Input, Moved}
+use Rattle.afs_rows.specs.Runs.{moved, Cell, Entry, Input, Moved}
 use Rattle.afs_schedule.specs.Schedules.{left_by, Turn}
-use Rattle.afs_text.specs.Telling.{messages_of, told, sent_by}
+use Rattle.afs_text.specs.Telling.{told, sent_by}
 use Rattle.afs_host.specs.Hosts.{placed, HostStep}
 use Rattle.afs_cell.specs.Happening.{entry_of, IsSeatStep}
 use Rattle.afs_cell.specs.Places.{put_place, Each}
 use Rattle.afs_cell.specs.Steps.{IsAt, Plays}
-use Rattle.afs_cell.specs.Worlds.{falls, seat_disk, IsCell, IsHost, ServerSeat, WorldState}
+use Rattle.afs_cell.specs.Worlds.{falls, seat_disk, IsHost, ServerSeat, WorldState}
 use Rattle.afs_cell.proofs.Counts.{counts_put, Blames}
 use Rattle.afs_cell.proofs.Parcels.{messages_of-read, messages_spelled-append, parcels_read-append, told-push}
 use Rattle.afs_cell.proofs.Numbers.{each_put, length_put}

@@ -1,24 +1,18 @@
 -- Which input of the definitions a server's input is, and when nothing comes of it.
-use Rattle.std.proofs.Common.{refl, ap, sym, subst, ◌∙◌, ◌≡◌, ◌+◌, ◌⊎◌, inl, inr, ℕ, List, [], ◌∷◌, length, Bool, true, false, cond, Option, Some, None}
+use Rattle.std.proofs.Common.{refl, ap, sym, subst, ◌∙◌, ◌≡◌, ◌⊎◌, inl, inr, ℕ, List, [], ◌∷◌, Bool, true, false, cond, Option, Some, None}
 use Rattle.afs_num.specs.Places.{at_place}
 use Rattle.afs_num.specs.declared.messages.Message.{Message}
-use Rattle.afs_num.specs.declared.messages.Received.TheVariants.{Whole}
 use Rattle.afs_num.specs.declared.types.Node.{Node}
 use Rattle.afs_num.specs.declared.types.Node.TheVariants.{Server}
 use Rattle.afs_num.specs.declared.types.Parcel.{Parcel}
-use Rattle.afs_history.specs.declared.lines.Line.{Line}
 use Rattle.afs_history.specs.declared.lines.Line.TheVariants as lines
 use Rattle.afs_history.specs.declared.lines.Outs.{Outs}
 use Rattle.afs_history.specs.declared.scripts.Event.TheVariants as events
 use Rattle.afs_disk.specs.Disk.{Rose}
-use Rattle.afs_model.specs.Messages.{received}
-use Rattle.afs_rows.specs.Runs.{back_timed, comes_up, fails_early, fails_midway, given_at, given_to, gives, gives_out, has_host, if_host, is_full, message_at, moved, server_armed, server_given, server_restarted, server_stopped, server_timed, server_waits, server_wakes, sets_fail, sets_stop, starts_again, steady, stops, voided, wakes, Armed, Cell, Fall, Host, Input, Luck, Moved, Outcome}
-use Rattle.afs_rows.specs.States.{BackCall}
+use Rattle.afs_rows.specs.Runs.{back_timed, comes_up, fails_early, fails_midway, given_at, given_to, gives, gives_out, has_host, if_host, is_full, message_at, moved, server_armed, server_given, server_restarted, server_stopped, server_timed, server_waits, server_wakes, sets_fail, sets_stop, starts_again, steady, stops, voided, wakes, Cell, Fall, Input, Luck, Moved, Outcome}
 use Rattle.afs_schedule.specs.Schedules.{left_by, IsInput, IsLuck, Turn}
 use Rattle.afs_host.specs.Hosts as host
 use Rattle.afs_host.specs.Hosts.{crashed, restarted, served, set_to_fail, set_to_stop, timed_out, woken, Fails, GivesOut, HostStep}
-use Rattle.afs_host.specs.Serving.{HasServed}
-use Rattle.afs_host.specs.Starting.{HasStarted}
 use Rattle.afs_host.proofs.Placed.{moved_crashed, moved_restarted, moved_served, moved_set_to_fail, moved_set_to_stop, moved_timed_out, moved_woken}
 use Rattle.afs_cell.specs.Happening.{HasHeard, HasStep, IsFallen, IsGiven, IsSeatStep, IsVoidServer}
 use Rattle.afs_cell.specs.Worlds.{falls, seat_disk, IsCell, ServerSeat, WorldState}

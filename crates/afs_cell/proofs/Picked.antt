@@ -1,20 +1,16 @@
 -- What a crash of a server leaves of its disk.
-use Rattle.std.proofs.Common.{refl, ap, sym, subst, ◌∙◌, ◌≡◌, ◌⊎◌, ◌-◌, inl, inr, ℕ, List, [], Option, Some, None, Result, Ok, Err}
+use Rattle.std.proofs.Common.{refl, ap, sym, subst, ◌∙◌, ◌≡◌, ◌-◌, inl, inr, ℕ, List, [], Option, Some, None, Result, Ok, Err}
 use Rattle.std.specs.List.{insert}
 use Rattle.afs_num.specs.Places.{at_place}
 use Rattle.afs_num.specs.declared.types.Node.TheVariants.{Server}
-use Rattle.afs_rows.specs.Runs.{Fall, Host}
-use Rattle.afs_history.specs.declared.scripts.Event.{Event}
-use Rattle.afs_history.specs.declared.scripts.Event.TheVariants as events
-use Rattle.afs_host.specs.Hosts.{HostStep}
-use Rattle.afs_host.specs.Seats.{disk_of, Running}
+use Rattle.afs_rows.specs.Runs.{Host}
+use Rattle.afs_host.specs.Seats.{Running}
 use Rattle.afs_host.specs.declared.seats.Seat.TheVariants.{Up}
 use Rattle.afs_server.specs.Handling.{server_seen}
 use Rattle.afs_cell.specs.Happening.{HasStep, IsVoidServer, ServersHappened, Settles}
 use Rattle.afs_cell.specs.Picks.{IsPicked, LeavesPick, OneLeavesPick}
-use Rattle.afs_cell.specs.Places.{put_place, IsLifted, Room}
+use Rattle.afs_cell.specs.Places.{IsLifted, Room}
 use Rattle.afs_cell.specs.Worlds.{IsHost, ServerSeat, WorldState}
-use Rattle.afs_cell.specs.declared.events.Given.{Given}
 use Rattle.afs_cell.specs.declared.events.Given.TheVariants as given
 use Rattle.afs_cell.specs.declared.faults.WorldFault.{WorldFault}
 use Rattle.afs_cell.specs.declared.happening.Happened.{Happened}

@@ -1,17 +1,14 @@
 -- An event is what it means.
-use Rattle.std.proofs.Common.{refl, arith, ap, sym, subst, ◌∙◌, ◌≡◌, ◌≤◌, ◌<◌, ◌+◌, inl, ℕ, List, length, Bool, true, false, Option, Result, Ok, Err}
+use Rattle.std.proofs.Common.{refl, sym, subst, ◌≡◌, ◌≤◌, ◌<◌, ◌+◌, inl, ℕ, List, length, true, false, Option, Result}
 use Rattle.afs_history.specs.declared.scripts.Event.{Event}
 use Rattle.afs_history.specs.declared.scripts.Event.TheVariants as events
 use Rattle.afs_grammar.specs.CellScripts.{counts_of, FitsEvent}
 use Rattle.afs_grammar.specs.Lines.{ticks_of}
-use Rattle.afs_rows.specs.Runs.{Input}
 use Rattle.afs_schedule.specs.Schedules.{IsInput, Turn}
-use Rattle.afs_cell.specs.Happening.{IsAsked, IsDue, IsGiven, NothingSettles}
+use Rattle.afs_cell.specs.Happening.{IsAsked, IsGiven, NothingSettles}
 use Rattle.afs_cell.specs.Meaning.{IsMeant}
-use Rattle.afs_cell.specs.Noting.{Notes}
 use Rattle.afs_cell.specs.Steps.{Stays, Stepped}
 use Rattle.afs_cell.specs.Worlds.{most_entries, most_ticks, IsSafe, WorldState}
-use Rattle.afs_cell.specs.declared.events.Given.{Given}
 use Rattle.afs_cell.specs.declared.events.Given.TheVariants as given
 use Rattle.afs_cell.specs.declared.faults.WorldFault.{WorldFault}
 use Rattle.afs_cell.specs.declared.faults.WorldFault.TheVariants as faulty

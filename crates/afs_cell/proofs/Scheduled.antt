@@ -1,5 +1,5 @@
 -- The inputs of a schedule, as they are played one after the other.
-use Rattle.std.proofs.Common.{refl, ap, sym, subst, append_assoc, ◌∙◌, ◌≡◌, ◌+◌, ℕ, suc, List, [], ◌∷◌, ◌++◌, length, Option, Some, None}
+use Rattle.std.proofs.Common.{refl, ap, sym, subst, append_assoc, ◌≡◌, ℕ, suc, List, [], ◌∷◌, ◌++◌, length, Option, Some, None}
 use Rattle.std.proofs.lemmas.List.{append-nil}
 use Rattle.afs_num.specs.declared.messages.Message.{Message}
 use Rattle.afs_num.specs.declared.types.Parcel.{Parcel}

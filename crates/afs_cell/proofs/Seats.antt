@@ -1,8 +1,7 @@
 -- What a server's calls tell, as what happened at its seat.
-use Rattle.std.proofs.Common.{refl, ap, sym, subst, ◌∙◌, ◌≡◌, ℕ, List, [], ◌∷◌, ◌++◌, true, false, Option, Some, None}
+use Rattle.std.proofs.Common.{refl, ap, sym, subst, ◌∙◌, ◌≡◌, ℕ, List, [], ◌∷◌, ◌++◌, true, Option, Some}
 use Rattle.std.specs.Prelude.{IsSome}
 use Rattle.afs_num.specs.declared.messages.Message.{Message}
-use Rattle.afs_num.specs.declared.messages.Received.{Received}
 use Rattle.afs_num.specs.declared.messages.Received.TheVariants.{Whole}
 use Rattle.afs_num.specs.declared.types.Node.{Node}
 use Rattle.afs_num.specs.declared.types.Node.TheVariants.{Server}
@@ -11,7 +10,7 @@ use Rattle.afs_history.specs.declared.lines.Line.TheVariants as lines
 use Rattle.afs_history.specs.declared.lines.Outs.{Outs}
 use Rattle.afs_disk.specs.Disk.{Rose}
 use Rattle.afs_model.specs.Messages.{messages_spelled, parcels_read, received}
-use Rattle.afs_rows.specs.Runs.{Fall, Host}
+use Rattle.afs_rows.specs.Runs.{Host}
 use Rattle.afs_rows.specs.States.{BackCall}
 use Rattle.afs_host.specs.Hosts.{timed_out, HostStep}
 use Rattle.afs_host.specs.Seats.{disk_of, waits_for, IsDown, IsStepDown, IsStepUp, IsUp, Resting, Running}
@@ -20,7 +19,7 @@ use Rattle.afs_host.specs.Starting.{HasStarted}
 use Rattle.afs_host.specs.declared.seats.Seat.TheVariants.{Down, Up}
 use Rattle.afs_host.proofs.Stepping.{waits_some}
 use Rattle.afs_cell.specs.Happening.{ClientTells, HasHeard, HasStep, IsFallen, IsSeatOf, IsSeatStep, IsVoidServer, SeatHappens}
-use Rattle.afs_cell.specs.Worlds.{seat_disk, IsHost, ServerSeat}
+use Rattle.afs_cell.specs.Worlds.{ServerSeat}
 use Rattle.afs_cell.specs.declared.happening.Happened.TheVariants as happened
 use Rattle.afs_cell.specs.declared.happening.ServerInput.TheVariants as input
 

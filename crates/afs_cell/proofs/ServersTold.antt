@@ -1,5 +1,5 @@
 -- What the world does with what happened at a server.
-use Rattle.std.proofs.Common.{refl, ap, sym, subst, ◌∙◌, ◌≡◌, ◌<◌, ◌⊎◌, inl, inr, ℕ, List, [], ◌∷◌, ◌++◌, length, Bool, true, false, Option, Some, None, Result, Ok, Err}
+use Rattle.std.proofs.Common.{ap, sym, subst, ◌∙◌, ◌≡◌, ◌<◌, ◌⊎◌, inl, inr, ℕ, List, [], ◌∷◌, ◌++◌, length, true, false, Option, Some, None, Result, Ok, Err}
 use Rattle.afs_num.specs.Places.{at_place}
 use Rattle.afs_num.specs.declared.types.Node.TheVariants.{Server}
 use Rattle.afs_num.specs.declared.types.Parcel.{Parcel}
@@ -12,8 +12,7 @@ use Rattle.afs_disk.specs.Disk.{Rose}
 use Rattle.afs_rows.specs.Runs.{has_host, Host, Input}
 use Rattle.afs_schedule.specs.Schedules.{IsInput, Turn}
 use Rattle.afs_host.specs.Hosts.{HostStep}
-use Rattle.afs_cell.specs.Happening.{entry_of, front_lines, void_entry, HasHeard, HasStep, IsFallen, IsGiven, IsSeatStep, IsVoidServer, NoneHappened, OneHappened, SeatGoes, SeatHappens, ServersHappened, Settles}
-use Rattle.afs_cell.specs.Places.{put_place}
+use Rattle.afs_cell.specs.Happening.{entry_of, front_lines, void_entry, HasHeard, HasStep, IsFallen, IsGiven, IsSeatStep, IsVoidServer, OneHappened, ServersHappened, Settles}
 use Rattle.afs_cell.specs.Steps.{IsAt, Stepped}
 use Rattle.afs_cell.specs.Worlds.{most_entries, seat_disk, AllTell, IsSafe, ServerSeat, WorldState}
 use Rattle.afs_cell.specs.declared.faults.WorldFault.{WorldFault}

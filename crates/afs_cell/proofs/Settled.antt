@@ -1,34 +1,29 @@
 -- What happened at a server, told by the world: the step of the whole.
-use Rattle.std.proofs.Common.{refl, arith, ap, ap₂, sym, subst, ◌∙◌, ◌≡◌, ◌≤◌, ◌<◌, ◌+◌, ◌⊎◌, ◌↔◌, inl, inr, ℕ, List, [], ◌∷◌, ◌++◌, length, Bool, true, false, Option, Some, None, Result, Ok, Err}
+use Rattle.std.proofs.Common.{refl, arith, ap, sym, subst, ◌∙◌, ◌≡◌, ◌<◌, ◌+◌, ◌↔◌, inl, inr, ℕ, List, [], ◌∷◌, ◌++◌, length, true, false, Option, Some, Ok, Err}
 use Rattle.std.specs.Prelude.{IsSome}
 use Rattle.std.proofs.lemmas.List.{length-append}
 use Rattle.afs_num.specs.Places.{at_place}
-use Rattle.afs_num.specs.declared.histories.Actor.TheVariants as actors
 use Rattle.afs_num.specs.declared.types.Node.TheVariants.{Server}
 use Rattle.afs_history.specs.declared.acts.Act.{Act}
 use Rattle.afs_history.specs.declared.lines.Entry as kept
 use Rattle.afs_history.specs.declared.lines.Line.{Line}
 use Rattle.afs_history.specs.declared.lines.Outs.{Outs}
 use Rattle.afs_history.specs.declared.scripts.Script.{Script}
-use Rattle.afs_disk.specs.Disk.{Rose}
-use Rattle.afs_rows.specs.Runs.{has_host, moved, voided, Cell, Entry, Host, Input, Moved}
-use Rattle.afs_schedule.specs.Schedules.{left_by, Turn}
+use Rattle.afs_rows.specs.Runs.{moved, voided, Cell, Entry, Host, Input, Moved}
+use Rattle.afs_schedule.specs.Schedules.{Turn}
 use Rattle.afs_text.specs.Telling.{told, sent_by}
-use Rattle.afs_host.specs.Hosts.{HostStep}
 use Rattle.afs_host.specs.declared.seats.Seat.TheVariants.{Up, Down}
-use Rattle.afs_cell.specs.Happening.{entry_of, front_lines, void_entry, IsSeatStep, NoneHappened, OneHappened, SeatGoes, SeatHappens, SeatKeeps, ServersHappened, Settles, Wants}
+use Rattle.afs_cell.specs.Happening.{entry_of, void_entry, SeatGoes, SeatKeeps}
 use Rattle.afs_cell.specs.Places.{put_place, Each}
-use Rattle.afs_cell.specs.Steps.{IsAt, Plays, PlaysOne, StandsStill, Stays, Steps, Stepped, TellsNothing}
-use Rattle.afs_cell.specs.Worlds.{falls, most_entries, seat_disk, AllHold, AllTell, Counts, IsCell, IsHost, IsReady, IsReadyClient, IsReadySeat, IsSafe, ServerSeat, WorldState}
+use Rattle.afs_cell.specs.Steps.{IsAt, Plays, Stepped}
+use Rattle.afs_cell.specs.Worlds.{falls, most_entries, seat_disk, AllHold, AllTell, Counts, IsHost, IsReadyClient, IsReadySeat, IsSafe, ServerSeat, WorldState}
 use Rattle.afs_cell.specs.declared.clients.ClientSeat.{ClientSeat}
-use Rattle.afs_cell.specs.declared.faults.WorldFault.{WorldFault}
 use Rattle.afs_cell.specs.declared.faults.WorldFault.TheVariants as faulty
-use Rattle.afs_cell.specs.declared.happening.Happened.{Happened}
 use Rattle.afs_cell.specs.declared.happening.Happened.TheVariants as happened
 use Rattle.afs_cell.proofs.Counts.{counts_put}
 use Rattle.afs_cell.proofs.Links.{Voided}
-use Rattle.afs_cell.proofs.Parcels.{sent_by-push, told-still, with_messages}
-use Rattle.afs_cell.proofs.Numbers.{each_back, each_map, each_put, length_put, no_host, put_same}
+use Rattle.afs_cell.proofs.Parcels.{sent_by-push, told-still}
+use Rattle.afs_cell.proofs.Numbers.{each_back, each_map, each_put, length_put}
 use Rattle.afs_cell.proofs.HostSteps.{after_step, server_plays, Linked}
 
 -- ---- what one entry more leaves

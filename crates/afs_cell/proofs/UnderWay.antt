@@ -1,21 +1,21 @@
 -- A schedule is played, one event after the other.
-use Rattle.std.proofs.Common.{refl, arith, ap, ap₂, sym, subst, ◌∙◌, ◌≡◌, ◌≤◌, ◌+◌, ◌⊎◌, inl, ℕ, List, [], ◌∷◌, ◌++◌, length, false, Option, Some, None, Ok, Result}
+use Rattle.std.proofs.Common.{refl, arith, ap, ap₂, sym, subst, ◌∙◌, ◌≡◌, ◌≤◌, ◌+◌, inl, ℕ, List, [], ◌∷◌, ◌++◌, length, Option, Some, None}
 use Rattle.std.specs.List.{All}
 use Rattle.afs_num.specs.declared.types.Parcel.{Parcel}
 use Rattle.afs_history.specs.declared.lines.Entry as kept
 use Rattle.afs_history.specs.declared.scripts.Event.{Event}
 use Rattle.afs_history.specs.declared.scripts.Script.{Script}
 use Rattle.afs_history.specs.declared.scripts.Event.TheVariants as events
-use Rattle.afs_grammar.specs.CellScripts.{counts_of, FitsEvent, IsCellScript}
+use Rattle.afs_grammar.specs.CellScripts.{counts_of, FitsEvent}
 use Rattle.afs_grammar.specs.Lines.{schedule_so_far, ticks_in, ticks_of}
-use Rattle.afs_rows.specs.Runs.{start, Input, Leads}
+use Rattle.afs_rows.specs.Runs.{start, Leads}
 use Rattle.afs_schedule.specs.Schedules.{events_in, events_of, first_turn, lowest, named_by, next_event, turned, waiting, IsInput, Turn}
-use Rattle.afs_schedule.specs.Taking.{IsLeft, IsTaken, Takes}
+use Rattle.afs_schedule.specs.Taking.{IsLeft, Takes}
 use Rattle.afs_schedule.specs.declared.schedule.Schedule.{Schedule}
 use Rattle.afs_text.specs.Telling.{told, AreRead}
-use Rattle.afs_cell.specs.Steps.{HasPlayed, HasPlayedAll, HasPlayedFirst, IsAt, IsFirst, Plays, PlaysOne, Stays}
+use Rattle.afs_cell.specs.Steps.{IsFirst, PlaysOne, Stays}
 use Rattle.afs_cell.specs.UnderWay.{GoesSo, HasCome, IsUnderWay}
-use Rattle.afs_cell.specs.Worlds.{most_entries, most_ticks, AllTell, Counts, IsWorld, Runs, WorldState}
+use Rattle.afs_cell.specs.Worlds.{most_entries, most_ticks, AllTell, IsWorld, Runs, WorldState}
 use Rattle.afs_cell.specs.declared.faults.WorldFault.{WorldFault}
 use Rattle.afs_cell.specs.declared.faults.WorldFault.TheVariants as faulty
 use Rattle.afs_cell.specs.declared.playing.Played.TheVariants as played

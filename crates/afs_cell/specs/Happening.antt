@@ -1,5 +1,5 @@
 -- What comes of an input at a node, and how it is told.
-use Rattle.std.specs.Prelude.{◌≡◌, ◌≤◌, ◌<◌, ◌+◌, ◌^◌, ◌⊎◌, ◌↔◌, ℕ, List, [], ◌∷◌, ◌++◌, Bool, true, false, length, Option, Some, None, Result, Ok, Err, IsSome, nat_eq}
+use Rattle.std.specs.Prelude.{◌≡◌, ◌≤◌, ◌<◌, ◌+◌, ◌^◌, ◌⊎◌, ◌↔◌, ℕ, List, [], ◌∷◌, ◌++◌, Bool, true, false, length, Option, Some, None, Result, Ok, Err, IsSome}
 use Rattle.afs_num.specs.Nodes.{same_node}
 use Rattle.afs_num.specs.Places.{at_place}
 use Rattle.afs_num.specs.declared.histories.Actor.TheVariants as actors

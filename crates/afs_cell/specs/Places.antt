@@ -1,5 +1,5 @@
 -- Things that have numbers, from 1 on.
-use Rattle.std.specs.Prelude.{◌≡◌, ◌≤◌, ◌+◌, ◌-◌, ℕ, zero, suc, List, [], ◌∷◌, length, Option, Some, None}
+use Rattle.std.specs.Prelude.{◌≡◌, ◌≤◌, ◌+◌, ◌-◌, ℕ, zero, suc, List, [], ◌∷◌, length, Some}
 use Rattle.std.specs.List.{insert}
 use Rattle.afs_num.specs.Places.{at_place}
 

@@ -1,10 +1,8 @@
 -- The program's cell, and the cell of the definitions that it stands for.
 use Rattle.std.specs.Prelude.{◌≡◌, ◌≤◌, ◌⊎◌, ◌+◌, ◌-◌, ◌*◌, ◌^◌, ℕ, List, [], ◌∷◌, Bool, false, Option, length, IsSome}
 use Rattle.std.specs.List.{All}
-use Rattle.afs_num.specs.declared.types.Node.{Node}
 use Rattle.afs_num.specs.declared.types.Node.TheVariants.{Server, Client}
 use Rattle.afs_num.specs.declared.types.Parcel.{Parcel}
-use Rattle.afs_history.specs.declared.acts.Act.{Act}
 use Rattle.afs_history.specs.declared.lines.Entry as kept
 use Rattle.afs_history.specs.declared.scripts.Script.{Script}
 use Rattle.afs_grammar.specs.CellScripts.{IsCellScript}

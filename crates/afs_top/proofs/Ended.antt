@@ -166,6 +166,21 @@ pub record Since (o earlier : Outside) : Type 0 where
   pub bank_before : earlier.bank_faults.before ≤ o.bank_faults.before
   pub bank_after : earlier.bank_faults.after ≡ o.bank_faults.after
 
+-- the lends changed neither what was given back nor the faults of disks, and let the bank's count not fall
+pub since_lent : (sink : Span (Option (List ℕ))) (sink_faults : Span ℕ) (lends lends_too : Span (Option (List Lend))) (g0 g1 g2 : Given) (b0 b1 b2 d0 d1 d2 : ℕ) → g1 ≡ g0 → d1 ≡ d0 → b0 ≤ b1 →
+    Since (record { sink = sink; lends = lends; given = span g1 g2; sink_faults = sink_faults; bank_faults = span b1 b2; disk_faults = span d1 d2 }) (record { sink = sink; lends = lends_too; given = span g0 g2; sink_faults = sink_faults; bank_faults = span b0 b2; disk_faults = span d0 d2 })
+since_lent sink sink_faults lends lends_too g0 g1 g2 b0 b1 b2 d0 d1 d2 given faults never_falls = record {
+  sink = refl;
+  given = ap (λ (x : Given). span x g2) (sym given);
+  sink_faults = refl;
+  disk_faults = ap (λ (x : ℕ). span x d2) (sym faults);
+  bank_before = never_falls;
+  bank_after = refl;
+}
+
+pub since_same : (o : Outside) → Since o o
+since_same o = record { sink = refl; given = refl; sink_faults = refl; disk_faults = refl; bank_before = omega (arith); bank_after = refl }
+
 bank_since : (o earlier : Outside) → Since o earlier → RoseBy 1 o.bank_faults → RoseBy 1 earlier.bank_faults
 bank_since o earlier since rose =
     subst (λ (k : ℕ). RoseBy 1 (span earlier.bank_faults.before k)) (sym since.bank_after) (rose_since 1 earlier.bank_faults.before o.bank_faults.before o.bank_faults.after since.bank_before rose)
@@ -270,3 +285,32 @@ lends_all s place o statuses.ReadFault all = all_first s place o all
 pub not_lent : (s : Script) (wire : Bool) (place : Place) (tells left : Type 0) (fault : LendFault) (o : Outside) → LendsFirst s place o → IsUnchanged o.sink → (fault ≡ lending.Failed → RoseBy 1 o.bank_faults) → EndsReplay s wire place tells left o (lend_status fault)
 not_lent s wire place tells left lending.Failed o lent unwritten cause = record { lent = lent; run = inl (record { rose = cause refl; written = unwritten }) }
 not_lent s wire place tells left lending.OutOfMemory o lent unwritten cause = record { lent = lent; run = unwritten }
+
+-- The script's replay over the disks that were lent is its replay.
+pub replayed : {D : Type 0} (seen : D → Option (List ℕ)) (may_leave : D → List ℕ → Type 0) (faults : D → ℕ) (s : Script) (wire : Bool) (place : Place) (tells tells_too : Type 0) (sink : Span (Option (List ℕ))) (sink_faults : Span ℕ) (l0 l1 l2 : Option (List Lend)) (g0 g1 g2 : Given) (b0 b1 b2 d0 d1 d2 : ℕ) (status : Status)
+    → (tells_too → tells) → l1 ≡ option_map (λ ls. ls ++ lends_of s place) l0 → l2 ≡ l1 → g1 ≡ g0 → d1 ≡ d0 → b0 ≤ b1
+    → EndsRun s wire tells (SetUpLeaves seen may_leave faults s (record { sink = sink; lends = span l1 l2; given = span g1 g2; sink_faults = sink_faults; bank_faults = span b1 b2; disk_faults = span d1 d2 })) (record { sink = sink; lends = span l1 l2; given = span g1 g2; sink_faults = sink_faults; bank_faults = span b1 b2; disk_faults = span d1 d2 }) status
+    → EndsReplay s wire place tells_too (SetUpLeaves seen may_leave faults s (record { sink = sink; lends = span l0 l2; given = span g0 g2; sink_faults = sink_faults; bank_faults = span b0 b2; disk_faults = span d0 d2 })) (record { sink = sink; lends = span l0 l2; given = span g0 g2; sink_faults = sink_faults; bank_faults = span b0 b2; disk_faults = span d0 d2 }) status
+replayed {D} seen may_leave faults s wire place tells tells_too sink sink_faults l0 l1 l2 g0 g1 g2 b0 b1 b2 d0 d1 d2 status tell all lent given counts never_falls run =
+    let o : Outside = record { sink = sink; lends = span l1 l2; given = span g1 g2; sink_faults = sink_faults; bank_faults = span b1 b2; disk_faults = span d1 d2 } in
+    let earlier : Outside = record { sink = sink; lends = span l0 l2; given = span g0 g2; sink_faults = sink_faults; bank_faults = span b0 b2; disk_faults = span d0 d2 } in
+    let since : Since o earlier = since_lent sink sink_faults (span l1 l2) (span l0 l2) g0 g1 g2 b0 b1 b2 d0 d1 d2 given counts never_falls in
+    record {
+      lent = lends_all s place earlier status (lent ∙ all);
+      run = ends_since s wire tells tells_too (SetUpLeaves seen may_leave faults s o) (SetUpLeaves seen may_leave faults s earlier) o earlier status since tell (left_since seen may_leave faults s o earlier since) run;
+    }
+
+-- A world of this script ended so; so did what was played on these disks.
+pub played_on : (s played : Script) (wire : Bool) (tells tells_too left : Type 0) (o : Outside) (status : Status) → played ≡ s → (tells_too → tells) → EndsRun played wire tells ⊥ o status → EndsRun s wire tells_too left o status
+played_on s played wire tells tells_too left o status same tell run =
+    ends_since s wire tells tells_too ⊥ left o o status (since_same o) tell (λ none. absurd none) (subst (λ (x : Script). EndsRun x wire tells ⊥ o status) same run)
+
+-- the disks that set-up handed back went back to the bank
+pub refused_of : {D : Type 0} (seen : D → Option (List ℕ)) (may_leave : D → List ℕ → Type 0) (faults : D → ℕ) (s : Script) (wire : Bool) (tells : Type 0) (disks : List (Lent D)) (fault : SetupFault) (back : List (Lent D)) (o : Outside) (result status : Status)
+    → AreUnused faults disks → IsRefused faults disks (fault, back) → AreLeft seen may_leave s 1 disks back → IsUnchanged o.sink
+    → GivesBackAll seen back o.given.before o.given.after ⊎ Rose o.bank_faults.before o.bank_faults.after → GivesBackSome seen back o.given.before o.given.after
+    → o.disk_faults.after ≡ with_faults (faults_of faults back) o.disk_faults.before → o.bank_faults.before ≤ o.bank_faults.after → result ≡ status → status ≡ set_up_status fault
+    → EndsRun s wire tells (SetUpLeaves seen may_leave faults s o) o result
+refused_of {D} seen may_leave faults s wire tells disks fault back o result status unused refused left unwritten gives some counts never_falls is meant =
+    subst (λ (x : Status). EndsRun s wire tells (SetUpLeaves seen may_leave faults s o) o x) (sym (is ∙ meant))
+    (not_set_up seen may_leave faults s wire tells disks (fault, back) o unused refused left unwritten (record { gives = gives; some = some; counts = counts; never_falls = never_falls }))

@@ -4,7 +4,7 @@ ghost use Rattle.std.specs.Prelude.{◌≡◌, ◌≤◌, ◌⊎◌, ◌++◌, l
 ghost use Rattle.afs_disk.specs.Disk.{Rose};
 ghost use Rattle.afs_law.specs.OneServer.{IsOneServer};
 ghost use Rattle.afs_grammar.specs.CellScripts.{IsCellScript};
-ghost use Rattle.afs_outside.specs.Outside.{AppendsFront, Puts};
+ghost use Rattle.afs_outside.specs.Outside.{Puts};
 ghost use Rattle.afs_cell.specs.Steps.{AreLent, HasPlayedAll, HasPlayedFirst, LentTell};
 ghost use Rattle.afs_cell.specs.Worlds.{AllTell, IsWorld};
 ghost use Rattle.afs_final.specs.Reading.{part};
@@ -109,14 +109,13 @@ fn tell_left<K: Sink, D: Disk>(
     }
 }
 
-/// A history that is as long as one may be is written as far as the sink takes it.
-fn tell_first<K: Sink>(sink: &mut K, told: &Told, wire: bool)
+/// Writes the text of a history that is as long as one may be, and passes it on.
+fn tell_first<K: Sink>(sink: &mut K, told: &Told, wire: bool) -> Result<(), Failed>
     requires all { sent_by told.now.history ≡ length told.now.wire }
-    ensures { AppendsFront (K.held sink.old) (K.held sink.new) (kept_history_text wire told.now.wire told.now.history) }
+    ensures { Puts (kept_history_text wire told.now.wire told.now.history) (K.held sink.old) (K.held sink.new) (K.faults sink.old) (K.faults sink.new) result }
 {
-    if put_history(sink, told.parcels(), told.entries(), wire).is_ok() {
-        let _passed = pass_on(sink);
-    }
+    put_history(sink, told.parcels(), told.entries(), wire)?;
+    pass_on(sink)
 }
 
 /// A world that played its script to its end is told, with what its disks keep, and they are given back.
@@ -161,7 +160,7 @@ fn cut<K: Sink, B: Bank<D: Drop>>(
 {
     runs_are_legal();
     let (told, disks) = world.end();
-    tell_first(sink, &told, wire);
+    let _written = tell_first(sink, &told, wire);
     give_up(bank, disks, Status::Limit)
 }
 

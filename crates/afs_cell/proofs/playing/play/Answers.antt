@@ -1,4 +1,4 @@
-use Rattle.std.proofs.Common.{ap, arith, subst, ◌∙◌, ◌≡◌, ◌<◌, ◌-◌, [], ℕ, List, length}
+use Rattle.std.proofs.Common.{ap, arith, subst, ◌∙◌, ◌≡◌, ◌<◌, ◌-◌, [], List, length}
 use Rattle.afs_history.specs.declared.scripts.Event.{Event}
 use Rattle.afs_history.specs.declared.scripts.Script.{Script}
 use Rattle.afs_schedule.specs.Schedules.{events_of}

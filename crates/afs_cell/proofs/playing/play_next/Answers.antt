@@ -1,5 +1,3 @@
-use Rattle.std.proofs.Common.{None, Some}
-use Rattle.afs_schedule.specs.Taking.{Takes}
 use Rattle.afs_cell.proofs.UnderWay.{ends_all, ends_full, fits_event, fits_within, goes_on, is_no_drain, stays_full, takes_none, takes_some}
 use Rattle.afs_cell.proofs.playing.play_next.Goals as goal
 
