@@ -10,9 +10,9 @@
 #   old: TEXT                     stands there once
 #   new: TEXT                     comes instead; a second one is a further line. More pairs of old and new may follow
 #   breaks: FILE LEMMA            a lemma of crates/afs_law/proofs/FILE.antt that is refused, the first that of the case
-# Of what the proof of the law stands on, just these lemmas have to be refused, not counting what stands on them, and the
-# law must not be proved. 'breaks: nothing' says that the law holds all the same, for the reason that the edit tells.
-# Proofs of other laws and worked runs may break as well, and are told behind the lemmas.
+# Of what the walk for the law (proofs/Law) stands on, just these lemmas have to be refused, not counting what stands on
+# them, and the law must not be proved. 'breaks: nothing' says that the law holds all the same, for the reason that the edit
+# tells. Worked runs may break as well, and the walks over all servers and for other laws; they are told behind the lemmas.
 set -eu
 
 cd "$(dirname "$0")/.."

@@ -106,7 +106,7 @@ pub record ReplaysFirst (s : Script) (wire : Bool) (excuse : Type 0) (o : Outsid
   pub written : AppendsFront o.sink.before o.sink.after (history_text wire history)
   pub given : GivesBack excuse kept o.given.before o.given.after
 
--- All events of the script were played, and a disk failed once more than in these by itself.
+-- There is a history of the script, played to its end, in which disks failed by themselves less often than is counted in the call.
 pub record FailsBehind (s : Script) (disk_faults : Span ℕ) : Type 0 where
   pub history : List Entry
   pub end : Cell
@@ -143,13 +143,13 @@ pub record LendingFails (o : Outside) : Type 0 where
   pub rose : RoseBy 1 o.bank_faults
   pub written : IsUnchanged o.sink
 
--- a disk failed while it was set up, before the first event: what that leaves comes back
+-- a disk failed while it was set up: what that leaves comes back
 pub record SettingUpFails (left : Type 0) (o : Outside) : Type 0 where
   pub rose : RoseBy 1 o.disk_faults
   pub written : IsUnchanged o.sink
   pub only_set_up : left
 
--- a disk failed while it was read for the final part, behind the last event
+-- a disk failed while it was read for the final part: so there is a failure that is none of the history's
 pub record ReadingFails (s : Script) (tells : Type 0) (o : Outside) : Type 0 where
   pub rose : RoseBy 1 o.disk_faults
   pub written : IsUnchanged o.sink
@@ -160,7 +160,8 @@ pub record ReturningFails (s : Script) (wire : Bool) (tells : Type 0) (o : Outsi
   pub rose : RoseBy 1 o.bank_faults
   pub told : tells → Replays s wire (Appends o.sink.before o.sink.after) (RoseBy 1 o.bank_faults) o
 
--- The bank failed, or a disk. One that fails in between, in an event of the run, is none of these.
+-- The bank failed, or a disk. What is seen outside are counts, the sink and the disks that come back: by these alone a call that stops
+-- at a disk's failure in an event isn't told from the second and the third.
 abbrev pub AtBankFault : Script → Bool → Type 0 → Type 0 → Outside → Type 0
 AtBankFault s wire tells left o = LendingFails o ⊎ (SettingUpFails left o ⊎ (ReadingFails s tells o ⊎ ReturningFails s wire tells o))
 

@@ -1,0 +1,47 @@
+#!/bin/sh
+# Steps a cell to the longest history that one may have: 4,194,304 entries, of events of which nothing comes. The event behind
+# them is answered Limit, and so is the next, and the history stays. tests/limit.play is a program that does so. It is tried and
+# not proved, so it is no crate of the repository, and the script no part of the gate: it tells how long it takes, which a proof
+# doesn't. All is done in a copy.
+set -eu
+
+cd "$(dirname "$0")/.."
+work=$(mktemp -d)
+trap 'rm -rf "$work"' EXIT
+trap 'exit 130' INT
+trap 'exit 143' TERM
+
+# The crate and those below it, by crates.txt: a name without a folder is a library of the toolchain.
+needed() {
+    [ -d "crates/$1" ] || return 0
+    echo "$1"
+    for below in $(sed -n "s/^$1://p" crates.txt); do needed "$below"; done
+}
+
+below='afs_num afs_history afs_disk afs_cell'
+mkdir "$work/crates"
+if [ -f HANDLES ]; then cp HANDLES "$work"; fi
+for crate in $(for name in $below; do needed "$name"; done | sort -u); do
+    mkdir "$work/crates/$crate"
+    for part in src specs proofs; do
+        if [ -d "crates/$crate/$part" ]; then cp -R "crates/$crate/$part" "$work/crates/$crate"; fi
+    done
+    grep "^$crate:" crates.txt >> "$work/crates.txt"
+done
+play=$work/crates/afs_limit_play
+mkdir -p "$play/src" "$play/specs" "$play/proofs"
+cp tests/limit.play "$play/src/main.rt"
+: > "$play/specs/Lib.antt"
+: > "$play/proofs/Lib.antt"
+echo "afs_limit_play: $below" >> "$work/crates.txt"
+
+cat > "$work/want" <<'END'
+4194304 events, 4194304 entries, then Limit
+once more Limit, 4194304 entries
+END
+begun=$(date +%s)
+(cd "$play" && rt try --seconds 1800 > "$work/got" 2> "$work/told") || tail -n 3 "$work/told" | cut -c1-200
+ended=$(date +%s)
+cat "$work/got"
+echo "$((ended - begun)) seconds, with the build"
+cmp -s "$work/want" "$work/got"
