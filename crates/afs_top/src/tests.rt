@@ -18,6 +18,24 @@ fn bank(alloc: Global, failing: &[u8], disk: &[u8]) -> Result<MemBank, Fail> {
     Ok(MemBank::new(alloc, Octets::from_slice(alloc, failing)?, disks))
 }
 
+/// How many calls came to the disk that was given back.
+fn calls_of(bank: &MemBank) -> u64 {
+    match bank.given() {
+        [given, ..] => given.disk.calls(),
+        [] => 0,
+    }
+}
+
+/// The call that is so many before the last one fails.
+fn fails_at(alloc: Global, calls: u64, before_last: u64) -> Result<Vec<u8>, Fail> {
+    let mut failing = Vec::new(alloc);
+    for _ in 1..calls.saturating_sub(before_last) {
+        failing.push(0)?;
+    }
+    failing.push(1)?;
+    Ok(failing)
+}
+
 /// The script is replayed over this bank.
 fn replayed(alloc: Global, sink: &mut MemSink, bank: &mut MemBank) -> Result<Status, Fail> {
     let mut words = Vec::new(alloc);
@@ -77,5 +95,28 @@ fn a_disk_that_is_not_taken_back_is_a_fault_behind_the_text(rt: HostRuntime) -> 
     );
     assert_eq!(rt; sink.as_slice().ends_with(b"end\n"), true);
     assert_eq!(rt; bank.given().len(), 0);
+    Ok(())
+}
+
+/// How the replay ends over a disk whose call fails that is so many before the last.
+fn ends_at(alloc: Global, calls: u64, before_last: u64) -> Result<Status, Fail> {
+    let failing = fails_at(alloc, calls, before_last)?;
+    let mut sink = MemSink::new(alloc, &[]);
+    let mut bank = bank(alloc, &[], failing.as_slice())?;
+    replayed(alloc, &mut sink, &mut bank)
+}
+
+// The last calls of the disk are the two of the final part; the four before them keep the record of the close.
+#[test]
+fn a_disk_that_fails_in_an_event_is_an_event(rt: HostRuntime) -> Result<(), Fail> {
+    let mut sink = MemSink::new(rt.alloc(), &[]);
+    let mut steady = bank(rt.alloc(), &[], &[])?;
+    assert_eq!(rt; replayed(rt.alloc(), &mut sink, &mut steady)?, Status::Done);
+    let calls = calls_of(&steady);
+    assert_eq!(rt; ends_at(rt.alloc(), calls, 0)?, Status::BankFault);
+    assert_eq!(rt; ends_at(rt.alloc(), calls, 1)?, Status::BankFault);
+    assert_eq!(rt; ends_at(rt.alloc(), calls, 2)?, Status::Done);
+    assert_eq!(rt; ends_at(rt.alloc(), calls, 5)?, Status::Done);
+    assert_eq!(rt; ends_at(rt.alloc(), calls, 6)?, Status::BankFault);
     Ok(())
 }
