@@ -1,8 +1,8 @@
 """Writes the rows of a disk that stops or fails inside a change, as a reference program plays them.
 
 python3 tests/stops.py FOLDER: a client stores a file; just before the server is given the call, its disk is set to stop after K
-device calls, 0 to 4, with each pick, or to fail at the Kth, 1 to 4. A change has four device calls. Then the server begins again,
-the client's call times out, and all that is under way is delivered. FOLDER has the reference's afscell.py. Of each run the
+device calls, 0 to 4, with each pick, or to fail at the Kth, 1 to 4. A change has four device calls. Then the server begins again
+where it went down, the client's call times out, and all that is under way is delivered. FOLDER has the reference's afscell.py. Of each run the
 reference alone tells what is printed; here it is only looked that the act is answered 0 and that one change is told. So
 tests/rows/stop_K_pick_PICK.row and tests/rows/fail_at_K.row come out as they stand.
 """
@@ -53,7 +53,10 @@ def write(name, story, event):
 def main():
     for calls in range(5):
         for pick in range(4):
-            story = f"The disk stops its server after {calls} device calls of a change, with pick {pick}: the change is made once."
+            stopped = f"The disk stops its server after {calls} device calls of a change, with pick {pick}"
+            if calls == 4:
+                stopped = f"The disk is set to stop its server after 4 device calls, with pick {pick}, and a change has no fifth"
+            story = stopped + ": the change is made once."
             write(f"stop_{calls}_pick_{pick}", story, f"stop s1 {calls} {pick}")
     for call in range(1, 5):
         story = f"The disk fails at device call {call} of a change: the change is made once."

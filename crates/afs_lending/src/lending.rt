@@ -40,6 +40,7 @@ pub fn lend_all<B: Bank<D: Drop>>(
     ensures unused { IfOk result (AreUnused B.D.faults) }
     ensures back { IfErr result (λ e. AreUnused B.D.faults e.1) }
     ensures back_lent { IfErr result (λ e. AreLent B.D.limit capacity 1 e.1) }
+    ensures fewer { IfErr result (λ e. e.0 ≡ LendFault.Failed → length e.1 < servers) }
     ensures back_lends { IfErr result (λ e. B.lends bank.new ≡ option_map (λ ls. ls ++ lends place.now capacity 1 (length e.1)) (B.lends bank.old)) }
     ensures faults { B.lent_faults bank.new ≡ B.lent_faults bank.old }
     ensures given { B.given bank.new ≡ B.given bank.old }

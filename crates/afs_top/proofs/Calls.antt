@@ -12,7 +12,7 @@ use Rattle.afs_top.specs.Forms.{form_in, Asks, HaveForm}
 use Rattle.afs_top.specs.Outside.{Outside, RoseBy, Span}
 use Rattle.afs_top.specs.Parts.{refusal_status, IsLongRefusal, RefusedBy}
 use Rattle.afs_top.specs.Reading.{GivesNone, GivesScript}
-use Rattle.afs_top.specs.Top.{level, AtBankFault, DoesNothing, Ends, EndsReplay, IsBeforeReplay, IsScript}
+use Rattle.afs_top.specs.Top.{level, AtBankFault, DoesNothing, Ends, EndsReplay, IsBeforeReplay, IsScript, LendingFails}
 use Rattle.afs_top.specs.declared.scripts.Refusal.{Refusal}
 use Rattle.afs_top.specs.declared.scripts.Refusal.TheVariants as refusals
 use Rattle.afs_top.specs.declared.statuses.Form.{Form}
@@ -121,7 +121,7 @@ completes_replayed s wire place tells left o (statuses.Script line reason) ends 
 completes_replayed s wire place tells left o statuses.ReadFault ends sink bank disks = absurd ends.run
 completes_replayed s wire place tells left o statuses.WriteFault ends sink bank disks = absurd (sink ends.run.rose)
 completes_replayed s wire place tells left o statuses.BankFault ends sink bank disks = absurd (either ends.run) where
-  either : AtBankFault s wire tells left o → ⊥
+  either : AtBankFault s wire tells left (LendingFails s place o) o → ⊥
   either (inl lending) = bank lending.rose
   either (inr (inl setting_up)) = disks setting_up.rose
   either (inr (inr (inl reading))) = disks reading.rose

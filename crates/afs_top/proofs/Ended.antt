@@ -1,5 +1,5 @@
 -- How a replay ends, by what its parts promise.
-use Rattle.std.specs.Prelude.{◌≡◌, ◌≤◌, ◌⊎◌, ℕ, ◌+◌, List, [], ◌∷◌, ◌++◌, length, map, Bool, false, Option, Some, None, Result, Ok, Err, OnOk, OnErr}
+use Rattle.std.specs.Prelude.{◌≡◌, ◌≤◌, ◌<◌, ◌⊎◌, ℕ, ◌+◌, List, [], ◌∷◌, ◌++◌, length, map, Bool, false, Option, Some, None, Result, Ok, Err, OnOk, OnErr}
 use Rattle.std.proofs.Common.{refl, ap, sym, subst, ◌∙◌, inl, inr, arith}
 use Rattle.std.specs.Io.KnownBytes.{Appends}
 use Rattle.std.specs.Option.{option_map}
@@ -30,10 +30,10 @@ use Rattle.afs_cell.specs.declared.faults.SetupFault.{SetupFault}
 use Rattle.afs_cell.specs.declared.faults.SetupFault.TheVariants as setup
 use Rattle.afs_final.specs.Reading.{fault_in, part, AreFound}
 use Rattle.afs_final.specs.declared.reading.Left.{Left}
-use Rattle.afs_lending.specs.Lending.{faults_of, kept_disks, with_faults, AreUnused, GivesBackAll, GivesBackSome}
+use Rattle.afs_lending.specs.Lending.{faults_of, kept_disks, lends, with_faults, AreUnused, GivesBackAll, GivesBackSome, LendsSome}
 use Rattle.afs_top.specs.Outside.{span, IsUnchanged, Outside, RoseBy, Span}
 use Rattle.afs_top.specs.Parts.{lend_status, returned, set_up_status, TellsLeft}
-use Rattle.afs_top.specs.Top.{lends_of, AreKept, AtBankFault, EndsReplay, EndsRun, FailsBehind, GivesBack, IsPlayed, IsPlayedFirst, Lends, LendsAll, LendsFirst, ReadingFails, Replays, ReplaysFirst, SetUpLeaves}
+use Rattle.afs_top.specs.Top.{lends_of, AreKept, AtBankFault, EndsReplay, EndsRun, FailsBehind, GivesBack, IsPlayed, IsPlayedFirst, LendingFails, Lends, LendsAll, LendsFirst, ReadingFails, Replays, ReplaysFirst, SetUpLeaves}
 use Rattle.afs_top.specs.declared.statuses.Status.{Status}
 use Rattle.afs_top.specs.declared.statuses.Status.TheVariants as statuses
 use Rattle.afs_top.proofs.Counts.{counted, counts_lent, found_failed, found_no_less, grown, none_fell, one_grown, rose_once, rose_since, AtLeast}
@@ -110,7 +110,7 @@ reading_fails {D} seen may_leave faults limit s w fs o is found failed unwritten
 
 pub ended : {D : Type 0} (seen : D → Option (List ℕ)) (may_leave : D → List ℕ → Type 0) (faults limit : D → ℕ) (s : Script) (w : WorldState D) (fs : List (Left (Store D) D)) (wire : Bool) (o : Outside) (status : Status) (taken : Result (Unit {0}) Failed)
     → HasEnded seen may_leave faults limit s w → AreFound seen faults limit (lent_from 1 w.servers) fs → TellsLeft (kept_history_text wire w.wire w.history ++ final_text (map part fs)) (fault_in fs) o.sink o.sink_faults status
-    → OnOk taken (GivesBackAll seen (kept_disks 1 fs) o.given.before o.given.after) → OnErr taken (Rose o.bank_faults.before o.bank_faults.after) → GoesBack seen faults (kept_disks 1 fs) o → EndsRun s wire (All seen may_leave faults limit s w) ⊥ o (returned status taken)
+    → OnOk taken (GivesBackAll seen (kept_disks 1 fs) o.given.before o.given.after) → OnErr taken (Rose o.bank_faults.before o.bank_faults.after) → GoesBack seen faults (kept_disks 1 fs) o → EndsRun s wire (All seen may_leave faults limit s w) ⊥ ⊥ o (returned status taken)
 ended {D} seen may_leave faults limit s w fs wire o statuses.Done (Ok u) is found tells all cause back =
     λ p. replays seen may_leave faults limit s w fs wire (Appends o.sink.before o.sink.after) ⊥ o is found tells.0 tells.1 back (inl all) p
 ended {D} seen may_leave faults limit s w fs wire o statuses.Done (Err f) is found tells all cause back =
@@ -131,7 +131,7 @@ ended {D} seen may_leave faults limit s w fs wire o statuses.Limit taken is foun
 -- ---- one whose history was full before that
 
 pub was_cut : {D : Type 0} (seen : D → Option (List ℕ)) (may_leave : D → List ℕ → Type 0) (faults limit : D → ℕ) (s : Script) (w : WorldState D) (wire : Bool) (o : Outside)
-    → HasEnded seen may_leave faults limit s w → AppendsFront o.sink.before o.sink.after (kept_history_text wire w.wire w.history) → GoesBack seen faults (lent_from 1 w.servers) o → EndsRun s wire (First seen may_leave faults limit s w) ⊥ o statuses.Limit
+    → HasEnded seen may_leave faults limit s w → AppendsFront o.sink.before o.sink.after (kept_history_text wire w.wire w.history) → GoesBack seen faults (lent_from 1 w.servers) o → EndsRun s wire (First seen may_leave faults limit s w) ⊥ ⊥ o statuses.Limit
 was_cut {D} seen may_leave faults limit s w wire o is written back = λ p.
     let cell = p.1.0.runs.cell_is is.going in
     let left = left_so seen may_leave limit w p.1.0.cell cell p.0 (is.standing p.0 p.1.0.cell cell) in
@@ -146,7 +146,7 @@ was_cut {D} seen may_leave faults limit s w wire o is written back = λ p.
 -- ---- a cell that wasn't set up
 
 pub not_set_up : {D : Type 0} (seen : D → Option (List ℕ)) (may_leave : D → List ℕ → Type 0) (faults : D → ℕ) (s : Script) (wire : Bool) (tells : Type 0) (disks : List (Lent D)) (e : SetupFault × List (Lent D)) (o : Outside)
-    → AreUnused faults disks → IsRefused faults disks e → AreLeft seen may_leave s 1 disks e.1 → IsUnchanged o.sink → GoesBack seen faults e.1 o → EndsRun s wire tells (SetUpLeaves seen may_leave faults s o) o (set_up_status e.0)
+    → AreUnused faults disks → IsRefused faults disks e → AreLeft seen may_leave s 1 disks e.1 → IsUnchanged o.sink → GoesBack seen faults e.1 o → EndsRun s wire tells (SetUpLeaves seen may_leave faults s o) ⊥ o (set_up_status e.0)
 not_set_up {D} seen may_leave faults s wire tells disks (setup.Disk n, back) o unused refused left unwritten gone =
     inr (inl (record {
       rose = rose_by 1 _ o.disk_faults gone.counts (none_fell faults disks back refused.0 refused.1);
@@ -232,28 +232,28 @@ disks_since n o earlier since rose = subst (λ (x : Span ℕ). RoseBy n x) (sym 
 behind_since : (s : Script) (o earlier : Outside) → Since o earlier → FailsBehind s o.disk_faults → FailsBehind s earlier.disk_faults
 behind_since s o earlier since b = subst (λ (x : Span ℕ). FailsBehind s x) (sym since.disk_faults) b
 
-bank_fault_since : (s : Script) (wire : Bool) (tells tells_too left left_too : Type 0) (o earlier : Outside) → Since o earlier → (tells_too → tells) → (left → left_too) → AtBankFault s wire tells left o → AtBankFault s wire tells_too left_too earlier
-bank_fault_since s wire tells tells_too left left_too o earlier since t l (inl h) = inl (record { rose = bank_since o earlier since h.rose; written = unwritten_since o earlier since h.written })
-bank_fault_since s wire tells tells_too left left_too o earlier since t l (inr (inl h)) =
+bank_fault_since : (s : Script) (wire : Bool) (tells tells_too left left_too unlent : Type 0) (o earlier : Outside) → Since o earlier → (tells_too → tells) → (left → left_too) → AtBankFault s wire tells left ⊥ o → AtBankFault s wire tells_too left_too unlent earlier
+bank_fault_since s wire tells tells_too left left_too unlent o earlier since t l (inl h) = absurd h
+bank_fault_since s wire tells tells_too left left_too unlent o earlier since t l (inr (inl h)) =
     inr (inl (record { rose = disks_since 1 o earlier since h.rose; written = unwritten_since o earlier since h.written; only_set_up = l h.only_set_up }))
-bank_fault_since s wire tells tells_too left left_too o earlier since t l (inr (inr (inl h))) =
+bank_fault_since s wire tells tells_too left left_too unlent o earlier since t l (inr (inr (inl h))) =
     inr (inr (inl (record { rose = disks_since 1 o earlier since h.rose; written = unwritten_since o earlier since h.written; told = λ x. behind_since s o earlier since (h.told (t x)) })))
-bank_fault_since s wire tells tells_too left left_too o earlier since t l (inr (inr (inr h))) =
+bank_fault_since s wire tells tells_too left left_too unlent o earlier since t l (inr (inr (inr h))) =
     inr (inr (inr (record { rose = bank_since o earlier since h.rose; told = λ x. replays_since s wire _ _ _ _ o earlier since (whole_since o earlier since) (bank_since o earlier since) (h.told (t x)) })))
 
-pub ends_since : (s : Script) (wire : Bool) (tells tells_too left left_too : Type 0) (o earlier : Outside) (status : Status) → Since o earlier → (tells_too → tells) → (left → left_too) → EndsRun s wire tells left o status → EndsRun s wire tells_too left_too earlier status
-ends_since s wire tells tells_too left left_too o earlier statuses.Done since t l h = λ x. replays_since s wire _ _ _ _ o earlier since (whole_since o earlier since) (λ y. y) (h (t x))
-ends_since s wire tells tells_too left left_too o earlier statuses.WriteFault since t l h =
+pub ends_since : (s : Script) (wire : Bool) (tells tells_too left left_too unlent : Type 0) (o earlier : Outside) (status : Status) → Since o earlier → (tells_too → tells) → (left → left_too) → EndsRun s wire tells left ⊥ o status → EndsRun s wire tells_too left_too unlent earlier status
+ends_since s wire tells tells_too left left_too unlent o earlier statuses.Done since t l h = λ x. replays_since s wire _ _ _ _ o earlier since (whole_since o earlier since) (λ y. y) (h (t x))
+ends_since s wire tells tells_too left left_too unlent o earlier statuses.WriteFault since t l h =
     record {
       rose = subst (λ (x : Span ℕ). RoseBy 1 x) (sym since.sink_faults) h.rose;
       told = λ x. replays_since s wire _ _ _ _ o earlier since (front_since o earlier since) (bank_since o earlier since) (h.told (t x));
     }
-ends_since s wire tells tells_too left left_too o earlier statuses.BankFault since t l h = bank_fault_since s wire tells tells_too left left_too o earlier since t l h
-ends_since s wire tells tells_too left left_too o earlier statuses.OutOfMemory since t l h = unwritten_since o earlier since h
-ends_since s wire tells tells_too left left_too o earlier statuses.Limit since t l h = λ x. first_since s wire _ _ o earlier since (bank_since o earlier since) (h (t x))
-ends_since s wire tells tells_too left left_too o earlier statuses.Usage since t l h = absurd h
-ends_since s wire tells tells_too left left_too o earlier (statuses.Script line reason) since t l h = absurd h
-ends_since s wire tells tells_too left left_too o earlier statuses.ReadFault since t l h = absurd h
+ends_since s wire tells tells_too left left_too unlent o earlier statuses.BankFault since t l h = bank_fault_since s wire tells tells_too left left_too unlent o earlier since t l h
+ends_since s wire tells tells_too left left_too unlent o earlier statuses.OutOfMemory since t l h = unwritten_since o earlier since h
+ends_since s wire tells tells_too left left_too unlent o earlier statuses.Limit since t l h = λ x. first_since s wire _ _ o earlier since (bank_since o earlier since) (h (t x))
+ends_since s wire tells tells_too left left_too unlent o earlier statuses.Usage since t l h = absurd h
+ends_since s wire tells tells_too left left_too unlent o earlier (statuses.Script line reason) since t l h = absurd h
+ends_since s wire tells tells_too left left_too unlent o earlier statuses.ReadFault since t l h = absurd h
 
 pub left_since : {D : Type 0} (seen : D → Option (List ℕ)) (may_leave : D → List ℕ → Type 0) (faults : D → ℕ) (s : Script) (o earlier : Outside) → Since o earlier → SetUpLeaves seen may_leave faults s o → SetUpLeaves seen may_leave faults s earlier
 left_since {D} seen may_leave faults s o earlier since l = record {
@@ -281,15 +281,31 @@ lends_all s place o statuses.Usage all = all_first s place o all
 lends_all s place o (statuses.Script line reason) all = all_first s place o all
 lends_all s place o statuses.ReadFault all = all_first s place o all
 
--- a disk wasn't lent
-pub not_lent : (s : Script) (wire : Bool) (place : Place) (tells left : Type 0) (fault : LendFault) (o : Outside) → LendsFirst s place o → IsUnchanged o.sink → (fault ≡ lending.Failed → RoseBy 1 o.bank_faults) → EndsReplay s wire place tells left o (lend_status fault)
-not_lent s wire place tells left lending.Failed o lent unwritten cause = record { lent = lent; run = inl (record { rose = cause refl; written = unwritten }) }
-not_lent s wire place tells left lending.OutOfMemory o lent unwritten cause = record { lent = lent; run = unwritten }
+-- A disk wasn't lent: so many were, and they went back.
+pub not_lent : (s : Script) (wire : Bool) (place : Place) (tells left : Type 0) (fault : LendFault) (n : ℕ) (o : Outside) (result status : Status) → LendsFirst s place o → (fault ≡ lending.Failed → n < s.servers) → o.lends.after ≡ option_map (λ ls. ls ++ lends place s.capacity 1 n) o.lends.before
+    → IsUnchanged o.sink → (fault ≡ lending.Failed → RoseBy 1 o.bank_faults) → result ≡ status → status ≡ lend_status fault → EndsReplay s wire place tells left o result
+not_lent s wire place tells left lending.Failed n o result status first short lent unwritten cause is meant =
+    subst (λ (x : Status). EndsReplay s wire place tells left o x) (sym (is ∙ meant)) (record { lent = first; run = inl (record { count = n; short = short refl; lent = lent; rose = cause refl; written = unwritten }) })
+not_lent s wire place tells left lending.OutOfMemory n o result status first short lent unwritten cause is meant =
+    subst (λ (x : Status). EndsReplay s wire place tells left o x) (sym (is ∙ meant)) (record { lent = first; run = unwritten })
+
+-- what was lent, and the bank's count, behind the disks that went back
+pub lent_before : (place : Place) (capacity n : ℕ) (l0 l1 l2 : Option (List Lend)) → l1 ≡ option_map (λ ls. ls ++ lends place capacity 1 n) l0 → l2 ≡ l1 → l2 ≡ option_map (λ ls. ls ++ lends place capacity 1 n) l0
+lent_before place capacity n l0 l1 l2 some same = same ∙ some
+
+pub first_before : (all : List Lend) (l0 l1 l2 : Option (List Lend)) → LendsSome all l0 l1 → l2 ≡ l1 → LendsSome all l0 l2
+first_before all l0 l1 l2 some same = (some.0, same ∙ some.1)
+
+pub rose_before : (b0 b1 b2 : ℕ) → Rose b0 b1 → b0 ≤ b1 → b1 ≤ b2 → RoseBy 1 (span b0 b2)
+rose_before b0 b1 b2 rose never_falls falls = rose_once b0 b2 (rose_on rose) (omega (arith, never_falls, falls)) where
+  rose_on : Rose b0 b1 → Rose b0 b2
+  rose_on (inl more) = inl (omega (arith, more, falls))
+  rose_on (inr full) = inr full
 
 -- The script's replay over the disks that were lent is its replay.
 pub replayed : {D : Type 0} (seen : D → Option (List ℕ)) (may_leave : D → List ℕ → Type 0) (faults : D → ℕ) (s : Script) (wire : Bool) (place : Place) (tells tells_too : Type 0) (sink : Span (Option (List ℕ))) (sink_faults : Span ℕ) (l0 l1 l2 : Option (List Lend)) (g0 g1 g2 : Given) (b0 b1 b2 d0 d1 d2 : ℕ) (status : Status)
     → (tells_too → tells) → l1 ≡ option_map (λ ls. ls ++ lends_of s place) l0 → l2 ≡ l1 → g1 ≡ g0 → d1 ≡ d0 → b0 ≤ b1
-    → EndsRun s wire tells (SetUpLeaves seen may_leave faults s (record { sink = sink; lends = span l1 l2; given = span g1 g2; sink_faults = sink_faults; bank_faults = span b1 b2; disk_faults = span d1 d2 })) (record { sink = sink; lends = span l1 l2; given = span g1 g2; sink_faults = sink_faults; bank_faults = span b1 b2; disk_faults = span d1 d2 }) status
+    → EndsRun s wire tells (SetUpLeaves seen may_leave faults s (record { sink = sink; lends = span l1 l2; given = span g1 g2; sink_faults = sink_faults; bank_faults = span b1 b2; disk_faults = span d1 d2 })) ⊥ (record { sink = sink; lends = span l1 l2; given = span g1 g2; sink_faults = sink_faults; bank_faults = span b1 b2; disk_faults = span d1 d2 }) status
     → EndsReplay s wire place tells_too (SetUpLeaves seen may_leave faults s (record { sink = sink; lends = span l0 l2; given = span g0 g2; sink_faults = sink_faults; bank_faults = span b0 b2; disk_faults = span d0 d2 })) (record { sink = sink; lends = span l0 l2; given = span g0 g2; sink_faults = sink_faults; bank_faults = span b0 b2; disk_faults = span d0 d2 }) status
 replayed {D} seen may_leave faults s wire place tells tells_too sink sink_faults l0 l1 l2 g0 g1 g2 b0 b1 b2 d0 d1 d2 status tell all lent given counts never_falls run =
     let o : Outside = record { sink = sink; lends = span l1 l2; given = span g1 g2; sink_faults = sink_faults; bank_faults = span b1 b2; disk_faults = span d1 d2 } in
@@ -297,20 +313,20 @@ replayed {D} seen may_leave faults s wire place tells tells_too sink sink_faults
     let since : Since o earlier = since_lent sink sink_faults (span l1 l2) (span l0 l2) g0 g1 g2 b0 b1 b2 d0 d1 d2 given counts never_falls in
     record {
       lent = lends_all s place earlier status (lent ∙ all);
-      run = ends_since s wire tells tells_too (SetUpLeaves seen may_leave faults s o) (SetUpLeaves seen may_leave faults s earlier) o earlier status since tell (left_since seen may_leave faults s o earlier since) run;
+      run = ends_since s wire tells tells_too (SetUpLeaves seen may_leave faults s o) (SetUpLeaves seen may_leave faults s earlier) (LendingFails s place earlier) o earlier status since tell (left_since seen may_leave faults s o earlier since) run;
     }
 
 -- A world of this script ended so; so did what was played on these disks.
-pub played_on : (s played : Script) (wire : Bool) (tells tells_too left : Type 0) (o : Outside) (status : Status) → played ≡ s → (tells_too → tells) → EndsRun played wire tells ⊥ o status → EndsRun s wire tells_too left o status
+pub played_on : (s played : Script) (wire : Bool) (tells tells_too left : Type 0) (o : Outside) (status : Status) → played ≡ s → (tells_too → tells) → EndsRun played wire tells ⊥ ⊥ o status → EndsRun s wire tells_too left ⊥ o status
 played_on s played wire tells tells_too left o status same tell run =
-    ends_since s wire tells tells_too ⊥ left o o status (since_same o) tell (λ none. absurd none) (subst (λ (x : Script). EndsRun x wire tells ⊥ o status) same run)
+    ends_since s wire tells tells_too ⊥ left ⊥ o o status (since_same o) tell (λ none. absurd none) (subst (λ (x : Script). EndsRun x wire tells ⊥ ⊥ o status) same run)
 
 -- the disks that set-up handed back went back to the bank
 pub refused_of : {D : Type 0} (seen : D → Option (List ℕ)) (may_leave : D → List ℕ → Type 0) (faults : D → ℕ) (s : Script) (wire : Bool) (tells : Type 0) (disks : List (Lent D)) (fault : SetupFault) (back : List (Lent D)) (o : Outside) (result status : Status)
     → AreUnused faults disks → IsRefused faults disks (fault, back) → AreLeft seen may_leave s 1 disks back → IsUnchanged o.sink
     → GivesBackAll seen back o.given.before o.given.after ⊎ Rose o.bank_faults.before o.bank_faults.after → GivesBackSome seen back o.given.before o.given.after
     → o.disk_faults.after ≡ with_faults (faults_of faults back) o.disk_faults.before → o.bank_faults.before ≤ o.bank_faults.after → result ≡ status → status ≡ set_up_status fault
-    → EndsRun s wire tells (SetUpLeaves seen may_leave faults s o) o result
+    → EndsRun s wire tells (SetUpLeaves seen may_leave faults s o) ⊥ o result
 refused_of {D} seen may_leave faults s wire tells disks fault back o result status unused refused left unwritten gives some counts never_falls is meant =
-    subst (λ (x : Status). EndsRun s wire tells (SetUpLeaves seen may_leave faults s o) o x) (sym (is ∙ meant))
+    subst (λ (x : Status). EndsRun s wire tells (SetUpLeaves seen may_leave faults s o) ⊥ o x) (sym (is ∙ meant))
     (not_set_up seen may_leave faults s wire tells disks (fault, back) o unused refused left unwritten (record { gives = gives; some = some; counts = counts; never_falls = never_falls }))

@@ -96,7 +96,7 @@ pub end_of : {D : Type 0} (seen : D → Option (List ℕ)) (may_leave : D → Li
     → TellsLeft (kept_history_text wire t.wire t.history ++ final_text (map part fs)) (fault_in fs) o.sink o.sink_faults status
     → OnOk taken (GivesBackAll seen (kept_disks 1 fs) o.given.before o.given.after) → GivesBackSome seen (kept_disks 1 fs) o.given.before o.given.after → OnErr taken (Rose o.bank_faults.before o.bank_faults.after)
     → o.disk_faults.after ≡ with_faults (faults_of faults (kept_disks 1 fs)) o.disk_faults.before → o.bank_faults.before ≤ o.bank_faults.after → result ≡ returned status taken
-    → EndsRun s wire (AllTell seen w.servers × HasPlayedAll seen may_leave faults limit s w) ⊥ o result
+    → EndsRun s wire (AllTell seen w.servers × HasPlayedAll seen may_leave faults limit s w) ⊥ ⊥ o result
 end_of {D} seen may_leave faults limit s w t disks fs wire o status result taken law one world going over found tells all some cause counts never_falls are =
     let is = has_ended seen may_leave faults limit s w t disks law one world going over in
     let found_here = subst (λ (ls : List (Lent D)). AreFound seen faults limit ls fs) over.are found in
@@ -104,14 +104,14 @@ end_of {D} seen may_leave faults limit s w t disks fs wire o status result taken
     ap (λ (ps : List _). kept_history_text wire ps t.history) over.told.0 ∙ ap (λ (es : List _). kept_history_text wire w.wire es) over.told.1 in
     let tells_here = subst (λ (x : List ℕ). TellsLeft (x ++ final_text (map part fs)) (fault_in fs) o.sink o.sink_faults status) same tells in
     let back : GoesBack seen faults (kept_disks 1 fs) o = record { gives = gives_of seen (kept_disks 1 fs) o taken all cause; some = some; counts = counts; never_falls = never_falls } in
-    subst (λ (x : Status). EndsRun s wire (AllTell seen w.servers × HasPlayedAll seen may_leave faults limit s w) ⊥ o x) (sym are) (ended seen may_leave faults limit s w fs wire o status taken is found_here tells_here all cause back)
+    subst (λ (x : Status). EndsRun s wire (AllTell seen w.servers × HasPlayedAll seen may_leave faults limit s w) ⊥ ⊥ o x) (sym are) (ended seen may_leave faults limit s w fs wire o status taken is found_here tells_here all cause back)
 
 pub cut_of : {D : Type 0} (seen : D → Option (List ℕ)) (may_leave : D → List ℕ → Type 0) (faults limit : D → ℕ) (s : Script) (w : WorldState D) (t : HistoryTold) (disks : List (Lent D)) (wire : Bool) (o : Outside) (result : Status)
     → RunsAreLegal → IsOneServer s → IsWorld seen may_leave faults limit s w → w.is_lost ≡ false → IsOver seen may_leave limit w t disks
     → AppendsFront o.sink.before o.sink.after (kept_history_text wire t.wire t.history)
     → GivesBackAll seen disks o.given.before o.given.after ⊎ Rose o.bank_faults.before o.bank_faults.after → GivesBackSome seen disks o.given.before o.given.after
     → o.disk_faults.after ≡ with_faults (faults_of faults disks) o.disk_faults.before → o.bank_faults.before ≤ o.bank_faults.after → result ≡ statuses.Limit
-    → EndsRun s wire (AllTell seen w.servers × HasPlayedFirst seen may_leave faults limit s w) ⊥ o result
+    → EndsRun s wire (AllTell seen w.servers × HasPlayedFirst seen may_leave faults limit s w) ⊥ ⊥ o result
 cut_of {D} seen may_leave faults limit s w t disks wire o result law one world going over written gives some counts never_falls are =
     let is = has_ended seen may_leave faults limit s w t disks law one world going over in
     let same : kept_history_text wire t.wire t.history ≡ kept_history_text wire w.wire w.history =
@@ -119,4 +119,4 @@ cut_of {D} seen may_leave faults limit s w t disks wire o result law one world g
     let written_here = subst (λ (x : List ℕ). AppendsFront o.sink.before o.sink.after x) same written in
     let back : GoesBack seen faults disks o = record { gives = gives; some = some; counts = counts; never_falls = never_falls } in
     let back_here = subst (λ (ls : List (Lent D)). GoesBack seen faults ls o) over.are back in
-    subst (λ (x : Status). EndsRun s wire (AllTell seen w.servers × HasPlayedFirst seen may_leave faults limit s w) ⊥ o x) (sym are) (was_cut seen may_leave faults limit s w wire o is written_here back_here)
+    subst (λ (x : Status). EndsRun s wire (AllTell seen w.servers × HasPlayedFirst seen may_leave faults limit s w) ⊥ ⊥ o x) (sym are) (was_cut seen may_leave faults limit s w wire o is written_here back_here)

@@ -1,6 +1,6 @@
 -- What the program promises: what it writes is the text of a legal history of the script that it read, and the disks that it
 -- gives back stand for what that history leaves.
-use Rattle.std.specs.Prelude.{◌≡◌, ◌≤◌, ◌⊎◌, ℕ, ◌+◌, List, [], ◌∷◌, ◌++◌, length, Bool, Option, Some, None, Result, Ok, Err, map}
+use Rattle.std.specs.Prelude.{◌≡◌, ◌≤◌, ◌<◌, ◌⊎◌, ℕ, ◌+◌, List, [], ◌∷◌, ◌++◌, length, Bool, Option, Some, None, Result, Ok, Err, map}
 use Rattle.std.specs.Option.{option_map}
 use Rattle.std.specs.Io.KnownBytes.{Appends, IsAtEnd}
 use Rattle.afs_num.specs.declared.scripts.Reason.{Reason}
@@ -138,8 +138,11 @@ pub record AtWriteFault (s : Script) (wire : Bool) (tells : Type 0) (o : Outside
 abbrev pub AtLimit : Script → Bool → Type 0 → Outside → Type 0
 AtLimit s wire tells o = tells → ReplaysFirst s wire (RoseBy 1 o.bank_faults) o
 
--- a disk wasn't lent
-pub record LendingFails (o : Outside) : Type 0 where
+-- a disk wasn't lent, and so not all of them were
+pub record LendingFails (s : Script) (place : Place) (o : Outside) : Type 0 where
+  pub count : ℕ
+  pub short : count < s.servers
+  pub lent : o.lends.after ≡ option_map (λ ls. ls ++ lends place s.capacity 1 count) o.lends.before
   pub rose : RoseBy 1 o.bank_faults
   pub written : IsUnchanged o.sink
 
@@ -162,17 +165,17 @@ pub record ReturningFails (s : Script) (wire : Bool) (tells : Type 0) (o : Outsi
 
 -- The bank failed, or a disk. What is seen outside are counts, the sink and the disks that come back: by these alone a call that stops
 -- at a disk's failure in an event isn't told from the second and the third.
-abbrev pub AtBankFault : Script → Bool → Type 0 → Type 0 → Outside → Type 0
-AtBankFault s wire tells left o = LendingFails o ⊎ (SettingUpFails left o ⊎ (ReadingFails s tells o ⊎ ReturningFails s wire tells o))
+abbrev pub AtBankFault : Script → Bool → Type 0 → Type 0 → Type 0 → Outside → Type 0
+AtBankFault s wire tells left unlent o = unlent ⊎ (SettingUpFails left o ⊎ (ReadingFails s tells o ⊎ ReturningFails s wire tells o))
 
 -- by its status, whatever was lent; no other comes of a replay
-abbrev pub EndsRun : Script → Bool → Type 0 → Type 0 → Outside → Status → Type 0
-EndsRun s wire tells left o statuses.Done = AtDone s wire tells o
-EndsRun s wire tells left o statuses.WriteFault = AtWriteFault s wire tells o
-EndsRun s wire tells left o statuses.BankFault = AtBankFault s wire tells left o
-EndsRun s wire tells left o statuses.OutOfMemory = IsUnchanged o.sink
-EndsRun s wire tells left o statuses.Limit = AtLimit s wire tells o
-EndsRun s wire tells left o status = ⊥
+abbrev pub EndsRun : Script → Bool → Type 0 → Type 0 → Type 0 → Outside → Status → Type 0
+EndsRun s wire tells left unlent o statuses.Done = AtDone s wire tells o
+EndsRun s wire tells left unlent o statuses.WriteFault = AtWriteFault s wire tells o
+EndsRun s wire tells left unlent o statuses.BankFault = AtBankFault s wire tells left unlent o
+EndsRun s wire tells left unlent o statuses.OutOfMemory = IsUnchanged o.sink
+EndsRun s wire tells left unlent o statuses.Limit = AtLimit s wire tells o
+EndsRun s wire tells left unlent o status = ⊥
 
 -- All of the script's disks were lent where its replay came so far that a text was written; else the first of them, however many.
 abbrev pub Lends : Script → Place → Outside → Status → Type 0
@@ -184,7 +187,7 @@ Lends s place o status = LendsFirst s place o
 -- over disks at this place
 pub record EndsReplay (s : Script) (wire : Bool) (place : Place) (tells left : Type 0) (o : Outside) (status : Status) : Type 0 where
   pub lent : Lends s place o status
-  pub run : EndsRun s wire tells left o status
+  pub run : EndsRun s wire tells left (LendingFails s place o) o status
 
 -- ---- how a call of the program ends
 

@@ -129,7 +129,7 @@ fn end<K: Sink, B: Bank<D: Drop>>(
     requires world { IsWorld B.D.seen B.D.may_leave B.D.faults B.D.limit world.script world }
     requires going { world.is_lost ≡ false }
     requires one { IsOneServer world.script }
-    ensures ends { EndsRun world.entry.script wire (AllTell B.D.seen world.entry.servers × HasPlayedAll B.D.seen B.D.may_leave B.D.faults B.D.limit world.entry.script world.entry) ⊥ (record { sink = span (K.held sink.old) (K.held sink.new); lends = span (B.lends bank.old) (B.lends bank.new); given = span (B.given bank.old) (B.given bank.new); sink_faults = span (K.faults sink.old) (K.faults sink.new); bank_faults = span (B.faults bank.old) (B.faults bank.new); disk_faults = span (B.lent_faults bank.old) (B.lent_faults bank.new) }) result }
+    ensures ends { EndsRun world.entry.script wire (AllTell B.D.seen world.entry.servers × HasPlayedAll B.D.seen B.D.may_leave B.D.faults B.D.limit world.entry.script world.entry) ⊥ ⊥ (record { sink = span (K.held sink.old) (K.held sink.new); lends = span (B.lends bank.old) (B.lends bank.new); given = span (B.given bank.old) (B.given bank.new); sink_faults = span (K.faults sink.old) (K.faults sink.new); bank_faults = span (B.faults bank.old) (B.faults bank.new); disk_faults = span (B.lent_faults bank.old) (B.lent_faults bank.new) }) result }
     ensures lends { B.lends bank.new ≡ B.lends bank.old }
     ensures never_falls { B.faults bank.old ≤ B.faults bank.new }
 {
@@ -154,7 +154,7 @@ fn cut<K: Sink, B: Bank<D: Drop>>(
     requires world { IsWorld B.D.seen B.D.may_leave B.D.faults B.D.limit world.script world }
     requires going { world.is_lost ≡ false }
     requires one { IsOneServer world.script }
-    ensures ends { EndsRun world.entry.script wire (AllTell B.D.seen world.entry.servers × HasPlayedFirst B.D.seen B.D.may_leave B.D.faults B.D.limit world.entry.script world.entry) ⊥ (record { sink = span (K.held sink.old) (K.held sink.new); lends = span (B.lends bank.old) (B.lends bank.new); given = span (B.given bank.old) (B.given bank.new); sink_faults = span (K.faults sink.old) (K.faults sink.new); bank_faults = span (B.faults bank.old) (B.faults bank.new); disk_faults = span (B.lent_faults bank.old) (B.lent_faults bank.new) }) result }
+    ensures ends { EndsRun world.entry.script wire (AllTell B.D.seen world.entry.servers × HasPlayedFirst B.D.seen B.D.may_leave B.D.faults B.D.limit world.entry.script world.entry) ⊥ ⊥ (record { sink = span (K.held sink.old) (K.held sink.new); lends = span (B.lends bank.old) (B.lends bank.new); given = span (B.given bank.old) (B.given bank.new); sink_faults = span (K.faults sink.old) (K.faults sink.new); bank_faults = span (B.faults bank.old) (B.faults bank.new); disk_faults = span (B.lent_faults bank.old) (B.lent_faults bank.new) }) result }
     ensures lends { B.lends bank.new ≡ B.lends bank.old }
     ensures never_falls { B.faults bank.old ≤ B.faults bank.new }
 {
@@ -178,7 +178,7 @@ fn replay_over<K: Sink, B: Bank<D: Drop>>(
     requires lent { AreLent B.D.limit script.now.capacity 1 disks }
     requires all { length disks ≡ script.now.servers }
     requires unused { AreUnused B.D.faults disks }
-    ensures ends { EndsRun script.now wire (LentTell B.D.seen disks) (SetUpLeaves B.D.seen B.D.may_leave B.D.faults script.now (record { sink = span (K.held sink.old) (K.held sink.new); lends = span (B.lends bank.old) (B.lends bank.new); given = span (B.given bank.old) (B.given bank.new); sink_faults = span (K.faults sink.old) (K.faults sink.new); bank_faults = span (B.faults bank.old) (B.faults bank.new); disk_faults = span (B.lent_faults bank.old) (B.lent_faults bank.new) })) (record { sink = span (K.held sink.old) (K.held sink.new); lends = span (B.lends bank.old) (B.lends bank.new); given = span (B.given bank.old) (B.given bank.new); sink_faults = span (K.faults sink.old) (K.faults sink.new); bank_faults = span (B.faults bank.old) (B.faults bank.new); disk_faults = span (B.lent_faults bank.old) (B.lent_faults bank.new) }) result }
+    ensures ends { EndsRun script.now wire (LentTell B.D.seen disks) (SetUpLeaves B.D.seen B.D.may_leave B.D.faults script.now (record { sink = span (K.held sink.old) (K.held sink.new); lends = span (B.lends bank.old) (B.lends bank.new); given = span (B.given bank.old) (B.given bank.new); sink_faults = span (K.faults sink.old) (K.faults sink.new); bank_faults = span (B.faults bank.old) (B.faults bank.new); disk_faults = span (B.lent_faults bank.old) (B.lent_faults bank.new) })) ⊥ (record { sink = span (K.held sink.old) (K.held sink.new); lends = span (B.lends bank.old) (B.lends bank.new); given = span (B.given bank.old) (B.given bank.new); sink_faults = span (K.faults sink.old) (K.faults sink.new); bank_faults = span (B.faults bank.old) (B.faults bank.new); disk_faults = span (B.lent_faults bank.old) (B.lent_faults bank.new) }) result }
     ensures lends { B.lends bank.new ≡ B.lends bank.old }
     ensures never_falls { B.faults bank.old ≤ B.faults bank.new }
 {

@@ -1,7 +1,13 @@
-use Rattle.afs_top.proofs.Ended.{replayed}
+use Rattle.std.proofs.Common.{length, refl}
+use Rattle.afs_top.proofs.Ended.{first_before, lent_before, not_lent, replayed, rose_before}
 use Rattle.afs_top.proofs.replaying.replay.Goals as goal
 
 pub returns-in-Ok : goal.returns-in-Ok
 returns-in-Ok g c =
     replayed g.B.D.Disk.seen g.B.D.Disk.may_leave g.B.D.Disk.faults c.args.script.now c.args.wire c.args.place.now _ _ _ _ _ _ _ _ _ _ _ _ _ _ _ _ c.replay_over.result c.in-Ok.ensures.tells c.in-Ok.ensures.lends c.replay_over.ensures.lends c.in-Ok.ensures.given c.in-Ok.ensures.faults
     c.in-Ok.ensures.never_falls c.replay_over.ensures.ends
+
+pub returns-in-Err : goal.returns-in-Err
+returns-in-Err g c =
+    not_lent c.args.script.now c.args.wire c.args.place.now _ _ c.in-Err.fault (length c.in-Err.disks) _ _ _ (first_before _ _ _ _ c.in-Err.ensures.some c.give_up.ensures.lends) c.in-Err.ensures.fewer (lent_before _ _ _ _ _ _ c.in-Err.ensures.back_lends c.give_up.ensures.lends) refl
+    (λ e. rose_before _ _ _ (c.in-Err.ensures.cause e) c.in-Err.ensures.never_falls c.give_up.ensures.never_falls) c.give_up.ensures.status c.status_of_lend.ensures
