@@ -19,11 +19,11 @@ pub sent_left : (wire : Bool) (place after : ℕ) (whole : List ℕ) (a b : Opti
     → Completes (parcels_text wire place (drop i ps)) whole a b f g → Completes (sent_text wire place p.head (code_at p.bytes) p.bytes ++ parcels_text wire after (drop (i + 1) ps)) whole a b f g
 sent_left wire place after whole a b f g ps i d p behind within is left = rw (behind) (at_item (parcels_text wire place) whole a b f g ps i d p within is left)
 
-pub kept_left : (wire : Bool) (number place : ℕ) (ps own behind : List Parcel) (whole : List ℕ) (a b : Option (List ℕ)) (f g : ℕ) (es : List kept.Entry) (i : ℕ) (d e : kept.Entry) → i < length es → e ≡ get_or es i d
+pub kept_left : (wire : Bool) (number after place : ℕ) (ps own behind : List Parcel) (whole : List ℕ) (a b : Option (List ℕ)) (f g : ℕ) (es : List kept.Entry) (i : ℕ) (d e : kept.Entry) → after ≡ number + 1 → i < length es → e ≡ get_or es i d
     → own ≡ take e.sent ps → behind ≡ drop e.sent ps → Completes (kept_entries_text wire number place ps (drop i es)) whole a b f g
-    → Completes (kept_entry_text wire number place own e ++ kept_entries_text wire (number + 1) (place + e.sent) behind (drop (i + 1) es)) whole a b f g
-kept_left wire number place ps own behind whole a b f g es i d e within is front back left =
-    rw (front, back) (at_item (kept_entries_text wire number place ps) whole a b f g es i d e within is left)
+    → Completes (kept_entry_text wire number place own e ++ kept_entries_text wire after (place + e.sent) behind (drop (i + 1) es)) whole a b f g
+kept_left wire number after place ps own behind whole a b f g es i d e later within is front back left =
+    rw (later, front, back) (at_item (kept_entries_text wire number place ps) whole a b f g es i d e within is left)
 
 -- ---- where the parcels are messages
 

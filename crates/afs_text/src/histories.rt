@@ -3,7 +3,7 @@
 ghost use Rattle.std.specs.Prelude.{◌≡◌, ◌+◌, ◌<◌, ◌≤◌, ◌^◌, ◌++◌, length};
 ghost use Rattle.afs_outside.specs.Outside.{Puts};
 ghost use Rattle.afs_model.specs.Text.{step_text};
-ghost use Rattle.afs_text.specs.KeptText.{kept_entry_text, kept_history_text, parcels_text};
+ghost use Rattle.afs_text.specs.KeptText.{kept_entries_text, kept_entry_text, kept_history_text, parcels_text};
 ghost use Rattle.afs_text.specs.RunText.{lines_text};
 ghost use Rattle.afs_text.specs.Telling.{sent_by};
 
@@ -59,6 +59,32 @@ pub fn print_entry<K: Sink>(
     put_sent(sink, first_place, sent, wire)
 }
 
+/// Writes these entries, the first of which has this number, with these parcels, the first of which has this place. It takes no
+/// memory.
+pub fn put_entries<K: Sink>(
+    sink: &mut K,
+    first_number: u64,
+    first_place: u64,
+    parcels: &[Parcel],
+    entries: &[Entry],
+    wire: bool,
+) -> Result<(), Failed>
+    requires all { sent_by entries.now ≡ length parcels.now }
+    requires numbers { first_number + length entries.now < 2 ^ 64 }
+    requires places { first_place + length parcels.now < 2 ^ 64 }
+    ensures { Puts (kept_entries_text wire first_number first_place parcels.now entries.now) (K.held sink.old) (K.held sink.new) (K.faults sink.old) (K.faults sink.new) result }
+{
+    let mut place = first_place;
+    let mut left = parcels;
+    for (i, entry) in entries.iter().enumerate() {
+        let (sent, behind) = left.split_at(entry.sent);
+        print_entry(sink, entry, sent, first_number + i as u64, place, wire)?;
+        place += entry.sent as u64;
+        left = behind;
+    }
+    Ok(())
+}
+
 /// Writes the history that these entries tell with these parcels. It takes no memory.
 #[tactic(auto, unfolding(crate::specs::KeptText::kept_history_text))]
 pub fn put_history<K: Sink>(
@@ -71,13 +97,5 @@ pub fn put_history<K: Sink>(
     requires places { length parcels.now < 2 ^ 63 }
     ensures { Puts (kept_history_text wire parcels.now history.now) (K.held sink.old) (K.held sink.new) (K.faults sink.old) (K.faults sink.new) result }
 {
-    let mut place = 1u64;
-    let mut left = parcels;
-    for (i, entry) in history.iter().enumerate() {
-        let (sent, behind) = left.split_at(entry.sent);
-        print_entry(sink, entry, sent, i as u64 + 1, place, wire)?;
-        place += entry.sent as u64;
-        left = behind;
-    }
-    Ok(())
+    put_entries(sink, 1, 1, parcels, history, wire)
 }
