@@ -15,7 +15,6 @@ mod setup;
 mod telling;
 mod world;
 
-pub use ending::Told;
-pub use playing::{Ended, play};
+pub use playing::Played;
 pub use setup::set_up;
 pub use world::World;

@@ -16,7 +16,7 @@ use crate::clients::ClientSeat;
 use crate::disks::{give, give_back, give_rest};
 use crate::faults::SetupFault;
 use crate::places::Places;
-use crate::world::World;
+use crate::world::{Gone, World};
 use afs_disk::{Disk, Disks, Fuse, Lent};
 use afs_history::scripts::{Script, VolumeLine};
 use afs_host::{Running, Seat, ServerSeat};
@@ -216,6 +216,10 @@ pub fn set_up<'a, D: Disk + Drop>(
         clients: Places::of(clients),
         wire: Wire::new(alloc),
         history: Vec::new(alloc),
+        gone: Gone {
+            entries: 0,
+            sent: 0,
+        },
         clock: 0,
         is_lost: false,
         back,

@@ -1,6 +1,6 @@
 //! The cell: its nodes, the messages under way, and what is told of its run.
 
-ghost use Rattle.std.specs.Prelude.{◌≡◌, ◌≤◌, ◌<◌, ◌+◌, ◌↔◌, [], None, Some, Ok, Err, false, true, length, ℕ};
+ghost use Rattle.std.specs.Prelude.{◌≡◌, ◌≤◌, ◌<◌, ◌+◌, ◌-◌, ◌↔◌, [], drop, None, Some, Ok, Err, false, true, length, ℕ};
 ghost use Rattle.afs_num.specs.declared.types.Node.TheVariants.{Server};
 ghost use Rattle.afs_history.specs.declared.scripts.Event.TheVariants as events;
 ghost use Rattle.afs_grammar.specs.CellScripts.{counts_of, FitsEvent};
@@ -11,8 +11,8 @@ ghost use Rattle.afs_schedule.specs.Schedules.{IsInput};
 ghost use Rattle.afs_cell.specs.Happening.{IsAsked, IsDue, IsGiven, NothingSettles, Settles};
 ghost use Rattle.afs_cell.specs.Noting.{given_line, Notes};
 ghost use Rattle.afs_cell.specs.Picks.{IsPicked};
-ghost use Rattle.afs_cell.specs.Steps.{Steps, Stepped};
-ghost use Rattle.afs_cell.specs.Worlds.{most_entries, most_ticks, AllTell, Counts, IsSafe, IsWorld};
+ghost use Rattle.afs_cell.specs.Since.{DeliversKept, GoesOnSince, IsSafeSince, IsWorldSince, LetsGo, SteppedSince, StepsSince};
+ghost use Rattle.afs_cell.specs.Worlds.{most_entries, most_ticks, AllTell, Counts};
 ghost use Rattle.afs_cell.specs.declared.faults.WorldFault.TheVariants as faults;
 ghost use Rattle.afs_cell.specs.declared.happening.Happened.TheVariants as happened;
 ghost use Rattle.afs_cell.specs.declared.happening.ServerInput.TheVariants as input;
@@ -35,7 +35,7 @@ use std::alloc::Global;
 use std::marker::Model;
 
 /// The most entries of a history.
-const MOST_ENTRIES: usize = 4_194_304;
+const MOST_ENTRIES: u64 = 4_194_304;
 
 /// The line of a message that is given to a node, if there is one.
 fn given_line(place: Option<u64>) -> Option<Line>
@@ -47,9 +47,16 @@ fn given_line(place: Option<u64>) -> Option<Line>
     }
 }
 
-/// The servers and the clients of a cell in order of number, all messages that were sent, the history so far and the clock.
-/// Where memory was wanting behind the step of a node, the cell is lost: it tells nothing any more, and its history is that from
-/// before the step.
+/// The entries that were let go, and the messages that these sent.
+#[derive(Clone, Copy, Debug)]
+pub(crate) struct Gone {
+    pub(crate) entries: u64,
+    pub(crate) sent: u64,
+}
+
+/// The servers and the clients of a cell in order of number, the messages that were sent, the history so far and the clock. The first
+/// entries of the history may be let go, and the first messages. Where memory was wanting behind the step of a node, the cell is
+/// lost: it tells nothing any more, and its history is that from before the step.
 #[derive(Drop)]
 pub struct World<'a, D: Disk> {
     pub(crate) alloc: Global,
@@ -58,6 +65,7 @@ pub struct World<'a, D: Disk> {
     pub(crate) clients: Places<ClientSeat<'a>>,
     pub(crate) wire: Wire,
     pub(crate) history: Vec<Entry>,
+    pub(crate) gone: Gone,
     pub(crate) clock: u32,
     pub(crate) is_lost: bool,
     /// Room for the disks to go back into.
@@ -65,15 +73,15 @@ pub struct World<'a, D: Disk> {
 }
 
 impl<'a, D: Disk> Model for World<'a, D> {
-    ghost use Rattle.std.specs.Prelude.{◌≤◌, ◌≡◌, []};
+    ghost use Rattle.std.specs.Prelude.{◌≤◌, ◌≡◌, ◌+◌, [], length};
     ghost use Rattle.std.specs.Vec.{vec_capacity};
-    ghost use Rattle.afs_cell.specs.Worlds.{WorldState};
+    ghost use Rattle.afs_cell.specs.Worlds.{LetGo, WorldState};
 
     ghost Value = { WorldState D };
 
-    ghost view = { λ w. record { script = w.script.now; servers = w.servers.items; clients = w.clients.items; wire = w.wire.messages; history = w.history.items; clock = w.clock; is_lost = w.is_lost } };
+    ghost view = { λ w. record { script = w.script.now; servers = w.servers.items; clients = w.clients.items; wire = w.wire.messages; history = w.history.items; gone = record { entries = w.gone.entries; sent = w.gone.sent; messages = w.wire.gone }; clock = w.clock; is_lost = w.is_lost } };
 
-    ghost invariant = { λ w. record { empty : w.back.items ≡ []; room : w.script.now.servers ≤ vec_capacity w.back } };
+    ghost invariant = { λ w. record { empty : w.back.items ≡ []; room : w.script.now.servers ≤ vec_capacity w.back; behind : w.wire.gone ≤ w.gone.sent; ahead : w.gone.sent ≤ w.wire.gone + length w.wire.messages } };
 }
 
 impl<'a, D: Disk> World<'a, D> {
@@ -147,11 +155,12 @@ impl<'a, D: Disk> World<'a, D> {
 
     /// A server is given something that is no message.
     fn serve(&mut self, server: u8, given: ServerInput) -> Result<(), WorldFault>
-        requires safe { IsSafe D.limit self.old.script self.old }
+        requires safe { IsSafeSince D.limit self.old }
         requires going { self.old.is_lost ≡ false }
-        requires few { length self.old.history < most_entries }
+        requires few { self.old.gone.entries + length self.old.history < most_entries }
         requires due { IsDue given }
-        ensures stepped { Stepped D.seen D.may_leave D.faults D.limit self.old.script (λ t. IsGiven server given) self.old self.new result }
+        ensures stepped { SteppedSince D.seen D.may_leave D.faults D.limit (λ t. IsGiven server given) self.old self.new result }
+        ensures gone { self.new.gone ≡ self.old.gone }
         ensures clock { self.new.clock ≡ self.old.clock }
         ensures picked { (pick : ℕ) → given ≡ input.Crash pick → IsPicked D.seen D.left_by server pick self.old.servers self.new.servers result }
     {
@@ -168,11 +177,12 @@ impl<'a, D: Disk> World<'a, D> {
 
     /// A client is given something that is no message.
     fn ask(&mut self, client: u8, given: ClientInput) -> Result<(), WorldFault>
-        requires safe { IsSafe D.limit self.old.script self.old }
+        requires safe { IsSafeSince D.limit self.old }
         requires going { self.old.is_lost ≡ false }
-        requires few { length self.old.history < most_entries }
+        requires few { self.old.gone.entries + length self.old.history < most_entries }
         requires inside { (1 ≤ client) × (client ≤ self.old.script.clients) }
-        ensures stepped { Stepped D.seen D.may_leave D.faults D.limit self.old.script (IsAsked given client) self.old self.new result }
+        ensures stepped { SteppedSince D.seen D.may_leave D.faults D.limit (IsAsked given client) self.old self.new result }
+        ensures gone { self.new.gone ≡ self.old.gone }
         ensures clock { self.new.clock ≡ self.old.clock }
     {
         let happened = client_takes(
@@ -188,10 +198,12 @@ impl<'a, D: Disk> World<'a, D> {
 
     /// The message of this place is given to its receiver.
     fn deliver(&mut self, place: u64) -> Result<(), WorldFault>
-        requires safe { IsSafe D.limit self.old.script self.old }
+        requires kept { self.old.gone.messages < place }
+        requires safe { IsSafeSince D.limit self.old }
         requires going { self.old.is_lost ≡ false }
-        requires few { length self.old.history < most_entries }
-        ensures stepped { Stepped D.seen D.may_leave D.faults D.limit self.old.script (λ t. IsInput t (events.Deliver place)) self.old self.new result }
+        requires few { self.old.gone.entries + length self.old.history < most_entries }
+        ensures stepped { SteppedSince D.seen D.may_leave D.faults D.limit (λ t. IsInput t (events.Deliver place)) self.old self.new result }
+        ensures gone { self.new.gone ≡ self.old.gone }
         ensures clock { self.new.clock ≡ self.old.clock }
     {
         let Some(parcel) = self.wire.get(place) else {
@@ -226,12 +238,13 @@ impl<'a, D: Disk> World<'a, D> {
 
     /// The clock rises.
     fn tick(&mut self, ticks: u32) -> Result<(), WorldFault>
-        requires safe { IsSafe D.limit self.old.script self.old }
+        requires safe { IsSafeSince D.limit self.old }
         requires going { self.old.is_lost ≡ false }
-        requires few { length self.old.history < most_entries }
+        requires few { self.old.gone.entries + length self.old.history < most_entries }
         requires some { 1 ≤ ticks }
         requires within { self.old.clock + ticks ≤ most_ticks }
-        ensures stepped { Stepped D.seen D.may_leave D.faults D.limit self.old.script (λ t. IsInput t (events.Tick ticks)) self.old self.new result }
+        ensures stepped { SteppedSince D.seen D.may_leave D.faults D.limit (λ t. IsInput t (events.Tick ticks)) self.old self.new result }
+        ensures gone { self.new.gone ≡ self.old.gone }
         ensures clock { self.new.clock ≤ self.old.clock + ticks }
     {
         self.note(Actor::Clock, Line::Tick { ticks })?;
@@ -243,13 +256,15 @@ impl<'a, D: Disk> World<'a, D> {
 
     /// One event of the schedule, which isn't a drain.
     fn play_event(&mut self, event: Event) -> Result<(), WorldFault>
-        requires safe { IsSafe D.limit self.old.script self.old }
+        requires safe { IsSafeSince D.limit self.old }
         requires going { self.old.is_lost ≡ false }
-        requires few { length self.old.history < most_entries }
+        requires few { self.old.gone.entries + length self.old.history < most_entries }
         requires fits { FitsEvent (counts_of self.old.script) event }
         requires one { event ≡ events.Drain → ⊥ }
+        requires kept { DeliversKept self.old event }
         requires ticks { self.old.clock + ticks_of event ≤ most_ticks }
-        ensures stepped { Stepped D.seen D.may_leave D.faults D.limit self.old.script (λ t. IsInput t event) self.old self.new result }
+        ensures stepped { SteppedSince D.seen D.may_leave D.faults D.limit (λ t. IsInput t event) self.old self.new result }
+        ensures gone { self.new.gone ≡ self.old.gone }
         ensures clock { self.new.clock ≤ self.old.clock + ticks_of event }
         ensures picked { (i pick : ℕ) → event ≡ events.CrashDisk (Server i) pick → IsPicked D.seen D.left_by i pick self.old.servers self.new.servers result }
     {
@@ -264,27 +279,29 @@ impl<'a, D: Disk> World<'a, D> {
 
     /// Whether the history is as long as one may be.
     fn is_full(&self) -> bool
-        requires { length self.now.history ≤ most_entries }
-        ensures full { result ≡ true → length self.now.history ≡ most_entries }
-        ensures room { result ≡ false → length self.now.history < most_entries }
+        requires { self.now.gone.entries + length self.now.history ≤ most_entries }
+        ensures full { result ≡ true → self.now.gone.entries + length self.now.history ≡ most_entries }
+        ensures room { result ≡ false → self.now.gone.entries + length self.now.history < most_entries }
     {
-        self.history.len() == MOST_ENTRIES
+        self.gone.entries + self.history.len() as u64 == MOST_ENTRIES
     }
 
     /// Plays one event, which isn't a drain: its deliveries are events of their own. `Limit` where the history is as long as one
     /// may be.
     pub fn step(&mut self, event: &Event) -> Result<(), WorldFault>
-        requires world { IsWorld D.seen D.may_leave D.faults D.limit self.old.script self.old }
+        requires world { IsWorldSince D.seen D.may_leave D.faults D.limit self.old }
         requires fits { FitsEvent (counts_of self.old.script) event.now }
         requires one { event.now ≡ events.Drain → ⊥ }
+        requires kept { DeliversKept self.old event.now }
         requires ticks { self.old.clock + ticks_of event.now ≤ most_ticks }
-        ensures world { IsWorld D.seen D.may_leave D.faults D.limit self.old.script self.new }
-        ensures steps { Steps D.seen D.may_leave D.faults D.limit (λ t. IsInput t event.now) self.old self.new result }
+        ensures world { GoesOnSince D.seen D.may_leave D.faults D.limit self.old self.new }
+        ensures steps { StepsSince D.seen D.may_leave D.faults D.limit (λ t. IsInput t event.now) self.old self.new result }
+        ensures gone { self.new.gone ≡ self.old.gone }
         ensures tells { AllTell D.seen self.old.servers ↔ AllTell D.seen self.new.servers }
         ensures counts { (n : ℕ) → Counts D.faults n self.old.servers → Counts D.faults n self.new.servers }
         ensures clock { self.new.clock ≤ self.old.clock + ticks_of event.now }
         ensures lost { self.old.is_lost ≡ true → (result ≡ Err faults.OutOfMemory) × (self.new ≡ self.old) }
-        ensures full { self.old.is_lost ≡ false → length self.old.history ≡ most_entries → (result ≡ Err faults.Limit) × (self.new ≡ self.old) }
+        ensures full { self.old.is_lost ≡ false → self.old.gone.entries + length self.old.history ≡ most_entries → (result ≡ Err faults.Limit) × (self.new ≡ self.old) }
         ensures picked { (i pick : ℕ) → event.now ≡ events.CrashDisk (Server i) pick → IsPicked D.seen D.left_by i pick self.old.servers self.new.servers result }
     {
         if self.is_lost {
@@ -298,17 +315,51 @@ impl<'a, D: Disk> World<'a, D> {
 
     // ---- what is told
 
-    /// The entries of the history, one for each event; the messages of an entry are the next of the parcels.
+    /// The entries of the history that weren't let go, one for each event; the messages of an entry are the next of the parcels.
     pub fn history(&self) -> &[Entry]
         ensures { result.now ≡ self.now.history }
     {
         self.history.as_slice()
     }
 
-    /// The messages that were sent, each with its bytes.
+    /// The messages that these entries sent, each with its bytes.
     pub fn parcels(&self) -> &[Parcel]
-        ensures { result.now ≡ self.now.wire }
+        ensures { result.now ≡ drop (self.now.gone.sent - self.now.gone.messages) self.now.wire }
     {
-        self.wire.as_slice()
+        self.wire.behind(self.gone.sent)
+    }
+
+    /// How many messages were sent.
+    pub fn sent(&self) -> u64
+        ensures { result ≡ self.now.gone.messages + length self.now.wire }
+    {
+        self.wire.count()
+    }
+
+    /// How many entries were let go.
+    pub fn entries_before(&self) -> u64
+        ensures { result ≡ self.now.gone.entries }
+    {
+        self.gone.entries
+    }
+
+    /// How many messages these sent.
+    pub fn sent_before(&self) -> u64
+        ensures { result ≡ self.now.gone.sent }
+    {
+        self.gone.sent
+    }
+
+    /// The entries of the history are let go, and messages of the first places, which no event delivers any more. It takes no memory.
+    pub fn let_go(&mut self, settled: u64)
+        requires few { self.old.gone.entries + length self.old.history ≤ most_entries }
+        ensures { LetsGo settled self.old self.new }
+    {
+        self.gone = Gone {
+            entries: self.gone.entries + self.history.len() as u64,
+            sent: self.wire.count(),
+        };
+        self.history.clear();
+        self.wire.let_go(settled);
     }
 }

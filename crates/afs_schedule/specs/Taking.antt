@@ -1,14 +1,17 @@
 -- What is left of a schedule, and what is taken from it.
-use Rattle.std.specs.Prelude.{◌≡◌, ℕ, List, Option, Some, None}
+use Rattle.std.specs.Prelude.{◌≡◌, ℕ, List, false, Option, Some, None}
+use Rattle.std.specs.List.{list_any}
 use Rattle.afs_history.specs.declared.scripts.Event.{Event}
 use Rattle.afs_schedule.specs.Named.{IsNamed}
+use Rattle.afs_schedule.specs.Delivers.{is_deliver}
 use Rattle.afs_schedule.specs.Schedules.{lowest, named_by, next_event}
 use Rattle.afs_schedule.specs.declared.schedule.Schedule.{Schedule}
 
--- these events are left, and these places were named
+-- These events are left, and these places were named. Where no place is named again, no deliver is left.
 pub record IsLeft (s : Schedule) (es : List Event) (named : List ℕ) : Type 0 where
   pub events : s.events.now ≡ es
   pub named_so : IsNamed s.named named
+  pub drains : s.names_again ≡ false → list_any is_deliver es ≡ false
 
 -- the next event was taken, if there is one
 abbrev pub IsTaken : Schedule → List ℕ → Option Event → Option (Event × List Event) → Type 0

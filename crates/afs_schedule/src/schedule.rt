@@ -1,10 +1,12 @@
 //! The events of a schedule, one after the other, with each drain as its deliveries.
 
 ghost use Rattle.std.specs.Prelude.{◌≡◌, ◌≤◌, ℕ, List, [], ◌∷◌, Option, None, IfNone, IfOk, IfSome, OnErr, OnOk};
+ghost use Rattle.std.specs.List.{list_any};
 ghost use Rattle.std.specs.Option.{option_map};
 ghost use Rattle.afs_history.specs.declared.scripts.Event.TheVariants as event;
 ghost use Rattle.afs_schedule.specs.Schedules.{first_of, lowest, named_by, next_event};
 ghost use Rattle.afs_schedule.specs.Named.{has, IsClosed, IsNamed};
+ghost use Rattle.afs_schedule.specs.Settled.{is_deliver, settled, IsBehind};
 ghost use Rattle.afs_schedule.specs.Taking.{IsLeft, Takes};
 
 use afs_history::scripts::Event;
@@ -117,11 +119,29 @@ fn upcoming(events: &[Event], waiting: Option<u64>) -> Option<(Event, &[Event])>
     }
 }
 
-/// The events that are left, and the places that were named.
+/// Whether an event is a deliver, which names a place by itself.
+fn is_deliver(event: Event) -> bool
+    ensures { result ≡ is_deliver event }
+{
+    match event {
+        Event::Deliver { place: _ } => true,
+        _ => false,
+    }
+}
+
+/// Whether one of these events is a deliver.
+fn have_deliver(events: &[Event]) -> bool
+    ensures { result ≡ list_any is_deliver events.now }
+{
+    events.iter().any(|event| is_deliver(*event))
+}
+
+/// The events that are left, and the places that were named; and whether a deliver may be left, so that a place is named again.
 #[derive(Drop)]
 pub struct Schedule<'a> {
     events: &'a [Event],
     named: Named,
+    names_again: bool,
 }
 
 impl<'a> Schedule<'a> {
@@ -132,13 +152,25 @@ impl<'a> Schedule<'a> {
         Schedule {
             events,
             named: Named::new(alloc),
+            names_again: have_deliver(events),
         }
+    }
+
+    /// So many places, from the first on, were named, and no event that is left names one of them.
+    pub fn settled(&self) -> u64
+        ensures { result ≡ settled self.now }
+    {
+        if self.names_again {
+            return 0;
+        }
+        self.named.first
     }
 
     /// The event that comes next, after so many messages were sent. A drain gives the lowest place that was never named, and ends
     /// where there is none.
     pub fn next(&mut self, sent: u64) -> Mem<Option<Event>>
         ensures ok { IfOk result (Takes sent self.old self.new) }
+        ensures behind { IfOk result (IsBehind self.old self.new) }
         ensures err { OnErr result (self.new ≡ self.old) }
     {
         let Some((event, rest)) = upcoming(self.events, self.named.waiting(sent)) else {

@@ -2,6 +2,7 @@
 #![tactic(auto)]
 
 pub mod cell;
+mod playing;
 pub mod program;
 mod replaying;
 mod scripts;

@@ -18,9 +18,10 @@ ghost use Rattle.afs_top.specs.Outside.{span};
 ghost use Rattle.afs_top.specs.Parts.{lend_status, returned, set_up_status, TellsLeft};
 ghost use Rattle.afs_top.specs.Top.{EndsReplay, EndsRun, SetUpLeaves};
 
+use crate::playing::{Ended, Told, play};
 use crate::statuses::Status;
 use afs_cell::faults::SetupFault;
-use afs_cell::{Ended, Told, World, play, set_up};
+use afs_cell::{World, set_up};
 use afs_disk::{Bank, Disk, Disks, LendFault, Place};
 use afs_final::{Kept, Left, fault_in, left_of, put_final, told_of};
 use afs_history::scripts::Script;
@@ -28,7 +29,6 @@ use afs_law::laws::runs_are_legal;
 use afs_lending::{give_back, give_back_all, lend_all};
 use afs_num::devices::Failed as BankFailed;
 use afs_outside::outside::{Failed, Sink, pass_on};
-use afs_text::histories::put_history;
 use afs_volstore::VolStore;
 use std::alloc::Global;
 
@@ -75,27 +75,25 @@ fn give_up<B: Bank<D: Drop>>(bank: &mut B, disks: Disks<B::D>, status: Status) -
     status
 }
 
-/// Writes the text of a history that was played to its end, with what the disks keep, and passes it on.
-fn tell<K: Sink>(sink: &mut K, told: &Told, kept: &[Kept<'_>], wire: bool) -> Result<(), Failed>
-    requires all { sent_by told.now.history ≡ length told.now.wire }
-    ensures { Puts (kept_history_text wire told.now.wire told.now.history ++ final_of kept.now) (K.held sink.old) (K.held sink.new) (K.faults sink.old) (K.faults sink.new) result }
-{
-    put_history(sink, told.parcels(), told.entries(), wire)?;
+/// Writes what the disks keep behind the history, and passes all on.
+fn put_rest<K: Sink>(
+    sink: &mut K,
+    kept: &[Kept<'_>],
+    written: Result<(), Failed>,
+) -> Result<(), Failed> {
+    written?;
     put_final(sink, kept)?;
     pass_on(sink)
 }
 
-/// The history is told with what was found on the disks, where that can be.
+/// What was found on the disks is told behind the history, where that can be.
 fn tell_left<K: Sink, D: Disk>(
     alloc: Global,
     sink: &mut K,
-    told: &Told,
     left: &[Left<VolStore<D>, D>],
-    wire: bool,
+    written: Result<(), Failed>,
 ) -> Status
     requires few { length left.now ≤ 8 }
-    requires all { sent_by told.now.history ≡ length told.now.wire }
-    ensures { TellsLeft (kept_history_text wire told.now.wire told.now.history ++ final_text (map part left.now)) (read.fault_in left.now) (span (K.held sink.old) (K.held sink.new)) (span (K.faults sink.old) (K.faults sink.new)) result }
 {
     if let Some(fault) = fault_in(left) {
         return status_of_lend(fault);
@@ -103,65 +101,40 @@ fn tell_left<K: Sink, D: Disk>(
     let Ok(kept) = told_of(alloc, left) else {
         return Status::OutOfMemory;
     };
-    match tell(sink, told, kept.as_slice(), wire) {
+    match put_rest(sink, kept.as_slice(), written) {
         Ok(()) => Status::Done,
         Err(Failed) => Status::WriteFault,
     }
 }
 
-/// Writes the text of a history that is as long as one may be, and passes it on.
-fn tell_first<K: Sink>(sink: &mut K, told: &Told, wire: bool) -> Result<(), Failed>
-    requires all { sent_by told.now.history ≡ length told.now.wire }
-    ensures { Puts (kept_history_text wire told.now.wire told.now.history) (K.held sink.old) (K.held sink.new) (K.faults sink.old) (K.faults sink.new) result }
-{
-    put_history(sink, told.parcels(), told.entries(), wire)?;
-    pass_on(sink)
-}
-
-/// A world that played its script to its end is told, with what its disks keep, and they are given back.
+/// A script that was played to its end is told, with what its disks keep, and they are given back.
 fn end<K: Sink, B: Bank<D: Drop>>(
     alloc: Global,
     world: World<'_, B::D>,
-    wire: bool,
+    written: Result<(), Failed>,
     sink: &mut K,
     bank: &mut B,
-) -> Status
-    requires world { IsWorld B.D.seen B.D.may_leave B.D.faults B.D.limit world.script world }
-    requires going { world.is_lost ≡ false }
-    requires one { IsOneServer world.script }
-    ensures ends { EndsRun world.entry.script wire (AllTell B.D.seen world.entry.servers × HasPlayedAll B.D.seen B.D.may_leave B.D.faults B.D.limit world.entry.script world.entry) ⊥ ⊥ (record { sink = span (K.held sink.old) (K.held sink.new); lends = span (B.lends bank.old) (B.lends bank.new); given = span (B.given bank.old) (B.given bank.new); sink_faults = span (K.faults sink.old) (K.faults sink.new); bank_faults = span (B.faults bank.old) (B.faults bank.new); disk_faults = span (B.lent_faults bank.old) (B.lent_faults bank.new) }) result }
-    ensures lends { B.lends bank.new ≡ B.lends bank.old }
-    ensures never_falls { B.faults bank.old ≤ B.faults bank.new }
-{
-    runs_are_legal();
-    let (told, disks) = world.end();
-    let left = match left_of(alloc, disks) {
+) -> Status {
+    let left = match left_of(alloc, world.end()) {
         Ok(left) => left,
         Err(disks) => return give_up(bank, disks, Status::OutOfMemory),
     };
-    let status = tell_left(alloc, sink, &told, left.as_slice(), wire);
+    let status = tell_left(alloc, sink, left.as_slice(), written);
     let taken = give_back(bank, left);
     returned(status, taken)
 }
 
-/// A history that went as far as one may is told, and the disks are given back.
+/// A history that went as far as one may is passed on, and the disks are given back.
 fn cut<K: Sink, B: Bank<D: Drop>>(
     world: World<'_, B::D>,
-    wire: bool,
+    written: Result<(), Failed>,
     sink: &mut K,
     bank: &mut B,
-) -> Status
-    requires world { IsWorld B.D.seen B.D.may_leave B.D.faults B.D.limit world.script world }
-    requires going { world.is_lost ≡ false }
-    requires one { IsOneServer world.script }
-    ensures ends { EndsRun world.entry.script wire (AllTell B.D.seen world.entry.servers × HasPlayedFirst B.D.seen B.D.may_leave B.D.faults B.D.limit world.entry.script world.entry) ⊥ ⊥ (record { sink = span (K.held sink.old) (K.held sink.new); lends = span (B.lends bank.old) (B.lends bank.new); given = span (B.given bank.old) (B.given bank.new); sink_faults = span (K.faults sink.old) (K.faults sink.new); bank_faults = span (B.faults bank.old) (B.faults bank.new); disk_faults = span (B.lent_faults bank.old) (B.lent_faults bank.new) }) result }
-    ensures lends { B.lends bank.new ≡ B.lends bank.old }
-    ensures never_falls { B.faults bank.old ≤ B.faults bank.new }
-{
-    runs_are_legal();
-    let (told, disks) = world.end();
-    let _written = tell_first(sink, &told, wire);
-    give_up(bank, disks, Status::Limit)
+) -> Status {
+    if written.is_ok() {
+        let _passed = pass_on(sink);
+    }
+    give_up(bank, world.end(), Status::Limit)
 }
 
 /// The script's cell is set up over these disks and played to its end.
@@ -172,24 +145,20 @@ fn replay_over<K: Sink, B: Bank<D: Drop>>(
     wire: bool,
     sink: &mut K,
     bank: &mut B,
-) -> Status
-    requires script { IsCellScript script.now }
-    requires one { IsOneServer script.now }
-    requires lent { AreLent B.D.limit script.now.capacity 1 disks }
-    requires all { length disks ≡ script.now.servers }
-    requires unused { AreUnused B.D.faults disks }
-    ensures ends { EndsRun script.now wire (LentTell B.D.seen disks) (SetUpLeaves B.D.seen B.D.may_leave B.D.faults script.now (record { sink = span (K.held sink.old) (K.held sink.new); lends = span (B.lends bank.old) (B.lends bank.new); given = span (B.given bank.old) (B.given bank.new); sink_faults = span (K.faults sink.old) (K.faults sink.new); bank_faults = span (B.faults bank.old) (B.faults bank.new); disk_faults = span (B.lent_faults bank.old) (B.lent_faults bank.new) })) ⊥ (record { sink = span (K.held sink.old) (K.held sink.new); lends = span (B.lends bank.old) (B.lends bank.new); given = span (B.given bank.old) (B.given bank.new); sink_faults = span (K.faults sink.old) (K.faults sink.new); bank_faults = span (B.faults bank.old) (B.faults bank.new); disk_faults = span (B.lent_faults bank.old) (B.lent_faults bank.new) }) result }
-    ensures lends { B.lends bank.new ≡ B.lends bank.old }
-    ensures never_falls { B.faults bank.old ≤ B.faults bank.new }
-{
+) -> Status {
     let world = match set_up(alloc, script, disks) {
         Ok(world) => world,
         Err((fault, disks)) => return give_up(bank, disks, status_of_setup(fault)),
     };
-    match play(world) {
-        Ended::Done(world) => end(alloc, world, wire, sink, bank),
-        Ended::Limit(world) => cut(world, wire, sink, bank),
-        Ended::OutOfMemory(world) => give_up(bank, world.end().1, Status::OutOfMemory),
+    let Told {
+        world,
+        ended,
+        written,
+    } = play(world, wire, sink);
+    match ended {
+        Ended::All => end(alloc, world, written, sink, bank),
+        Ended::Limit => cut(world, written, sink, bank),
+        Ended::OutOfMemory => give_up(bank, world.end(), Status::OutOfMemory),
     }
 }
 

@@ -1,8 +1,18 @@
 -- What contracts see of a wire.
-use Rattle.std.specs.Prelude.{ℕ, List}
+use Rattle.std.specs.Prelude.{◌≡◌, ◌≤◌, ◌⊎◌, ℕ, ◌+◌, List, drop, length}
 use Rattle.afs_num.specs.declared.types.Parcel.{Parcel}
 
--- the messages in the order in which they were sent, and for how many more there is room
+-- how many messages were let go; those that were sent behind them, in their order; and for how many more there is room
 pub record Sent : Type 0 where
+  pub gone : ℕ
   pub messages : List Parcel
   pub room : ℕ
+
+-- some of the first were let go, none of them behind this place
+pub record LetsGo (places : ℕ) (old new : Sent) : Type 0 where
+  pub count : ℕ
+  pub within : count ≤ length old.messages
+  pub gone : new.gone ≡ old.gone + count
+  pub messages : new.messages ≡ drop count old.messages
+  pub none_behind : (new.gone ≡ old.gone) ⊎ (new.gone ≤ places)
+  pub room : old.room ≤ new.room
