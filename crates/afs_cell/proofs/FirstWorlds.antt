@@ -16,7 +16,7 @@ use Rattle.afs_cell.specs.Places.{Each}
 use Rattle.afs_cell.specs.Refusing.{AreFirstClients}
 use Rattle.afs_cell.specs.Seating.{IsFirstClient}
 use Rattle.afs_cell.specs.Steps.{AreLent, IsFirst, LentTell}
-use Rattle.afs_cell.specs.Worlds.{seat_disk, AllTell, IsCell, IsClient, IsHost, IsReadyClient, IsReadySeat, IsSafe, IsWorld, ServerSeat, WorldState}
+use Rattle.afs_cell.specs.Worlds.{none_gone, seat_disk, AllTell, IsCell, IsClient, IsHost, IsReadyClient, IsReadySeat, IsSafe, IsWorld, LetGo, ServerSeat, WorldState}
 use Rattle.afs_cell.specs.declared.clients.ClientSeat.{ClientSeat}
 use Rattle.afs_cell.proofs.FirstSeated.{count_seats}
 use Rattle.afs_cell.proofs.Numbers.{none_some, some_is}
@@ -107,7 +107,7 @@ module _ {D : Type 0} (seen : D → Option (List ℕ)) (may_leave : D → List �
 
   -- the world as set-up makes it
   abbrev first_world : List (ServerSeat D) → List ClientSeat → WorldState D
-  first_world ss cs = record { script = s; servers = ss; clients = cs; wire = []; history = []; clock = 0; is_lost = false }
+  first_world ss cs = record { script = s; servers = ss; clients = cs; wire = []; history = []; gone = none_gone; clock = 0; is_lost = false }
 
   module _ (h : IsCellScript s) (ls : List (Lent D)) (ss : List (ServerSeat D)) (cs : List ClientSeat) (lent : AreLent limit s.capacity 1 ls) (all : length ls ≡ s.servers) (seats : AreFirstSeats seen may_leave faults limit s 1 ls ss []) (clients : AreFirstClients s 1 cs) (count : length cs ≡ s.clients) where
     seats_are : length ss ≡ s.servers
@@ -129,6 +129,7 @@ module _ {D : Type 0} (seen : D → Option (List ℕ)) (may_leave : D → List �
     is_first = record {
       history = refl;
       wire = refl;
+      gone = refl;
       clock = refl;
       going = refl;
       acts = each_client s (λ (n : ℕ) (c : ClientSeat). acts_of n s.tasks ≡ c.plan) cs (λ n c first. sym first.plan) clients;
@@ -156,14 +157,15 @@ module _ {D : Type 0} (seen : D → Option (List ℕ)) (may_leave : D → List �
     }
 
     -- as the program makes it
-    module _ (ts : List (ServerSeat D)) (ds : List ClientSeat) (wire : List Parcel) (history : List kept.Entry) (servers_are : ts ≡ ss) (clients_are : ds ≡ cs) (no_wire : wire ≡ []) (no_history : history ≡ []) where
+    module _ (ts : List (ServerSeat D)) (ds : List ClientSeat) (wire : List Parcel) (history : List kept.Entry) (gone : LetGo) (servers_are : ts ≡ ss) (clients_are : ds ≡ cs) (no_wire : wire ≡ []) (no_history : history ≡ []) (not_gone : gone ≡ none_gone) where
       abbrev made_world : WorldState D
-      made_world = record { script = s; servers = ts; clients = ds; wire = wire; history = history; clock = 0; is_lost = false }
+      made_world = record { script = s; servers = ts; clients = ds; wire = wire; history = history; gone = gone; clock = 0; is_lost = false }
 
       made_is : made_world ≡ first_world ss cs
       made_is =
-          ap₂ (λ (a : List (ServerSeat D)) (b : List ClientSeat). record (first_world a b) { wire = wire; history = history }) servers_are clients_are
-          ∙ ap₂ (λ (a : List Parcel) (b : List kept.Entry). record (first_world ss cs) { wire = a; history = b }) no_wire no_history
+          ap₂ (λ (a : List (ServerSeat D)) (b : List ClientSeat). record (first_world a b) { wire = wire; history = history; gone = gone }) servers_are clients_are
+          ∙ (ap₂ (λ (a : List Parcel) (b : List kept.Entry). record (first_world ss cs) { wire = a; history = b; gone = gone }) no_wire no_history
+          ∙ ap (λ (g : LetGo). record (first_world ss cs) { gone = g }) not_gone)
 
       pub world_made : IsWorld seen may_leave faults limit s made_world
       world_made = subst (λ (w : WorldState D). IsWorld seen may_leave faults limit s w) (sym made_is) is_world_first

@@ -27,3 +27,6 @@ mod FirstStores
 mod FirstSeated
 mod FirstWorlds
 mod GivenBack
+mod Whole
+mod Since
+mod NextSince

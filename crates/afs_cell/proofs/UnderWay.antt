@@ -31,11 +31,11 @@ same_events (Some es) = refl
 none_or : {A : Type 0} (o : Option A) (x : A) → o ≡ Some x → o ≡ None → ⊥
 none_or {A} o x some none = absurd cc
 
-pub takes_some : (wire ps : List Parcel) (old new : Schedule) (o : Option Event) (event : Event) → ps ≡ wire → o ≡ Some event → Takes (length ps) old new o → Takes (length wire) old new (Some event)
-takes_some wire ps old new o event same is takes = subst (λ (q : Option Event). Takes (length wire) old new q) is (subst (λ (qs : List Parcel). Takes (length qs) old new o) same takes)
+pub takes_some : (n m : ℕ) (old new : Schedule) (o : Option Event) (event : Event) → n ≡ m → o ≡ Some event → Takes n old new o → Takes m old new (Some event)
+takes_some n m old new o event same is takes = subst (λ (q : Option Event). Takes m old new q) is (subst (λ (k : ℕ). Takes k old new o) same takes)
 
-pub takes_none : (wire ps : List Parcel) (old new : Schedule) (o : Option Event) → ps ≡ wire → o ≡ None → Takes (length ps) old new o → Takes (length wire) old new None
-takes_none wire ps old new o same is takes = subst (λ (q : Option Event). Takes (length wire) old new q) is (subst (λ (qs : List Parcel). Takes (length qs) old new o) same takes)
+pub takes_none : (n m : ℕ) (old new : Schedule) (o : Option Event) → n ≡ m → o ≡ None → Takes n old new o → Takes m old new None
+takes_none n m old new o same is takes = subst (λ (q : Option Event). Takes m old new q) is (subst (λ (k : ℕ). Takes k old new o) same takes)
 
 pub stays_full : {D : Type 0} (seen : D → Option (List ℕ)) (may_leave : D → List ℕ → Type 0) (limit : D → ℕ) (old new : WorldState D) (fault : WorldFault) → fault ≡ faulty.Limit → Stays seen may_leave limit old new fault → (length old.history ≡ most_entries) × (new ≡ old)
 stays_full {D} seen may_leave limit old new fault is stays = subst (λ (f : WorldFault). Stays seen may_leave limit old new f) is stays

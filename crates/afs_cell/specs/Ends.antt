@@ -1,16 +1,12 @@
--- How a cell is set up, and how its schedule ends.
+-- How a cell is set up.
 use Rattle.std.specs.Prelude.{◌≡◌, ◌≤◌, ◌⊎◌, ◌+◌, ◌↔◌, ℕ, List, [], ◌∷◌, false, Option, Some, IsSome}
 use Rattle.afs_history.specs.declared.scripts.Script.{Script}
 use Rattle.afs_disk.specs.Disk.{LeavesJust, Rose}
 use Rattle.afs_disk.specs.declared.disks.Lent.{Lent}
 use Rattle.afs_grammar.specs.Lines.{volumes_at}
 use Rattle.afs_volstore.specs.Opening.{IsSetUpSoFar}
-use Rattle.afs_cell.specs.Steps.{HasPlayedAll, HasPlayedFirst}
-use Rattle.afs_cell.specs.Worlds.{AllTell, IsWorld, WorldState}
 use Rattle.afs_cell.specs.declared.faults.SetupFault.{SetupFault}
 use Rattle.afs_cell.specs.declared.faults.SetupFault.TheVariants as setup
-use Rattle.afs_cell.specs.declared.playing.Ended.{Ended}
-use Rattle.afs_cell.specs.declared.playing.Ended.TheVariants as ended
 
 -- ---- set-up
 
@@ -42,11 +38,3 @@ abbrev pub AreLeft : {D : Type 0} → (D → Option (List ℕ)) → (D → List 
 AreLeft {D} seen may_leave s i [] [] = Unit {0}
 AreLeft {D} seen may_leave s i (a ∷ olds) (b ∷ news) = IsLeftAt seen may_leave s i a.disk b.disk × AreLeft seen may_leave s (i + 1) olds news
 AreLeft {D} seen may_leave s i olds news = ⊥
-
--- ---- the schedule
-
--- how a script was played, where the disks told at its beginning
-abbrev pub IsEnded : {D : Type 0} → (D → Option (List ℕ)) → (D → List ℕ → Type 0) → (D → ℕ) → (D → ℕ) → Script → Type 0 → Ended (WorldState D) → Type 0
-IsEnded {D} seen may_leave faults limit s told (ended.Done w) = IsWorld seen may_leave faults limit s w × ((w.is_lost ≡ false) × (told → AllTell seen w.servers × HasPlayedAll seen may_leave faults limit s w))
-IsEnded {D} seen may_leave faults limit s told (ended.Limit w) = IsWorld seen may_leave faults limit s w × ((w.is_lost ≡ false) × (told → AllTell seen w.servers × HasPlayedFirst seen may_leave faults limit s w))
-IsEnded {D} seen may_leave faults limit s told (ended.OutOfMemory w) = IsWorld seen may_leave faults limit s w

@@ -11,3 +11,5 @@ pub mod Ends
 pub mod UnderWay
 pub mod FirstSeats
 pub mod Refusing
+pub mod Since
+pub mod UnderWaySince

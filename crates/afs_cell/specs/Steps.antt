@@ -13,7 +13,7 @@ use Rattle.afs_records.specs.Stands.{Stands}
 use Rattle.afs_schedule.specs.Schedules.{events_of, first_turn, left_by, acts_of, AreFirst, AreInputs, Turn}
 use Rattle.afs_cell.specs.Places.{Each}
 use Rattle.afs_text.specs.Telling.{told}
-use Rattle.afs_cell.specs.Worlds.{falls, most_entries, seat_disk, AllTell, Counts, IsCell, IsSafe, Runs, ServerSeat, WorldState}
+use Rattle.afs_cell.specs.Worlds.{falls, most_entries, none_gone, seat_disk, AllTell, Counts, IsCell, IsSafe, Runs, ServerSeat, WorldState}
 use Rattle.afs_cell.specs.declared.clients.ClientSeat.{ClientSeat}
 use Rattle.afs_cell.specs.declared.faults.WorldFault.{WorldFault}
 use Rattle.afs_cell.specs.declared.faults.WorldFault.TheVariants as faults
@@ -32,6 +32,7 @@ LentTell {D} seen lent = Each (λ (i : ℕ) (l : Lent D). IsSome (seen l.disk)) 
 pub record IsFirst {D : Type 0} (seen : D → Option (List ℕ)) (may_leave : D → List ℕ → Type 0) (limit : D → ℕ) (s : Script) (w : WorldState D) : Type 0 where
   pub history : w.history ≡ []
   pub wire : w.wire ≡ []
+  pub gone : w.gone ≡ none_gone
   pub clock : w.clock ≡ 0
   pub going : w.is_lost ≡ false
   pub acts : Each (λ (n : ℕ) (seat : ClientSeat). acts_of n s.tasks ≡ seat.plan) w.clients

@@ -20,14 +20,24 @@ use Rattle.afs_cell.specs.declared.clients.ClientSeat.{ClientSeat}
 abbrev pub ServerSeat : Type 0 → Type 0
 ServerSeat D = Seat (Running D) (Resting D)
 
--- The script; the servers and the clients in order of number; the messages that were sent; the entries of the history; the
--- clock; and whether memory was wanting behind a node's step, so that the cell can't go on.
+-- What was told and let go: so many entries, which sent so many messages; and of the messages so many, as nothing delivers them any more.
+pub record LetGo : Type 0 where
+  pub entries : ℕ
+  pub sent : ℕ
+  pub messages : ℕ
+
+abbrev pub none_gone : LetGo
+none_gone = record { entries = 0; sent = 0; messages = 0 }
+
+-- The script; the servers and the clients in order of number; the messages that were sent and the entries of the history, but for those
+-- that were let go; the clock; and whether memory was wanting behind a node's step, so that the cell can't go on.
 pub record WorldState (D : Type 0) : Type 0 where
   pub script : Script
   pub servers : List (ServerSeat D)
   pub clients : List ClientSeat
   pub wire : List Parcel
   pub history : List kept.Entry
+  pub gone : LetGo
   pub clock : ℕ
   pub is_lost : Bool
 

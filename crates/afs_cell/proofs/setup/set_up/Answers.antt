@@ -1,6 +1,6 @@
-use Rattle.std.proofs.Common.{subst, sym, ◌↔◌, List}
+use Rattle.std.proofs.Common.{ap, subst, sym, ◌↔◌, ℕ, List}
 use Rattle.afs_cell.specs.Steps.{LentTell}
-use Rattle.afs_cell.specs.Worlds.{AllTell, ServerSeat}
+use Rattle.afs_cell.specs.Worlds.{none_gone, AllTell, ServerSeat}
 use Rattle.afs_cell.proofs.FirstSeated.{all_same, are_left, none_fell}
 use Rattle.afs_cell.proofs.FirstWorlds.{first_made, tell_so, world_made}
 use Rattle.afs_cell.proofs.setup.set_up.Goals as goal
@@ -28,12 +28,14 @@ returns-in_default-with_room-clause-left g c =
 pub returns-clause-world : goal.returns-clause-world
 returns-clause-world g c =
     world_made g.D.Disk.seen g.D.Disk.may_leave g.D.Disk.faults g.D.Disk.limit c.args.script.now c.requires.script c.args.disks c.in_ok-seats.field-0.seats.items c.in-Ok.clients.items c.requires.disks c.requires.all c.in_ok-seats.ensures.seats c.in-Ok.ensures.first c.in-Ok.ensures.count c.of.result.items
-    c.of-2.result.items c.new.result.messages c.new-2.result.items c.of.ensures c.of-2.ensures c.new.ensures c.new-2.ensures.items
+    c.of-2.result.items c.new.result.messages c.new-2.result.items (record { entries = 0; sent = 0; messages = c.new.result.gone }) c.of.ensures c.of-2.ensures c.new.ensures.messages c.new-2.ensures.items
+    (ap (λ (n : ℕ). record none_gone { messages = n }) c.new.ensures.gone)
 
 pub returns-clause-first : goal.returns-clause-first
 returns-clause-first g c =
     first_made g.D.Disk.seen g.D.Disk.may_leave g.D.Disk.faults g.D.Disk.limit c.args.script.now c.requires.script c.args.disks c.in_ok-seats.field-0.seats.items c.in-Ok.clients.items c.requires.disks c.requires.all c.in_ok-seats.ensures.seats c.in-Ok.ensures.first c.in-Ok.ensures.count c.of.result.items
-    c.of-2.result.items c.new.result.messages c.new-2.result.items c.of.ensures c.of-2.ensures c.new.ensures c.new-2.ensures.items
+    c.of-2.result.items c.new.result.messages c.new-2.result.items (record { entries = 0; sent = 0; messages = c.new.result.gone }) c.of.ensures c.of-2.ensures c.new.ensures.messages c.new-2.ensures.items
+    (ap (λ (n : ℕ). record none_gone { messages = n }) c.new.ensures.gone)
 
 pub returns-clause-tells : goal.returns-clause-tells
 returns-clause-tells g c =

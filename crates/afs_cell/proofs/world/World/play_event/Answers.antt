@@ -1,13 +1,15 @@
 use Rattle.std.proofs.Common.{arith, sym, ◌∙◌}
 use Rattle.afs_grammar.specs.CellScripts.{counts_of}
 use Rattle.afs_cell.proofs.Clocks.{nothing_clock}
+use Rattle.afs_cell.specs.Since.{whole}
 use Rattle.afs_cell.proofs.Picked.{picked_as}
-use Rattle.afs_cell.proofs.Played.{as_client, as_message, as_nothing, as_server, as_ticks, clock_ticks, some_ticks, ticks_within}
+use Rattle.afs_cell.proofs.Played.{as_client, as_message, as_server, as_ticks, clock_ticks, some_ticks, ticks_within}
+use Rattle.afs_cell.proofs.Since.{as_nothing_since, gone_skipped, kept_place}
 use Rattle.afs_cell.proofs.world.World.play_event.Goals as goal
 
 pub returns-in-Nothing-clause-stepped : goal.returns-in-Nothing-clause-stepped
 returns-in-Nothing-clause-stepped g c =
-    as_nothing g.D.Disk.seen g.D.Disk.may_leave g.D.Disk.faults g.D.Disk.limit c.args.self.now c.skip.new.self c.skip.result c.args.event c.requires.safe c.requires.going c.requires.few c.in-Nothing.ensures.meant c.skip.ensures
+    as_nothing_since g.D.Disk.seen g.D.Disk.may_leave g.D.Disk.faults g.D.Disk.limit c.args.self.now c.skip.new.self c.skip.result c.args.event c.requires.going c.requires.few c.in-Nothing.ensures.meant c.skip.ensures
 
 pub returns-in-Nothing-clause-clock : goal.returns-in-Nothing-clause-clock
 returns-in-Nothing-clause-clock g c = omega (arith, nothing_clock c.args.self.now c.skip.new.self c.skip.result c.skip.ensures)
@@ -17,18 +19,18 @@ ask-requires-clause-inside g c = c.in-Client.ensures.meant.inside (counts_of c.a
 
 pub returns-in-Client-clause-stepped : goal.returns-in-Client-clause-stepped
 returns-in-Client-clause-stepped g c =
-    as_client g.D.Disk.seen g.D.Disk.may_leave g.D.Disk.faults g.D.Disk.limit c.args.self.now c.ask.new.self c.ask.result c.args.event c.in-Client.client c.in-Client.what c.in-Client.ensures.meant c.ask.ensures.stepped
+    λ before is safe. as_client g.D.Disk.seen g.D.Disk.may_leave g.D.Disk.faults g.D.Disk.limit (whole before c.args.self.now) (whole before c.ask.new.self) c.ask.result c.args.event c.in-Client.client c.in-Client.what c.in-Client.ensures.meant (c.ask.ensures.stepped before is safe)
 
 pub serve-requires-clause-due : goal.serve-requires-clause-due
 serve-requires-clause-due g c = c.in-Server.ensures.meant.due (counts_of c.args.self.now.script) c.requires.fits
 
 pub returns-in-Server-clause-stepped : goal.returns-in-Server-clause-stepped
 returns-in-Server-clause-stepped g c =
-    as_server g.D.Disk.seen g.D.Disk.may_leave g.D.Disk.faults g.D.Disk.limit c.args.self.now c.serve.new.self c.serve.result c.args.event c.in-Server.server c.in-Server.what c.in-Server.ensures.meant c.serve.ensures.stepped
+    λ before is safe. as_server g.D.Disk.seen g.D.Disk.may_leave g.D.Disk.faults g.D.Disk.limit (whole before c.args.self.now) (whole before c.serve.new.self) c.serve.result c.args.event c.in-Server.server c.in-Server.what c.in-Server.ensures.meant (c.serve.ensures.stepped before is safe)
 
 pub returns-in-Message-clause-stepped : goal.returns-in-Message-clause-stepped
 returns-in-Message-clause-stepped g c =
-    as_message g.D.Disk.seen g.D.Disk.may_leave g.D.Disk.faults g.D.Disk.limit c.args.self.now c.deliver.new.self c.deliver.result c.args.event c.in-Message.place c.in-Message.ensures.meant c.deliver.ensures.stepped
+    λ before is safe. as_message g.D.Disk.seen g.D.Disk.may_leave g.D.Disk.faults g.D.Disk.limit (whole before c.args.self.now) (whole before c.deliver.new.self) c.deliver.result c.args.event c.in-Message.place c.in-Message.ensures.meant (c.deliver.ensures.stepped before is safe)
 
 pub tick-requires-clause-some : goal.tick-requires-clause-some
 tick-requires-clause-some g c = some_ticks c.args.self.now c.args.event c.in-Ticks.ticks c.in-Ticks.ensures.meant c.requires.fits
@@ -38,7 +40,7 @@ tick-requires-clause-within g c = ticks_within c.args.self.now c.args.event c.in
 
 pub returns-in-Ticks-clause-stepped : goal.returns-in-Ticks-clause-stepped
 returns-in-Ticks-clause-stepped g c =
-    as_ticks g.D.Disk.seen g.D.Disk.may_leave g.D.Disk.faults g.D.Disk.limit c.args.self.now c.tick.new.self c.tick.result c.args.event c.in-Ticks.ticks c.in-Ticks.ensures.meant c.tick.ensures.stepped
+    λ before is safe. as_ticks g.D.Disk.seen g.D.Disk.may_leave g.D.Disk.faults g.D.Disk.limit (whole before c.args.self.now) (whole before c.tick.new.self) c.tick.result c.args.event c.in-Ticks.ticks c.in-Ticks.ensures.meant (c.tick.ensures.stepped before is safe)
 
 pub returns-in-Ticks-clause-clock : goal.returns-in-Ticks-clause-clock
 returns-in-Ticks-clause-clock g c = clock_ticks c.args.self.now c.tick.new.self c.args.event c.in-Ticks.ticks c.in-Ticks.ensures.meant c.tick.ensures.clock
@@ -58,3 +60,9 @@ returns-in-Ticks-clause-picked g c = λ i pick e. absurd (cc (c.in-Ticks.is, c.m
 pub returns-in-Server-clause-picked : goal.returns-in-Server-clause-picked
 returns-in-Server-clause-picked g c = λ i pick e.
     picked_as g.D.Disk.seen g.D.Disk.left_by i pick c.in-Server.server c.in-Server.what c.args.self.now.servers c.serve.new.self.servers c.serve.result (sym c.in-Server.is ∙ c.meaning_of.ensures.picked i pick e) c.serve.ensures.picked
+
+pub deliver-requires-clause-kept : goal.deliver-requires-clause-kept
+deliver-requires-clause-kept g c = kept_place c.args.self.now c.args.event c.in-Message.place c.in-Message.ensures.meant c.requires.kept
+
+pub returns-in-Nothing-clause-gone : goal.returns-in-Nothing-clause-gone
+returns-in-Nothing-clause-gone g c = gone_skipped c.args.self.now c.skip.new.self c.skip.result c.skip.ensures

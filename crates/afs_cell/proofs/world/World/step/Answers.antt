@@ -1,9 +1,13 @@
 use Rattle.std.proofs.Common.{ap, sym, ◌∙◌}
+use Rattle.afs_cell.specs.Since.{whole}
 use Rattle.afs_cell.specs.Worlds.{WorldState}
 use Rattle.afs_cell.proofs.Going.{is_world}
 use Rattle.afs_cell.proofs.world.World.step.Goals as goal
 
 pub returns-clause-world : goal.returns-clause-world
-returns-clause-world g c =
-    is_world g.D.Disk.seen g.D.Disk.may_leave g.D.Disk.faults g.D.Disk.limit c.args.self.now.script _ c.args.self.now c.play_event.new.self c.play_event.result
-    (sym (ap (λ (w : WorldState g.row.D.Denot). w.is_lost) c.self.view_is) ∙ c.if-self.false) c.requires.world c.play_event.ensures.stepped
+returns-clause-world g c = λ before is world.
+    is_world g.D.Disk.seen g.D.Disk.may_leave g.D.Disk.faults g.D.Disk.limit c.args.self.now.script _ (whole before c.args.self.now) (whole before c.play_event.new.self) c.play_event.result
+    (sym (ap (λ (w : WorldState g.row.D.Denot). w.is_lost) c.self.view_is) ∙ c.if-self.false) world (c.play_event.ensures.stepped before is world.safe)
+
+pub returns-clause-steps : goal.returns-clause-steps
+returns-clause-steps g c = λ before is world. (c.play_event.ensures.stepped before is world.safe).steps

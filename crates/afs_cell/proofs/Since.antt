@@ -1,0 +1,134 @@
+-- What the parts of a world's step are, whatever was let go before.
+use Rattle.std.proofs.Common.{ap, sym, subst, ◌∙◌, ◌≡◌, ◌≤◌, ◌<◌, ◌+◌, ◌-◌, ℕ, List, [], ◌∷◌, length, true, false, Option, Some, None, Result, Ok, Err}
+use Rattle.afs_num.specs.Places.{at_place}
+use Rattle.afs_num.specs.declared.histories.Actor.{Actor}
+use Rattle.afs_num.specs.declared.histories.Actor.TheVariants as actors
+use Rattle.afs_num.specs.declared.types.Node.{Node}
+use Rattle.afs_num.specs.declared.types.Node.TheVariants.{Admin, Client, Loc, Server}
+use Rattle.afs_num.specs.declared.types.Parcel.{Parcel}
+use Rattle.afs_history.specs.declared.lines.Line.{Line}
+use Rattle.afs_history.specs.declared.lines.Line.TheVariants as lines
+use Rattle.afs_history.specs.declared.scripts.Event.{Event}
+use Rattle.afs_history.specs.declared.scripts.Event.TheVariants as events
+use Rattle.afs_schedule.specs.Schedules.{IsInput, Turn}
+use Rattle.afs_cell.specs.Happening.{ClientHears, ClientsHappened, ClientTakes, HasHeard, HasStep, IsAsked, IsFallen, IsGiven, IsVoidClient, IsVoidServer, NothingSettles, ServersHappened, Settles}
+use Rattle.afs_cell.specs.Noting.{Notes}
+use Rattle.afs_cell.specs.Ready.{AllCanStep, AllReady}
+use Rattle.afs_cell.specs.Meaning.{IsMeant}
+use Rattle.afs_cell.specs.Since.{whole, DeliversKept, IsBefore, IsSafeSince, SteppedSince}
+use Rattle.afs_cell.specs.Worlds.{most_entries, most_ticks, HistoryTold, LetGo, ServerSeat, WorldState}
+use Rattle.afs_cell.specs.declared.clients.ClientSeat.{ClientSeat}
+use Rattle.afs_cell.specs.declared.events.Given.TheVariants as given
+use Rattle.afs_cell.specs.declared.faults.WorldFault.{WorldFault}
+use Rattle.afs_cell.specs.declared.happening.ClientInput.{ClientInput}
+use Rattle.afs_cell.specs.declared.happening.Happened.{Happened}
+use Rattle.afs_cell.specs.declared.happening.Happened.TheVariants as happened
+use Rattle.afs_cell.specs.declared.happening.ServerInput.{ServerInput}
+use Rattle.afs_cell.proofs.Parts.{admin_heard, asked, can_all, inside_clients, loc_heard, message_heard, message_served, nobody_heard, ready_all, served}
+use Rattle.afs_cell.proofs.Played.{as_nothing}
+use Rattle.afs_cell.proofs.Ticked.{not_ticked, ticked}
+use Rattle.afs_cell.proofs.Whole.{at_behind, few_whole, nothing_whole, notes_whole, settles_whole}
+
+-- ---- what was let go stays so
+
+pub gone_noted : {D : Type 0} (actor : Actor) (line : Line) (w new : WorldState D) (result : Result (Unit {0}) WorldFault) → Notes actor line w new result → new.gone ≡ w.gone
+gone_noted {D} actor line w new (Ok done) is = ap (λ (v : WorldState D). v.gone) is
+gone_noted {D} actor line w new (Err e) wants = ap (λ (v : WorldState D). v.gone) wants.1
+
+pub gone_skipped : {D : Type 0} (w new : WorldState D) (result : Result (Unit {0}) WorldFault) → NothingSettles w new result → new.gone ≡ w.gone
+gone_skipped {D} w new (Ok done) is = ap (λ (v : WorldState D). v.gone) is
+gone_skipped {D} w new (Err e) wants = ap (λ (v : WorldState D). v.gone) wants.1
+
+pub gone_settled : {D : Type 0} (node : Node) (front : Option Line) (what : Happened) (w new : WorldState D) (result : Result (Unit {0}) WorldFault) → Settles node front what w new result → new.gone ≡ w.gone
+gone_settled {D} node front happened.Nothing w new (Ok done) is = ap (λ (v : WorldState D). v.gone) is
+gone_settled {D} node front happened.Nothing w new (Err e) wants = ap (λ (v : WorldState D). v.gone) wants.1
+gone_settled {D} node front (happened.Step outs) w new (Ok done) is = ap (λ (v : WorldState D). v.gone) is
+gone_settled {D} node front (happened.Step outs) w new (Err e) wants = ap (λ (v : WorldState D). v.gone) wants.1
+gone_settled {D} node front happened.Unchanged w new (Ok done) never = absurd never
+gone_settled {D} node front happened.Unchanged w new (Err e) wants = ap (λ (v : WorldState D). v.gone) wants.1
+gone_settled {D} node front happened.Lost w new (Ok done) never = absurd never
+gone_settled {D} node front happened.Lost w new (Err e) wants = ap (λ (v : WorldState D). v.gone) wants.1
+
+-- ---- these parts are those of the world
+
+module _ {D : Type 0} (limit : D → ℕ) (parts w : WorldState D) (same : parts ≡ w) (safe : IsSafeSince limit w) where
+  pub inside_since : (n : ℕ) → (1 ≤ n) × (n ≤ w.script.clients) → at_place parts.clients n ≡ None → ⊥
+  inside_since = inside_clients limit (whole safe.before parts) (whole safe.before w) (ap (whole safe.before) same) safe.safe
+
+  pub can_since : w.is_lost ≡ false → w.gone.entries + length w.history < most_entries → AllCanStep limit parts.servers
+  can_since going few = can_all limit (whole safe.before parts) (whole safe.before w) (ap (whole safe.before) same) safe.safe going (few_whole safe.before w safe.is few)
+
+  pub ready_since : w.is_lost ≡ false → w.gone.entries + length w.history < most_entries → AllReady parts.script parts.clients
+  ready_since going few = ready_all limit (whole safe.before parts) (whole safe.before w) (ap (whole safe.before) same) safe.safe going (few_whole safe.before w safe.is few)
+
+-- the message at a place of the whole world is the one that is kept
+found_whole : {D : Type 0} (b : HistoryTold) (parts w : WorldState D) (same : parts ≡ w) (place : ℕ) (o : Option Parcel) → IsBefore b w → w.gone.messages < place → o ≡ at_place parts.wire (place - parts.gone.messages) → at_place (b.wire ++ parts.wire) place ≡ o
+found_whole {D} b parts w same place o before kept found =
+    let gone : length b.wire ≡ parts.gone.messages = before.messages ∙ ap (λ (v : WorldState D). v.gone.messages) (sym same) in
+    let kept_here : length b.wire < place = subst (λ (n : ℕ). n < place) (sym before.messages) kept in
+    at_behind b.wire parts.wire place kept_here ∙ (ap (λ (n : ℕ). at_place parts.wire (place - n)) gone ∙ sym found)
+
+module _ {D : Type 0} (seen : D → Option (List ℕ)) (may_leave : D → List ℕ → Type 0) (faults limit : D → ℕ) (parts w : WorldState D) (same : parts ≡ w) (going : w.is_lost ≡ false) (few : w.gone.entries + length w.history < most_entries)
+    (new : WorldState D) (result : Result (Unit {0}) WorldFault) where
+  pub served_since : (i : ℕ) (input : ServerInput) (servers : List (ServerSeat D)) (what : Happened)
+      → ServersHappened seen may_leave faults limit i [] (IsVoidServer input) (HasStep (Server i) parts.clock parts.script.clients input) parts.servers servers what → Settles (Server i) None what (record parts { servers = servers }) new result
+      → SteppedSince seen may_leave faults limit (λ (t : Turn). IsGiven i input) w new result
+  served_since i input servers what happened settled b before safe =
+      served seen may_leave faults limit (whole b parts) (whole b w) (ap (whole b) same) safe going (few_whole b w before few) (whole b new) result i input servers what happened
+      (settles_whole b (Server i) None what (record parts { servers = servers }) new result settled)
+
+  pub asked_since : (n : ℕ) (input : ClientInput) (clients : List ClientSeat) (what : Happened) → (at_place parts.clients n ≡ None → ⊥)
+      → ClientsHappened parts.script n (IsVoidClient input) (ClientTakes n parts.clock input) parts.clients clients what → Settles (Client n) None what (record parts { clients = clients }) new result
+      → SteppedSince seen may_leave faults limit (IsAsked input n) w new result
+  asked_since n input clients what inside happened settled b before safe =
+      asked seen may_leave faults limit (whole b parts) (whole b w) (ap (whole b) same) safe going (few_whole b w before few) (whole b new) result n input clients what inside happened
+      (settles_whole b (Client n) None what (record parts { clients = clients }) new result settled)
+
+  pub message_served_since : (place : ℕ) (p : Parcel) (i : ℕ) (bytes : List ℕ) (servers : List (ServerSeat D)) (what : Happened) → w.gone.messages < place → Some p ≡ at_place parts.wire (place - parts.gone.messages) → p.head.to ≡ Server i → bytes ≡ p.bytes
+      → ServersHappened seen may_leave faults limit i (lines.Given place ∷ []) IsFallen (HasHeard (Server i) parts.clock place bytes) parts.servers servers what
+      → Settles (Server i) (Some (lines.Given place)) what (record parts { servers = servers }) new result
+      → SteppedSince seen may_leave faults limit (λ (t : Turn). IsInput t (events.Deliver place)) w new result
+  message_served_since place p i bytes servers what kept found to spelled happened settled b before safe =
+      message_served seen may_leave faults limit (whole b parts) (whole b w) (ap (whole b) same) safe going (few_whole b w before few) (whole b new) result place p i bytes servers what
+      (found_whole b parts w same place (Some p) before kept found) to spelled happened (settles_whole b (Server i) (Some (lines.Given place)) what (record parts { servers = servers }) new result settled)
+
+  pub message_heard_since : (place : ℕ) (p : Parcel) (n : ℕ) (bytes : List ℕ) (clients : List ClientSeat) (what : Happened) → w.gone.messages < place → Some p ≡ at_place parts.wire (place - parts.gone.messages) → p.head.to ≡ Client n → bytes ≡ p.bytes
+      → ClientsHappened parts.script n (λ (seat : ClientSeat). seat.is_away ≡ true) (ClientHears n parts.clock place bytes) parts.clients clients what
+      → Settles (Client n) (Some (lines.Given place)) what (record parts { clients = clients }) new result
+      → SteppedSince seen may_leave faults limit (λ (t : Turn). IsInput t (events.Deliver place)) w new result
+  message_heard_since place p n bytes clients what kept found to spelled happened settled b before safe =
+      message_heard seen may_leave faults limit (whole b parts) (whole b w) (ap (whole b) same) safe going (few_whole b w before few) (whole b new) result place p n bytes clients what
+      (found_whole b parts w same place (Some p) before kept found) to spelled happened (settles_whole b (Client n) (Some (lines.Given place)) what (record parts { clients = clients }) new result settled)
+
+  pub nobody_since : (place : ℕ) → w.gone.messages < place → None ≡ at_place parts.wire (place - parts.gone.messages) → NothingSettles w new result → SteppedSince seen may_leave faults limit (λ (t : Turn). IsInput t (events.Deliver place)) w new result
+  nobody_since place kept none settled b before safe =
+      nobody_heard seen may_leave faults limit (whole b parts) (whole b w) (ap (whole b) same) safe going (few_whole b w before few) (whole b new) result place (found_whole b parts w same place None before kept none) (nothing_whole b w new result settled)
+
+  pub loc_since : (place : ℕ) (p : Parcel) → w.gone.messages < place → Some p ≡ at_place parts.wire (place - parts.gone.messages) → p.head.to ≡ Loc → NothingSettles w new result → SteppedSince seen may_leave faults limit (λ (t : Turn). IsInput t (events.Deliver place)) w new result
+  loc_since place p kept found to settled b before safe =
+      loc_heard seen may_leave faults limit (whole b parts) (whole b w) (ap (whole b) same) safe going (few_whole b w before few) (whole b new) result place p (found_whole b parts w same place (Some p) before kept found) to (nothing_whole b w new result settled)
+
+  pub admin_since : (place : ℕ) (p : Parcel) (k : ℕ) → w.gone.messages < place → Some p ≡ at_place parts.wire (place - parts.gone.messages) → p.head.to ≡ Admin k → NothingSettles w new result → SteppedSince seen may_leave faults limit (λ (t : Turn). IsInput t (events.Deliver place)) w new result
+  admin_since place p k kept found to settled b before safe =
+      admin_heard seen may_leave faults limit (whole b parts) (whole b w) (ap (whole b) same) safe going (few_whole b w before few) (whole b new) result place p k (found_whole b parts w same place (Some p) before kept found) to (nothing_whole b w new result settled)
+
+-- ---- the clock rises
+
+module _ {D : Type 0} (seen : D → Option (List ℕ)) (may_leave : D → List ℕ → Type 0) (faults limit : D → ℕ) (n : ℕ) (w : WorldState D) where
+  pub ticked_since : (noted : WorldState D) → Notes actors.Clock (lines.Tick n) w noted (Ok tt) → (new : WorldState D) → new ≡ record noted { clock = noted.clock + n } → 1 ≤ n → w.is_lost ≡ false → w.gone.entries + length w.history < most_entries → w.clock + n ≤ most_ticks
+      → SteppedSince seen may_leave faults limit (λ (t : Turn). IsInput t (events.Tick n)) w new (Ok tt)
+  ticked_since noted notes new is some going few within b before safe =
+      ticked seen may_leave faults limit n (whole b w) safe (whole b noted) (notes_whole b actors.Clock (lines.Tick n) w noted (Ok tt) notes) (whole b new) (ap (whole b) is) some going (few_whole b w before few) within
+
+  pub not_ticked_since : (new : WorldState D) (e : WorldFault) → Notes actors.Clock (lines.Tick n) w new (Err e) → SteppedSince seen may_leave faults limit (λ (t : Turn). IsInput t (events.Tick n)) w new (Err e)
+  not_ticked_since new e notes b before safe = not_ticked seen may_leave faults limit n (whole b w) safe (whole b new) e (notes_whole b actors.Clock (lines.Tick n) w new (Err e) notes)
+
+-- ---- one event
+
+pub as_nothing_since : {D : Type 0} (seen : D → Option (List ℕ)) (may_leave : D → List ℕ → Type 0) (faults limit : D → ℕ) (w new : WorldState D) (result : Result (Unit {0}) WorldFault) (event : Event) → w.is_lost ≡ false → w.gone.entries + length w.history < most_entries → IsMeant event given.Nothing → NothingSettles w new result
+    → SteppedSince seen may_leave faults limit (λ (t : Turn). IsInput t event) w new result
+as_nothing_since {D} seen may_leave faults limit w new result event going few meant settled b before safe =
+    as_nothing seen may_leave faults limit (whole b w) (whole b new) result event safe going (few_whole b w before few) meant (nothing_whole b w new result settled)
+
+pub kept_place : {D : Type 0} (w : WorldState D) (event : Event) (place : ℕ) → IsMeant event (given.Message place) → DeliversKept w event → w.gone.messages < place
+kept_place {D} w event place meant kept = subst (λ (e : Event). DeliversKept w e) meant kept
