@@ -1,5 +1,5 @@
 -- The message of a place stands one before that place in the list.
-use Rattle.std.proofs.Common.{◌≡◌, ℕ, zero, suc, ◌-◌, List, [], ◌∷◌, Option, None, Bool, true, false, refl, sym, ◌∙◌, ap, arith}
+use Rattle.std.proofs.Common.{◌≡◌, ℕ, zero, suc, ◌-◌, List, [], ◌∷◌, Option, refl, ◌∙◌, ap, arith}
 use Rattle.std.specs.Prelude.{slice_get}
 use Rattle.afs_num.specs.Places.{at_place}
 
@@ -7,10 +7,6 @@ get_at : {A : Type 0} (xs : List A) (k : ℕ) → slice_get xs k ≡ at_place xs
 get_at [] k = refl
 get_at (x ∷ xs) zero = refl
 get_at (x ∷ xs) (suc k) = get_at xs k
-
-pub none_at_zero : {A : Type 0} (xs : List A) → at_place xs zero ≡ None
-none_at_zero [] = refl
-none_at_zero (x ∷ xs) = refl
 
 pub get_before : {A : Type 0} (xs : List A) (place : ℕ) → (place ≡ 0 → ⊥) → slice_get xs (place - 1) ≡ at_place xs place
 get_before xs zero some = absurd (some refl)
