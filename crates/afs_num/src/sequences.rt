@@ -99,8 +99,5 @@ impl Sequence<u8> {
 /// Bytes.
 pub type Octets = Sequence<u8>;
 
-/// A path: the names on its way, each as its bytes.
-pub type Path = Sequence<Octets>;
-
 /// The records of a journal, each as its bytes.
 pub type Records = Sequence<Octets>;
