@@ -83,9 +83,9 @@ impl Sequence<u8> {
     pub fn from_slice(alloc: Global, bytes: &[u8]) -> Result<Self, AllocError>
         ensures { IfOk result (λ s. s ≡ bytes.now) }
     {
-        let mut items = Vec::new(alloc);
-        items.extend_from_slice(bytes)?;
-        Ok(Sequence { items })
+        Ok(Sequence {
+            items: Vec::from_slice(alloc, bytes)?,
+        })
     }
 
     /// A copy.
