@@ -1,2 +1,3 @@
 mod Lowest
 mod Taken
+mod Drained

@@ -34,6 +34,7 @@ impl Named {
     /// A deliver names this place.
     fn name(&mut self, place: u64) -> Mem<()>
         ensures ok { (named : List ℕ) → IsNamed self.old named → OnOk result (IsNamed self.new (place ∷ named)) }
+        ensures grows { self.old.first ≤ self.new.first }
         ensures err { OnErr result (self.new ≡ self.old) }
     {
         if place <= self.first {
@@ -47,6 +48,7 @@ impl Named {
     /// An event comes; if it is a deliver, it names its place.
     fn comes(&mut self, event: Event) -> Mem<()>
         ensures ok { (named : List ℕ) → IsNamed self.old named → OnOk result (IsNamed self.new (named_by event named)) }
+        ensures grows { self.old.first ≤ self.new.first }
         ensures err { OnErr result (self.new ≡ self.old) }
     {
         match event {
@@ -59,6 +61,7 @@ impl Named {
     fn close_gap(&mut self)
         ensures closed { IsClosed self.new }
         ensures same { (place : ℕ) → 1 ≤ place → has self.new place ≡ has self.old place }
+        ensures grows { self.old.first ≤ self.new.first }
     {
         while self.first < u64::MAX && self.above.remove(&(self.first + 1)) {
             self.first += 1;
@@ -67,7 +70,8 @@ impl Named {
 
     /// The lowest place that none named, of so many to which something was sent.
     fn waiting(&self, sent: u64) -> Option<u64>
-        ensures { (named : List ℕ) → IsNamed self.now named → result ≡ lowest sent 1 named }
+        ensures lowest { (named : List ℕ) → IsNamed self.now named → result ≡ lowest sent 1 named }
+        ensures above { IfSome result (λ place. self.now.first < place) }
     {
         if self.first < sent {
             Some(self.first + 1)
