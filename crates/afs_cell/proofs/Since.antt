@@ -1,5 +1,6 @@
 -- What the parts of a world's step are, whatever was let go before.
-use Rattle.std.proofs.Common.{ap, sym, subst, ◌∙◌, ◌≡◌, ◌≤◌, ◌<◌, ◌+◌, ◌-◌, ℕ, List, [], ◌∷◌, length, true, false, Option, Some, None, Result, Ok, Err}
+use Rattle.std.proofs.Common.{ap, refl, sym, subst, ◌∙◌, ◌≡◌, ◌≤◌, ◌<◌, ◌+◌, ◌-◌, ℕ, List, [], ◌∷◌, ◌++◌, length, true, false, Option, Some, None, Result, Ok, Err}
+use Rattle.std.proofs.lemmas.List.{append-nil}
 use Rattle.afs_num.specs.Places.{at_place}
 use Rattle.afs_num.specs.declared.histories.Actor.{Actor}
 use Rattle.afs_num.specs.declared.histories.Actor.TheVariants as actors
@@ -15,7 +16,7 @@ use Rattle.afs_cell.specs.Happening.{ClientHears, ClientsHappened, ClientTakes, 
 use Rattle.afs_cell.specs.Noting.{Notes}
 use Rattle.afs_cell.specs.Ready.{AllCanStep, AllReady}
 use Rattle.afs_cell.specs.Meaning.{IsMeant}
-use Rattle.afs_cell.specs.Since.{whole, DeliversKept, IsBefore, IsSafeSince, SteppedSince}
+use Rattle.afs_cell.specs.Since.{whole, DeliversKept, IsBefore, IsSafeSince, Keeps, SteppedSince}
 use Rattle.afs_cell.specs.Worlds.{most_entries, most_ticks, HistoryTold, LetGo, ServerSeat, WorldState}
 use Rattle.afs_cell.specs.declared.clients.ClientSeat.{ClientSeat}
 use Rattle.afs_cell.specs.declared.events.Given.TheVariants as given
@@ -29,25 +30,47 @@ use Rattle.afs_cell.proofs.Played.{as_nothing}
 use Rattle.afs_cell.proofs.Ticked.{not_ticked, ticked}
 use Rattle.afs_cell.proofs.Whole.{at_behind, few_whole, nothing_whole, notes_whole, settles_whole}
 
--- ---- what was let go stays so
+-- ---- nothing is let go
 
-pub gone_noted : {D : Type 0} (actor : Actor) (line : Line) (w new : WorldState D) (result : Result (Unit {0}) WorldFault) → Notes actor line w new result → new.gone ≡ w.gone
-gone_noted {D} actor line w new (Ok done) is = ap (λ (v : WorldState D). v.gone) is
-gone_noted {D} actor line w new (Err e) wants = ap (λ (v : WorldState D). v.gone) wants.1
+keeps_same : {D : Type 0} (w new : WorldState D) → new.script ≡ w.script → new.gone ≡ w.gone → new.wire ≡ w.wire → Keeps w new
+keeps_same {D} w new script gone wire = record { script = script; gone = gone; sent = []; wire = wire ∙ sym (append-nil w.wire) }
 
-pub gone_skipped : {D : Type 0} (w new : WorldState D) (result : Result (Unit {0}) WorldFault) → NothingSettles w new result → new.gone ≡ w.gone
-gone_skipped {D} w new (Ok done) is = ap (λ (v : WorldState D). v.gone) is
-gone_skipped {D} w new (Err e) wants = ap (λ (v : WorldState D). v.gone) wants.1
+-- by what it was, and what it is
+keeps_is : {D : Type 0} (w now new : WorldState D) → new ≡ now → Keeps w now → Keeps w new
+keeps_is {D} w now new is keeps = subst (λ (v : WorldState D). Keeps w v) (sym is) keeps
 
-pub gone_settled : {D : Type 0} (node : Node) (front : Option Line) (what : Happened) (w new : WorldState D) (result : Result (Unit {0}) WorldFault) → Settles node front what w new result → new.gone ≡ w.gone
-gone_settled {D} node front happened.Nothing w new (Ok done) is = ap (λ (v : WorldState D). v.gone) is
-gone_settled {D} node front happened.Nothing w new (Err e) wants = ap (λ (v : WorldState D). v.gone) wants.1
-gone_settled {D} node front (happened.Step outs) w new (Ok done) is = ap (λ (v : WorldState D). v.gone) is
-gone_settled {D} node front (happened.Step outs) w new (Err e) wants = ap (λ (v : WorldState D). v.gone) wants.1
-gone_settled {D} node front happened.Unchanged w new (Ok done) never = absurd never
-gone_settled {D} node front happened.Unchanged w new (Err e) wants = ap (λ (v : WorldState D). v.gone) wants.1
-gone_settled {D} node front happened.Lost w new (Ok done) never = absurd never
-gone_settled {D} node front happened.Lost w new (Err e) wants = ap (λ (v : WorldState D). v.gone) wants.1
+pub keeps_as : {D : Type 0} (parts w new : WorldState D) → parts ≡ w → Keeps parts new → Keeps w new
+keeps_as {D} parts w new same keeps = subst (λ (v : WorldState D). Keeps v new) same keeps
+
+pub keeps_itself : {D : Type 0} (w : WorldState D) → Keeps w w
+keeps_itself {D} w = keeps_same w w refl refl refl
+
+pub keeps_noted : {D : Type 0} (actor : Actor) (line : Line) (w new : WorldState D) (result : Result (Unit {0}) WorldFault) → Notes actor line w new result → Keeps w new
+keeps_noted {D} actor line w new (Ok done) is = keeps_is w _ new is (keeps_same w _ refl refl refl)
+keeps_noted {D} actor line w new (Err e) wants = keeps_is w _ new wants.1 (keeps_itself w)
+
+pub keeps_ticked : {D : Type 0} (n : ℕ) (w noted new : WorldState D) → Keeps w noted → new ≡ record noted { clock = noted.clock + n } → Keeps w new
+keeps_ticked {D} n w noted new keeps is = keeps_is w _ new is (record { script = keeps.script; gone = keeps.gone; sent = keeps.sent; wire = keeps.wire })
+
+pub keeps_skipped : {D : Type 0} (w new : WorldState D) (result : Result (Unit {0}) WorldFault) → NothingSettles w new result → Keeps w new
+keeps_skipped {D} w new (Ok done) is = keeps_is w _ new is (keeps_same w _ refl refl refl)
+keeps_skipped {D} w new (Err e) wants = keeps_is w _ new wants.1 (keeps_itself w)
+
+pub keeps_settled : {D : Type 0} (node : Node) (front : Option Line) (what : Happened) (w new : WorldState D) (result : Result (Unit {0}) WorldFault) → Settles node front what w new result → Keeps w new
+keeps_settled {D} node front happened.Nothing w new (Ok done) is = keeps_is w _ new is (keeps_same w _ refl refl refl)
+keeps_settled {D} node front happened.Nothing w new (Err e) wants = keeps_is w _ new wants.1 (keeps_itself w)
+keeps_settled {D} node front (happened.Step outs) w new (Ok done) is = keeps_is w _ new is (record { script = refl; gone = refl; sent = outs.parcels; wire = refl })
+keeps_settled {D} node front (happened.Step outs) w new (Err e) wants = keeps_is w _ new wants.1 (keeps_same w _ refl refl refl)
+keeps_settled {D} node front happened.Unchanged w new (Ok done) never = absurd never
+keeps_settled {D} node front happened.Unchanged w new (Err e) wants = keeps_is w _ new wants.1 (keeps_itself w)
+keeps_settled {D} node front happened.Lost w new (Ok done) never = absurd never
+keeps_settled {D} node front happened.Lost w new (Err e) wants = keeps_is w _ new wants.1 (keeps_same w _ refl refl refl)
+
+-- what is settled of a world whose nodes alone have changed
+pub keeps_parts : {D : Type 0} (node : Node) (front : Option Line) (what : Happened) (w now : WorldState D) → now.script ≡ w.script → now.gone ≡ w.gone → now.wire ≡ w.wire → (new : WorldState D) (result : Result (Unit {0}) WorldFault) → Settles node front what now new result → Keeps w new
+keeps_parts {D} node front what w now script gone wire new result settled =
+    let keeps = keeps_settled node front what now new result settled in
+    record { script = keeps.script ∙ script; gone = keeps.gone ∙ gone; sent = keeps.sent; wire = keeps.wire ∙ ap (λ (ps : List Parcel). ps ++ keeps.sent) wire }
 
 -- ---- these parts are those of the world
 

@@ -74,6 +74,7 @@ before_more {D} limit b settled old new before safe go =
       entries = omega (arith, length-append b.history old.history, before.entries);
       sent = omega (arith, safe.sent, length-append b.wire old.wire, before.messages);
       messages = omega (arith, length-append b.wire (take go.count old.wire), length-take-le go.count old.wire go.within, before.messages);
+      told = omega (arith, go.within);
     })
 
 pub whole_more : {D : Type 0} (b : HistoryTold) (settled : ℕ) (old new : WorldState D) → (go : LetsGo settled old new) → whole (with_more b old go.count) new ≡ whole b old

@@ -1,5 +1,6 @@
 -- A world of which the first entries, and the first messages, were let go: what is so of it together with these.
 use Rattle.std.specs.Prelude.{◌≡◌, ◌≤◌, ◌<◌, ◌⊎◌, ◌+◌, ℕ, List, [], ◌++◌, drop, length, false, Option, Result}
+use Rattle.afs_num.specs.declared.types.Parcel.{Parcel}
 use Rattle.afs_history.specs.declared.scripts.Event.{Event}
 use Rattle.afs_history.specs.declared.scripts.Event.TheVariants as events
 use Rattle.afs_disk.specs.declared.disks.Lent.{Lent}
@@ -14,11 +15,12 @@ use Rattle.afs_cell.specs.declared.faults.WorldFault.{WorldFault}
 abbrev pub whole : {D : Type 0} → HistoryTold → WorldState D → WorldState D
 whole {D} before w = record w { wire = before.wire ++ w.wire; history = before.history ++ w.history; gone = none_gone }
 
--- so many entries and messages were let go
+-- So many entries and messages were let go, and no message but of such an entry.
 pub record IsBefore {D : Type 0} (before : HistoryTold) (w : WorldState D) : Type 0 where
   pub entries : length before.history ≡ w.gone.entries
   pub sent : sent_by before.history ≡ w.gone.sent
   pub messages : length before.wire ≡ w.gone.messages
+  pub told : w.gone.messages ≤ w.gone.sent
 
 pub record IsSafeSince {D : Type 0} (limit : D → ℕ) (w : WorldState D) : Type 0 where
   pub before : HistoryTold
@@ -34,6 +36,13 @@ pub record IsWorldSince {D : Type 0} (seen : D → Option (List ℕ)) (may_leave
 abbrev pub DeliversKept : {D : Type 0} → WorldState D → Event → Type 0
 DeliversKept {D} w (events.Deliver place) = w.gone.messages < place
 DeliversKept {D} w event = Unit {0}
+
+-- Nothing is let go, and messages are sent behind the others.
+pub record Keeps {D : Type 0} (old new : WorldState D) : Type 0 where
+  pub script : new.script ≡ old.script
+  pub gone : new.gone ≡ old.gone
+  pub sent : List Parcel
+  pub wire : new.wire ≡ old.wire ++ sent
 
 -- ---- a step, whatever was let go before
 

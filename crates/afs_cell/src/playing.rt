@@ -4,6 +4,7 @@ ghost use Rattle.std.specs.Prelude.{◌≡◌, ◌≤◌, []};
 ghost use Rattle.afs_schedule.specs.Schedules.{events_of};
 ghost use Rattle.afs_schedule.specs.Settled.{settled};
 ghost use Rattle.afs_schedule.specs.Taking.{IsLeft};
+ghost use Rattle.afs_cell.specs.Since.{Keeps};
 ghost use Rattle.afs_cell.specs.UnderWaySince.{GoesSoSince, IsUnderWaySince};
 ghost use Rattle.afs_cell.specs.Worlds.{AllTell};
 
@@ -45,7 +46,7 @@ impl<'a, D: Disk> World<'a, D> {
         requires way { IsUnderWaySince D.seen D.may_leave D.faults D.limit self.old schedule.old }
         requires settled { self.old.gone.messages ≤ settled schedule.old }
         ensures goes { GoesSoSince D.seen D.may_leave D.faults D.limit self.old self.new schedule.old schedule.new result }
-        ensures gone { self.new.gone ≡ self.old.gone }
+        ensures keeps { Keeps self.old self.new }
         ensures settled { settled schedule.old ≤ settled schedule.new }
         ensures tells { AllTell D.seen self.old.servers → AllTell D.seen self.new.servers }
     {

@@ -11,7 +11,7 @@ ghost use Rattle.afs_schedule.specs.Schedules.{IsInput};
 ghost use Rattle.afs_cell.specs.Happening.{IsAsked, IsDue, IsGiven, NothingSettles, Settles};
 ghost use Rattle.afs_cell.specs.Noting.{given_line, Notes};
 ghost use Rattle.afs_cell.specs.Picks.{IsPicked};
-ghost use Rattle.afs_cell.specs.Since.{DeliversKept, GoesOnSince, IsSafeSince, IsWorldSince, LetsGo, SteppedSince, StepsSince};
+ghost use Rattle.afs_cell.specs.Since.{DeliversKept, GoesOnSince, IsSafeSince, IsWorldSince, Keeps, LetsGo, SteppedSince, StepsSince};
 ghost use Rattle.afs_cell.specs.Worlds.{most_entries, most_ticks, AllTell, Counts};
 ghost use Rattle.afs_cell.specs.declared.faults.WorldFault.TheVariants as faults;
 ghost use Rattle.afs_cell.specs.declared.happening.Happened.TheVariants as happened;
@@ -160,7 +160,7 @@ impl<'a, D: Disk> World<'a, D> {
         requires few { self.old.gone.entries + length self.old.history < most_entries }
         requires due { IsDue given }
         ensures stepped { SteppedSince D.seen D.may_leave D.faults D.limit (λ t. IsGiven server given) self.old self.new result }
-        ensures gone { self.new.gone ≡ self.old.gone }
+        ensures keeps { Keeps self.old self.new }
         ensures clock { self.new.clock ≡ self.old.clock }
         ensures picked { (pick : ℕ) → given ≡ input.Crash pick → IsPicked D.seen D.left_by server pick self.old.servers self.new.servers result }
     {
@@ -182,7 +182,7 @@ impl<'a, D: Disk> World<'a, D> {
         requires few { self.old.gone.entries + length self.old.history < most_entries }
         requires inside { (1 ≤ client) × (client ≤ self.old.script.clients) }
         ensures stepped { SteppedSince D.seen D.may_leave D.faults D.limit (IsAsked given client) self.old self.new result }
-        ensures gone { self.new.gone ≡ self.old.gone }
+        ensures keeps { Keeps self.old self.new }
         ensures clock { self.new.clock ≡ self.old.clock }
     {
         let happened = client_takes(
@@ -203,7 +203,7 @@ impl<'a, D: Disk> World<'a, D> {
         requires going { self.old.is_lost ≡ false }
         requires few { self.old.gone.entries + length self.old.history < most_entries }
         ensures stepped { SteppedSince D.seen D.may_leave D.faults D.limit (λ t. IsInput t (events.Deliver place)) self.old self.new result }
-        ensures gone { self.new.gone ≡ self.old.gone }
+        ensures keeps { Keeps self.old self.new }
         ensures clock { self.new.clock ≡ self.old.clock }
     {
         let Some(parcel) = self.wire.get(place) else {
@@ -244,7 +244,7 @@ impl<'a, D: Disk> World<'a, D> {
         requires some { 1 ≤ ticks }
         requires within { self.old.clock + ticks ≤ most_ticks }
         ensures stepped { SteppedSince D.seen D.may_leave D.faults D.limit (λ t. IsInput t (events.Tick ticks)) self.old self.new result }
-        ensures gone { self.new.gone ≡ self.old.gone }
+        ensures keeps { Keeps self.old self.new }
         ensures clock { self.new.clock ≤ self.old.clock + ticks }
     {
         self.note(Actor::Clock, Line::Tick { ticks })?;
@@ -264,7 +264,7 @@ impl<'a, D: Disk> World<'a, D> {
         requires kept { DeliversKept self.old event }
         requires ticks { self.old.clock + ticks_of event ≤ most_ticks }
         ensures stepped { SteppedSince D.seen D.may_leave D.faults D.limit (λ t. IsInput t event) self.old self.new result }
-        ensures gone { self.new.gone ≡ self.old.gone }
+        ensures keeps { Keeps self.old self.new }
         ensures clock { self.new.clock ≤ self.old.clock + ticks_of event }
         ensures picked { (i pick : ℕ) → event ≡ events.CrashDisk (Server i) pick → IsPicked D.seen D.left_by i pick self.old.servers self.new.servers result }
     {
@@ -296,7 +296,7 @@ impl<'a, D: Disk> World<'a, D> {
         requires ticks { self.old.clock + ticks_of event.now ≤ most_ticks }
         ensures world { GoesOnSince D.seen D.may_leave D.faults D.limit self.old self.new }
         ensures steps { StepsSince D.seen D.may_leave D.faults D.limit (λ t. IsInput t event.now) self.old self.new result }
-        ensures gone { self.new.gone ≡ self.old.gone }
+        ensures keeps { Keeps self.old self.new }
         ensures tells { AllTell D.seen self.old.servers ↔ AllTell D.seen self.new.servers }
         ensures counts { (n : ℕ) → Counts D.faults n self.old.servers → Counts D.faults n self.new.servers }
         ensures clock { self.new.clock ≤ self.old.clock + ticks_of event.now }

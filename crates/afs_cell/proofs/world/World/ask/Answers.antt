@@ -1,6 +1,5 @@
-use Rattle.std.proofs.Common.{ap, ◌∙◌}
-use Rattle.afs_cell.specs.Worlds.{WorldState}
-use Rattle.afs_cell.proofs.Since.{asked_since, gone_settled, inside_since, ready_since}
+use Rattle.std.proofs.Common.{refl}
+use Rattle.afs_cell.proofs.Since.{asked_since, keeps_as, keeps_parts, inside_since, ready_since}
 use Rattle.afs_cell.proofs.world.World.ask.Goals as goal
 
 pub client_takes-happened-requires-clause-ready : goal.client_takes-happened-requires-clause-ready
@@ -12,5 +11,5 @@ returns-clause-stepped g c =
     c.args.client c.args.given c.client_takes-happened.new.clients.items c.client_takes-happened.result
     (inside_since g.D.Disk.limit _ c.args.self.now c.self.view_is c.requires.safe c.args.client c.requires.inside) c.client_takes-happened.ensures c.settle.ensures
 
-pub returns-clause-gone : goal.returns-clause-gone
-returns-clause-gone g c = gone_settled _ _ c.client_takes-happened.result _ c.settle.new.self c.settle.result c.settle.ensures ∙ ap (λ (w : WorldState g.row.D.Denot). w.gone) c.self.view_is
+pub returns-clause-keeps : goal.returns-clause-keeps
+returns-clause-keeps g c = keeps_as _ c.args.self.now c.settle.new.self c.self.view_is (keeps_parts _ _ c.client_takes-happened.result _ _ refl refl refl c.settle.new.self c.settle.result c.settle.ensures)

@@ -1,6 +1,5 @@
-use Rattle.std.proofs.Common.{ap, ◌∙◌}
-use Rattle.afs_cell.specs.Worlds.{WorldState}
-use Rattle.afs_cell.proofs.Since.{admin_since, can_since, gone_settled, loc_since, message_heard_since, message_served_since, nobody_since, ready_since}
+use Rattle.std.proofs.Common.{refl}
+use Rattle.afs_cell.proofs.Since.{admin_since, can_since, keeps_as, keeps_parts, keeps_skipped, loc_since, message_heard_since, message_served_since, nobody_since, ready_since}
 use Rattle.afs_cell.proofs.world.World.deliver.Goals as goal
 
 pub returns-in_default-clause-stepped : goal.returns-in_default-clause-stepped
@@ -35,8 +34,17 @@ returns-in-Admin-clause-stepped g c =
     admin_since g.D.Disk.seen g.D.Disk.may_leave g.D.Disk.faults g.D.Disk.limit _ c.args.self.now c.self.view_is c.requires.going c.requires.few c.skip-in-Admin.new.self c.skip-in-Admin.result
     c.args.place c.in-Some.parcel.now _ c.requires.kept c.in-Some.ensures c.in-Admin.is c.skip-in-Admin.ensures
 
-pub returns-in-Server-clause-gone : goal.returns-in-Server-clause-gone
-returns-in-Server-clause-gone g c = gone_settled _ _ c.server_hears-happened.result _ c.settle.new.self c.settle.result c.settle.ensures ∙ ap (λ (w : WorldState g.row.D.Denot). w.gone) c.self.view_is
+pub returns-in_default-clause-keeps : goal.returns-in_default-clause-keeps
+returns-in_default-clause-keeps g c = keeps_skipped c.args.self.now c.skip.new.self c.skip.result c.skip.ensures
 
-pub returns-in-Client-clause-gone : goal.returns-in-Client-clause-gone
-returns-in-Client-clause-gone g c = gone_settled _ _ c.client_hears-happened.result _ c.settle-in-Client.new.self c.settle-in-Client.result c.settle-in-Client.ensures ∙ ap (λ (w : WorldState g.row.D.Denot). w.gone) c.self.view_is
+pub returns-in-Server-clause-keeps : goal.returns-in-Server-clause-keeps
+returns-in-Server-clause-keeps g c = keeps_as _ c.args.self.now c.settle.new.self c.self.view_is (keeps_parts _ _ c.server_hears-happened.result _ _ refl refl refl c.settle.new.self c.settle.result c.settle.ensures)
+
+pub returns-in-Client-clause-keeps : goal.returns-in-Client-clause-keeps
+returns-in-Client-clause-keeps g c = keeps_as _ c.args.self.now c.settle-in-Client.new.self c.self.view_is (keeps_parts _ _ c.client_hears-happened.result _ _ refl refl refl c.settle-in-Client.new.self c.settle-in-Client.result c.settle-in-Client.ensures)
+
+pub returns-in-Loc-clause-keeps : goal.returns-in-Loc-clause-keeps
+returns-in-Loc-clause-keeps g c = keeps_skipped c.args.self.now c.skip-in-Loc.new.self c.skip-in-Loc.result c.skip-in-Loc.ensures
+
+pub returns-in-Admin-clause-keeps : goal.returns-in-Admin-clause-keeps
+returns-in-Admin-clause-keeps g c = keeps_skipped c.args.self.now c.skip-in-Admin.new.self c.skip-in-Admin.result c.skip-in-Admin.ensures

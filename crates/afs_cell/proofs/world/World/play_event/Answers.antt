@@ -4,7 +4,7 @@ use Rattle.afs_cell.proofs.Clocks.{nothing_clock}
 use Rattle.afs_cell.specs.Since.{whole}
 use Rattle.afs_cell.proofs.Picked.{picked_as}
 use Rattle.afs_cell.proofs.Played.{as_client, as_message, as_server, as_ticks, clock_ticks, some_ticks, ticks_within}
-use Rattle.afs_cell.proofs.Since.{as_nothing_since, gone_skipped, kept_place}
+use Rattle.afs_cell.proofs.Since.{as_nothing_since, keeps_skipped, kept_place}
 use Rattle.afs_cell.proofs.world.World.play_event.Goals as goal
 
 pub returns-in-Nothing-clause-stepped : goal.returns-in-Nothing-clause-stepped
@@ -64,5 +64,5 @@ returns-in-Server-clause-picked g c = λ i pick e.
 pub deliver-requires-clause-kept : goal.deliver-requires-clause-kept
 deliver-requires-clause-kept g c = kept_place c.args.self.now c.args.event c.in-Message.place c.in-Message.ensures.meant c.requires.kept
 
-pub returns-in-Nothing-clause-gone : goal.returns-in-Nothing-clause-gone
-returns-in-Nothing-clause-gone g c = gone_skipped c.args.self.now c.skip.new.self c.skip.result c.skip.ensures
+pub returns-in-Nothing-clause-keeps : goal.returns-in-Nothing-clause-keeps
+returns-in-Nothing-clause-keeps g c = keeps_skipped c.args.self.now c.skip.new.self c.skip.result c.skip.ensures

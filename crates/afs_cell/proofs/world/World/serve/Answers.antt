@@ -1,7 +1,6 @@
-use Rattle.std.proofs.Common.{ap, sym, ◌∙◌}
-use Rattle.afs_cell.specs.Worlds.{WorldState}
+use Rattle.std.proofs.Common.{refl}
 use Rattle.afs_cell.proofs.Picked.{picked}
-use Rattle.afs_cell.proofs.Since.{can_since, gone_settled, served_since}
+use Rattle.afs_cell.proofs.Since.{can_since, keeps_as, keeps_parts, served_since}
 use Rattle.afs_cell.proofs.world.World.serve.Goals as goal
 
 pub server_takes-happened-requires-clause-can : goal.server_takes-happened-requires-clause-can
@@ -17,5 +16,5 @@ returns-clause-picked g c = λ pick crash.
     picked g.D.Disk.seen g.D.Disk.left_by g.D.Disk.may_leave g.D.Disk.faults g.D.Disk.limit c.args.server pick c.args.given _ c.args.self.now c.settle.new.self c.server_takes-happened.new.servers.items c.server_takes-happened.result c.settle.result c.self.view_is crash
     c.server_takes-happened.ensures.happened c.server_takes-happened.ensures.picked c.settle.ensures
 
-pub returns-clause-gone : goal.returns-clause-gone
-returns-clause-gone g c = gone_settled _ _ c.server_takes-happened.result _ c.settle.new.self c.settle.result c.settle.ensures ∙ ap (λ (w : WorldState g.row.D.Denot). w.gone) c.self.view_is
+pub returns-clause-keeps : goal.returns-clause-keeps
+returns-clause-keeps g c = keeps_as _ c.args.self.now c.settle.new.self c.self.view_is (keeps_parts _ _ c.server_takes-happened.result _ _ refl refl refl c.settle.new.self c.settle.result c.settle.ensures)

@@ -2,7 +2,14 @@ use Rattle.std.proofs.Common.{ap, sym, ◌∙◌}
 use Rattle.afs_cell.specs.Since.{whole}
 use Rattle.afs_cell.specs.Worlds.{WorldState}
 use Rattle.afs_cell.proofs.Going.{is_world}
+use Rattle.afs_cell.proofs.NextSince.{within_whole}
 use Rattle.afs_cell.proofs.world.World.step.Goals as goal
+
+pub is_full-requires : goal.is_full-requires
+is_full-requires g c = within_whole g.D.Disk.limit c.requires.world.before c.args.self.now c.requires.world.is c.requires.world.world.safe
+
+pub play_event-requires-clause-safe : goal.play_event-requires-clause-safe
+play_event-requires-clause-safe g c = record { before = c.requires.world.before; is = c.requires.world.is; safe = c.requires.world.world.safe }
 
 pub returns-clause-world : goal.returns-clause-world
 returns-clause-world g c = λ before is world.
