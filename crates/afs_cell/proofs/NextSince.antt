@@ -1,25 +1,26 @@
 -- The next event of a schedule, whatever was let go before.
-use Rattle.std.proofs.Common.{ap, arith, sym, subst, ◌∙◌, ◌≡◌, ◌≤◌, ◌<◌, ◌⊎◌, ◌+◌, inl, inr, ℕ, List, ◌++◌, length, Option, Some, None, Result, Ok, Err}
+use Rattle.std.proofs.Common.{ap, arith, refl, sym, subst, ◌∙◌, ◌≡◌, ◌≤◌, ◌<◌, ◌⊎◌, ◌+◌, inl, inr, ℕ, List, ◌++◌, length, Option, Some, None, Result, Ok, Err}
 use Rattle.std.proofs.lemmas.List.{length-append}
 use Rattle.afs_history.specs.declared.scripts.Event.{Event}
 use Rattle.afs_history.specs.declared.scripts.Event.TheVariants as events
 use Rattle.afs_history.specs.declared.scripts.Script.{Script}
 use Rattle.afs_grammar.specs.CellScripts.{counts_of, FitsEvent}
 use Rattle.afs_grammar.specs.Lines.{ticks_of}
+use Rattle.afs_rows.specs.Runs.{Input}
 use Rattle.afs_schedule.specs.Schedules.{IsInput, Turn}
 use Rattle.afs_schedule.specs.Settled.{settled, DeliversBehind, IsBehind, IsBehindEach}
 use Rattle.afs_schedule.specs.Taking.{IsLeft, Takes}
 use Rattle.afs_schedule.specs.declared.schedule.Schedule.{Schedule}
-use Rattle.afs_words.specs.declared.nodes.Counts.{Counts}
+use Rattle.afs_words.specs.declared.nodes.Counts as words
 use Rattle.afs_cell.specs.Since.{whole, DeliversKept, GoesOnSince, IsBefore, IsSafeSince, IsWorldSince, StepsSince}
 use Rattle.afs_cell.specs.Steps.{Stays}
 use Rattle.afs_cell.specs.UnderWay.{GoesSo, IsUnderWay}
 use Rattle.afs_cell.specs.UnderWaySince.{GoesSoSince, IsUnderWaySince}
-use Rattle.afs_cell.specs.Worlds.{most_entries, most_ticks, AllTell, HistoryTold, IsSafe, IsWorld, WorldState}
+use Rattle.afs_cell.specs.Worlds.{most_entries, most_ticks, AllTell, Counts, HistoryTold, IsSafe, IsWorld, WorldState}
 use Rattle.afs_cell.specs.declared.faults.WorldFault.{WorldFault}
 use Rattle.afs_cell.specs.declared.faults.WorldFault.TheVariants as faulty
 use Rattle.afs_cell.specs.declared.playing.Played.TheVariants as played
-use Rattle.afs_cell.proofs.UnderWay.{ends_all, ends_full, fits_event, fits_within, goes_on, is_no_drain, stays_full, takes_none, takes_some}
+use Rattle.afs_cell.proofs.UnderWay.{ends_all, ends_full, ends_some, fits_event, fits_within, goes_on, is_no_drain, stays_full, takes_none, takes_some}
 
 -- so many messages were sent in the whole world
 pub count_whole : {D : Type 0} (b : HistoryTold) (w : WorldState D) (n : ℕ) → IsBefore b w → n ≡ w.gone.messages + length w.wire → n ≡ length (b.wire ++ w.wire)
@@ -33,7 +34,7 @@ pub full_whole : {D : Type 0} (b : HistoryTold) (w : WorldState D) → IsBefore 
 full_whole {D} b w before full = omega (arith, full, before.entries, length-append b.history w.history)
 
 -- a deliver of the schedule gives a message that wasn't let go
-pub kept_by : {D : Type 0} (w : WorldState D) (c : Counts) (places : ℕ) (event : Event) → w.gone.messages ≤ places → DeliversBehind places event → FitsEvent c event → DeliversKept w event
+pub kept_by : {D : Type 0} (w : WorldState D) (c : words.Counts) (places : ℕ) (event : Event) → w.gone.messages ≤ places → DeliversBehind places event → FitsEvent c event → DeliversKept w event
 kept_by {D} w c places (events.Deliver place) few (inl none) fits = omega (arith, few, none, fits)
 kept_by {D} w c places (events.Deliver place) few (inr behind) fits = omega (arith, few, behind)
 kept_by {D} w c places (events.Act node) few behind fits = tt
@@ -49,6 +50,12 @@ kept_by {D} w c places (events.Fail node call) few behind fits = tt
 
 behind_some : (old new : Schedule) (o : Option Event) (event : Event) → o ≡ Some event → IsBehind old new o → IsBehind old new (Some event)
 behind_some old new o event is behind = subst (λ (q : Option Event). IsBehind old new q) is behind
+
+stays_wanting : {D : Type 0} (seen : D → Option (List ℕ)) (may_leave : D → List ℕ → Type 0) (limit : D → ℕ) (old new : WorldState D) (fault : WorldFault) → fault ≡ faulty.OutOfMemory → Stays seen may_leave limit old new fault → Stays seen may_leave limit old new faulty.OutOfMemory
+stays_wanting {D} seen may_leave limit old new fault is stays = subst (λ (f : WorldFault). Stays seen may_leave limit old new f) is stays
+
+stays_so : {D : Type 0} (seen : D → Option (List ℕ)) (may_leave : D → List ℕ → Type 0) (limit : D → ℕ) (w : WorldState D) → Stays seen may_leave limit w w faulty.OutOfMemory
+stays_so {D} seen may_leave limit w = (record { script = refl; history = refl; wire = refl; clock = refl }, inr (record { lost_as = refl; clients = refl; at = λ c left at. at }))
 
 module _ {D : Type 0} (seen : D → Option (List ℕ)) (may_leave : D → List ℕ → Type 0) (faults limit : D → ℕ) (w : WorldState D) (old left : Schedule) (sent : ℕ) (counted : sent ≡ w.gone.messages + length w.wire) where
   abbrev Way : HistoryTold → Type 0
@@ -98,8 +105,10 @@ module _ {D : Type 0} (seen : D → Option (List ℕ)) (may_leave : D → List �
       (stays_full seen may_leave limit (whole b w) (whole b new) fault limited (steps b before way.world))
 
   -- memory was wanting
-  pub wants_since : (new : WorldState D) → GoesOnSince seen may_leave faults limit w new → GoesSoSince seen may_leave faults limit w new old left played.OutOfMemory
-  wants_since new world b before way = world b before way.world
+  pub wants_since : (new : WorldState D) (is : Turn → Input → Type 0) (fault : WorldFault) → fault ≡ faulty.OutOfMemory → GoesOnSince seen may_leave faults limit w new → StepsSince seen may_leave faults limit is w new (Err fault) → (AllTell seen new.servers → AllTell seen w.servers)
+      → ((n : ℕ) → Counts faults n w.servers → Counts faults n new.servers) → GoesSoSince seen may_leave faults limit w new old left played.OutOfMemory
+  wants_since new is fault wanting world steps tells counts b before way =
+      ends_some seen may_leave faults limit w.script (whole b w) (whole b new) old left way (world b before way.world) (stays_wanting seen may_leave limit (whole b w) (whole b new) fault wanting (steps b before way.world)) tells counts
 
   pub unplayed_since : GoesSoSince seen may_leave faults limit w w old left played.OutOfMemory
-  unplayed_since b before way = way.world
+  unplayed_since b before way = ends_some seen may_leave faults limit w.script (whole b w) (whole b w) old left way way.world (stays_so seen may_leave limit (whole b w)) (λ tell. tell) (λ n h. h)

@@ -1,5 +1,5 @@
 -- A schedule is played, one event after the other.
-use Rattle.std.proofs.Common.{refl, arith, ap, ap₂, sym, subst, ◌∙◌, ◌≡◌, ◌≤◌, ◌+◌, inl, ℕ, List, [], ◌∷◌, ◌++◌, length, Option, Some, None}
+use Rattle.std.proofs.Common.{refl, arith, ap, ap₂, sym, subst, ◌∙◌, ◌≡◌, ◌≤◌, ◌+◌, ◌⊎◌, inl, inr, ℕ, List, [], ◌∷◌, ◌++◌, length, Option, Some, None}
 use Rattle.std.specs.List.{All}
 use Rattle.afs_num.specs.declared.types.Parcel.{Parcel}
 use Rattle.afs_history.specs.declared.lines.Entry as kept
@@ -8,18 +8,18 @@ use Rattle.afs_history.specs.declared.scripts.Script.{Script}
 use Rattle.afs_history.specs.declared.scripts.Event.TheVariants as events
 use Rattle.afs_grammar.specs.CellScripts.{counts_of, FitsEvent}
 use Rattle.afs_grammar.specs.Lines.{schedule_so_far, ticks_in, ticks_of}
-use Rattle.afs_rows.specs.Runs.{start, Leads}
-use Rattle.afs_schedule.specs.Schedules.{events_in, events_of, first_turn, lowest, named_by, next_event, turned, waiting, IsInput, Turn}
+use Rattle.afs_rows.specs.Runs.{start, Input, Leads}
+use Rattle.afs_schedule.specs.Schedules.{events_in, events_of, first_turn, lowest, named_by, next_event, turned, waiting, AreFirst, AreInputs, IsInput, Turn}
 use Rattle.afs_schedule.specs.Taking.{IsLeft, Takes}
 use Rattle.afs_schedule.specs.declared.schedule.Schedule.{Schedule}
 use Rattle.afs_text.specs.Telling.{told, AreRead}
-use Rattle.afs_cell.specs.Steps.{IsFirst, PlaysOne, Stays}
-use Rattle.afs_cell.specs.UnderWay.{GoesSo, HasCome, IsUnderWay}
-use Rattle.afs_cell.specs.Worlds.{most_entries, most_ticks, AllTell, IsWorld, Runs, WorldState}
+use Rattle.afs_cell.specs.Steps.{IsFirst, PlaysOne, Stays, TellsNothing}
+use Rattle.afs_cell.specs.UnderWay.{GoesSo, HasCome, IsUnderWay, SoFar}
+use Rattle.afs_cell.specs.Worlds.{most_entries, most_ticks, AllTell, Counts, IsWorld, Runs, WorldState}
 use Rattle.afs_cell.specs.declared.faults.WorldFault.{WorldFault}
 use Rattle.afs_cell.specs.declared.faults.WorldFault.TheVariants as faulty
 use Rattle.afs_cell.specs.declared.playing.Played.TheVariants as played
-use Rattle.afs_cell.proofs.Going.{runs_on}
+use Rattle.afs_cell.proofs.Going.{runs_on, runs_still}
 use Rattle.afs_cell.proofs.NextEvents.{is_next, low_from, taken_none, taken_some, HasTaken, IsNextOf}
 use Rattle.afs_cell.proofs.Scheduled.{all_played, as_many, first_played, none_yet, one_more}
 
@@ -138,9 +138,12 @@ module _ {D : Type 0} (seen : D → Option (List ℕ)) (may_leave : D → List �
 
   -- ---- the end
 
+  told_nothing : (w : WorldState D) → TellsNothing w w
+  told_nothing w = record { script = refl; history = refl; wire = refl; clock = refl }
+
   pub ends_all : (w : WorldState D) (old new : Schedule) → IsUnderWay seen may_leave faults limit s w old → Takes (length w.wire) old new None → GoesSo seen may_leave faults limit s w w new played.All
   ends_all w old new way takes = (
-    way.world,
+    (way.world, told_nothing w),
     (
       way.going,
       λ tell.
@@ -153,7 +156,7 @@ module _ {D : Type 0} (seen : D → Option (List ℕ)) (may_leave : D → List �
   -- an event is left, and the history is as long as one may be
   pub ends_first : (w : WorldState D) (old new : Schedule) (event : Event) → IsUnderWay seen may_leave faults limit s w old → Takes (length w.wire) old new (Some event) → length w.history ≡ most_entries → GoesSo seen may_leave faults limit s w w new played.Limit
   ends_first w old new event way takes full = (
-    way.world,
+    (way.world, told_nothing w),
     (
       way.going,
       λ tell.
@@ -172,3 +175,22 @@ module _ {D : Type 0} (seen : D → Option (List ℕ)) (may_leave : D → List �
 
   pub ends_full : (w new : WorldState D) (old left : Schedule) (event : Event) → IsUnderWay seen may_leave faults limit s w old → Takes (length w.wire) old left (Some event) → (length w.history ≡ most_entries) × (new ≡ w) → GoesSo seen may_leave faults limit s w new left played.Limit
   ends_full w new old left event way takes full = subst (λ (x : WorldState D). GoesSo seen may_leave faults limit s w x left played.Limit) (sym full.1) (ends_first w old left event way takes full.0)
+
+  -- memory was wanting
+  some_played : (xs : List Input) (t : Turn) (es : List Event) (o : Option (Event × List Event)) → next_event (waiting t) es ≡ o → SoFar s xs t es → AreInputs (first_turn s) (events_of s) xs ⊎ AreFirst (first_turn s) (events_of s) xs
+  some_played xs t es None e far = inl (all_played s xs t es far e)
+  some_played xs t es (Some x) e far = inr (first_played s xs t es far (none_or (next_event (waiting t) es) x e))
+
+  pub ends_some : (w new : WorldState D) (old left : Schedule) → IsUnderWay seen may_leave faults limit s w old → IsWorld seen may_leave faults limit s new → Stays seen may_leave limit w new faulty.OutOfMemory
+      → (AllTell seen new.servers → AllTell seen w.servers) → ((n : ℕ) → Counts faults n w.servers → Counts faults n new.servers) → GoesSo seen may_leave faults limit s w new left played.OutOfMemory
+  ends_some w new old left way world stays tells counts = (
+    (world, stays.0),
+    λ tell.
+        let come = way.come (tells tell) in
+        record {
+          inputs = come.inputs;
+          cell = come.turn.cell;
+          runs = runs_still seen may_leave faults limit s w new come.inputs come.turn.cell come.runs stays counts;
+          played = some_played come.inputs come.turn way.events (next_event (waiting come.turn) way.events) refl come.far;
+        },
+  )

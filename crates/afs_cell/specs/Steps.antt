@@ -124,3 +124,7 @@ HasPlayedAll {D} seen may_leave faults limit s w = HasPlayed seen may_leave faul
 
 abbrev pub HasPlayedFirst : {D : Type 0} → (D → Option (List ℕ)) → (D → List ℕ → Type 0) → (D → ℕ) → (D → ℕ) → Script → WorldState D → Type 0
 HasPlayedFirst {D} seen may_leave faults limit s w = HasPlayed seen may_leave faults limit (AreFirst (first_turn s) (events_of s)) s w × (length w.history ≡ most_entries)
+
+-- the first of them, however many
+abbrev pub HasPlayedSome : {D : Type 0} → (D → Option (List ℕ)) → (D → List ℕ → Type 0) → (D → ℕ) → (D → ℕ) → Script → WorldState D → Type 0
+HasPlayedSome {D} seen may_leave faults limit s w = HasPlayed seen may_leave faults limit (λ (xs : List Input). AreInputs (first_turn s) (events_of s) xs ⊎ AreFirst (first_turn s) (events_of s) xs) s w

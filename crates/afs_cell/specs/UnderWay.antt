@@ -9,7 +9,7 @@ use Rattle.afs_rows.specs.Runs.{Input}
 use Rattle.afs_schedule.specs.Schedules.{events_of, first_turn, AreFirst, AreInputs, Turn}
 use Rattle.afs_schedule.specs.Taking.{IsLeft}
 use Rattle.afs_schedule.specs.declared.schedule.Schedule.{Schedule}
-use Rattle.afs_cell.specs.Steps.{HasPlayedAll, HasPlayedFirst, IsAt}
+use Rattle.afs_cell.specs.Steps.{HasPlayedAll, HasPlayedFirst, HasPlayedSome, IsAt, TellsNothing}
 use Rattle.afs_cell.specs.Worlds.{most_ticks, AllTell, IsWorld, Runs, WorldState}
 use Rattle.afs_cell.specs.declared.playing.Played.{Played}
 use Rattle.afs_cell.specs.declared.playing.Played.TheVariants as played
@@ -39,9 +39,13 @@ pub record IsUnderWay {D : Type 0} (seen : D → Option (List ℕ)) (may_leave :
   pub ticks : w.clock + ticks_in events ≤ most_ticks
   pub come : AllTell seen w.servers → HasCome seen may_leave faults limit s w events named
 
--- how the next event went
+-- it is a world, and told nothing more
+abbrev pub Stops : {D : Type 0} → (D → Option (List ℕ)) → (D → List ℕ → Type 0) → (D → ℕ) → (D → ℕ) → Script → WorldState D → WorldState D → Type 0
+Stops {D} seen may_leave faults limit s old new = IsWorld seen may_leave faults limit s new × TellsNothing old new
+
+-- How the next event went. Where none was played, nothing more was told.
 abbrev pub GoesSo : {D : Type 0} → (D → Option (List ℕ)) → (D → List ℕ → Type 0) → (D → ℕ) → (D → ℕ) → Script → WorldState D → WorldState D → Schedule → Played → Type 0
 GoesSo {D} seen may_leave faults limit s old new schedule played.Event = IsUnderWay seen may_leave faults limit s new schedule × (length new.history ≡ length old.history + 1)
-GoesSo {D} seen may_leave faults limit s old new schedule played.All = IsWorld seen may_leave faults limit s new × ((new.is_lost ≡ false) × (AllTell seen new.servers → HasPlayedAll seen may_leave faults limit s new))
-GoesSo {D} seen may_leave faults limit s old new schedule played.Limit = IsWorld seen may_leave faults limit s new × ((new.is_lost ≡ false) × (AllTell seen new.servers → HasPlayedFirst seen may_leave faults limit s new))
-GoesSo {D} seen may_leave faults limit s old new schedule played.OutOfMemory = IsWorld seen may_leave faults limit s new
+GoesSo {D} seen may_leave faults limit s old new schedule played.All = Stops seen may_leave faults limit s old new × ((new.is_lost ≡ false) × (AllTell seen new.servers → HasPlayedAll seen may_leave faults limit s new))
+GoesSo {D} seen may_leave faults limit s old new schedule played.Limit = Stops seen may_leave faults limit s old new × ((new.is_lost ≡ false) × (AllTell seen new.servers → HasPlayedFirst seen may_leave faults limit s new))
+GoesSo {D} seen may_leave faults limit s old new schedule played.OutOfMemory = Stops seen may_leave faults limit s old new × (AllTell seen new.servers → HasPlayedSome seen may_leave faults limit s new)

@@ -1,6 +1,10 @@
 use Rattle.afs_cell.proofs.NextSince.{all_since, fits_since, full_since, goes_since, kept_since, one_since, settled_since, ticks_since, unplayed_since, wants_since}
 use Rattle.afs_cell.proofs.playing.World.play_next.Goals as goal
 
+pub returns-in_default-schedule-clause-goes : goal.returns-in_default-schedule-clause-goes
+returns-in_default-schedule-clause-goes g c =
+    unplayed_since g.D.Disk.seen g.D.Disk.may_leave g.D.Disk.faults g.D.Disk.limit c.args.self.now c.args.schedule.now c.next.new.self c.sent.result c.sent.ensures
+
 pub returns-in_default-next-clause-goes : goal.returns-in_default-next-clause-goes
 returns-in_default-next-clause-goes g c =
     all_since g.D.Disk.seen g.D.Disk.may_leave g.D.Disk.faults g.D.Disk.limit c.args.self.now c.args.schedule.now c.next.new.self c.sent.result c.sent.ensures c.in-Ok.next c.in_default-next.is c.in-Ok.ensures.ok
@@ -43,4 +47,12 @@ returns-in-Err-Limit-clause-goes g c =
 
 pub returns-in-Err-Limit-clause-settled : goal.returns-in-Err-Limit-clause-settled
 returns-in-Err-Limit-clause-settled g c =
+    settled_since g.D.Disk.seen g.D.Disk.may_leave g.D.Disk.faults g.D.Disk.limit c.args.self.now c.args.schedule.now c.next.new.self c.sent.result c.sent.ensures c.requires.way c.in-Ok.next c.in-Ok.ensures.behind
+
+pub returns-in-Err-OutOfMemory-clause-goes : goal.returns-in-Err-OutOfMemory-clause-goes
+returns-in-Err-OutOfMemory-clause-goes g c =
+    let e = c.in-Err-OutOfMemory.ensures in wants_since g.D.Disk.seen g.D.Disk.may_leave g.D.Disk.faults g.D.Disk.limit c.args.self.now c.args.schedule.now c.next.new.self c.sent.result c.sent.ensures c.step.new.self _ c.in-Err-OutOfMemory.field-0 c.in-Err-OutOfMemory.field-0-is e.world e.steps e.tells.1 e.counts
+
+pub returns-in-Err-OutOfMemory-clause-settled : goal.returns-in-Err-OutOfMemory-clause-settled
+returns-in-Err-OutOfMemory-clause-settled g c =
     settled_since g.D.Disk.seen g.D.Disk.may_leave g.D.Disk.faults g.D.Disk.limit c.args.self.now c.args.schedule.now c.next.new.self c.sent.result c.sent.ensures c.requires.way c.in-Ok.next c.in-Ok.ensures.behind
