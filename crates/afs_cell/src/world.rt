@@ -1,6 +1,6 @@
 //! The cell: its nodes, the messages under way, and what is told of its run.
 
-ghost use Rattle.std.specs.Prelude.{◌≡◌, ◌≤◌, ◌<◌, ◌+◌, ◌-◌, ◌↔◌, [], drop, None, Some, Ok, Err, false, true, length, ℕ};
+ghost use Rattle.std.specs.Prelude.{◌≡◌, ◌≤◌, ◌<◌, ◌+◌, ◌-◌, ◌^◌, ◌↔◌, [], drop, None, Some, Ok, Err, false, true, length, ℕ};
 ghost use Rattle.afs_num.specs.declared.types.Node.TheVariants.{Server};
 ghost use Rattle.afs_history.specs.declared.scripts.Event.TheVariants as events;
 ghost use Rattle.afs_grammar.specs.CellScripts.{counts_of, FitsEvent};
@@ -324,8 +324,11 @@ impl<'a, D: Disk> World<'a, D> {
 
     /// The messages that these entries sent, each with its bytes.
     pub fn parcels(&self) -> &[Parcel]
-        ensures { result.now ≡ drop (self.now.gone.sent - self.now.gone.messages) self.now.wire }
+        ensures parcels { result.now ≡ drop (self.now.gone.sent - self.now.gone.messages) self.now.wire }
+        ensures gone { (self.now.gone.messages ≤ self.now.gone.sent) × (self.now.gone.sent ≤ self.now.gone.messages + length self.now.wire) }
+        ensures few { self.now.gone.messages + length self.now.wire < 2 ^ 63 + 2 ^ 62 }
     {
+        let _count = self.wire.count();
         self.wire.behind(self.gone.sent)
     }
 

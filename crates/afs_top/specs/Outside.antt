@@ -1,7 +1,9 @@
 -- What a call of the program does outside: to the sink, and to the bank of its disks.
 use Rattle.std.specs.Prelude.{◌≡◌, ◌≤◌, ◌⊎◌, ℕ, ◌+◌, List, Option}
+use Rattle.std.specs.Io.KnownBytes.{Appends}
 use Rattle.afs_disk.specs.Fuses.{last_count}
 use Rattle.afs_disk.specs.declared.bank.Lend.{Lend}
+use Rattle.afs_outside.specs.Outside.{AppendsFront}
 
 -- what stood there before the call, and what stands there after it
 pub record Span (A : Type 0) : Type 0 where
@@ -27,3 +29,10 @@ pub record Outside : Type 0 where
 -- The count rose by so many, or by more. One that stands at the last value of a counter counts as risen.
 abbrev pub RoseBy : ℕ → Span ℕ → Type 0
 RoseBy n count = (count.before + n ≤ count.after) ⊎ (last_count ≤ count.after)
+
+-- all of the text was written, or where the sink failed, a beginning of it
+abbrev pub WritesText : Span (Option (List ℕ)) → Span ℕ → List ℕ → Type 0
+WritesText sink faults text = Appends sink.before sink.after text ⊎ (RoseBy 1 faults × AppendsFront sink.before sink.after text)
+
+abbrev pub Writes : Outside → List ℕ → Type 0
+Writes o text = WritesText o.sink o.sink_faults text

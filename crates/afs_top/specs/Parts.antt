@@ -7,7 +7,7 @@ use Rattle.afs_cell.specs.declared.faults.SetupFault.TheVariants as setup
 use Rattle.afs_disk.specs.declared.bank.LendFault.{LendFault}
 use Rattle.afs_disk.specs.declared.bank.LendFault.TheVariants as lending
 use Rattle.afs_outside.specs.Outside.{AppendsFront}
-use Rattle.afs_top.specs.Outside.{IsUnchanged, RoseBy, Span}
+use Rattle.afs_top.specs.Outside.{RoseBy, Span, WritesText}
 use Rattle.afs_top.specs.Top.{IsBad}
 use Rattle.afs_top.specs.declared.scripts.Refusal.{Refusal}
 use Rattle.afs_top.specs.declared.scripts.Refusal.TheVariants as refusals
@@ -47,10 +47,11 @@ returned status taken = status
 
 -- ---- the text
 
--- The text was written, or a beginning of it, where the disks could be read. Else nothing was written, nor where memory was wanting.
-abbrev pub TellsLeft : List ℕ → Option LendFault → Span (Option (List ℕ)) → Span ℕ → Status → Type 0
-TellsLeft text fault sink faults statuses.Done = (fault ≡ None) × Appends sink.before sink.after text
-TellsLeft text fault sink faults statuses.WriteFault = (fault ≡ None) × (AppendsFront sink.before sink.after text × RoseBy 1 faults)
-TellsLeft text fault sink faults statuses.BankFault = (fault ≡ Some lending.Failed) × IsUnchanged sink
-TellsLeft text fault sink faults statuses.OutOfMemory = IsUnchanged sink
-TellsLeft text fault sink faults status = ⊥
+-- The final part was written behind the history, or a beginning of both, where the disks could be read. Else nothing was written behind
+-- the history, nor where memory was wanting.
+abbrev pub TellsLeft : List ℕ → List ℕ → Option LendFault → Span (Option (List ℕ)) → Span ℕ → Status → Type 0
+TellsLeft history final fault sink faults statuses.Done = (fault ≡ None) × Appends sink.before sink.after (history ++ final)
+TellsLeft history final fault sink faults statuses.WriteFault = (fault ≡ None) × (AppendsFront sink.before sink.after (history ++ final) × RoseBy 1 faults)
+TellsLeft history final fault sink faults statuses.BankFault = (fault ≡ Some lending.Failed) × WritesText sink faults history
+TellsLeft history final fault sink faults statuses.OutOfMemory = WritesText sink faults history
+TellsLeft history final fault sink faults status = ⊥

@@ -13,15 +13,15 @@ use Rattle.afs_law.specs.Legal.{Legal}
 use Rattle.afs_outside.specs.Outside.{AppendsFront, HadAll}
 use Rattle.afs_records.specs.Durable.{Durable}
 use Rattle.afs_records.specs.Stands.{Stands}
-use Rattle.afs_rows.specs.Runs.{Cell, Entry}
+use Rattle.afs_rows.specs.Runs.{start, Cell, Entry, Input, Leads}
 use Rattle.afs_text.specs.HistoryText.{history_text, text}
-use Rattle.afs_schedule.specs.Schedules.{IsHistoryOf, IsHistoryOfFirst}
+use Rattle.afs_schedule.specs.Schedules.{events_of, first_turn, AreFirst, AreInputs, IsHistoryOf, IsHistoryOfFirst}
 use Rattle.afs_cell.specs.Ends.{AreLeft}
 use Rattle.afs_cell.specs.Steps.{MayBeRead}
 use Rattle.afs_cell.specs.Worlds.{most_entries, own_falls}
 use Rattle.afs_lending.specs.Lending.{lends, AreUnused, GivesBackSome, LendsSome}
 use Rattle.afs_top.specs.Forms.{Asks, HaveForm}
-use Rattle.afs_top.specs.Outside.{IsUnchanged, Outside, RoseBy, Span}
+use Rattle.afs_top.specs.Outside.{IsUnchanged, Outside, RoseBy, Span, Writes}
 use Rattle.afs_top.specs.declared.statuses.Form.TheVariants.{Replay}
 use Rattle.afs_top.specs.declared.statuses.Status.{Status}
 use Rattle.afs_top.specs.declared.statuses.Status.TheVariants as statuses
@@ -97,22 +97,43 @@ pub record Replays (s : Script) (wire : Bool) (Writes : List ℕ → Type 0) (ex
   pub written : Writes (text wire history kept)
   pub given : GivesBack excuse kept o.given.before o.given.after
 
--- The first events were played. A beginning was written of the text of their history, in which nothing of the final part stands; and
--- the disks that were given back stand for what it leaves.
+-- The first events were played. The text of their history was written, in which nothing of the final part stands, or where the sink
+-- failed, a beginning of it; and the disks that were given back stand for what it leaves.
 pub record ReplaysFirst (s : Script) (wire : Bool) (excuse : Type 0) (o : Outside) : Type 0 where
   pub history : List Entry
   pub kept : List Durable
   pub played : IsPlayedFirst s o.disk_faults history kept
-  pub written : AppendsFront o.sink.before o.sink.after (history_text wire history)
+  pub written : Writes o (history_text wire history)
   pub given : GivesBack excuse kept o.given.before o.given.after
 
--- There is a history of the script, played to its end, in which disks failed by themselves less often than is counted in the call.
-pub record FailsBehind (s : Script) (disk_faults : Span ℕ) : Type 0 where
+-- A history of the script's first events, however many. Disks failed by themselves in it no more often than is counted in the call. It
+-- is legal.
+pub record IsPlayedSome (s : Script) (disk_faults : Span ℕ) (history : List Entry) : Type 0 where
+  pub inputs : List Input
+  pub end : Cell
+  pub leads : Leads (start s) inputs history end
+  pub acts : AreInputs (first_turn s) (events_of s) inputs ⊎ AreFirst (first_turn s) (events_of s) inputs
+  pub few : length history ≤ most_entries
+  pub failures : RoseBy (own_falls inputs) disk_faults
+  pub legal : Legal history s
+
+-- Such were played, and the text of their history was written, or where the sink failed, a beginning of it. Nothing of the final part
+-- stands there.
+pub record ReplaysSome (s : Script) (wire : Bool) (o : Outside) : Type 0 where
+  pub history : List Entry
+  pub played : IsPlayedSome s o.disk_faults history
+  pub written : Writes o (history_text wire history)
+
+-- The script was played to its end, and disks failed by themselves in its history less often than is counted in the call. The text of the
+-- history was written, without the final part, or where the sink failed, a beginning of it.
+pub record FailsBehind (s : Script) (wire : Bool) (o : Outside) : Type 0 where
   pub history : List Entry
   pub end : Cell
   pub is : IsHistoryOf s history end
   pub few : length history ≤ most_entries
-  pub rose : RoseBy (own_falls is.inputs + 1) disk_faults
+  pub rose : RoseBy (own_falls is.inputs + 1) o.disk_faults
+  pub legal : Legal history s
+  pub written : Writes o (history_text wire history)
 
 -- What comes back of disks that were lent and set up, but not played. No disk had failed when it was lent. Where it told its bytes, and
 -- there were none, it comes back with the record of the script's set-up, or with none. A bank need not lend empty disks.
@@ -153,10 +174,9 @@ pub record SettingUpFails (left : Type 0) (o : Outside) : Type 0 where
   pub only_set_up : left
 
 -- a disk failed while it was read for the final part: so there is a failure that is none of the history's
-pub record ReadingFails (s : Script) (tells : Type 0) (o : Outside) : Type 0 where
+pub record ReadingFails (s : Script) (wire : Bool) (tells : Type 0) (o : Outside) : Type 0 where
   pub rose : RoseBy 1 o.disk_faults
-  pub written : IsUnchanged o.sink
-  pub told : tells → FailsBehind s o.disk_faults
+  pub told : tells → FailsBehind s wire o
 
 -- a disk wasn't taken back: all else is done
 pub record ReturningFails (s : Script) (wire : Bool) (tells : Type 0) (o : Outside) : Type 0 where
@@ -166,14 +186,18 @@ pub record ReturningFails (s : Script) (wire : Bool) (tells : Type 0) (o : Outsi
 -- The bank failed, or a disk. What is seen outside are counts, the sink and the disks that come back: by these alone a call that stops
 -- at a disk's failure in an event isn't told from the second and the third.
 abbrev pub AtBankFault : Script → Bool → Type 0 → Type 0 → Type 0 → Outside → Type 0
-AtBankFault s wire tells left unlent o = unlent ⊎ (SettingUpFails left o ⊎ (ReadingFails s tells o ⊎ ReturningFails s wire tells o))
+AtBankFault s wire tells left unlent o = unlent ⊎ (SettingUpFails left o ⊎ (ReadingFails s wire tells o ⊎ ReturningFails s wire tells o))
+
+-- memory was wanting: nothing was written, or what was is the text of the first events
+abbrev pub AtOutOfMemory : Script → Bool → Type 0 → Outside → Type 0
+AtOutOfMemory s wire tells o = IsUnchanged o.sink ⊎ (tells → ReplaysSome s wire o)
 
 -- by its status, whatever was lent; no other comes of a replay
 abbrev pub EndsRun : Script → Bool → Type 0 → Type 0 → Type 0 → Outside → Status → Type 0
 EndsRun s wire tells left unlent o statuses.Done = AtDone s wire tells o
 EndsRun s wire tells left unlent o statuses.WriteFault = AtWriteFault s wire tells o
 EndsRun s wire tells left unlent o statuses.BankFault = AtBankFault s wire tells left unlent o
-EndsRun s wire tells left unlent o statuses.OutOfMemory = IsUnchanged o.sink
+EndsRun s wire tells left unlent o statuses.OutOfMemory = AtOutOfMemory s wire tells o
 EndsRun s wire tells left unlent o statuses.Limit = AtLimit s wire tells o
 EndsRun s wire tells left unlent o status = ⊥
 

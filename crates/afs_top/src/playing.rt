@@ -1,5 +1,12 @@
 //! A script is played, and its history is written as it goes.
 
+ghost use Rattle.std.specs.Prelude.{◌≡◌, ◌≤◌, ◌+◌, ◌-◌, drop, length};
+ghost use Rattle.afs_cell.specs.Steps.{IsFirst};
+ghost use Rattle.afs_cell.specs.Worlds.{most_entries, AllTell, IsWorld};
+ghost use Rattle.afs_text.specs.KeptText.{kept_entries_text};
+ghost use Rattle.afs_text.specs.Telling.{sent_by};
+ghost use Rattle.afs_top.specs.Playing.{IsTold, PutsBehind};
+
 use afs_cell::{Played, World};
 use afs_disk::Disk;
 use afs_outside::outside::{Failed, Sink};
@@ -27,16 +34,31 @@ fn put_next<K: Sink, D: Disk>(
     world: &World<'_, D>,
     wire: bool,
     written: Result<(), Failed>,
-) -> Result<(), Failed> {
+) -> Result<(), Failed>
+    requires few { world.now.gone.entries + length world.now.history ≤ most_entries }
+    requires all { world.now.gone.sent + sent_by world.now.history ≡ world.now.gone.messages + length world.now.wire }
+    ensures { PutsBehind (kept_entries_text wire (world.now.gone.entries + 1) (world.now.gone.sent + 1) (drop (world.now.gone.sent - world.now.gone.messages) world.now.wire) world.now.history) (K.held sink.old) (K.held sink.new) (K.faults sink.old) (K.faults sink.new) written result }
+{
     written?;
+    let parcels = world.parcels();
     put_entries(
         sink,
         world.entries_before() + 1,
         world.sent_before() + 1,
-        world.parcels(),
+        parcels,
         world.history(),
         wire,
     )
+}
+
+fn told<W>(world: W, ended: Ended, written: Result<(), Failed>) -> Told<W>
+    ensures { result ≡ record { world = world; ended = ended; written = written } }
+{
+    Told {
+        world,
+        ended,
+        written,
+    }
 }
 
 /// Plays the schedule of a cell at set-up. Each entry is written as it comes; where that fails, the others aren't, and the script is
@@ -45,25 +67,23 @@ pub(crate) fn play<'a, K: Sink, D: Disk>(
     world: World<'a, D>,
     wire: bool,
     sink: &mut K,
-) -> Told<World<'a, D>> {
+) -> Told<World<'a, D>>
+    requires world { IsWorld D.seen D.may_leave D.faults D.limit world.script world }
+    requires first { IsFirst D.seen D.may_leave D.limit world.script world }
+    ensures { IsTold D.seen D.may_leave D.faults D.limit world.entry.script wire (AllTell D.seen world.entry.servers) (K.held sink.old) (K.held sink.new) (K.faults sink.old) (K.faults sink.new) result }
+{
     let mut world = world;
     let mut schedule = world.schedule();
     let mut written = Ok(());
     loop {
-        let ended = match world.play_next(&mut schedule) {
+        match world.play_next(&mut schedule) {
             Played::Event => {
                 written = put_next(sink, &world, wire, written);
                 world.let_go(schedule.settled());
-                continue;
             }
-            Played::All => Ended::All,
-            Played::Limit => Ended::Limit,
-            Played::OutOfMemory => Ended::OutOfMemory,
-        };
-        return Told {
-            world,
-            ended,
-            written,
-        };
+            Played::All => return told(world, Ended::All, written),
+            Played::Limit => return told(world, Ended::Limit, written),
+            Played::OutOfMemory => return told(world, Ended::OutOfMemory, written),
+        }
     }
 }
