@@ -24,20 +24,20 @@ use Rattle.afs_text.specs.Telling.{told, AreRead}
 use Rattle.afs_text.proofs.Kept.{history_told}
 use Rattle.afs_volstore.specs.Stores.{Store}
 use Rattle.afs_cell.specs.Ends.{AreLeft, IsRefused}
-use Rattle.afs_cell.specs.Steps.{lent_from, AreStanding, HasPlayedAll, HasPlayedFirst}
-use Rattle.afs_cell.specs.Worlds.{AllTell, IsCell, IsWorld, WorldState}
+use Rattle.afs_cell.specs.Steps.{lent_from, AreStanding, HasPlayedAll, HasPlayedFirst, HasPlayedSome}
+use Rattle.afs_cell.specs.Worlds.{own_falls, AllTell, IsCell, IsWorld, WorldState}
 use Rattle.afs_cell.specs.declared.faults.SetupFault.{SetupFault}
 use Rattle.afs_cell.specs.declared.faults.SetupFault.TheVariants as setup
 use Rattle.afs_final.specs.Reading.{fault_in, part, AreFound}
 use Rattle.afs_final.specs.declared.reading.Left.{Left}
 use Rattle.afs_lending.specs.Lending.{faults_of, kept_disks, lends, with_faults, AreUnused, GivesBackAll, GivesBackSome, LendsSome}
-use Rattle.afs_top.specs.Outside.{span, IsUnchanged, Outside, RoseBy, Span}
+use Rattle.afs_top.specs.Outside.{span, IsUnchanged, Outside, RoseBy, Span, Writes, WritesText}
 use Rattle.afs_top.specs.Parts.{lend_status, returned, set_up_status, TellsLeft}
-use Rattle.afs_top.specs.Top.{lends_of, AreKept, AtBankFault, EndsReplay, EndsRun, FailsBehind, GivesBack, IsPlayed, IsPlayedFirst, LendingFails, Lends, LendsAll, LendsFirst, ReadingFails, Replays, ReplaysFirst, SetUpLeaves}
+use Rattle.afs_top.specs.Top.{lends_of, AreKept, AtBankFault, EndsReplay, EndsRun, FailsBehind, GivesBack, IsPlayed, IsPlayedFirst, IsPlayedSome, LendingFails, Lends, LendsAll, LendsFirst, ReadingFails, Replays, ReplaysFirst, ReplaysSome, SetUpLeaves}
 use Rattle.afs_top.specs.declared.statuses.Status.{Status}
 use Rattle.afs_top.specs.declared.statuses.Status.TheVariants as statuses
 use Rattle.afs_top.proofs.Counts.{counted, counts_lent, found_failed, found_no_less, grown, none_fell, one_grown, rose_once, rose_since, AtLeast}
-use Rattle.afs_top.proofs.Ending.{failed_behind, given_so, left_so, played_first, played_legally, read_so}
+use Rattle.afs_top.proofs.Ending.{failed_behind, given_so, left_so, played_first, played_legally, played_some, read_so}
 
 -- ---- the disks go back
 
@@ -74,7 +74,14 @@ All {D} seen may_leave faults limit s w = AllTell seen w.servers × HasPlayedAll
 abbrev First : {D : Type 0} → (D → Option (List ℕ)) → (D → List ℕ → Type 0) → (D → ℕ) → (D → ℕ) → Script → WorldState D → Type 0
 First {D} seen may_leave faults limit s w = AllTell seen w.servers × HasPlayedFirst seen may_leave faults limit s w
 
+-- some of its events were played
+abbrev Part : {D : Type 0} → (D → Option (List ℕ)) → (D → List ℕ → Type 0) → (D → ℕ) → (D → ℕ) → Script → WorldState D → Type 0
+Part {D} seen may_leave faults limit s w = AllTell seen w.servers × HasPlayedSome seen may_leave faults limit s w
+
 -- the text of its history
+written_told : {D : Type 0} (seen : D → Option (List ℕ)) (may_leave : D → List ℕ → Type 0) (faults limit : D → ℕ) (s : Script) (w : WorldState D) (wire : Bool) (o : Outside) → IsWorld seen may_leave faults limit s w → AreRead w.wire → Writes o (kept_history_text wire w.wire w.history) → Writes o (history_text wire (told w.wire w.history))
+written_told {D} seen may_leave faults limit s w wire o is read written = subst (λ (t : List ℕ). Writes o t) (history_told wire w.wire w.history read is.safe.sent) written
+
 whole_text : {D : Type 0} (seen : D → Option (List ℕ)) (may_leave : D → List ℕ → Type 0) (faults limit : D → ℕ) (s : Script) (w : WorldState D) (fs : List (Left (Store D) D)) (wire : Bool) → IsWorld seen may_leave faults limit s w → AreRead w.wire →
     kept_history_text wire w.wire w.history ++ final_text (map part fs) ≡ text wire (told w.wire w.history) (map part fs)
 unfolding text
@@ -97,19 +104,31 @@ replays {D} seen may_leave faults limit s w fs wire Writes excuse o is found non
     }
 
 -- a disk failed while it was read
-reading_fails : {D : Type 0} (seen : D → Option (List ℕ)) (may_leave : D → List ℕ → Type 0) (faults limit : D → ℕ) (s : Script) (w : WorldState D) (fs : List (Left (Store D) D)) (o : Outside)
-    → HasEnded seen may_leave faults limit s w → AreFound seen faults limit (lent_from 1 w.servers) fs → fault_in fs ≡ Some lending.Failed → IsUnchanged o.sink → GoesBack seen faults (kept_disks 1 fs) o → ReadingFails s (All seen may_leave faults limit s w) o
-reading_fails {D} seen may_leave faults limit s w fs o is found failed unwritten back =
+reading_fails : {D : Type 0} (seen : D → Option (List ℕ)) (may_leave : D → List ℕ → Type 0) (faults limit : D → ℕ) (s : Script) (w : WorldState D) (fs : List (Left (Store D) D)) (wire : Bool) (o : Outside)
+    → HasEnded seen may_leave faults limit s w → AreFound seen faults limit (lent_from 1 w.servers) fs → fault_in fs ≡ Some lending.Failed → Writes o (kept_history_text wire w.wire w.history) → GoesBack seen faults (kept_disks 1 fs) o → ReadingFails s wire (All seen may_leave faults limit s w) o
+reading_fails {D} seen may_leave faults limit s w fs wire o is found failed written back =
     let less = found_no_less seen faults limit 1 (lent_from 1 w.servers) fs found in
     let more = found_failed seen faults limit 1 (lent_from 1 w.servers) fs found failed in
     record {
       rose = rose_by 1 _ o.disk_faults back.counts (one_grown 0 _ _ less more (inl (omega (arith))));
-      written = unwritten;
-      told = λ p. failed_behind seen may_leave faults limit s w o.disk_faults is.world.safe.entries p.1 (rose_by _ _ o.disk_faults back.counts (one_grown _ _ _ less more (counts_lent faults _ 1 w.servers p.1.runs.counts)));
+      told = λ p. failed_behind seen may_leave faults limit is.law s w wire o is.one is.world.safe.entries p.1 (rose_by _ _ o.disk_faults back.counts (one_grown _ _ _ less more (counts_lent faults _ 1 w.servers p.1.runs.counts)))
+          (written_told seen may_leave faults limit s w wire o is.world p.1.runs.read written);
+    }
+
+-- memory was wanting for what was found
+reading_wants : {D : Type 0} (seen : D → Option (List ℕ)) (may_leave : D → List ℕ → Type 0) (faults limit : D → ℕ) (s : Script) (w : WorldState D) (fs : List (Left (Store D) D)) (wire : Bool) (o : Outside)
+    → HasEnded seen may_leave faults limit s w → AreFound seen faults limit (lent_from 1 w.servers) fs → Writes o (kept_history_text wire w.wire w.history) → GoesBack seen faults (kept_disks 1 fs) o → All seen may_leave faults limit s w → ReplaysSome s wire o
+reading_wants {D} seen may_leave faults limit s w fs wire o is found written back p =
+    let many = grown _ _ _ (found_no_less seen faults limit 1 (lent_from 1 w.servers) fs found) (counts_lent faults _ 1 w.servers p.1.runs.counts) in
+    let some : HasPlayedSome seen may_leave faults limit s w = record { inputs = p.1.inputs; cell = p.1.cell; runs = p.1.runs; played = inl p.1.played } in
+    record {
+      history = told w.wire w.history;
+      played = played_some seen may_leave faults limit is.law s w o.disk_faults is.one is.world.safe.entries some (rose_by _ _ o.disk_faults back.counts many);
+      written = written_told seen may_leave faults limit s w wire o is.world p.1.runs.read written;
     }
 
 pub ended : {D : Type 0} (seen : D → Option (List ℕ)) (may_leave : D → List ℕ → Type 0) (faults limit : D → ℕ) (s : Script) (w : WorldState D) (fs : List (Left (Store D) D)) (wire : Bool) (o : Outside) (status : Status) (taken : Result (Unit {0}) Failed)
-    → HasEnded seen may_leave faults limit s w → AreFound seen faults limit (lent_from 1 w.servers) fs → TellsLeft (kept_history_text wire w.wire w.history ++ final_text (map part fs)) (fault_in fs) o.sink o.sink_faults status
+    → HasEnded seen may_leave faults limit s w → AreFound seen faults limit (lent_from 1 w.servers) fs → TellsLeft (kept_history_text wire w.wire w.history) (final_text (map part fs)) (fault_in fs) o.sink o.sink_faults status
     → OnOk taken (GivesBackAll seen (kept_disks 1 fs) o.given.before o.given.after) → OnErr taken (Rose o.bank_faults.before o.bank_faults.after) → GoesBack seen faults (kept_disks 1 fs) o → EndsRun s wire (All seen may_leave faults limit s w) ⊥ ⊥ o (returned status taken)
 ended {D} seen may_leave faults limit s w fs wire o statuses.Done (Ok u) is found tells all cause back =
     λ p. replays seen may_leave faults limit s w fs wire (Appends o.sink.before o.sink.after) ⊥ o is found tells.0 tells.1 back (inl all) p
@@ -121,17 +140,37 @@ ended {D} seen may_leave faults limit s w fs wire o statuses.WriteFault taken is
       rose = tells.1.1;
       told = λ p. replays seen may_leave faults limit s w fs wire (AppendsFront o.sink.before o.sink.after) (RoseBy 1 o.bank_faults) o is found tells.0 tells.1.0 back (excused o.bank_faults.before o.bank_faults.after back.never_falls back.gives) p;
     }
-ended {D} seen may_leave faults limit s w fs wire o statuses.BankFault taken is found tells all cause back = inr (inr (inl (reading_fails seen may_leave faults limit s w fs o is found tells.0 tells.1 back)))
-ended {D} seen may_leave faults limit s w fs wire o statuses.OutOfMemory taken is found tells all cause back = tells
+ended {D} seen may_leave faults limit s w fs wire o statuses.BankFault taken is found tells all cause back = inr (inr (inl (reading_fails seen may_leave faults limit s w fs wire o is found tells.0 tells.1 back)))
+ended {D} seen may_leave faults limit s w fs wire o statuses.OutOfMemory taken is found tells all cause back = inr (λ p. reading_wants seen may_leave faults limit s w fs wire o is found tells back p)
 ended {D} seen may_leave faults limit s w fs wire o statuses.Usage taken is found tells all cause back = absurd tells
 ended {D} seen may_leave faults limit s w fs wire o (statuses.Script line reason) taken is found tells all cause back = absurd tells
 ended {D} seen may_leave faults limit s w fs wire o statuses.ReadFault taken is found tells all cause back = absurd tells
 ended {D} seen may_leave faults limit s w fs wire o statuses.Limit taken is found tells all cause back = absurd tells
 
+-- ---- memory was wanting in the run, or for the disks
+
+-- what is known of a world whose run is no more than begun, and may be lost
+pub record HasWanted {D : Type 0} (seen : D → Option (List ℕ)) (may_leave : D → List ℕ → Type 0) (faults limit : D → ℕ) (s : Script) (w : WorldState D) : Type 0 where
+  pub law : RunsAreLegal
+  pub one : IsOneServer s
+  pub world : IsWorld seen may_leave faults limit s w
+
+pub wanted : {D : Type 0} (seen : D → Option (List ℕ)) (may_leave : D → List ℕ → Type 0) (faults limit : D → ℕ) (s : Script) (w : WorldState D) (wire : Bool) (o : Outside)
+    → HasWanted seen may_leave faults limit s w → Writes o (kept_history_text wire w.wire w.history) → GoesBack seen faults (lent_from 1 w.servers) o → Part seen may_leave faults limit s w → ReplaysSome s wire o
+wanted {D} seen may_leave faults limit s w wire o is written back p = record {
+  history = told w.wire w.history;
+  played = played_some seen may_leave faults limit is.law s w o.disk_faults is.one is.world.safe.entries p.1 (rose_by _ _ o.disk_faults back.counts (counts_lent faults _ 1 w.servers p.1.runs.counts));
+  written = written_told seen may_leave faults limit s w wire o is.world p.1.runs.read written;
+}
+
+-- all was played by then
+pub all_wanted : {D : Type 0} (seen : D → Option (List ℕ)) (may_leave : D → List ℕ → Type 0) (faults limit : D → ℕ) (s : Script) (w : WorldState D) → All seen may_leave faults limit s w → Part seen may_leave faults limit s w
+all_wanted {D} seen may_leave faults limit s w p = (p.0, record { inputs = p.1.inputs; cell = p.1.cell; runs = p.1.runs; played = inl p.1.played })
+
 -- ---- one whose history was full before that
 
 pub was_cut : {D : Type 0} (seen : D → Option (List ℕ)) (may_leave : D → List ℕ → Type 0) (faults limit : D → ℕ) (s : Script) (w : WorldState D) (wire : Bool) (o : Outside)
-    → HasEnded seen may_leave faults limit s w → AppendsFront o.sink.before o.sink.after (kept_history_text wire w.wire w.history) → GoesBack seen faults (lent_from 1 w.servers) o → EndsRun s wire (First seen may_leave faults limit s w) ⊥ ⊥ o statuses.Limit
+    → HasEnded seen may_leave faults limit s w → Writes o (kept_history_text wire w.wire w.history) → GoesBack seen faults (lent_from 1 w.servers) o → EndsRun s wire (First seen may_leave faults limit s w) ⊥ ⊥ o statuses.Limit
 was_cut {D} seen may_leave faults limit s w wire o is written back = λ p.
     let cell = p.1.0.runs.cell_is is.going in
     let left = left_so seen may_leave limit w p.1.0.cell cell p.0 (is.standing p.0 p.1.0.cell cell) in
@@ -139,7 +178,7 @@ was_cut {D} seen may_leave faults limit s w wire o is written back = λ p.
       history = told w.wire w.history;
       kept = left.0;
       played = played_first seen may_leave faults limit is.law s w o.disk_faults left.0 is.one p.1 (rose_by _ _ o.disk_faults back.counts (counts_lent faults _ 1 w.servers p.1.0.runs.counts)) left.1.keep;
-      written = subst (λ (t : List ℕ). AppendsFront o.sink.before o.sink.after t) (history_told wire w.wire w.history p.1.0.runs.read is.world.safe.sent) written;
+      written = written_told seen may_leave faults limit s w wire o is.world p.1.0.runs.read written;
       given = given_so (RoseBy 1 o.bank_faults) seen p.1.0.cell left.0 (lent_from 1 w.servers) o.given.before o.given.after left.1 (excused o.bank_faults.before o.bank_faults.after back.never_falls back.gives) back.some;
     }
 
@@ -153,7 +192,7 @@ not_set_up {D} seen may_leave faults s wire tells disks (setup.Disk n, back) o u
       written = unwritten;
       only_set_up = record { lent = disks; unused = unused; back = back; left = left; given = gone.some };
     }))
-not_set_up {D} seen may_leave faults s wire tells disks (setup.OutOfMemory, back) o unused refused left unwritten gone = unwritten
+not_set_up {D} seen may_leave faults s wire tells disks (setup.OutOfMemory, back) o unused refused left unwritten gone = inl unwritten
 
 -- ---- seen from before
 
@@ -208,13 +247,24 @@ replays_since s wire Writes WritesToo a b o earlier since w f r = record {
   given = given_since a b o earlier since f r.kept r.given;
 }
 
+writes_since : (o earlier : Outside) → Since o earlier → (t : List ℕ) → Writes o t → Writes earlier t
+writes_since o earlier since t w =
+    subst (λ (x : Span (Option (List ℕ))). WritesText x earlier.sink_faults t) (sym since.sink) (subst (λ (x : Span ℕ). WritesText o.sink x t) (sym since.sink_faults) w)
+
 first_since : (s : Script) (wire : Bool) (a b : Type 0) (o earlier : Outside) → Since o earlier → (a → b) → ReplaysFirst s wire a o → ReplaysFirst s wire b earlier
 first_since s wire a b o earlier since f r = record {
   history = r.history;
   kept = r.kept;
   played = subst (λ (x : Span ℕ). IsPlayedFirst s x r.history r.kept) (sym since.disk_faults) r.played;
-  written = subst (λ (x : Span (Option (List ℕ))). AppendsFront x.before x.after (history_text wire r.history)) (sym since.sink) r.written;
+  written = writes_since o earlier since (history_text wire r.history) r.written;
   given = given_since a b o earlier since f r.kept r.given;
+}
+
+some_since : (s : Script) (wire : Bool) (o earlier : Outside) → Since o earlier → ReplaysSome s wire o → ReplaysSome s wire earlier
+some_since s wire o earlier since r = record {
+  history = r.history;
+  played = subst (λ (x : Span ℕ). IsPlayedSome s x r.history) (sym since.disk_faults) r.played;
+  written = writes_since o earlier since (history_text wire r.history) r.written;
 }
 
 whole_since : (o earlier : Outside) → Since o earlier → (t : List ℕ) → Appends o.sink.before o.sink.after t → Appends earlier.sink.before earlier.sink.after t
@@ -229,15 +279,23 @@ unwritten_since o earlier since w = subst (λ (x : Span (Option (List ℕ))). Is
 disks_since : (n : ℕ) (o earlier : Outside) → Since o earlier → RoseBy n o.disk_faults → RoseBy n earlier.disk_faults
 disks_since n o earlier since rose = subst (λ (x : Span ℕ). RoseBy n x) (sym since.disk_faults) rose
 
-behind_since : (s : Script) (o earlier : Outside) → Since o earlier → FailsBehind s o.disk_faults → FailsBehind s earlier.disk_faults
-behind_since s o earlier since b = subst (λ (x : Span ℕ). FailsBehind s x) (sym since.disk_faults) b
+behind_since : (s : Script) (wire : Bool) (o earlier : Outside) → Since o earlier → FailsBehind s wire o → FailsBehind s wire earlier
+behind_since s wire o earlier since b = record {
+  history = b.history;
+  end = b.end;
+  is = b.is;
+  few = b.few;
+  rose = subst (λ (x : Span ℕ). RoseBy (own_falls b.is.inputs + 1) x) (sym since.disk_faults) b.rose;
+  legal = b.legal;
+  written = writes_since o earlier since (history_text wire b.history) b.written;
+}
 
 bank_fault_since : (s : Script) (wire : Bool) (tells tells_too left left_too unlent : Type 0) (o earlier : Outside) → Since o earlier → (tells_too → tells) → (left → left_too) → AtBankFault s wire tells left ⊥ o → AtBankFault s wire tells_too left_too unlent earlier
 bank_fault_since s wire tells tells_too left left_too unlent o earlier since t l (inl h) = absurd h
 bank_fault_since s wire tells tells_too left left_too unlent o earlier since t l (inr (inl h)) =
     inr (inl (record { rose = disks_since 1 o earlier since h.rose; written = unwritten_since o earlier since h.written; only_set_up = l h.only_set_up }))
 bank_fault_since s wire tells tells_too left left_too unlent o earlier since t l (inr (inr (inl h))) =
-    inr (inr (inl (record { rose = disks_since 1 o earlier since h.rose; written = unwritten_since o earlier since h.written; told = λ x. behind_since s o earlier since (h.told (t x)) })))
+    inr (inr (inl (record { rose = disks_since 1 o earlier since h.rose; told = λ x. behind_since s wire o earlier since (h.told (t x)) })))
 bank_fault_since s wire tells tells_too left left_too unlent o earlier since t l (inr (inr (inr h))) =
     inr (inr (inr (record { rose = bank_since o earlier since h.rose; told = λ x. replays_since s wire _ _ _ _ o earlier since (whole_since o earlier since) (bank_since o earlier since) (h.told (t x)) })))
 
@@ -249,7 +307,8 @@ ends_since s wire tells tells_too left left_too unlent o earlier statuses.WriteF
       told = λ x. replays_since s wire _ _ _ _ o earlier since (front_since o earlier since) (bank_since o earlier since) (h.told (t x));
     }
 ends_since s wire tells tells_too left left_too unlent o earlier statuses.BankFault since t l h = bank_fault_since s wire tells tells_too left left_too unlent o earlier since t l h
-ends_since s wire tells tells_too left left_too unlent o earlier statuses.OutOfMemory since t l h = unwritten_since o earlier since h
+ends_since s wire tells tells_too left left_too unlent o earlier statuses.OutOfMemory since t l (inl h) = inl (unwritten_since o earlier since h)
+ends_since s wire tells tells_too left left_too unlent o earlier statuses.OutOfMemory since t l (inr h) = inr (λ x. some_since s wire o earlier since (h (t x)))
 ends_since s wire tells tells_too left left_too unlent o earlier statuses.Limit since t l h = λ x. first_since s wire _ _ o earlier since (bank_since o earlier since) (h (t x))
 ends_since s wire tells tells_too left left_too unlent o earlier statuses.Usage since t l h = absurd h
 ends_since s wire tells tells_too left left_too unlent o earlier (statuses.Script line reason) since t l h = absurd h
@@ -287,7 +346,7 @@ pub not_lent : (s : Script) (wire : Bool) (place : Place) (tells left : Type 0) 
 not_lent s wire place tells left lending.Failed n o result status first short lent unwritten cause is meant =
     subst (λ (x : Status). EndsReplay s wire place tells left o x) (sym (is ∙ meant)) (record { lent = first; run = inl (record { count = n; short = short refl; lent = lent; rose = cause refl; written = unwritten }) })
 not_lent s wire place tells left lending.OutOfMemory n o result status first short lent unwritten cause is meant =
-    subst (λ (x : Status). EndsReplay s wire place tells left o x) (sym (is ∙ meant)) (record { lent = first; run = unwritten })
+    subst (λ (x : Status). EndsReplay s wire place tells left o x) (sym (is ∙ meant)) (record { lent = first; run = inl unwritten })
 
 -- what was lent, and the bank's count, behind the disks that went back
 pub lent_before : (place : Place) (capacity n : ℕ) (l0 l1 l2 : Option (List Lend)) → l1 ≡ option_map (λ ls. ls ++ lends place capacity 1 n) l0 → l2 ≡ l1 → l2 ≡ option_map (λ ls. ls ++ lends place capacity 1 n) l0

@@ -1,6 +1,6 @@
 -- The end of a replay: its history is legal, what was read from the disks is what the history leaves, and so are the disks that were
 -- given back.
-use Rattle.std.specs.Prelude.{◌≡◌, ◌≤◌, ◌<◌, ◌⊎◌, ℕ, zero, suc, ◌+◌, List, [], ◌∷◌, ◌++◌, drop, map, length, false, Option, Some, None, IsSome}
+use Rattle.std.specs.Prelude.{◌≡◌, ◌≤◌, ◌<◌, ◌⊎◌, ℕ, zero, suc, ◌+◌, List, [], ◌∷◌, ◌++◌, drop, map, length, Bool, false, Option, Some, None, IsSome}
 use Rattle.std.proofs.Common.{refl, ap, sym, subst, ◌∙◌, inl, inr, append_assoc, arith}
 use Rattle.std.proofs.lemmas.List.{append-nil}
 use Rattle.afs_num.specs.Places.{at_place}
@@ -17,17 +17,18 @@ use Rattle.afs_records.proofs.Forms.{some_is}
 use Rattle.afs_rows.specs.Runs.{Cell, RunsTo}
 use Rattle.afs_law.specs.Laws.{RunsAreLegal}
 use Rattle.afs_law.specs.OneServer.{IsOneServer}
+use Rattle.afs_text.specs.HistoryText.{history_text}
 use Rattle.afs_text.specs.Telling.{told}
 use Rattle.afs_volstore.specs.Stores.{Store}
 use Rattle.afs_cell.specs.Places.{Each}
-use Rattle.afs_cell.specs.Steps.{lent_from, AreStanding, HasPlayedAll, HasPlayedFirst, MayBeRead}
+use Rattle.afs_cell.specs.Steps.{lent_from, AreStanding, HasPlayedAll, HasPlayedFirst, HasPlayedSome, MayBeRead}
 use Rattle.afs_cell.specs.Worlds.{most_entries, own_falls, seat_disk, AllTell, IsCell, ServerSeat, WorldState}
 use Rattle.afs_final.specs.Reading.{fault_in, kept_disk, part, AreFound, IsFound, IsRead}
 use Rattle.afs_final.specs.declared.reading.Left.{Left}
 use Rattle.afs_final.specs.declared.reading.Left.TheVariants as left
 use Rattle.afs_lending.specs.Lending.{kept_disks, GivesBackAll, GivesBackSome}
-use Rattle.afs_top.specs.Outside.{RoseBy, Span}
-use Rattle.afs_top.specs.Top.{AreKept, FailsBehind, GivesBack, IsPlayed, IsPlayedFirst, MayKeep}
+use Rattle.afs_top.specs.Outside.{Outside, RoseBy, Span, Writes}
+use Rattle.afs_top.specs.Top.{AreKept, FailsBehind, GivesBack, IsPlayed, IsPlayedFirst, IsPlayedSome, MayKeep}
 
 some_of : {A : Type 0} (o : Option A) → IsSome o → (x : A) × (o ≡ Some x)
 some_of {A} None some = absurd cc
@@ -242,12 +243,27 @@ played_first {D} seen may_leave faults limit law s w counts kept one p failures 
   keep = keep;
 }
 
+-- however far
+pub played_some : {D : Type 0} (seen : D → Option (List ℕ)) (may_leave : D → List ℕ → Type 0) (faults limit : D → ℕ) (law : RunsAreLegal) (s : Script) (w : WorldState D) (counts : Span ℕ) → IsOneServer s → length w.history ≤ most_entries → (p : HasPlayedSome seen may_leave faults limit s w) → RoseBy (own_falls p.inputs) counts → IsPlayedSome s counts (told w.wire w.history)
+played_some {D} seen may_leave faults limit law s w counts one few p failures = record {
+  inputs = p.inputs;
+  end = p.cell;
+  leads = p.runs.leads;
+  acts = p.played;
+  few = omega (arith, length_told w.wire w.history, few);
+  failures = failures;
+  legal = law s (told w.wire w.history) p.cell one (record { inputs = p.inputs; leads = p.runs.leads });
+}
+
 -- all was played, and a disk failed behind it
-pub failed_behind : {D : Type 0} (seen : D → Option (List ℕ)) (may_leave : D → List ℕ → Type 0) (faults limit : D → ℕ) (s : Script) (w : WorldState D) (counts : Span ℕ) → length w.history ≤ most_entries → (p : HasPlayedAll seen may_leave faults limit s w) → RoseBy (own_falls p.inputs + 1) counts → FailsBehind s counts
-failed_behind {D} seen may_leave faults limit s w counts few p rose = record {
+pub failed_behind : {D : Type 0} (seen : D → Option (List ℕ)) (may_leave : D → List ℕ → Type 0) (faults limit : D → ℕ) (law : RunsAreLegal) (s : Script) (w : WorldState D) (wire : Bool) (o : Outside) → IsOneServer s → length w.history ≤ most_entries → (p : HasPlayedAll seen may_leave faults limit s w) → RoseBy (own_falls p.inputs + 1) o.disk_faults
+    → Writes o (history_text wire (told w.wire w.history)) → FailsBehind s wire o
+failed_behind {D} seen may_leave faults limit law s w wire o one few p rose written = record {
   history = told w.wire w.history;
   end = p.cell;
   is = record { inputs = p.inputs; leads = p.runs.leads; acts = p.played };
   few = omega (arith, length_told w.wire w.history, few);
   rose = rose;
+  legal = law s (told w.wire w.history) p.cell one (record { inputs = p.inputs; leads = p.runs.leads });
+  written = written;
 }

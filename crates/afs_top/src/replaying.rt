@@ -1,21 +1,21 @@
 //! A script is played over the disks of its servers, and its history is written.
 
-ghost use Rattle.std.specs.Prelude.{◌≡◌, ◌≤◌, ◌⊎◌, ◌++◌, length, map, false};
+ghost use Rattle.std.specs.Prelude.{◌≡◌, ◌≤◌, ◌⊎◌, ◌++◌, ℕ, List, [], Bool, Option, length, map, false};
 ghost use Rattle.afs_disk.specs.Disk.{Rose};
 ghost use Rattle.afs_law.specs.OneServer.{IsOneServer};
 ghost use Rattle.afs_grammar.specs.CellScripts.{IsCellScript};
 ghost use Rattle.afs_outside.specs.Outside.{Puts};
-ghost use Rattle.afs_cell.specs.Steps.{AreLent, HasPlayedAll, HasPlayedFirst, LentTell};
-ghost use Rattle.afs_cell.specs.Worlds.{AllTell, IsWorld};
+ghost use Rattle.afs_cell.specs.Since.{whole, IsWorldSince};
+ghost use Rattle.afs_cell.specs.Steps.{AreLent, HasPlayedAll, HasPlayedFirst, HasPlayedSome, LentTell};
+ghost use Rattle.afs_cell.specs.Worlds.{AllTell, HistoryTold};
 ghost use Rattle.afs_final.specs.Reading.{part};
 ghost use Rattle.afs_final.specs.Reading as read;
 ghost use Rattle.afs_final.specs.Telling.{final_of};
 ghost use Rattle.afs_lending.specs.Lending.{faults_of, with_faults, AreUnused, GivesBackAll, GivesBackSome};
 ghost use Rattle.afs_text.specs.FinalText.{final_text};
-ghost use Rattle.afs_text.specs.KeptText.{kept_history_text};
-ghost use Rattle.afs_text.specs.Telling.{sent_by};
 ghost use Rattle.afs_top.specs.Outside.{span};
 ghost use Rattle.afs_top.specs.Parts.{lend_status, returned, set_up_status, TellsLeft};
+ghost use Rattle.afs_top.specs.Playing.{IsWritten, PutsBehind};
 ghost use Rattle.afs_top.specs.Top.{EndsReplay, EndsRun, SetUpLeaves};
 
 use crate::playing::{Ended, Told, play};
@@ -80,9 +80,19 @@ fn put_rest<K: Sink>(
     sink: &mut K,
     kept: &[Kept<'_>],
     written: Result<(), Failed>,
-) -> Result<(), Failed> {
+) -> Result<(), Failed>
+    ensures { PutsBehind (final_of kept.now) (K.held sink.old) (K.held sink.new) (K.faults sink.old) (K.faults sink.new) written result }
+{
     written?;
     put_final(sink, kept)?;
+    pass_on(sink)
+}
+
+/// Passes on what was written, if all was.
+fn put_no_more<K: Sink>(sink: &mut K, written: Result<(), Failed>) -> Result<(), Failed>
+    ensures { PutsBehind [] (K.held sink.old) (K.held sink.new) (K.faults sink.old) (K.faults sink.new) written result }
+{
+    written?;
     pass_on(sink)
 }
 
@@ -94,6 +104,7 @@ fn tell_left<K: Sink, D: Disk>(
     written: Result<(), Failed>,
 ) -> Status
     requires few { length left.now ≤ 8 }
+    ensures { (text : List ℕ) (start : Option (List ℕ)) (count : ℕ) → Puts text start (K.held sink.old) count (K.faults sink.old) written → TellsLeft text (final_text (map part left.now)) (read.fault_in left.now) (span start (K.held sink.new)) (span count (K.faults sink.new)) result }
 {
     if let Some(fault) = fault_in(left) {
         return status_of_lend(fault);
@@ -114,8 +125,17 @@ fn end<K: Sink, B: Bank<D: Drop>>(
     written: Result<(), Failed>,
     sink: &mut K,
     bank: &mut B,
-) -> Status {
-    let left = match left_of(alloc, world.end()) {
+) -> Status
+    requires world { IsWorldSince B.D.seen B.D.may_leave B.D.faults B.D.limit world }
+    requires going { world.is_lost ≡ false }
+    requires one { IsOneServer world.script }
+    ensures ends { (wire : Bool) (start : Option (List ℕ)) (count : ℕ) (gone : HistoryTold) → IsWritten B.D.seen B.D.may_leave B.D.faults B.D.limit wire start count gone world.entry (K.held sink.old) (K.faults sink.old) written → EndsRun world.entry.script wire (AllTell B.D.seen world.entry.servers × HasPlayedAll B.D.seen B.D.may_leave B.D.faults B.D.limit world.entry.script (whole gone world.entry)) ⊥ ⊥ (record { sink = span start (K.held sink.new); lends = span (B.lends bank.old) (B.lends bank.new); given = span (B.given bank.old) (B.given bank.new); sink_faults = span count (K.faults sink.new); bank_faults = span (B.faults bank.old) (B.faults bank.new); disk_faults = span (B.lent_faults bank.old) (B.lent_faults bank.new) }) result }
+    ensures lends { B.lends bank.new ≡ B.lends bank.old }
+    ensures never_falls { B.faults bank.old ≤ B.faults bank.new }
+{
+    runs_are_legal();
+    let disks = world.end();
+    let left = match left_of(alloc, disks) {
         Ok(left) => left,
         Err(disks) => return give_up(bank, disks, Status::OutOfMemory),
     };
@@ -130,11 +150,37 @@ fn cut<K: Sink, B: Bank<D: Drop>>(
     written: Result<(), Failed>,
     sink: &mut K,
     bank: &mut B,
-) -> Status {
-    if written.is_ok() {
-        let _passed = pass_on(sink);
-    }
-    give_up(bank, world.end(), Status::Limit)
+) -> Status
+    requires world { IsWorldSince B.D.seen B.D.may_leave B.D.faults B.D.limit world }
+    requires going { world.is_lost ≡ false }
+    requires one { IsOneServer world.script }
+    ensures ends { (wire : Bool) (start : Option (List ℕ)) (count : ℕ) (gone : HistoryTold) → IsWritten B.D.seen B.D.may_leave B.D.faults B.D.limit wire start count gone world.entry (K.held sink.old) (K.faults sink.old) written → EndsRun world.entry.script wire (AllTell B.D.seen world.entry.servers × HasPlayedFirst B.D.seen B.D.may_leave B.D.faults B.D.limit world.entry.script (whole gone world.entry)) ⊥ ⊥ (record { sink = span start (K.held sink.new); lends = span (B.lends bank.old) (B.lends bank.new); given = span (B.given bank.old) (B.given bank.new); sink_faults = span count (K.faults sink.new); bank_faults = span (B.faults bank.old) (B.faults bank.new); disk_faults = span (B.lent_faults bank.old) (B.lent_faults bank.new) }) result }
+    ensures lends { B.lends bank.new ≡ B.lends bank.old }
+    ensures never_falls { B.faults bank.old ≤ B.faults bank.new }
+{
+    runs_are_legal();
+    let disks = world.end();
+    let _passed = put_no_more(sink, written);
+    give_up(bank, disks, Status::Limit)
+}
+
+/// Memory was wanting: the disks are given back.
+fn give_in<K: Sink, B: Bank<D: Drop>>(
+    world: World<'_, B::D>,
+    written: Result<(), Failed>,
+    sink: &mut K,
+    bank: &mut B,
+) -> Status
+    requires world { IsWorldSince B.D.seen B.D.may_leave B.D.faults B.D.limit world }
+    requires one { IsOneServer world.script }
+    ensures ends { (wire : Bool) (start : Option (List ℕ)) (count : ℕ) (gone : HistoryTold) → IsWritten B.D.seen B.D.may_leave B.D.faults B.D.limit wire start count gone world.entry (K.held sink.old) (K.faults sink.old) written → EndsRun world.entry.script wire (AllTell B.D.seen world.entry.servers × HasPlayedSome B.D.seen B.D.may_leave B.D.faults B.D.limit world.entry.script (whole gone world.entry)) ⊥ ⊥ (record { sink = span start (K.held sink.new); lends = span (B.lends bank.old) (B.lends bank.new); given = span (B.given bank.old) (B.given bank.new); sink_faults = span count (K.faults sink.new); bank_faults = span (B.faults bank.old) (B.faults bank.new); disk_faults = span (B.lent_faults bank.old) (B.lent_faults bank.new) }) result }
+    ensures lends { B.lends bank.new ≡ B.lends bank.old }
+    ensures never_falls { B.faults bank.old ≤ B.faults bank.new }
+{
+    runs_are_legal();
+    let disks = world.end();
+    let _passed = put_no_more(sink, written);
+    give_up(bank, disks, Status::OutOfMemory)
 }
 
 /// The script's cell is set up over these disks and played to its end.
@@ -145,7 +191,16 @@ fn replay_over<K: Sink, B: Bank<D: Drop>>(
     wire: bool,
     sink: &mut K,
     bank: &mut B,
-) -> Status {
+) -> Status
+    requires script { IsCellScript script.now }
+    requires one { IsOneServer script.now }
+    requires lent { AreLent B.D.limit script.now.capacity 1 disks }
+    requires all { length disks ≡ script.now.servers }
+    requires unused { AreUnused B.D.faults disks }
+    ensures ends { EndsRun script.now wire (LentTell B.D.seen disks) (SetUpLeaves B.D.seen B.D.may_leave B.D.faults script.now (record { sink = span (K.held sink.old) (K.held sink.new); lends = span (B.lends bank.old) (B.lends bank.new); given = span (B.given bank.old) (B.given bank.new); sink_faults = span (K.faults sink.old) (K.faults sink.new); bank_faults = span (B.faults bank.old) (B.faults bank.new); disk_faults = span (B.lent_faults bank.old) (B.lent_faults bank.new) })) ⊥ (record { sink = span (K.held sink.old) (K.held sink.new); lends = span (B.lends bank.old) (B.lends bank.new); given = span (B.given bank.old) (B.given bank.new); sink_faults = span (K.faults sink.old) (K.faults sink.new); bank_faults = span (B.faults bank.old) (B.faults bank.new); disk_faults = span (B.lent_faults bank.old) (B.lent_faults bank.new) }) result }
+    ensures lends { B.lends bank.new ≡ B.lends bank.old }
+    ensures never_falls { B.faults bank.old ≤ B.faults bank.new }
+{
     let world = match set_up(alloc, script, disks) {
         Ok(world) => world,
         Err((fault, disks)) => return give_up(bank, disks, status_of_setup(fault)),
@@ -158,7 +213,7 @@ fn replay_over<K: Sink, B: Bank<D: Drop>>(
     match ended {
         Ended::All => end(alloc, world, written, sink, bank),
         Ended::Limit => cut(world, written, sink, bank),
-        Ended::OutOfMemory => give_up(bank, world.end(), Status::OutOfMemory),
+        Ended::OutOfMemory => give_in(world, written, sink, bank),
     }
 }
 
