@@ -2,7 +2,7 @@
 use Rattle.std.specs.Prelude.{◌≡◌, ◌≤◌, ◌<◌, ◌⊎◌, ℕ, zero, suc, ◌+◌, List, [], ◌∷◌, ◌++◌, length, map, Bool, false, Option, Some, None, Result, Ok, Err, OnOk, OnErr}
 use Rattle.std.proofs.Common.{refl, ap, sym, subst, ◌∙◌, inl, inr, arith}
 use Rattle.afs_num.specs.Nodes.{IsNode}
-use Rattle.afs_num.specs.declared.devices.Failed.{Failed}
+use Rattle.afs_num.specs.declared.devices.Failed as bank
 use Rattle.afs_num.specs.declared.types.Node.TheVariants.{Server}
 use Rattle.afs_history.specs.declared.scripts.Script.{Script}
 use Rattle.afs_disk.specs.Disk.{Rose}
@@ -10,23 +10,23 @@ use Rattle.afs_disk.specs.declared.disks.Lent.{Lent}
 use Rattle.afs_grammar.specs.CellScripts.{IsCellScript}
 use Rattle.afs_law.specs.Laws.{RunsAreLegal}
 use Rattle.afs_law.specs.OneServer.{IsOneServer}
-use Rattle.afs_outside.specs.Outside.{AppendsFront}
+use Rattle.afs_outside.specs.declared.outside.Failed.{Failed}
 use Rattle.afs_rows.specs.Runs.{Cell}
 use Rattle.afs_text.specs.FinalText.{final_text}
-use Rattle.afs_text.specs.KeptText.{kept_history_text}
-use Rattle.afs_text.specs.Telling.{sent_by}
 use Rattle.afs_volstore.specs.Stores.{Store}
-use Rattle.afs_cell.specs.Steps.{lent_from, AreLent, AreStanding, HasPlayedAll, HasPlayedFirst}
+use Rattle.afs_cell.specs.Since.{whole, StandsSince}
+use Rattle.afs_cell.specs.Steps.{lent_from, AreLent, AreStanding, HasPlayedAll, HasPlayedFirst, HasPlayedSome}
 use Rattle.afs_cell.specs.Worlds.{AllTell, HistoryTold, IsCell, IsWorld, ServerSeat, WorldState}
 use Rattle.afs_final.specs.Reading.{fault_in, part, AreFound, AreReadable}
 use Rattle.afs_final.specs.declared.reading.Left.{Left}
 use Rattle.afs_lending.specs.Lending.{faults_of, kept_disks, with_faults, GivesBackAll, GivesBackSome}
-use Rattle.afs_top.specs.Outside.{Outside}
+use Rattle.afs_top.specs.Outside.{Outside, Writes}
 use Rattle.afs_top.specs.Parts.{returned, TellsLeft}
+use Rattle.afs_top.specs.Playing.{world_text, IsWritten}
 use Rattle.afs_top.specs.Top.{EndsRun}
 use Rattle.afs_top.specs.declared.statuses.Status.{Status}
 use Rattle.afs_top.specs.declared.statuses.Status.TheVariants as statuses
-use Rattle.afs_top.proofs.Ended.{ended, was_cut, GoesBack, HasEnded}
+use Rattle.afs_top.proofs.Ended.{all_wanted, ended, wanted, was_cut, GoesBack, HasEnded}
 
 -- ---- the disks can be read
 
@@ -67,56 +67,61 @@ pub few_left : {D : Type 0} (seen : D → Option (List ℕ)) (may_leave : D → 
 few_left {D} seen may_leave faults limit s w disks fs is are found =
     omega (arith, found_length seen faults limit disks fs found, ap (λ (ls : List (Lent D)). length ls) are, lent_length 1 w.servers, is.safe.server_count, is.safe.cell_script.servers.1)
 
-pub all_sent : {D : Type 0} (seen : D → Option (List ℕ)) (may_leave : D → List ℕ → Type 0) (faults limit : D → ℕ) (s : Script) (w : WorldState D) (t : HistoryTold) → IsWorld seen may_leave faults limit s w → (t.wire ≡ w.wire) × (t.history ≡ w.history) → sent_by t.history ≡ length t.wire
-all_sent {D} seen may_leave faults limit s w t is same = ap (λ (es : List _). sent_by es) same.1 ∙ (is.safe.sent ∙ ap (λ (ps : List _). length ps) (sym same.0))
-
 -- ---- the world ends
 
--- what the end of a world promises
-pub record IsOver {D : Type 0} (seen : D → Option (List ℕ)) (may_leave : D → List ℕ → Type 0) (limit : D → ℕ) (w : WorldState D) (t : HistoryTold) (disks : List (Lent D)) : Type 0 where
-  pub told : (t.wire ≡ w.wire) × (t.history ≡ w.history)
+-- what the end of a world promises, together with what was let go of it
+pub record IsOver {D : Type 0} (seen : D → Option (List ℕ)) (may_leave : D → List ℕ → Type 0) (limit : D → ℕ) (w : WorldState D) (disks : List (Lent D)) : Type 0 where
   pub are : disks ≡ lent_from 1 w.servers
-  pub standing : w.is_lost ≡ false → AllTell seen w.servers → (c : Cell) → IsCell seen may_leave limit w c → AreStanding seen limit c disks
+  pub standing : StandsSince seen may_leave limit w disks
 
-has_ended : {D : Type 0} (seen : D → Option (List ℕ)) (may_leave : D → List ℕ → Type 0) (faults limit : D → ℕ) (s : Script) (w : WorldState D) (t : HistoryTold) (disks : List (Lent D)) → RunsAreLegal → IsOneServer s → IsWorld seen may_leave faults limit s w → w.is_lost ≡ false → IsOver seen may_leave limit w t disks → HasEnded seen may_leave faults limit s w
-has_ended {D} seen may_leave faults limit s w t disks law one world going over = record {
+has_ended : {D : Type 0} (seen : D → Option (List ℕ)) (may_leave : D → List ℕ → Type 0) (faults limit : D → ℕ) (wire : Bool) (start : Option (List ℕ)) (count : ℕ) (gone : HistoryTold) (w : WorldState D) (now : Option (List ℕ)) (counted : ℕ) (written : Result (Unit {0}) Failed) (disks : List (Lent D))
+    → RunsAreLegal → IsOneServer w.script → w.is_lost ≡ false → IsWritten seen may_leave faults limit wire start count gone w now counted written → IsOver seen may_leave limit w disks → HasEnded seen may_leave faults limit w.script (whole gone w)
+has_ended {D} seen may_leave faults limit wire start count gone w now counted written disks law one going told over = record {
   law = law;
   one = one;
-  world = world;
+  world = told.world;
   going = going;
-  standing = λ tells c is. subst (λ (ls : List (Lent D)). AreStanding seen limit c ls) over.are (over.standing going tells c is);
+  standing = λ tells c is. subst (λ (ls : List (Lent D)). AreStanding seen limit c ls) over.are (over.standing going gone told.is told.world.safe c is);
 }
 
-gives_of : {D : Type 0} (seen : D → Option (List ℕ)) (disks : List (Lent D)) (o : Outside) (taken : Result (Unit {0}) Failed) → OnOk taken (GivesBackAll seen disks o.given.before o.given.after) → OnErr taken (Rose o.bank_faults.before o.bank_faults.after) → GivesBackAll seen disks o.given.before o.given.after ⊎ Rose o.bank_faults.before o.bank_faults.after
+gives_of : {D : Type 0} (seen : D → Option (List ℕ)) (disks : List (Lent D)) (o : Outside) (taken : Result (Unit {0}) bank.Failed) → OnOk taken (GivesBackAll seen disks o.given.before o.given.after) → OnErr taken (Rose o.bank_faults.before o.bank_faults.after) → GivesBackAll seen disks o.given.before o.given.after ⊎ Rose o.bank_faults.before o.bank_faults.after
 gives_of {D} seen disks o (Ok u) all cause = inl all
 gives_of {D} seen disks o (Err f) all cause = inr cause
 
-pub end_of : {D : Type 0} (seen : D → Option (List ℕ)) (may_leave : D → List ℕ → Type 0) (faults limit : D → ℕ) (s : Script) (w : WorldState D) (t : HistoryTold) (disks : List (Lent D)) (fs : List (Left (Store D) D)) (wire : Bool) (o : Outside) (status result : Status) (taken : Result (Unit {0}) Failed)
-    → RunsAreLegal → IsOneServer s → IsWorld seen may_leave faults limit s w → w.is_lost ≡ false → IsOver seen may_leave limit w t disks → AreFound seen faults limit disks fs
-    → TellsLeft (kept_history_text wire t.wire t.history ++ final_text (map part fs)) (fault_in fs) o.sink o.sink_faults status
-    → OnOk taken (GivesBackAll seen (kept_disks 1 fs) o.given.before o.given.after) → GivesBackSome seen (kept_disks 1 fs) o.given.before o.given.after → OnErr taken (Rose o.bank_faults.before o.bank_faults.after)
-    → o.disk_faults.after ≡ with_faults (faults_of faults (kept_disks 1 fs)) o.disk_faults.before → o.bank_faults.before ≤ o.bank_faults.after → result ≡ returned status taken
-    → EndsRun s wire (AllTell seen w.servers × HasPlayedAll seen may_leave faults limit s w) ⊥ ⊥ o result
-end_of {D} seen may_leave faults limit s w t disks fs wire o status result taken law one world going over found tells all some cause counts never_falls are =
-    let is = has_ended seen may_leave faults limit s w t disks law one world going over in
-    let found_here = subst (λ (ls : List (Lent D)). AreFound seen faults limit ls fs) over.are found in
-    let same : kept_history_text wire t.wire t.history ≡ kept_history_text wire w.wire w.history =
-    ap (λ (ps : List _). kept_history_text wire ps t.history) over.told.0 ∙ ap (λ (es : List _). kept_history_text wire w.wire es) over.told.1 in
-    let tells_here = subst (λ (x : List ℕ). TellsLeft (x ++ final_text (map part fs)) (fault_in fs) o.sink o.sink_faults status) same tells in
-    let back : GoesBack seen faults (kept_disks 1 fs) o = record { gives = gives_of seen (kept_disks 1 fs) o taken all cause; some = some; counts = counts; never_falls = never_falls } in
-    subst (λ (x : Status). EndsRun s wire (AllTell seen w.servers × HasPlayedAll seen may_leave faults limit s w) ⊥ ⊥ o x) (sym are) (ended seen may_leave faults limit s w fs wire o status taken is found_here tells_here all cause back)
+module _ {D : Type 0} (seen : D → Option (List ℕ)) (may_leave : D → List ℕ → Type 0) (faults limit : D → ℕ) (wire : Bool) (start : Option (List ℕ)) (count : ℕ) (gone : HistoryTold) (w : WorldState D) (now : Option (List ℕ)) (counted : ℕ) (written : Result (Unit {0}) Failed) (disks : List (Lent D)) (o : Outside) (law : RunsAreLegal) (one : IsOneServer w.script)
+    (told : IsWritten seen may_leave faults limit wire start count gone w now counted written) where
+  -- played to its end, and what its disks keep was read
+  pub end_of : (fs : List (Left (Store D) D)) (status result : Status) (taken : Result (Unit {0}) bank.Failed) → w.is_lost ≡ false → IsOver seen may_leave limit w disks → AreFound seen faults limit disks fs
+      → TellsLeft (world_text wire (whole gone w)) (final_text (map part fs)) (fault_in fs) o.sink o.sink_faults status
+      → OnOk taken (GivesBackAll seen (kept_disks 1 fs) o.given.before o.given.after) → GivesBackSome seen (kept_disks 1 fs) o.given.before o.given.after → OnErr taken (Rose o.bank_faults.before o.bank_faults.after)
+      → o.disk_faults.after ≡ with_faults (faults_of faults (kept_disks 1 fs)) o.disk_faults.before → o.bank_faults.before ≤ o.bank_faults.after → result ≡ returned status taken
+      → EndsRun w.script wire (AllTell seen w.servers × HasPlayedAll seen may_leave faults limit w.script (whole gone w)) ⊥ ⊥ o result
+  end_of fs status result taken going over found tells all some cause counts never_falls are =
+      let is = has_ended seen may_leave faults limit wire start count gone w now counted written disks law one going told over in
+      let found_here = subst (λ (ls : List (Lent D)). AreFound seen faults limit ls fs) over.are found in
+      let back : GoesBack seen faults (kept_disks 1 fs) o = record { gives = gives_of seen (kept_disks 1 fs) o taken all cause; some = some; counts = counts; never_falls = never_falls } in
+      subst (λ (x : Status). EndsRun w.script wire (AllTell seen w.servers × HasPlayedAll seen may_leave faults limit w.script (whole gone w)) ⊥ ⊥ o x) (sym are) (ended seen may_leave faults limit w.script (whole gone w) fs wire o status taken is found_here tells all cause back)
 
-pub cut_of : {D : Type 0} (seen : D → Option (List ℕ)) (may_leave : D → List ℕ → Type 0) (faults limit : D → ℕ) (s : Script) (w : WorldState D) (t : HistoryTold) (disks : List (Lent D)) (wire : Bool) (o : Outside) (result : Status)
-    → RunsAreLegal → IsOneServer s → IsWorld seen may_leave faults limit s w → w.is_lost ≡ false → IsOver seen may_leave limit w t disks
-    → AppendsFront o.sink.before o.sink.after (kept_history_text wire t.wire t.history)
-    → GivesBackAll seen disks o.given.before o.given.after ⊎ Rose o.bank_faults.before o.bank_faults.after → GivesBackSome seen disks o.given.before o.given.after
-    → o.disk_faults.after ≡ with_faults (faults_of faults disks) o.disk_faults.before → o.bank_faults.before ≤ o.bank_faults.after → result ≡ statuses.Limit
-    → EndsRun s wire (AllTell seen w.servers × HasPlayedFirst seen may_leave faults limit s w) ⊥ ⊥ o result
-cut_of {D} seen may_leave faults limit s w t disks wire o result law one world going over written gives some counts never_falls are =
-    let is = has_ended seen may_leave faults limit s w t disks law one world going over in
-    let same : kept_history_text wire t.wire t.history ≡ kept_history_text wire w.wire w.history =
-    ap (λ (ps : List _). kept_history_text wire ps t.history) over.told.0 ∙ ap (λ (es : List _). kept_history_text wire w.wire es) over.told.1 in
-    let written_here = subst (λ (x : List ℕ). AppendsFront o.sink.before o.sink.after x) same written in
-    let back : GoesBack seen faults disks o = record { gives = gives; some = some; counts = counts; never_falls = never_falls } in
-    let back_here = subst (λ (ls : List (Lent D)). GoesBack seen faults ls o) over.are back in
-    subst (λ (x : Status). EndsRun s wire (AllTell seen w.servers × HasPlayedFirst seen may_leave faults limit s w) ⊥ ⊥ o x) (sym are) (was_cut seen may_leave faults limit s w wire o is written_here back_here)
+  -- what was written stands there, and the disks go back
+  module _ (gives : GivesBackAll seen disks o.given.before o.given.after ⊎ Rose o.bank_faults.before o.bank_faults.after) (some : GivesBackSome seen disks o.given.before o.given.after) (counts : o.disk_faults.after ≡ with_faults (faults_of faults disks) o.disk_faults.before)
+      (never_falls : o.bank_faults.before ≤ o.bank_faults.after) (over : IsOver seen may_leave limit w disks) (writes : Writes o (world_text wire (whole gone w))) (result : Status) where
+    gone_back : GoesBack seen faults (lent_from 1 w.servers) o
+    gone_back = subst (λ (ls : List (Lent D)). GoesBack seen faults ls o) over.are (record { gives = gives; some = some; counts = counts; never_falls = never_falls })
+
+    -- its history was full before its end
+    pub cut_of : w.is_lost ≡ false → result ≡ statuses.Limit → EndsRun w.script wire (AllTell seen w.servers × HasPlayedFirst seen may_leave faults limit w.script (whole gone w)) ⊥ ⊥ o result
+    cut_of going are =
+        subst (λ (x : Status). EndsRun w.script wire (AllTell seen w.servers × HasPlayedFirst seen may_leave faults limit w.script (whole gone w)) ⊥ ⊥ o x) (sym are)
+        (was_cut seen may_leave faults limit w.script (whole gone w) wire o (has_ended seen may_leave faults limit wire start count gone w now counted written disks law one going told over) writes gone_back)
+
+    -- memory was wanting
+    pub wanted_of : result ≡ statuses.OutOfMemory → EndsRun w.script wire (AllTell seen w.servers × HasPlayedSome seen may_leave faults limit w.script (whole gone w)) ⊥ ⊥ o result
+    wanted_of are =
+        subst (λ (x : Status). EndsRun w.script wire (AllTell seen w.servers × HasPlayedSome seen may_leave faults limit w.script (whole gone w)) ⊥ ⊥ o x) (sym are)
+        (inr (λ p. wanted seen may_leave faults limit w.script (whole gone w) wire o (record { law = law; one = one; world = told.world }) writes gone_back p))
+
+    -- so it was for its disks
+    pub unread_of : result ≡ statuses.OutOfMemory → EndsRun w.script wire (AllTell seen w.servers × HasPlayedAll seen may_leave faults limit w.script (whole gone w)) ⊥ ⊥ o result
+    unread_of are =
+        subst (λ (x : Status). EndsRun w.script wire (AllTell seen w.servers × HasPlayedAll seen may_leave faults limit w.script (whole gone w)) ⊥ ⊥ o x) (sym are)
+        (inr (λ p. wanted seen may_leave faults limit w.script (whole gone w) wire o (record { law = law; one = one; world = told.world }) writes gone_back (all_wanted seen may_leave faults limit w.script (whole gone w) p)))

@@ -1,23 +1,28 @@
 use Rattle.std.proofs.Common.{◌++◌, List, ℕ, map, subst, arith}
-use Rattle.afs_final.specs.Reading.{fault_in, part}
-use Rattle.afs_text.specs.FinalText.{final_text}
-use Rattle.afs_text.specs.KeptText.{kept_history_text}
-use Rattle.afs_top.proofs.Returned.{end_of, few_left, readable}
+use Rattle.afs_cell.specs.Since.{whole}
+use Rattle.afs_top.proofs.Returned.{end_of, few_left, readable, unread_of}
+use Rattle.afs_top.proofs.Written.{written_by}
 use Rattle.afs_top.proofs.replaying.end.Goals as goal
 
 pub left_of-requires : goal.left_of-requires
-left_of-requires g c = readable g.B.D.Disk.seen g.B.D.Disk.may_leave g.B.D.Disk.faults g.B.D.Disk.limit c.args.world.script c.args.world c.end-told.result.1 c.requires.world c.end-told.ensures.disks c.end-told.ensures.lent
+left_of-requires g c = readable g.B.D.Disk.seen g.B.D.Disk.may_leave g.B.D.Disk.faults g.B.D.Disk.limit c.args.world.script (whole c.requires.world.before c.args.world) c.end-disks.result c.requires.world.world c.end-disks.ensures.disks c.end-disks.ensures.lent
 
-pub tell_left-status-requires-clause-few : goal.tell_left-status-requires-clause-few
-tell_left-status-requires-clause-few g c =
-    rw (c.as_slice.ensures.value) (few_left g.B.D.Disk.seen g.B.D.Disk.may_leave g.B.D.Disk.faults g.B.D.Disk.limit c.args.world.script c.args.world c.end-told.result.1 c.in-Ok.left.items c.requires.world c.end-told.ensures.disks c.in-Ok.ensures.found)
+pub tell_left-status-requires : goal.tell_left-status-requires
+tell_left-status-requires g c =
+    rw (c.as_slice.ensures.value) (few_left g.B.D.Disk.seen g.B.D.Disk.may_leave g.B.D.Disk.faults g.B.D.Disk.limit c.args.world.script (whole c.requires.world.before c.args.world) c.end-disks.result c.in-Ok.left.items c.requires.world.world c.end-disks.ensures.disks c.in-Ok.ensures.found)
 
 pub give_back-taken-requires : goal.give_back-taken-requires
 give_back-taken-requires g c =
-    omega (arith, few_left g.B.D.Disk.seen g.B.D.Disk.may_leave g.B.D.Disk.faults g.B.D.Disk.limit c.args.world.script c.args.world c.end-told.result.1 c.in-Ok.left.items c.requires.world c.end-told.ensures.disks c.in-Ok.ensures.found)
+    omega (arith, few_left g.B.D.Disk.seen g.B.D.Disk.may_leave g.B.D.Disk.faults g.B.D.Disk.limit c.args.world.script (whole c.requires.world.before c.args.world) c.end-disks.result c.in-Ok.left.items c.requires.world.world c.end-disks.ensures.disks c.in-Ok.ensures.found)
+
+pub returns-in-Err-clause-ends : goal.returns-in-Err-clause-ends
+returns-in-Err-clause-ends g c = λ wire start count gone told.
+    unread_of g.B.D.Disk.seen g.B.D.Disk.may_leave g.B.D.Disk.faults g.B.D.Disk.limit wire start count gone c.args.world _ _ c.args.written c.end-disks.result _ c.runs_are_legal.ensures c.requires.one told
+    (rw (← c.in-Err.ensures.back) c.give_up.ensures.given) (rw (← c.in-Err.ensures.back) c.give_up.ensures.some) (rw (← c.in-Err.ensures.back) c.give_up.ensures.faults) c.give_up.ensures.never_falls
+    (record { are = c.end-disks.ensures.disks; standing = c.end-disks.ensures.standing }) (written_by _ start _ count _ c.args.written told.text) _ c.give_up.ensures.status
 
 pub returns-clause-ends : goal.returns-clause-ends
-returns-clause-ends g c =
-    end_of g.B.D.Disk.seen g.B.D.Disk.may_leave g.B.D.Disk.faults g.B.D.Disk.limit c.args.world.script c.args.world c.end-told.result.0 c.end-told.result.1 c.in-Ok.left.items c.args.wire _ c.tell_left-status.result _ c.give_back-taken.result c.runs_are_legal.ensures
-    c.requires.one c.requires.world c.requires.going (record { told = c.end-told.ensures.told; are = c.end-told.ensures.disks; standing = c.end-told.ensures.standing }) c.in-Ok.ensures.found (rw (c.as_slice.ensures.value) at c.tell_left-status.ensures) c.give_back-taken.ensures.all
-    c.give_back-taken.ensures.some c.give_back-taken.ensures.cause c.give_back-taken.ensures.faults c.give_back-taken.ensures.never_falls c.returned.ensures
+returns-clause-ends g c = λ wire start count gone told.
+    end_of g.B.D.Disk.seen g.B.D.Disk.may_leave g.B.D.Disk.faults g.B.D.Disk.limit wire start count gone c.args.world _ _ c.args.written c.end-disks.result _ c.runs_are_legal.ensures c.requires.one told c.in-Ok.left.items c.tell_left-status.result _ c.give_back-taken.result
+    c.requires.going (record { are = c.end-disks.ensures.disks; standing = c.end-disks.ensures.standing }) c.in-Ok.ensures.found (rw (c.as_slice.ensures.value) at (c.tell_left-status.ensures _ start count told.text)) c.give_back-taken.ensures.all c.give_back-taken.ensures.some c.give_back-taken.ensures.cause
+    c.give_back-taken.ensures.faults c.give_back-taken.ensures.never_falls c.returned.ensures

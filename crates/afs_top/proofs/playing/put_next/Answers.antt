@@ -1,0 +1,15 @@
+-- What comes next is written behind the text so far.
+use Rattle.std.proofs.Common.{ap, arith, length, length-drop, rules, sym, subst, ◌++◌, ◌+◌, ◌-◌, List, ℕ}
+use Rattle.afs_num.specs.declared.types.Parcel.{Parcel}
+use Rattle.afs_top.proofs.WrittenOn.{puts_behind, puts_no_more}
+use Rattle.afs_top.proofs.playing.put_next.Goals as goal
+
+pub put_entries-requires-clause-all : goal.put_entries-requires-clause-all
+put_entries-requires-clause-all g c =
+    omega (arith, ap (λ (ps : List Parcel). length ps) c.parcels.ensures.parcels, length-drop (c.args.world.now.gone.sent - c.args.world.now.gone.messages) c.args.world.now.wire, c.parcels.ensures.gone.0, c.parcels.ensures.gone.1, c.requires.all)
+
+pub returns-in_err : goal.returns-in_err
+returns-in_err g c = λ text start count p. puts_no_more text _ start _ count _ c.args.written _ (search rules) (search rules) p
+
+pub returns : goal.returns
+returns g c = λ text start count p. puts_behind text _ start _ _ count _ _ c.args.written _ (search rules) p (rw (← c.parcels.ensures.parcels) c.put_entries.ensures)
