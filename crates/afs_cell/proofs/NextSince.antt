@@ -58,9 +58,6 @@ stays_so : {D : Type 0} (seen : D → Option (List ℕ)) (may_leave : D → List
 stays_so {D} seen may_leave limit w = (record { script = refl; history = refl; wire = refl; clock = refl }, inr (record { lost_as = refl; clients = refl; at = λ c left at. at }))
 
 module _ {D : Type 0} (seen : D → Option (List ℕ)) (may_leave : D → List ℕ → Type 0) (faults limit : D → ℕ) (w : WorldState D) (old left : Schedule) (sent : ℕ) (counted : sent ≡ w.gone.messages + length w.wire) where
-  abbrev Way : HistoryTold → Type 0
-  Way b = IsUnderWay seen may_leave faults limit w.script (whole b w) old
-
   taken_none : (b : HistoryTold) → IsBefore b w → (o : Option Event) → o ≡ None → Takes sent old left o → Takes (length (b.wire ++ w.wire)) old left None
   taken_none b before o is takes = takes_none sent (length (b.wire ++ w.wire)) old left o (count_whole b w sent before counted) is takes
 
