@@ -52,15 +52,19 @@ module _ {D : Type 0} (b : HistoryTold) where
 
 -- a message behind those that were let go
 pub at_behind : {A : Type 0} (xs ys : List A) (place : ℕ) → length xs < place → at_place (xs ++ ys) place ≡ at_place ys (place - length xs)
-at_behind [] ys place behind = ap (at_place ys) (omega arith)
+at_behind [] ys place behind =
+    let same : place ≡ place - 0 = omega arith in
+    ap (at_place ys) same
 at_behind (x ∷ xs) ys zero behind = absurd (omega (arith, behind))
 at_behind (x ∷ xs) ys (suc zero) behind = absurd (omega (arith, behind))
-at_behind (x ∷ xs) ys (suc (suc place)) behind = at_behind xs ys (suc place) (omega (arith, behind)) ∙ ap (at_place ys) (omega arith)
+at_behind (x ∷ xs) ys (suc (suc place)) behind =
+    let same : suc place - length xs ≡ suc (suc place) - length (x ∷ xs) = omega arith in
+    at_behind xs ys (suc place) (omega (arith, behind)) ∙ ap (at_place ys) same
 
 -- ---- more is let go
 
 pub sent_by-append : (es fs : List kept.Entry) → sent_by (es ++ fs) ≡ sent_by es + sent_by fs
-sent_by-append [] fs = refl
+sent_by-append [] fs = omega arith
 sent_by-append (e ∷ es) fs = let more = sent_by-append es fs in omega (arith, more)
 
 -- what was let go before, and what is now

@@ -1,5 +1,6 @@
 -- Entries that are told behind others, and parcels that are sent behind others: the text goes on.
 use Rattle.std.proofs.Common.{◌≡◌, ℕ, zero, suc, ◌+◌, ◌≤◌, List, [], ◌∷◌, ◌++◌, length, take, drop, length-drop, append_assoc, ap, ap₂, refl, sym, ◌∙◌, Bool, arith}
+use Rattle.std.proofs.Math.Seq.{drop-nil}
 use Rattle.std.proofs.lemmas.List.{drop-append-le, take-append-le}
 use Rattle.afs_num.specs.declared.types.Parcel.{Parcel}
 use Rattle.afs_history.specs.declared.lines.Entry as kept
@@ -7,10 +8,13 @@ use Rattle.afs_text.specs.KeptText.{kept_entries_text, kept_entry_text, kept_his
 use Rattle.afs_text.specs.Telling.{sent_by}
 
 drop_both : {A : Type 0} (m n : ℕ) (xs : List A) → drop m (drop n xs) ≡ drop (n + m) xs
-drop_both {A} m zero xs = ap (λ (k : ℕ). drop k xs) (omega (arith))
-drop_both {A} zero (suc n) [] = refl
-drop_both {A} (suc m) (suc n) [] = refl
-drop_both {A} m (suc n) (x ∷ xs) = drop_both m n xs ∙ ap (λ (k : ℕ). drop k (x ∷ xs)) (omega (arith))
+drop_both {A} m zero xs =
+    let same : m ≡ zero + m = omega (arith) in
+    ap (λ (k : ℕ). drop k xs) same
+drop_both {A} m (suc n) [] = drop-nil m ∙ sym (drop-nil (suc n + m))
+drop_both {A} m (suc n) (x ∷ xs) =
+    let same : suc (n + m) ≡ suc n + m = omega (arith) in
+    drop_both m n xs ∙ ap (λ (k : ℕ). drop k (x ∷ xs)) same
 
 -- the first of these entries, and then the others
 pub kept_split : (wire : Bool) (number place : ℕ) (ps : List Parcel) (es fs : List kept.Entry) →
