@@ -326,15 +326,14 @@ impl<'a, D: Disk> World<'a, D> {
     pub fn parcels(&self) -> &[Parcel]
         ensures parcels { result.now ≡ drop (self.now.gone.sent - self.now.gone.messages) self.now.wire }
         ensures gone { (self.now.gone.messages ≤ self.now.gone.sent) × (self.now.gone.sent ≤ self.now.gone.messages + length self.now.wire) }
-        ensures few { self.now.gone.messages + length self.now.wire < 2 ^ 63 + 2 ^ 62 }
     {
-        let _count = self.wire.count();
         self.wire.behind(self.gone.sent)
     }
 
     /// How many messages were sent.
     pub fn sent(&self) -> u64
-        ensures { result ≡ self.now.gone.messages + length self.now.wire }
+        ensures sent { result ≡ self.now.gone.messages + length self.now.wire }
+        ensures few { result < 2 ^ 63 + 2 ^ 62 }
     {
         self.wire.count()
     }
@@ -344,13 +343,6 @@ impl<'a, D: Disk> World<'a, D> {
         ensures { result ≡ self.now.gone.entries }
     {
         self.gone.entries
-    }
-
-    /// How many messages these sent.
-    pub fn sent_before(&self) -> u64
-        ensures { result ≡ self.now.gone.sent }
-    {
-        self.gone.sent
     }
 
     /// The entries of the history are let go, and messages of the first places, which no event delivers any more. It takes no memory.

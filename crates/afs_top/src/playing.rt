@@ -41,10 +41,11 @@ fn put_next<K: Sink, D: Disk>(
 {
     written?;
     let parcels = world.parcels();
+    let first_place = world.sent() - parcels.len() as u64 + 1;
     put_entries(
         sink,
         world.entries_before() + 1,
-        world.sent_before() + 1,
+        first_place,
         parcels,
         world.history(),
         wire,
