@@ -16,7 +16,6 @@ returns-in_err g c = λ text start count p. puts_no_more text _ start _ count _ 
 -- the first place is that behind the messages of the entries before
 pub returns : goal.returns
 returns g c =
-
     let place : c.sent.result - length c.parcels.result.now + 1 ≡ c.args.world.now.gone.sent + 1 =
     omega (arith, ap (λ (ps : List Parcel). length ps) c.parcels.ensures.parcels, length-drop (c.args.world.now.gone.sent - c.args.world.now.gone.messages) c.args.world.now.wire, c.parcels.ensures.gone.0, c.parcels.ensures.gone.1, c.sent.ensures.sent) in
     λ text start count p. puts_behind text _ start _ _ count _ _ c.args.written _ (search rules) p
