@@ -53,6 +53,7 @@ pub fn tell(
     front: Option<Line>,
     outs: Outs,
 ) -> Mem<()>
+    ensures gone { wire.new.gone ≡ wire.old.gone }
     ensures sent { OnOk result (wire.new.messages ≡ wire.old.messages ++ outs.parcels) }
     ensures history { OnOk result (history.new.items ≡ history.old.items ++ entry_of node (front_lines front ++ outs.lines) (length outs.parcels) ∷ []) }
     ensures err { OnErr result ((wire.new.messages ≡ wire.old.messages) × (history.new.items ≡ history.old.items)) }
