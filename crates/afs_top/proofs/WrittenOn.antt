@@ -153,9 +153,9 @@ module _ {D : Type 0} (seen : D → Option (List ℕ)) (may_leave : D → List �
                   subst (λ (v : WorldState D). Puts (world_text wire v) a c f h later) (sym same)
                   (subst (λ (x : List ℕ). Puts x a c f h later) (text_goes_on wire p.gone w new p.is p.way.world.safe.sent p.none k) (puts (world_text wire (whole p.gone w)) a f p.text));
             } where
-          kept_now : (end.gone.messages ≡ new.gone.messages) ⊎ (end.gone.messages ≤ places) → end.gone.messages ≤ settled after
-          kept_now (inl same) = omega (arith, same, ap (λ (x : LetGo). x.messages) k.gone, p.kept, grows)
-          kept_now (inr few) = omega (arith, few, is)
+              kept_now : (end.gone.messages ≡ new.gone.messages) ⊎ (end.gone.messages ≤ places) → end.gone.messages ≤ settled after
+              kept_now (inl same) = omega (arith, same, ap (λ (x : LetGo). x.messages) k.gone, p.kept, grows)
+              kept_now (inr few) = omega (arith, few, is)
 
         -- the history grew by one entry
         pub smaller : (end : WorldState D) (places : ℕ) → LetsGo places new end → most_entries - (end.gone.entries + length end.history) < most_entries - (w.gone.entries + length w.history)
