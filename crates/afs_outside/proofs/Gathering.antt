@@ -11,7 +11,7 @@ pub moved : {K : Type 0} (held : K → Option (List ℕ)) (old new : Gathered K)
     → Appends (held old.inner) (held new.inner) (take n old.waiting) → new.waiting ≡ drop n old.waiting → Keeps (given_to held old) (given_to held new)
 moved held old new n passed left =
     append_known-moved (held old.inner) (held new.inner) (take n old.waiting) new.waiting old.waiting passed
-        (sym (take-append-drop n old.waiting) ∙ ap (λ (l : List ℕ). take n old.waiting ++ l) (sym left))
+    (sym (take-append-drop n old.waiting) ∙ ap (λ (l : List ℕ). take n old.waiting ++ l) (sym left))
 
 -- a part of it went on
 pub moved_some : {K T E : Type 0} (held : K → Option (List ℕ)) (old new : Gathered K) (n : ℕ) (r : Result T E)

@@ -164,7 +164,10 @@ mod tests {
         assert_eq!(rt; put_bytes(&mut sink, b"answer c1 0\n"), Ok(()));
         assert_eq!(rt; sink.inner().as_slice(), b"".as_slice());
         assert_eq!(rt; sink.flush(), Ok(()));
-        assert_eq!(rt; sink.inner().as_slice(), b"entry 1 c1\nanswer c1 0\n".as_slice());
+        assert_eq!(rt;
+            sink.inner().as_slice(),
+            b"entry 1 c1\nanswer c1 0\n".as_slice()
+        );
     }
 
     #[test]
@@ -176,7 +179,10 @@ mod tests {
         assert_eq!(rt; sink.inner().as_slice().len(), 16384);
         assert_eq!(rt; write_all(&mut sink, b"end\n"), Ok(()));
         assert_eq!(rt; sink.inner().as_slice().len(), 20004);
-        assert_eq!(rt; sink.inner().as_slice().split_at(20000).1, b"end\n".as_slice());
+        assert_eq!(rt;
+            sink.inner().as_slice().split_at(20000).1,
+            b"end\n".as_slice()
+        );
         Ok(())
     }
 
