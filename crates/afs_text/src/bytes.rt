@@ -2,6 +2,7 @@
 
 ghost use Rattle.std.specs.Prelude.{◌≡◌, ◌<◌, ◌≤◌, true, false, length};
 ghost use Rattle.std.specs.Fmt.{digit_glyph};
+ghost use Rattle.std.specs.List.{list_all};
 ghost use Rattle.afs_outside.specs.Outside.{Puts};
 ghost use Rattle.afs_model.specs.LineText.{hex_byte, hex_text, is_plain, name_byte, name_text};
 
@@ -85,6 +86,13 @@ fn put_name_byte<K: Sink>(sink: &mut K, b: u8) -> Result<(), Failed>
     }
 }
 
+/// Whether all bytes of a name stand as themselves.
+fn is_all_plain(name: &[u8]) -> bool
+    ensures { result ≡ list_all is_plain name.now }
+{
+    name.iter().all(|b| is_plain(*b))
+}
+
 /// Writes a name byte by byte.
 #[tactic(auto, unfolding(afs_model::specs::LineText::name_text))]
 fn put_escaped<K: Sink>(sink: &mut K, name: &[u8]) -> Result<(), Failed>
@@ -104,7 +112,7 @@ impl<'a> Print for Name<'a> {
     ghost text = { λ name. name_text name.0.now };
 
     fn print<K: Sink>(&self, sink: &mut K) -> Result<(), Failed> {
-        if self.0.iter().all(|b| is_plain(*b)) {
+        if is_all_plain(self.0) {
             put_bytes(sink, self.0)
         } else {
             put_escaped(sink, self.0)
