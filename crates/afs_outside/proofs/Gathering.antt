@@ -1,10 +1,10 @@
 -- What was gathered, and went on to the sink behind.
-use Rattle.std.proofs.Common.{◌≡◌, ℕ, List, [], ◌++◌, length, take, drop, Result, Ok, Err, sym, ap, subst, ◌∙◌, arith, le_refl, take-append-drop, drop_of_length-le}
-use Rattle.std.specs.Prelude.{Option, OnOk, OnErr}
+use Rattle.std.proofs.Common.{◌≡◌, ℕ, List, [], ◌++◌, length, take, drop, Result, Ok, Err, sym, ap, subst, ◌∙◌, le_refl, take-append-drop, drop_of_length-le}
+use Rattle.std.specs.Prelude.{Option, OnErr}
 use Rattle.std.specs.Io.KnownBytes.{Appends, Keeps, append_known}
 use Rattle.std.proofs.KnownBytes.{append_known-moved, append_known-grown, append_known-kept, Appends-kept, Keeps-refl, Keeps-trans}
 use Rattle.std.proofs.lemmas.List.{take_all}
-use Rattle.afs_outside.specs.Buffered.{Gathered, given_to, PassesAll, PassesSome}
+use Rattle.afs_outside.specs.Buffered.{Gathered, given_to, PassesSome}
 
 -- what went on no longer waits
 pub moved : {K : Type 0} (held : K → Option (List ℕ)) (old new : Gathered K) (n : ℕ)

@@ -6,7 +6,7 @@ use Rattle.std.proofs.KnownBytes.{Appends-nil, Appends-trans, Appends-kept}
 use Rattle.std.proofs.lemmas.List.{take_all, drop_more}
 use Rattle.std.proofs.Math.ListN.{get_or}
 use Rattle.afs_outside.specs.declared.outside.Failed.{Failed}
-use Rattle.afs_outside.specs.Outside.{Rose, HasCause, AppendsFront, Puts}
+use Rattle.afs_outside.specs.Outside.{HasCause, AppendsFront, Puts}
 
 -- a beginning of the first piece is one of both
 front_of_first : (n : ℕ) (x y : List ℕ) → (m : ℕ) × (take m (x ++ y) ≡ take n x)

@@ -1,5 +1,4 @@
 -- What the sink didn't take at once was written behind what it took.
-use Rattle.std.proofs.Common.{rules}
 use Rattle.afs_outside.proofs.Puts.{puts_rest}
 use Rattle.afs_outside.proofs.outside.put_bytes.Goals as goal
 
