@@ -707,7 +707,7 @@ run_unheard s h end r i j up head from e =
     let a = runs_admitted (end.hosts i).state.lasting.boot (end.hosts i).state.seats head e in
     (hears_at s h end r).unheard i j (called_key head) head.boot from (subst (λ (d : Option Fall). MayRun d (end.hosts i).state.lasting.boot (call_seat head.from (end.hosts i).state.seats) (called_key head) head.boot) (sym up) (inr a))
 
-reply_ran : (past : List Entry) (i j : ℕ) (head : Head) (x : Carried) → HasCode x → head.from ≡ Server i → head.to ≡ Client j → OfReply (OfClient head.to (IsRan past head)) x → Ran head past
+pub reply_ran : (past : List Entry) (i j : ℕ) (head : Head) (x : Carried) → HasCode x → head.from ≡ Server i → head.to ≡ Client j → OfReply (OfClient head.to (IsRan past head)) x → Ran head past
 reply_ran past i j head (carried.Refusal code) is from to w = by_client j head.to (IsRan past head) to w i from
 reply_ran past i j head (carried.Reply reply) is from to w = by_client j head.to (IsRan past head) to w i from
 reply_ran past i j head x is from to w = absurd is

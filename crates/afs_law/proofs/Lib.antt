@@ -43,6 +43,13 @@ pub mod KeysOnce
 pub mod Standing
 pub mod Hearing
 pub mod Members
+pub mod Moving
+pub mod Acting
+pub mod Choosing
+pub mod Knowing
+pub mod Origins
+pub mod Ideals
+pub mod Seating
 pub mod Dying
 pub mod Made
 pub mod Worked
