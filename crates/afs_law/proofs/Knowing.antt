@@ -1,6 +1,6 @@
 -- What is known of every run, however many servers its cell has: of keys, and of what servers heard. And what no server sends.
 use Rattle.afs_history.specs.declared.scripts.Script.{Script}
-use Rattle.afs_law.proofs.Basics.{Each, IfCall, each_at, each_map, if_call}
+use Rattle.afs_law.proofs.Basics.{Each, IfCall, each_at, each_map, if_call, some_of}
 use Rattle.afs_law.proofs.Calling.{IsAnswer, IsUncalled, answer_over, any_call}
 use Rattle.afs_law.proofs.Hearing.{HearsIn, first_hears, moved_hears}
 use Rattle.afs_law.proofs.Hosting.{Begins, HostStep, IsCutBy, IsSound, decides_due, disk_begins, memory_of, serves_step, starts_step, times_step, wakes_step}
@@ -21,7 +21,7 @@ use Rattle.afs_rows.specs.Runs.{Cell, Entry, Fall, Input, at_rest, begun_by_disk
 use Rattle.afs_rows.specs.ServerRow.{key_of, reply_head}
 use Rattle.afs_rows.specs.ServerSteps.{back_timeout_row, server_row, start_row, wake_row}
 use Rattle.afs_rows.specs.States.{BackCall, ServerState}
-use Rattle.std.proofs.Common.{◌≡◌, ℕ, Bool, List, [], ◌∷◌, Option, Some, None, refl}
+use Rattle.std.proofs.Common.{◌≡◌, ℕ, Bool, List, [], ◌∷◌, Option, Some, None, refl, subst}
 use Rattle.std.specs.Prelude.{⊤}
 
 pub record Known (c : Cell) (past : List Entry) : Type 0 where
@@ -85,7 +85,7 @@ cut_any K x in_boot h = tt
 
 has_cut : (K : Node → Key → Type 0) (o : Option Fall) (fall : Fall) → o ≡ Some fall → HasCut K o → IsCutOf K fall
 has_cut K None fall e h = absurd cc
-has_cut K (Some f) fall e h = subst (IsCutOf K) cc h
+has_cut K (Some f) fall e h = subst (IsCutOf K) (some_of f fall e) h
 
 pub started_uncalled : (c : Cell) (past : List Entry) (i : ℕ) (after : Bool) (fall : Fall) → Known c past → (c.hosts i).down ≡ Some fall → Each IsUncalled (start_row (Server i) c.clock c.count (begun_by_disk (Server i) (c.hosts i).state after fall)).sent
 started_uncalled c past i after fall K down =

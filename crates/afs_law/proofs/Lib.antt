@@ -50,6 +50,8 @@ pub mod Knowing
 pub mod Origins
 pub mod Ideals
 pub mod Seating
+pub mod Cutting
+pub mod Changing
 pub mod Dying
 pub mod Made
 pub mod Worked

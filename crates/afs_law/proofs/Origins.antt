@@ -6,11 +6,11 @@ use Rattle.afs_history.specs.declared.scripts.Script.{Script}
 use Rattle.afs_law.proofs.Acting.{Acts, Asks, IsTheCall, Rests, Stops, begins_acts, falls_acts, given_acts, is_of, last_key, rises_acts, waits_acts, who_at}
 use Rattle.afs_law.proofs.Asking.{call_is, under_last, unsent_late}
 use Rattle.afs_law.proofs.Backing.{all_lines}
-use Rattle.afs_law.proofs.Basics.{ByClient, Each, IfCall, OfCall, OfClient, UpTo, at_put, both, by_client, client_number, each_map, each_more, if_call, node_apart, a_key, next_not, of_client as of_client_node, same_key-refl, same_key-true, same_node-true, some_of}
+use Rattle.afs_law.proofs.Basics.{ByClient, Each, IfCall, OfCall, OfClient, UpTo, at_put, both, by_client, client_number, each_at, each_map, each_more, if_call, node_apart, a_key, next_not, of_client as of_client_node, same_key-refl, same_key-true, same_node-true, some_of}
 use Rattle.afs_law.proofs.Booting.{is_server}
 use Rattle.afs_law.proofs.Calling.{IsUncalled, uncalled_any}
 use Rattle.afs_ideal.specs.Tables.{Table}
-use Rattle.afs_law.proofs.Choosing.{AreFrom, IfCut, Works, is_from, one_from, risen_from, serves_works, starts_works, disk_works, times_works, wakes_works}
+use Rattle.afs_law.proofs.Choosing.{AreFrom, IfCut, Works, is_from, one_from, risen_from, risen_lines, serves_works, starts_works, disk_works, times_works, wakes_works}
 use Rattle.afs_law.proofs.Facts.{IsOne, Origin}
 use Rattle.afs_law.proofs.KeysOnce.{IsKnown, any_told, by_key, known_pair}
 use Rattle.afs_law.proofs.Knowing.{Known, known_first, known_kept, served_uncalled, started_uncalled, timed_uncalled, woken_uncalled}
@@ -20,6 +20,7 @@ use Rattle.afs_law.specs.Ideal.{call_in, call_under, first_lines, set_up, user_o
 use Rattle.afs_law.specs.Legal.{as_asked}
 use Rattle.afs_law.specs.Once.{past_of}
 use Rattle.afs_records.specs.Durable.{Stored}
+use Rattle.afs_law.specs.Parts.{ActsAreTold, CallsAreAsked, IsAsked}
 use Rattle.afs_law.specs.Past.{Called, CalledSince, Sends, called_key, has_begun, has_sent, is_called, is_late, lines_of, onto, running, same_key, sent_of}
 use Rattle.afs_num.specs.Nodes.{same_node}
 use Rattle.afs_num.specs.declared.calls.FsCall.{FsCall}
@@ -29,6 +30,7 @@ use Rattle.afs_num.specs.declared.messages.Call.TheVariants as ask
 use Rattle.afs_num.specs.declared.messages.Carried.{Carried}
 use Rattle.afs_num.specs.declared.messages.Carried.TheVariants as carried
 use Rattle.afs_num.specs.declared.messages.Message.{Message}
+use Rattle.afs_num.specs.declared.messages.Received.TheVariants.{Whole}
 use Rattle.afs_num.specs.declared.types.Head.{Head}
 use Rattle.afs_num.specs.declared.types.Key.{Key}
 use Rattle.afs_num.specs.declared.types.Node.{Node}
@@ -38,6 +40,7 @@ use Rattle.afs_rows.specs.ClientRow.{call_by, call_message, call_of}
 use Rattle.afs_rows.specs.Going.{ClientState, Going, asked, began, next, read_on}
 use Rattle.afs_rows.specs.Runs.{Armed, Cell, Entry, Fall, Moved, at_rest, in_boot, in_step, RunsTo, begun_by_disk, blow_line, client_moves, locations, server_moves, start, unarmed, user_at}
 use Rattle.afs_rows.specs.ServerRow.{key_of, made, versioned}
+use Rattle.afs_rows.specs.ServerSteps.{back_timeout_row, server_row, start_row, wake_row}
 use Rattle.afs_rows.specs.States.{Gift, ServerState}
 use Rattle.afs_rows.specs.Steps.{Step}
 use Rattle.std.proofs.Common.{◌≡◌, ℕ, ◌+◌, ◌≤◌, ◌<◌, ◌⊎◌, inl, inr, arith, Bool, true, false, cond, not, List, [], ◌∷◌, ◌++◌, Option, Some, None, refl, sym, ap, subst, ◌∙◌}
@@ -358,15 +361,15 @@ asked_moves s = record {
   waited = λ c past n act h r. client_asked s c past n _ h.0 h.1 (waits_acts n (c.clients n) act r);
   fallen = λ c past n h. client_asked s c past n _ h.0 h.1 (falls_acts n (c.clients n));
   risen = λ c past n h. client_asked s c past n _ h.0 h.1 (rises_acts n (c.clients n));
-  served = λ c past i place m armed h up at to. moves_asked s c past i armed _ h.1 (idle_works any_message i (c.hosts i).state _ _ (serves_works any_message (Server i) (c.hosts i).state c.clock place m (λ rest. tt))) (served_uncalled c past i place m h.0 at);
+  served = λ c past i place m armed h up at to. moves_asked s c past i armed (server_row (Server i) (c.hosts i).state c.clock place (Whole m)) h.1 (idle_works any_message i (c.hosts i).state _ _ (serves_works any_message (Server i) (c.hosts i).state c.clock place m (λ rest. tt))) (served_uncalled c past i place m h.0 at);
   cut = λ c past i place m t h up at to. still_asked s c past _ h.1 refl (blow_idle i t);
   stopped = λ c past i h up. still_asked s c past _ h.1 refl refl;
   stop_set = λ c past i calls pick armed h up. still_asked s c past _ h.1 refl refl;
   fail_set = λ c past i call armed h up. still_asked s c past _ h.1 refl refl;
-  timed = λ c past i n b armed h up at. moves_asked s c past i armed _ h.1 (idle_works any_message i (c.hosts i).state _ _ (times_works any_message (Server i) (c.hosts i).state c.clock n b)) (timed_uncalled c past i n b h.0);
-  woken = λ c past i armed h up. moves_asked s c past i armed _ h.1 (idle_works any_message i (c.hosts i).state _ _ (wakes_works any_message (Server i) (c.hosts i).state c.clock)) (woken_uncalled c past i h.0);
-  started = λ c past i after fall h down. moves_asked s c past i unarmed _ h.1
-      (idle_works any_message i (c.hosts i).state _ _ (starts_works any_message (Server i) (c.hosts i).state c.clock c.count (begun_by_disk (Server i) (c.hosts i).state after fall) (disk_works any_message (Server i) (c.hosts i).state after fall (any_cut fall)))) (started_uncalled c past i after fall h.0 down);
+  timed = λ c past i n b armed h up at. moves_asked s c past i armed (back_timeout_row (Server i) (c.hosts i).state c.clock n b) h.1 (idle_works any_message i (c.hosts i).state _ _ (times_works any_message (Server i) (c.hosts i).state c.clock n b)) (timed_uncalled c past i n b h.0);
+  woken = λ c past i armed h up. moves_asked s c past i armed (wake_row (Server i) (c.hosts i).state c.clock) h.1 (idle_works any_message i (c.hosts i).state _ _ (wakes_works any_message (Server i) (c.hosts i).state c.clock)) (woken_uncalled c past i h.0);
+  started = λ c past i after fall h down. moves_asked s c past i unarmed (start_row (Server i) c.clock c.count (begun_by_disk (Server i) (c.hosts i).state after fall)) h.1
+      (idle_works any_message i (c.hosts i).state _ _ (starts_works any_message (Server i) (c.hosts i).state c.clock c.count (begun_by_disk (Server i) (c.hosts i).state after fall) (disk_works any_message (Server i) (c.hosts i).state after fall (risen_lines (Server i) c.clock c.count (begun_by_disk (Server i) (c.hosts i).state after fall)) (any_cut fall) (risen_from (Server i) c.clock c.count (begun_by_disk (Server i) (c.hosts i).state after fall))))) (started_uncalled c past i after fall h.0 down);
   early = λ c past i fall h down. still_asked s c past _ h.1 refl refl;
   midway = λ c past i after fall h down. still_asked s c past _ h.1 refl (idle_works any_message i (c.hosts i).state _ _ (disk_works any_message (Server i) (c.hosts i).state after fall (lines.Fault (Server i) ∷ []) (any_cut fall) (one_from (Server i) true refl)));
   full = λ c past i after fall h down. still_asked s c past _ h.1 refl (idle_works any_message i (c.hosts i).state _ _ (disk_works any_message (Server i) (c.hosts i).state after fall (lines.Full (Server i) ∷ []) (any_cut fall) (one_from (Server i) true refl)));
@@ -389,3 +392,22 @@ asked_first s = (known_first s, record {
 
 pub asked_at : (s : Script) (h : List Entry) (end : Cell) → RunsTo h s end → KnownAsked s end (past_of (set_up s ∷ []) h)
 asked_at s h end r = run_keeps (KnownAsked s) (asked_kept s) r.inputs (start s) (set_up s ∷ []) h end (asked_first s) r.leads
+
+-- ---- the laws
+
+pub run_acts : ActsAreTold
+run_acts s h end r j = (asked_at s h end r).1.acts j
+
+call_asked : (s : Script) (sent : List Message) (past : List Entry) (head : Head) (user : List ℕ) (call : FsCall) → IsOne sent head user call → Origin s past head user call → IsAsked s sent past head user call
+call_asked s sent past head user call one o = record { one = one; act = o.act; called = o.called; own_user = o.own_user; own_call = o.own_call }
+
+pub run_asked : CallsAreAsked
+run_asked s h end r =
+    let past : List Entry = past_of (set_up s ∷ []) h in
+    let A : AskedIn s end past = (asked_at s h end r).1 in
+    record {
+      calls = λ j place head user call at from. call_asked s end.sent past head user call
+          (by_client j head.from (IsOne end.sent head user call) from (each_at (IfCall (IsOne end.sent)) end.sent place (record { head = head; carried = carried.Call user (ask.File call) }) at A.ones))
+          (by_client j head.from (Origin s past head user call) from (each_at (IfCall (Origin s past)) end.sent place (record { head = head; carried = carried.Call user (ask.File call) }) at A.origins));
+      waits = λ j act run. record { called = A.asked j act run; late = A.late j act run };
+    }

@@ -774,7 +774,7 @@ later_seat true e n k l t a not = absurd (not (below-true e n l.epoch l.number t
 later_seat false e n k l t a not = up_to_below l.epoch l.number e n k.epoch k.number (below-false e n l.epoch l.number t) a
 
 -- what isn't above a seat is below what is
-later_by : {R : Type 0} → (o : Option (CallSeat R)) (k l : Key) → Above o k.epoch k.number → (Above o l.epoch l.number → ⊥) → IsLater k l
+pub later_by : {R : Type 0} → (o : Option (CallSeat R)) (k l : Key) → Above o k.epoch k.number → (Above o l.epoch l.number → ⊥) → IsLater k l
 later_by None k l a not = absurd (not tt)
 later_by (Some seat) k l a not = later_seat (pair_below seat.epoch seat.number l.epoch l.number) seat.epoch seat.number k l refl a not
 

@@ -21,7 +21,7 @@ use Rattle.std.specs.List.{AllByRecursion}
 use Rattle.afs_ideal.specs.Told.{Agrees}
 use Rattle.afs_ideal.specs.Volumes.{Volume}
 use Rattle.afs_law.specs.Grants.{since, IsOutstanding, fetch_reply}
-use Rattle.afs_law.specs.Ideal.{user_of, versions_in, volume_after, set_up, IsLast}
+use Rattle.afs_law.specs.Ideal.{Accepts, user_of, versions_in, volume_after, set_up, IsLast}
 use Rattle.afs_law.specs.Legal.{IsCaused, HasChangeBy, GoodRead, HasChange, Legal, Cause}
 use Rattle.afs_history.specs.declared.lines.Line.{Line}
 use Rattle.afs_law.specs.Once.{past_of, ChangesOnce}
@@ -68,8 +68,18 @@ pub record IsHeld (id : ℕ) (volumes : Table Stored) (past : List Entry) : Type
   pub ideal : volume_in id volumes ≡ volume_after id past
   pub told : (v : Volume) → volume_after id past ≡ Some v → Agrees id v (versions_in (lines_of past))
 
+-- so are all of which a server accepts stores, and it holds no others
+pub record AreHeld (s : Script) (i : ℕ) (volumes : Table Stored) (past : List Entry) : Type 0 where
+  pub held : (id : ℕ) → Accepts s id (Server i) (lines_of past) → IsHeld id volumes past
+  pub alone : (id : ℕ) (v : Volume) → volume_in id volumes ≡ Some v → Accepts s id (Server i) (lines_of past)
+
+-- and of which no server does, that volume isn't there
+pub record AreTold (s : Script) (end : Cell) (past : List Entry) : Type 0 where
+  pub servers : (i : ℕ) → AreHeld s i (end.hosts i).state.lasting.volumes past
+  pub nowhere : (id : ℕ) → ((server : Node) → Accepts s id server (lines_of past) → ⊥) → volume_after id past ≡ None
+
 abbrev pub VolumesAreTold : Type 0
-VolumesAreTold = (s : Script) (history : List Entry) (end : Cell) → IsOneServer s → RunsTo history s end → (id : ℕ) → IsHeld id (end.hosts 1).state.lasting.volumes (past_of (set_up s ∷ []) history)
+VolumesAreTold = (s : Script) (history : List Entry) (end : Cell) → RunsTo history s end → AreTold s end (past_of (set_up s ∷ []) history)
 
 abbrev pub IsKnownTo : ClientState → Head → Type 0
 IsKnownTo c head = IsUpTo head.epoch head.number c.epoch c.last
@@ -209,11 +219,11 @@ RepliesAreRan =
 abbrev pub seat_key : Node → Seat → Key
 seat_key n seat = record { node = n; epoch = seat.epoch; number = seat.number }
 
--- And so is each that the server keeps for a client, and it answers the call whose pair the seat has
+-- And so is each that a server keeps for a client: it is its own, and answers the call whose pair the seat has
 abbrev pub KeptAreRan : Type 0
 KeptAreRan =
-    (s : Script) (history : List Entry) (end : Cell) → IsOneServer s → RunsTo history s end → (j : ℕ) (seat : Seat) (m : Message) → call_seat (Client j) (end.hosts 1).state.seats ≡ Some seat → seat.reply ≡ Some m
-    → Ran m.head (past_of (set_up s ∷ []) history) × (answered_key m.head ≡ seat_key (Client j) seat)
+    (s : Script) (history : List Entry) (end : Cell) → RunsTo history s end → (i j : ℕ) (seat : Seat) (m : Message) → call_seat (Client j) (end.hosts i).state.seats ≡ Some seat → seat.reply ≡ Some m
+    → Ran m.head (past_of (set_up s ∷ []) history) × ((answered_key m.head ≡ seat_key (Client j) seat) × (m.head.from ≡ Server i))
 
 -- its reply is kept
 abbrev pub HasReply : Node → Seat → Type 0
