@@ -459,7 +459,7 @@ late_by : (t a b : Bool) → a ≡ false → b ≡ true → cond t (not a) b ≡
 late_by true a b h e = ap not h
 late_by false a b h e = e
 
-unsent_late : (n : Node) (k : Key) (past : List Entry) → has_sent k (sent_of past) ≡ false → is_late n k past ≡ true
+pub unsent_late : (n : Node) (k : Key) (past : List Entry) → has_sent k (sent_of past) ≡ false → is_late n k past ≡ true
 unsent_late n k [] h = refl
 unsent_late n k (e ∷ past) h = let none : has_sent k (sent_of past) ≡ false = not_front k (sent_of past) e.sent h in late_by (has_begun n e.lines) (has_sent k (sent_of past)) (is_late n k past) none (unsent_late n k past none)
 

@@ -52,6 +52,7 @@ pub mod Ideals
 pub mod Seating
 pub mod Cutting
 pub mod Changing
+pub mod Placing
 pub mod Dying
 pub mod Made
 pub mod Worked

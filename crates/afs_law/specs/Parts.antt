@@ -1,5 +1,5 @@
 -- What makes runs legal, part by part, for scripts with any number of servers.
-use Rattle.std.specs.Prelude.{◌≡◌, ℕ, List, [], ◌∷◌, ◌++◌, Option, Some, None, length, true, ⊤, ◌⊎◌}
+use Rattle.std.specs.Prelude.{◌≡◌, ℕ, List, [], ◌∷◌, ◌++◌, Option, Some, None, false, length, true, ⊤, ◌⊎◌}
 use Rattle.afs_history.specs.declared.lines.Line.{Line}
 use Rattle.afs_history.specs.declared.lines.Line.TheVariants as lines
 use Rattle.afs_history.specs.declared.scripts.Script.{Script}
@@ -7,11 +7,12 @@ use Rattle.afs_ideal.specs.Operations.{changes, op, the_user, volume_called}
 use Rattle.afs_ideal.specs.Volumes.{Edit, Volume, versions_by}
 use Rattle.afs_law.specs.Breaks.{HasStopped}
 use Rattle.afs_law.specs.Ideal.{Accepts, call_under, change_key, set_up, user_of, volume_after}
-use Rattle.afs_law.specs.Legal.{HasChangeBy, IsLater, IsNew, IsOfServer, RanBefore, RunsHere, as_asked, versions_first}
+use Rattle.afs_law.specs.Legal.{GoodRestart, HasAct, HasChangeBy, IsLater, IsNew, IsOfClient, IsOfServer, IsTimed, IsUnderChange, RanBefore, RunsHere, as_asked, versions_first}
 use Rattle.afs_law.specs.Once.{past_of}
-use Rattle.afs_law.specs.Past.{Called, CalledSince, called_key, is_late, lines_of, running, sent_of}
+use Rattle.afs_law.specs.Past.{Called, CalledSince, called_key, has_given, is_late, lines_of, running, sent_of}
 use Rattle.afs_num.specs.declared.calls.FsCall.{FsCall}
 use Rattle.afs_num.specs.declared.histories.Actor.{Actor}
+use Rattle.afs_num.specs.declared.histories.Actor.TheVariants as actors
 use Rattle.afs_num.specs.declared.messages.Call.TheVariants as ask
 use Rattle.afs_num.specs.declared.messages.Carried.TheVariants as carried
 use Rattle.afs_num.specs.declared.messages.Message.{Message}
@@ -70,6 +71,37 @@ EachEntry G past (e ∷ es) = G past e × EachEntry G (e ∷ past) es
 
 abbrev pub AllLines : LineRule → Script → List Entry → Type 0
 AllLines G s history = EachEntry (λ past e. EachLine G e.actor past [] e.lines) (set_up s ∷ []) history
+
+-- ---- where lines stand
+
+-- Each line stands in an entry of its node. A message is given first, and a version stands under its change; an act runs where a
+-- client reads or answers; a timeout is alone; and a server that begins again owes every client a break on all
+abbrev pub IsInPlace : Script → LineRule
+IsInPlace s who (lines.Begin c act) past own next = IsOfClient who c
+IsInPlace s who (lines.Given place) past own next = has_given own ≡ false
+IsInPlace s who (lines.Grant server c f index expiry) past own next = IsOfServer who server
+IsInPlace s who (lines.Change server k count) past own next = IsOfServer who server
+IsInPlace s who (lines.Version v) past own next = IsUnderChange own
+IsInPlace s who (lines.Read c f index source body) past own next = IsOfClient who c × HasAct s c past own
+IsInPlace s who (lines.Answer c code) past own next = IsOfClient who c × HasAct s c past own
+IsInPlace s who (lines.Timeout c callee epoch number count) past own next = (who ≡ actors.Node c) × IsTimed c own next
+IsInPlace s who (lines.Tick n) past own next = who ≡ actors.Clock
+IsInPlace s who (lines.Stop n calls pick) past own next = IsOfServer who n
+IsInPlace s who (lines.Fail n call) past own next = IsOfServer who n
+IsInPlace s who (lines.Crash n) past own next = who ≡ actors.Node n
+IsInPlace s who (lines.Fault n) past own next = IsOfServer who n
+IsInPlace s who (lines.Restart n boot) past own next = (who ≡ actors.Node n) × GoodRestart s n next
+IsInPlace s who (lines.Full n) past own next = IsOfServer who n
+IsInPlace s who (lines.Drop c f) past own next = IsOfClient who c
+IsInPlace s who (lines.DropAll c server) past own next = IsOfClient who c
+IsInPlace s who (lines.Owe server c what n) past own next = IsOfServer who server
+IsInPlace s who (lines.Settle server c n) past own next = IsOfServer who server
+IsInPlace s who (lines.Quit server c n) past own next = IsOfServer who server
+IsInPlace s who lines.Void past own next = who ≡ actors.Nobody
+
+-- so do all lines of a run
+abbrev pub LinesAreInPlace : Type 0
+LinesAreInPlace = (s : Script) (history : List Entry) (end : Cell) → RunsTo history s end → AllLines (IsInPlace s) s history
 
 -- ---- changes
 
