@@ -175,28 +175,28 @@ change_ideal s c past i b ls h S =
           (λ z. r.ran (subst (λ (n : ℕ). Above (call_seat l.node (c.hosts n).state.lasting.kept) l.epoch l.number) (server_number i r.server r.is) (subst (λ (n : Node). Above (call_seat n x.lasting.kept) l.epoch l.number) (sym node) z)));
       place = elim S.given.1 [
         | inl y ↦ inl (record {
-            boot = x.lasting.boot;
-            up = now_up c past i h.0.0.hears y.up;
-            given = subst (IsCallUnder (Server i) k x.lasting.boot) (sym (own_given c past i m S.front h.0.0.hears.told y)) (under x.lasting.boot refl);
-            first = subst (λ (l : Key). IsToCome (Server i) l x.lasting.boot past) key (comes_first c past i m j h.0.0.hears y.up S.chosen.from S.chosen.runs);
-          })
+          boot = x.lasting.boot;
+          up = now_up c past i h.0.0.hears y.up;
+          given = subst (IsCallUnder (Server i) k x.lasting.boot) (sym (own_given c past i m S.front h.0.0.hears.told y)) (under x.lasting.boot refl);
+          first = subst (λ (l : Key). IsToCome (Server i) l x.lasting.boot past) key (comes_first c past i m j h.0.0.hears y.up S.chosen.from S.chosen.runs);
+        })
         | inr y ↦ inr (record {
-            alone = ap (onto []) y.front';
-            boots = ends_behind (Server i) vs S.rest y.boots;
-            newer = y.cut.newer;
-            at = y.cut.at;
-            older = y.cut.older;
-            split = y.cut.split;
-            actor = y.cut.actor;
-            ran = record {
-              boot = x.lasting.boot;
-              up = y.cut.up;
-              given = subst (IsCallUnder (Server i) k x.lasting.boot) (sym y.cut.given) (under x.lasting.boot refl);
-              first = subst (λ (l : Key). IsToCome (Server i) l x.lasting.boot y.cut.older) key (y.cut.first j S.chosen.from S.chosen.runs);
-            };
-            stopped = y.cut.stopped;
-            since = y.cut.since;
-          })
+          alone = ap (onto []) y.front';
+          boots = ends_behind (Server i) vs S.rest y.boots;
+          newer = y.cut.newer;
+          at = y.cut.at;
+          older = y.cut.older;
+          split = y.cut.split;
+          actor = y.cut.actor;
+          ran = record {
+            boot = x.lasting.boot;
+            up = y.cut.up;
+            given = subst (IsCallUnder (Server i) k x.lasting.boot) (sym y.cut.given) (under x.lasting.boot refl);
+            first = subst (λ (l : Key). IsToCome (Server i) l x.lasting.boot y.cut.older) key (y.cut.first j S.chosen.from S.chosen.runs);
+          };
+          stopped = y.cut.stopped;
+          since = y.cut.since;
+        })
       ];
       going = not_stopped c past i m S.front S.rest S.given.1;
       only = ap change_key (sym (no_more own)) ∙ blank_key own [] blank;

@@ -243,10 +243,10 @@ changes_all past e me k user call id v es shown front rest none split before beh
     let told : Told id (edited_all id es v) vs base = edits_told id es v base old in
     let key : change_key e.lines ≡ Some k = ap change_key split ∙ blank_key front (l ∷ versioned vs rest) before in
     let after : (other : ℕ) → volume_after other (e ∷ past) ≡ cond (eqb id other) (Some V) (volume_after other past) = λ other.
-        plain_after other e past (Some k) none key
-        ∙ (ap (λ (o : Option (List ℕ × FsCall)). applied other o (volume_after other past)) one
-        ∙ (ap (λ (t : Bool). applied_by t other user call (volume_after other past)) (volume_test id other (volume_called call) of)
-        ∙ sym (ideal_by (eqb id other) id other user call v es shown (volume_after other past) (volume_after other past) refl res (λ q. subst (λ (i : ℕ). volume_after i past ≡ Some v) q at) refl))) in
+    plain_after other e past (Some k) none key
+    ∙ (ap (λ (o : Option (List ℕ × FsCall)). applied other o (volume_after other past)) one
+    ∙ (ap (λ (t : Bool). applied_by t other user call (volume_after other past)) (volume_test id other (volume_called call) of)
+    ∙ sym (ideal_by (eqb id other) id other user call v es shown (volume_after other past) (volume_after other past) refl res (λ q. subst (λ (i : ℕ). volume_after i past ≡ Some v) q at) refl))) in
     record {
       after = after;
       sound = λ other h. subst (λ (o : Option Volume). SoundIn other o (lines_of (e ∷ past))) (sym (after other))

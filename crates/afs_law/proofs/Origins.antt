@@ -379,16 +379,19 @@ pub asked_kept : (s : Script) → IsKept (KnownAsked s)
 asked_kept s c past x h = (known_kept c past x h.0, each_moved (KnownAsked s) (Behind (AskedIn s)) (asked_moves s) c past x h)
 
 pub asked_first : (s : Script) → KnownAsked s (start s) (set_up s ∷ [])
-asked_first s = (known_first s, record {
-  user = λ j. refl;
-  table = λ j. refl;
-  acts = λ j. first_passed (λ (ls : List Line). running s (Client j) ls ≡ None) (λ v o h. h) s.volumes [] refl;
-  ones = tt;
-  last = λ j act r. absurd cc;
-  origins = tt;
-  asked = λ j act r. absurd cc;
-  late = λ j act r. absurd cc;
-})
+asked_first s = (
+  known_first s,
+  record {
+    user = λ j. refl;
+    table = λ j. refl;
+    acts = λ j. first_passed (λ (ls : List Line). running s (Client j) ls ≡ None) (λ v o h. h) s.volumes [] refl;
+    ones = tt;
+    last = λ j act r. absurd cc;
+    origins = tt;
+    asked = λ j act r. absurd cc;
+    late = λ j act r. absurd cc;
+  },
+)
 
 pub asked_at : (s : Script) (h : List Entry) (end : Cell) → RunsTo h s end → KnownAsked s end (past_of (set_up s ∷ []) h)
 asked_at s h end r = run_keeps (KnownAsked s) (asked_kept s) r.inputs (start s) (set_up s ∷ []) h end (asked_first s) r.leads
