@@ -44,15 +44,16 @@ pub mod Standing
 pub mod Hearing
 pub mod Members
 pub mod Moving
+pub mod Seating
 pub mod Acting
 pub mod Choosing
 pub mod Knowing
 pub mod Origins
 pub mod Ideals
-pub mod Seating
 pub mod Cutting
 pub mod Changing
 pub mod Placing
+pub mod Sending
 pub mod Dying
 pub mod Made
 pub mod Worked

@@ -16,6 +16,7 @@ use Rattle.afs_law.proofs.KeysOnce.{IsKnown, any_told, by_key, known_pair}
 use Rattle.afs_law.proofs.Knowing.{Known, known_first, known_kept, served_uncalled, started_uncalled, timed_uncalled, woken_uncalled}
 use Rattle.afs_law.proofs.Law.{first_passed}
 use Rattle.afs_law.proofs.Moving.{Behind, EachMove, IsKept, each_moved, run_gives, run_keeps}
+use Rattle.afs_law.proofs.Seating.{AreSeated}
 use Rattle.afs_law.specs.Ideal.{call_in, call_under, first_lines, set_up, user_of}
 use Rattle.afs_law.specs.Legal.{as_asked}
 use Rattle.afs_law.specs.Once.{past_of}
@@ -194,6 +195,7 @@ pub record Asked (s : Script) (clients : ℕ → ClientState) (sent : List Messa
   pub origins : Each (IfCall (Origin s past)) sent
   pub asked : (j : ℕ) (act : Going) → (clients j).running ≡ Some act → CalledSince (last_key j (clients j)) (user_at s j) (call_of (clients j) act) past
   pub late : (j : ℕ) (act : Going) → (clients j).running ≡ Some act → is_late (Client j) (last_key j (clients j)) past ≡ true
+  pub seats : (j : ℕ) → AreSeated (Client j) (clients j).seats
 
 abbrev pub AskedIn : Script → Cell → List Entry → Type 0
 AskedIn s c past = Asked s c.clients c.sent past
@@ -217,12 +219,13 @@ idle_asked s clients sent more past e A over under idle none = record {
   origins = over (IfCall (Origin s (e ∷ past))) (each_map _ _ (if_call (Origin s past) (Origin s (e ∷ past)) (origin_over s e past)) sent A.origins) (each_map IsUncalled (IfCall (Origin s (e ∷ past))) (uncalled_any (Origin s (e ∷ past))) e.sent none);
   asked = λ j act r. inr ((idle_leaves s j e.lines (lines_of past) idle).begins, A.asked j act r);
   late = λ j act r. late_still (has_begun (Client j) e.lines) _ _ (idle_leaves s j e.lines (lines_of past) idle).begins (A.late j act r);
+  seats = A.seats;
 }
 
 -- ---- a step of a client
 
 -- what it sends is its call
-the_calls : (n : ℕ) (x : ClientState) (st : Step ClientState) → Rests n (who_at x) x.gifts st ⊎ (Asks n (who_at x) st ⊎ Stops n (who_at x) st) → Each (IfCall (IsTheCall n st.state)) st.sent
+pub the_calls : (n : ℕ) (x : ClientState) (st : Step ClientState) → Rests n (who_at x) x.gifts st ⊎ (Asks n (who_at x) st ⊎ Stops n (who_at x) st) → Each (IfCall (IsTheCall n st.state)) st.sent
 the_calls n x st (inl r) = r.sent
 the_calls n x st (inr (inl a)) = subst (Each (IfCall (IsTheCall n st.state))) (sym a.sent) (record { key = refl; act = a.act; runs = a.runs; user' = refl; asks = refl }, tt)
 the_calls n x st (inr (inr z)) = subst (Each (IfCall (IsTheCall n st.state))) (sym z.sent) tt
@@ -271,7 +274,7 @@ late_by : (t a b : Bool) → a ≡ false → b ≡ true → cond t (not a) b ≡
 late_by true a b x y = rw x refl
 late_by false a b x y = y
 
-last_late : (c : Cell) (past : List Entry) (s : Script) (n : ℕ) (st : Step ClientState) → Known c past → AskedIn s c past → Rests n (who_at (c.clients n)) (c.clients n).gifts st ⊎ (Asks n (who_at (c.clients n)) st ⊎ Stops n (who_at (c.clients n)) st) → (act : Going) → st.state.running ≡ Some act
+pub last_late : (c : Cell) (past : List Entry) (s : Script) (n : ℕ) (st : Step ClientState) → Known c past → AskedIn s c past → Rests n (who_at (c.clients n)) (c.clients n).gifts st ⊎ (Asks n (who_at (c.clients n)) st ⊎ Stops n (who_at (c.clients n)) st) → (act : Going) → st.state.running ≡ Some act
     → is_late (Client n) (last_key n st.state) (of_client n st ∷ past) ≡ true
 last_late c past s n st K A (inl r) act run = elim r.act [
   | inl none ↦ absurd (none_runs st.state.running act none run)
@@ -321,6 +324,7 @@ client_asked s c past n st K A a =
       late = λ j. at_put n j (λ (x : ClientState). (act : Going) → x.running ≡ Some act → is_late (Client j) (last_key j x) (e ∷ past) ≡ true) st.state c.clients
           (λ same. subst (λ (i : ℕ). (act : Going) → st.state.running ≡ Some act → is_late (Client i) (last_key i st.state) (e ∷ past) ≡ true) same (last_late c past s n st K A a.goes))
           (λ other act r. late_still (has_begun (Client j) st.lines) _ _ (other_leaves s n j st.lines (lines_of past) a.of other).begins (A.late j act r));
+      seats = λ j. at_put n j (λ (x : ClientState). AreSeated (Client j) x.seats) st.state c.clients (λ same. subst (λ (i : ℕ). AreSeated (Client i) st.state.seats) same (a.seats (A.seats n))) (λ other. A.seats j);
     }
 
 -- ---- every step
@@ -357,7 +361,7 @@ asked_moves s = record {
   void = λ c past h. still_asked s c past _ h.1 refl refl;
   ticked = λ c past n h. still_asked s c past _ h.1 refl refl;
   begun = λ c past n act h r. client_asked s c past n _ h.0 h.1 (begins_acts n (c.clients n) c.clock act r);
-  told = λ c past n place m h at to. client_asked s c past n _ h.0 h.1 (given_acts (by_key (IsKnown h.0.keys.callees c.clients)) any_told n (c.clients n) c.clock place m (h.0.keys.replies n));
+  told = λ c past n place m h at to. client_asked s c past n _ h.0 h.1 (given_acts (by_key (IsKnown h.0.keys.callees c.clients)) any_told n (c.clients n) c.clock place m (h.0.keys.replies n) (h.1.seats n));
   waited = λ c past n act h r. client_asked s c past n _ h.0 h.1 (waits_acts n (c.clients n) act r);
   fallen = λ c past n h. client_asked s c past n _ h.0 h.1 (falls_acts n (c.clients n));
   risen = λ c past n h. client_asked s c past n _ h.0 h.1 (rises_acts n (c.clients n));
@@ -390,6 +394,7 @@ asked_first s = (
     origins = tt;
     asked = λ j act r. absurd cc;
     late = λ j act r. absurd cc;
+    seats = λ j n seat m e. absurd cc;
   },
 )
 

@@ -3,7 +3,7 @@
 use Rattle.afs_history.specs.declared.lines.Line.{Line}
 use Rattle.afs_history.specs.declared.lines.Line.TheVariants as lines
 use Rattle.afs_history.specs.declared.scripts.Script.{Script}
-use Rattle.afs_law.proofs.Basics.{a_key, at_put, at_seat, same_node-true, some_of}
+use Rattle.afs_law.proofs.Basics.{LastSeat, a_key, at_put, at_seat, kept_last, same_node-true, some_of}
 use Rattle.afs_law.proofs.Hearing.{HearsIn, hears_at, reply_ran}
 use Rattle.afs_law.proofs.Hosting.{HasHead, served_head}
 use Rattle.afs_law.proofs.Keeping.{at_placed}
@@ -13,7 +13,7 @@ use Rattle.afs_law.specs.Laws.{seat_key}
 use Rattle.afs_law.specs.Once.{past_of}
 use Rattle.afs_law.specs.Past.{HasCode, Ran, answered_key}
 use Rattle.afs_model.specs.Calls as pairs
-use Rattle.afs_model.specs.Calls.{Admitted, admitted, call_seat, call_seated}
+use Rattle.afs_model.specs.Calls.{Admitted, admitted, call_seat, call_seated, paired}
 use Rattle.afs_num.specs.Nodes.{same_node}
 use Rattle.afs_num.specs.declared.calls.FsCall.{FsCall}
 use Rattle.afs_num.specs.declared.calls.FsReply.{FsReply}
@@ -31,7 +31,7 @@ use Rattle.afs_rows.specs.Runs.{Armed, Cell, Entry, Fall, Host, RunsTo, at_rest,
 use Rattle.afs_rows.specs.ServerRow.{Begun, Change, Decision, admits, begun_after, carried_by, decides, does, drops, hears, is_client, not_served, promise_ticks, refuses, repeats, replied, reply_head, runs_received, saves, seat_for, seat_placed, serves_call, shows, tells_boot, whole}
 use Rattle.afs_rows.specs.ServerSteps.{back_timeout_row, server_row, start_row, wake_row}
 use Rattle.afs_rows.specs.States.{BackCall, Seat, ServerState}
-use Rattle.std.proofs.Common.{◌≡◌, ℕ, ◌+◌, Bool, true, false, cond, List, [], ◌∷◌, Option, Some, None, refl, sym, ap, subst, ◌∙◌}
+use Rattle.std.proofs.Common.{◌≡◌, ℕ, ◌+◌, Bool, true, false, cond, List, [], ◌∷◌, Option, Some, None, refl, sym, ap, subst, nat_eq, ◌∙◌}
 use Rattle.std.specs.Prelude.{⊤}
 
 -- ---- what runs was sent to the server
@@ -105,11 +105,19 @@ own_reply me boot head c n to code from seat m e r =
     let is : replied boot head c ≡ m = some_of (replied boot head c) m (ap (λ (s : Seat). s.reply) same ∙ r) in
     subst (IsReplyOf me n seat) is (subst (λ (s : Seat). IsReplyOf me n s (replied boot head c)) same (record { from = to; to = from; epoch = refl; number = refl; code = code }))
 
-seated : (me : Node) (boot : ℕ) (head : Head) (c : Carried) (seats : List Seat) → head.to ≡ me → HasCode c → AreSeated me seats → AreSeated me (call_seated (seat_for head (replied boot head c)) seats)
+pub seated : (me : Node) (boot : ℕ) (head : Head) (c : Carried) (seats : List Seat) → head.to ≡ me → HasCode c → AreSeated me seats → AreSeated me (call_seated (seat_for head (replied boot head c)) seats)
 seated me boot head c seats to code h n = at_seat (seat_for head (replied boot head c)) n seats (IsSeat me n) (λ own. own_reply me boot head c n to code own) (λ other. h n)
 
 placed : (me : Node) (boot : ℕ) (head : Head) (c : Carried) (seats : List Seat) → head.to ≡ me → HasCode c → AreSeated me seats → AreSeated me (seat_placed (seat_for head (replied boot head c)) seats)
 placed me boot head c seats to code h n = at_placed (seat_for head (replied boot head c)) n seats (IsSeat me n) (λ own. own_reply me boot head c n to code own) (λ other. h n)
+
+-- a reply that is repeated is one of them
+kept_by : (t : Bool) (me : Node) (boot : ℕ) (seats : List Seat) (head : Head) (m : Message) → AreSeated me seats → cond t (paired head.epoch head.number (call_seat head.from seats)) (pairs.wrong_boot boot) ≡ pairs.kept m → m.head.from ≡ me
+kept_by true me boot seats head m h e = let l : LastSeat head.epoch head.number (call_seat head.from seats) m = kept_last head.epoch head.number (call_seat head.from seats) m e in (h head.from l.seat m l.at l.reply).from
+kept_by false me boot seats head m h e = absurd cc
+
+pub kept_from : (me : Node) (boot : ℕ) (seats : List Seat) (head : Head) (m : Message) → AreSeated me seats → admitted boot seats head ≡ pairs.kept m → m.head.from ≡ me
+kept_from me boot seats head m h e = kept_by (nat_eq head.boot boot) me boot seats head m h e
 
 change_code : (expiry : ℕ) (o : Option FsReply) → HasCode (carried_by expiry o)
 change_code expiry None = tt
@@ -169,7 +177,7 @@ SitsIn c past = (i : ℕ) → Sits (Server i) (c.hosts i).state
 host_sits : (hosts : ℕ → Host) (i : ℕ) (h : Host) → ((j : ℕ) → Sits (Server j) (hosts j).state) → Sits (Server i) h.state → (j : ℕ) → Sits (Server j) (put i h hosts j).state
 host_sits hosts i h w own j = at_put i j (λ (x : Host). Sits (Server j) x.state) h hosts (λ same. subst (λ (k : ℕ). Sits (Server k) h.state) same own) (λ other. w j)
 
-sits_moves : EachMove SitsIn (Behind SitsIn)
+pub sits_moves : EachMove SitsIn (Behind SitsIn)
 sits_moves = record {
   void = λ c past h. h;
   ticked = λ c past n h. h;

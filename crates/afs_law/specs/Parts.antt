@@ -7,7 +7,7 @@ use Rattle.afs_ideal.specs.Operations.{changes, op, the_user, volume_called}
 use Rattle.afs_ideal.specs.Volumes.{Edit, Volume, versions_by}
 use Rattle.afs_law.specs.Breaks.{HasStopped}
 use Rattle.afs_law.specs.Ideal.{Accepts, call_under, change_key, set_up, user_of, volume_after}
-use Rattle.afs_law.specs.Legal.{GoodRestart, HasAct, HasChangeBy, IsLater, IsNew, IsOfClient, IsOfServer, IsTimed, IsUnderChange, RanBefore, RunsHere, as_asked, versions_first}
+use Rattle.afs_law.specs.Legal.{GoodCall, IsBy, GoodRestart, HasAct, HasChangeBy, IsLater, IsNew, IsOfClient, IsOfServer, IsTimed, IsUnderChange, RanBefore, RunsHere, as_asked, versions_first}
 use Rattle.afs_law.specs.Once.{past_of}
 use Rattle.afs_law.specs.Past.{Called, CalledSince, called_key, has_given, is_late, lines_of, running, sent_of}
 use Rattle.afs_num.specs.declared.calls.FsCall.{FsCall}
@@ -102,6 +102,21 @@ IsInPlace s who lines.Void past own next = who ≡ actors.Nobody
 -- so do all lines of a run
 abbrev pub LinesAreInPlace : Type 0
 LinesAreInPlace = (s : Script) (history : List Entry) (end : Cell) → RunsTo history s end → AllLines (IsInPlace s) s history
+
+-- ---- messages
+
+-- of each of these messages, behind the entry that sends them
+abbrev pub EachSent : (List Entry → Message → Type 0) → List Entry → List Message → Type 0
+EachSent G past [] = ⊤
+EachSent G past (m ∷ ms) = G past m × EachSent G past ms
+
+-- it is sent by the node that it names, and a call of a client under a key of its own act
+abbrev pub IsOwn : List Entry → Message → Type 0
+IsOwn past m = IsBy m.head.from past × GoodCall m.head m.carried past
+
+-- so are all messages of a run
+abbrev pub MessagesAreOwn : Type 0
+MessagesAreOwn = (s : Script) (history : List Entry) (end : Cell) → RunsTo history s end → EachEntry (λ past e. EachSent IsOwn (e ∷ past) e.sent) (set_up s ∷ []) history
 
 -- ---- changes
 

@@ -1,7 +1,7 @@
 //! Laws about the runs of a script. Each is the contract of a function that does nothing.
 
 ghost use Rattle.afs_law.specs.Laws.{AcknowledgedAreMade, AnswersAreRecent, ChangesAreFolded, EffectsAreTold, KeysRunOnce, ReadsAreNewest, RunsAreLegal, RunsAreOne, SetUpsAreFirst, StartsAreFolded, VolumesAreTold, PairsAreKnown, TrustedIsGood, RoomlessAreRefused, UnservedAreRefused, CallsRunOnce, RepliesAreCaused, RepliesAreRan, KeptAreRan, DurableAreChanges, GrantsAreKept, BreaksAreOwed, RepliesFollowDrops, UnawaitedAreUntrusted, DeadAreUntrusted};
-ghost use Rattle.afs_law.specs.Parts.{ActsAreTold, CallsAreAsked, ChangesAreIdeal, LinesAreInPlace};
+ghost use Rattle.afs_law.specs.Parts.{ActsAreTold, CallsAreAsked, ChangesAreIdeal, LinesAreInPlace, MessagesAreOwn};
 
 /// Every run of a script for one server is legal.
 pub fn runs_are_legal()
@@ -141,6 +141,11 @@ pub fn calls_are_asked()
 /// Each line stands in an entry of its node, where it may.
 pub fn lines_are_in_place()
     ensures { LinesAreInPlace }
+{}
+
+/// Each message is sent by the node that it names, and each call of a client under a key of its own act.
+pub fn messages_are_own()
+    ensures { MessagesAreOwn }
 {}
 
 /// Each change is what the ideal cell makes of the call that ran.
