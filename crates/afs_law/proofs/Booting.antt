@@ -198,7 +198,7 @@ rise_boots hosts i h e past front notes are stand note was up grows B =
     (subst (λ (n : ℕ). n ≤ b) (sym (ap (last_boot (Server i)) at ∙ ((all_same i notes (rise ∷ o) note).last ∙ own))) (omega arith))
     (λ j ne. subst (λ (ls : List Line). Same j ls (lines_of past)) (sym at) (then_same (all_same j notes (rise ∷ o) note)
     (then_same (record { boot = ap (λ (t : Bool). cond t (risen (server_boot (Server j) o) b) (server_boot (Server j) o)) (server_apart i j ne); last = ap (λ (t : Bool). cond t b (last_boot (Server j) o)) (server_apart i j ne) }) (all_same j front (lines_of past) stand))))
-    (subst (AreRising (lines_of past)) (sym are) (rise_both front (rise ∷ notes) (lines_of past) (all_rise front (lines_of past) stand) (above, all_rise notes (rise ∷ o) note))) B
+    (subst (AreRising (lines_of past)) (sym are) (rise_both front (rise ∷ notes) (lines_of past) (all_rise front (lines_of past) stand) ((none, above), all_rise notes (rise ∷ o) note))) B
 
 -- ---- the lines of a server's steps
 

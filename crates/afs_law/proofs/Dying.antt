@@ -80,7 +80,7 @@ restart_above true i b last o e r q =
 restart_above false i b last o e r q = le_refl last
 
 line_above : (l : Line) (o : List Line) → IsRising l o → last_boot the_server o ≤ last_boot the_server (l ∷ o)
-line_above (lines.Restart (Server i) b) o r = restart_above (same_node (Server i) the_server) i b (last_boot the_server o) o refl r refl
+line_above (lines.Restart (Server i) b) o r = restart_above (same_node (Server i) the_server) i b (last_boot the_server o) o refl r.1 refl
 line_above (lines.Restart (Client i) b) o r = le_refl _
 line_above (lines.Restart (Admin i) b) o r = le_refl _
 line_above (lines.Restart Loc b) o r = le_refl _
@@ -107,7 +107,7 @@ up_last : (ls : List Line) → LinesRise ls → (b : ℕ) → server_boot the_se
 up_last [] h b e = let same : 1 ≡ b = some_of 1 b e in omega arith
 up_last (lines.Crash n ∷ o) h b e = up_last o h.1 b (stop_up (same_node n the_server) (server_boot the_server o) b e)
 up_last (lines.Fault n ∷ o) h b e = up_last o h.1 b (stop_up (same_node n the_server) (server_boot the_server o) b e)
-up_last (lines.Restart (Server i) boot ∷ o) h b e = restart_up (same_node (Server i) the_server) i boot b o refl h.0 e (up_last o h.1 b)
+up_last (lines.Restart (Server i) boot ∷ o) h b e = restart_up (same_node (Server i) the_server) i boot b o refl h.0.1 e (up_last o h.1 b)
 up_last (lines.Restart (Client i) boot ∷ o) h b e = up_last o h.1 b e
 up_last (lines.Restart (Admin i) boot ∷ o) h b e = up_last o h.1 b e
 up_last (lines.Restart Loc boot ∷ o) h b e = up_last o h.1 b e

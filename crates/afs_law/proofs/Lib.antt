@@ -18,6 +18,7 @@ pub mod Notes
 pub mod Pumping
 pub mod Serving
 pub mod Naming
+pub mod Granting
 pub mod Saving
 pub mod Deciding
 pub mod Nexts
@@ -45,5 +46,6 @@ pub mod Hearing
 pub mod Members
 pub mod Dying
 pub mod Made
+pub mod Surviving
 pub mod Worked
 pub mod Wrong

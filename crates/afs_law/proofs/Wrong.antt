@@ -21,7 +21,7 @@ use Rattle.afs_num.specs.declared.types.Node.{Node}
 use Rattle.afs_law.proofs.OneCell.{Cell, stops, the_server, server_waits, Input, begins, gives, moved, nothing, sets_stop, start, starts_again, waits}
 use Rattle.afs_law.proofs.Worked.{by_lines, stores, alters, answer, begun, entries, file, root, script, six_front}
 use Rattle.afs_law.specs.Breaks.{HasTimeout, HasStopped}
-use Rattle.afs_law.specs.Legal.{Cause, EndsAct, IsResult, Legal, answer_at, code_given}
+use Rattle.afs_law.specs.Legal.{IsPromisedBy, Cause, EndsAct, IsResult, Legal, answer_at, code_given}
 use Rattle.afs_model.specs.Messages.{spelled}
 use Rattle.afs_num.specs.Names.{name_ok}
 use Rattle.afs_num.specs.declared.types.Fid.{Fid}
@@ -31,7 +31,7 @@ use Rattle.afs_rows.specs.Runs.{Entry, comes_up, steady}
 use Rattle.afs_xdr.specs.Words.{opaque, pad, word, opaque_at, word_at, counted_at}
 use Rattle.afs_law.specs.Ideal.{set_up}
 use Rattle.afs_law.specs.Once.{past_of}
-use Rattle.afs_law.specs.Past.{server_boot, CalledSince, IsToCome, called_key, AreWithin, has_begun, IsUnheard, IsCallUnder, Ran, answered_key, code_told, given_message, lines_of, sent_of}
+use Rattle.afs_law.specs.Past.{WasSent, SendsTo, IsCall, server_boot, CalledSince, IsToCome, called_key, AreWithin, has_begun, IsUnheard, IsCallUnder, Ran, answered_key, code_told, given_message, lines_of, sent_of}
 use Rattle.afs_num.specs.declared.calls.FsCall.{FsCall}
 use Rattle.afs_num.specs.declared.calls.FsCall.TheVariants as calls
 use Rattle.afs_num.specs.declared.histories.Actor.TheVariants as actors
@@ -48,7 +48,7 @@ use Rattle.afs_num.specs.declared.messages.Message.{Message}
 use Rattle.afs_num.specs.declared.types.Node.TheVariants.{Client, Server}
 use Rattle.std.proofs.Common.{arith, ◌<◌, ◌≤◌, ◌≡◌, ◌∙◌, true, false, ℕ, ℤ, List, [], ◌∷◌, ◌++◌, ◌⊎◌, Option, None, Some, ap, sym, subst, refl, inl, inr, negsuc, pos}
 use Rattle.std.specs.Fmt.{digits}
-use Rattle.std.specs.Prelude.{codes, drop, map, take}
+use Rattle.std.specs.Prelude.{⊤, codes, drop, map, take}
 
 -- an entry with other lines, which sends nothing
 abbrev instead : List Line → Entry → Entry
@@ -649,7 +649,7 @@ in_boot_one l = l
 
 begun_in_the_old_boot : Legal (alters 1 (by_lines in_boot_one) (entries (start (script 1)) (stops ∷ starts_again false comes_up ∷ []))) (script 1) → ⊥
 unfolding moved begin_row client_row server_row back_timeout_row wake_row start_row record_bytes head_form volume_form spelled opaque pad word laid_at led name_ok directory_bytes name_bytes rights_of image acl_text digits entry_text directory_of names_at opaque_at word_at counted_at whole_at count_at name_at spelled_at bytes_below
-begun_in_the_old_boot h = let e : 1 < 1 = h.1.0.1.0.1.0 in absurd (omega arith)
+begun_in_the_old_boot h = let e : 1 < 1 = h.1.0.1.0.1.0.1 in absurd (omega arith)
 
 -- ---- an act changes things once, were it long over
 
@@ -672,3 +672,99 @@ changed_twice h = h.1.1.1.1.1.0.0.0.1.0.1.alone (past_of [] (drop 1 (take 5 chan
 timed_out_beside_a_reply : Legal (alters 2 (instead (lines.Given 2 ∷ lines.Timeout (Client 1) (Server 1) 1 1 1 ∷ [])) (entries (start (script 1)) open_front)) (script 1) → ⊥
 unfolding moved begin_row client_row server_row back_timeout_row wake_row start_row record_bytes head_form volume_form spelled opaque pad word laid_at led name_ok directory_bytes name_bytes rights_of image acl_text digits entry_text directory_of names_at opaque_at word_at counted_at whole_at count_at name_at spelled_at bytes_below
 timed_out_beside_a_reply h = let e : true ≡ false = h.1.1.0.0.0.1.0.1.0.0 in absurd cc
+
+-- ---- a server that is up begins again
+
+abbrev begins_again : Entry
+begins_again = step_of (Server 1) (lines.Restart (Server 1) 2 ∷ lines.Owe (Server 1) (Client 1) None 1 ∷ []) []
+
+begun_when_up : Legal (begins_again ∷ []) (script 1) → ⊥
+unfolding moved begin_row client_row server_row back_timeout_row wake_row start_row record_bytes head_form volume_form spelled opaque pad word laid_at led name_ok directory_bytes name_bytes rights_of image acl_text digits entry_text directory_of names_at opaque_at word_at counted_at whole_at count_at name_at spelled_at bytes_below
+begun_when_up h = let e : Some 1 ≡ None = h.0.1.0.1.0.0 in absurd cc
+
+-- ---- timeouts count of the node to which the call was sent
+
+-- no call among the messages is to this node
+abbrev AreNotTo : Node → List Message → Type 0
+AreNotTo q [] = ⊤
+AreNotTo q (m ∷ ms) = (m.head.to ≡ q → IsCall m.carried → ⊥) × AreNotTo q ms
+
+abbrev NeverTo : Node → List Entry → Type 0
+NeverTo q [] = ⊤
+NeverTo q (e ∷ past) = AreNotTo q e.sent × NeverTo q past
+
+not_to : (q : Node) (k : Key) (user : List ℕ) (call : FsCall) (ms : List Message) → AreNotTo q ms → SendsTo q k user call ms → ⊥
+not_to q k user call [] h x = x
+not_to q k user call (m ∷ ms) h (inl x) = h.0 x.0 (subst IsCall (sym x.1.1) tt)
+not_to q k user call (m ∷ ms) h (inr x) = not_to q k user call ms h.1 x
+
+never_to : (q : Node) (k : Key) (user : List ℕ) (call : FsCall) (past : List Entry) → NeverTo q past → WasSent q k user call past → ⊥
+never_to q k user call [] h x = x
+never_to q k user call (e ∷ past) h (inl x) = not_to q k user call e.sent h.0 x
+never_to q k user call (e ∷ past) h (inr x) = never_to q k user call past h.1 x
+
+-- a client's act is dead by timeouts of a server that it asked nothing
+abbrev of_two : Line → Line
+of_two (lines.Timeout c q e n k) = lines.Timeout c (Server 2) e n k
+of_two l = l
+
+dead_of_another_server : Legal (map (by_lines of_two) (entries (start (script 1)) (begins 1 (acts.Open (operands.Fid file)) ∷ waits 1 ∷ waits 1 ∷ waits 1 ∷ []))) (script 1) → ⊥
+unfolding moved begin_row client_row server_row back_timeout_row wake_row start_row record_bytes head_form volume_form spelled opaque pad word laid_at led name_ok directory_bytes name_bytes rights_of image acl_text digits entry_text directory_of names_at opaque_at word_at counted_at whole_at count_at name_at spelled_at bytes_below
+dead_of_another_server h =
+    let g = h.1.1.1.0.0.0.1.0.1 in
+    elim g.cause [
+      | inl x ↦ let e : None ≡ Some x.reply = x.by in absurd cc
+      | inr y ↦ elim y [
+        | inl x ↦ let e : negsuc 0 ≡ pos x.number = x.is in absurd cc
+        | inr z ↦ elim z [
+          | inl x ↦ elim x.third [
+            | inl t ↦ never_to (Server 2) _ _ x.call _ ((λ e c. absurd cc, tt), ((λ e c. absurd cc, tt), ((λ e c. absurd cc, tt), (tt, tt)))) (subst (λ (q : Node). WasSent q (record { node = Client 1; epoch = x.epoch; number = x.number }) (codes "guest") x.call _) (sym t.1.0) x.to)
+            | inr none ↦ none
+          ]
+          | inr x ↦ let e : negsuc 0 ≡ pos 0 = x.is in absurd cc
+        ]
+      ]
+    ]
+
+-- a server gives a break up, and its call went to another client
+abbrev sent_to_two : Entry → Entry
+sent_to_two e = record e { sent = map (λ (m : Message). record m { head = record m.head { to = Client 2 } }) e.sent }
+
+quit_for_another_client : Legal (alters 3 sent_to_two (alters 4 sent_to_two (alters 5 sent_to_two (entries (start (script 2)) (begins 1 (acts.Open (operands.Fid file)) ∷ gives 1 steady ∷ begins 2 (acts.Close (operands.Fid file) (Hex (codes "def"))) ∷ gives 3 steady ∷ server_waits (Client 1) ∷ server_waits (Client 1) ∷ server_waits (Client 1) ∷ []))))) (script 2) → ⊥
+unfolding moved begin_row client_row server_row back_timeout_row wake_row start_row record_bytes head_form volume_form spelled opaque pad word laid_at led name_ok directory_bytes name_bytes rights_of image acl_text digits entry_text directory_of names_at opaque_at word_at counted_at whole_at count_at name_at spelled_at bytes_below
+quit_for_another_client h =
+    let g = h.1.1.1.1.1.1.0.0.0.1.0.1 in
+    never_to (Client 1) _ _ g.call _ ((λ e c. absurd cc, tt), ((λ e c. absurd cc, tt), ((λ e c. absurd cc, tt), ((λ e c. absurd cc, tt), ((λ e c. c, tt), ((λ e c. absurd cc, tt), (tt, tt))))))) g.called
+
+-- ---- a promise is what the reply to a call of the client carries
+
+abbrev grants : Fid → ℕ → Entry → Entry
+grants f index e = record e { lines = lines.Given 1 ∷ lines.Grant (Server 1) (Client 1) f index 7200 ∷ [] }
+
+-- a client asks for a file, and is promised its directory, which the reply doesn't show
+granted_unasked : Legal (alters 1 (grants root 1) (entries (start (script 1)) (begins 1 (acts.Open (operands.Fid file)) ∷ gives 1 steady ∷ []))) (script 1) → ⊥
+unfolding moved begin_row client_row server_row back_timeout_row wake_row start_row record_bytes head_form volume_form spelled opaque pad word laid_at led name_ok directory_bytes name_bytes rights_of image acl_text digits entry_text directory_of names_at opaque_at word_at counted_at whole_at count_at name_at spelled_at bytes_below
+granted_unasked h =
+    let g = h.1.0.0.0.1.0.1 in
+    let e : file ≡ root = subst (λ (k : FsCall). IsPromisedBy root k (answer_at g.user g.call _)) (sym (one_call _ _ _ _ (some_of _ _ g.carries))) g.promises in absurd cc
+
+-- the promise tells an index that no version has
+granted_ahead : Legal (alters 1 (grants file 2) (entries (start (script 1)) (begins 1 (acts.Open (operands.Fid file)) ∷ gives 1 steady ∷ []))) (script 1) → ⊥
+unfolding moved begin_row client_row server_row back_timeout_row wake_row start_row record_bytes head_form volume_form spelled opaque pad word laid_at led name_ok directory_bytes name_bytes rights_of image acl_text digits entry_text directory_of names_at opaque_at word_at counted_at whole_at count_at name_at spelled_at bytes_below
+granted_ahead h = let e : Some 1 ≡ Some 2 = h.1.0.0.0.1.0.1.newest in absurd cc
+
+-- a client fetches a part of a file, which is refused, and is promised the file
+abbrev in_part : FsCall
+in_part = calls.FetchData file (pos 1) (pos 1)
+
+abbrev asks_in_part : Entry → Entry
+asks_in_part e = record e { sent = map (λ (m : Message). record m { carried = carried.Call (codes "guest") (ask.File in_part) }) e.sent }
+
+granted_with_a_refusal : Legal (alters 0 asks_in_part (alters 1 (instead (lines.Given 1 ∷ lines.Grant (Server 1) (Client 1) file 1 7200 ∷ [])) (entries (start (script 1)) (begins 1 (acts.Open (operands.Fid file)) ∷ gives 1 steady ∷ [])))) (script 1) → ⊥
+unfolding moved begin_row client_row server_row back_timeout_row wake_row start_row record_bytes head_form volume_form spelled opaque pad word laid_at led name_ok directory_bytes name_bytes rights_of image acl_text digits entry_text directory_of names_at opaque_at word_at counted_at whole_at count_at name_at spelled_at bytes_below
+granted_with_a_refusal h =
+    let g = h.1.0.0.0.1.0.1 in
+    let same : carried.Call (codes "guest") (ask.File in_part) ≡ carried.Call g.user (ask.File g.call) = some_of _ _ g.carries in
+    let told : code_given (answer_at (codes "guest") in_part (past_of (set_up (script 1) ∷ []) (alters 0 asks_in_part (entries (start (script 1)) (begins 1 (acts.Open (operands.Fid file)) ∷ []))))) ≡ pos 0 =
+    subst (λ (u : List ℕ). code_given (answer_at u in_part _) ≡ pos 0) (sym (one_user _ _ _ _ same)) (subst (λ (k : FsCall). code_given (answer_at g.user k _) ≡ pos 0) (sym (one_call _ _ _ _ same)) g.code) in
+    let e : pos 22 ≡ pos 0 = told in absurd cc

@@ -138,7 +138,17 @@ abbrev pub Sends : Key → List ℕ → FsCall → List Message → Type 0
 Sends k user call [] = ⊥
 Sends k user call (m ∷ ms) = ((called_key m.head ≡ k) × (m.carried ≡ carried.Call user (ask.File call))) ⊎ Sends k user call ms
 
--- the same, by the key's node while this act ran there
+-- the same, and to this callee
+abbrev pub SendsTo : Node → Key → List ℕ → FsCall → List Message → Type 0
+SendsTo callee k user call [] = ⊥
+SendsTo callee k user call (m ∷ ms) = ((m.head.to ≡ callee) × ((called_key m.head ≡ k) × (m.carried ≡ carried.Call user (ask.File call)))) ⊎ SendsTo callee k user call ms
+
+-- this call was sent to this callee under this key, for this user
+abbrev pub WasSent : Node → Key → List ℕ → FsCall → List Entry → Type 0
+WasSent callee k user call [] = ⊥
+WasSent callee k user call (e ∷ past) = SendsTo callee k user call e.sent ⊎ WasSent callee k user call past
+
+-- this call was sent under this key, for this user, by the key's node while this act ran there
 abbrev pub Called : Script → Key → List ℕ → FsCall → Going → List Entry → Type 0
 Called s k user call act [] = ⊥
 Called s k user call act (e ∷ past) =
