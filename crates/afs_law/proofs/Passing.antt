@@ -86,6 +86,7 @@ ran_over reply e past h = record {
   given = h.given;
   is_call = h.is_call;
   key = h.key;
+  opcode = h.opcode;
   boot = h.boot;
   up = h.up;
   callee = h.callee;

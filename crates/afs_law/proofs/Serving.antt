@@ -398,6 +398,7 @@ ran_now s c past p n h user call e H up sent w is at = record {
   given = is ∙ at_told s c past p _ H sent;
   is_call = tt;
   key = refl;
+  opcode = refl;
   boot = w.boot;
   up = up_boots s c past H up;
   callee = refl;
@@ -994,7 +995,7 @@ told_still k o ls h = tt
 
 more_answers : (k : Key) (ms ns : List Message) → has_answer k ms ≡ true → has_answer k (ms ++ ns) ≡ true
 more_answers k [] ns h = absurd cc
-more_answers k (m ∷ ms) ns h = answers_by (same_key (answered_key m.head) k && is_told m.carried) k ms ns h (more_answers k ms ns)
+more_answers k (m ∷ ms) ns h = answers_by (same_key (answered_key m.head) k && is_told m.head.half m.carried) k ms ns h (more_answers k ms ns)
 
 by_answer : (boot : ℕ) (k : Key) (t : Started) (o : Owed) (x : Option BackCall) → has_answer k t.sent ≡ true → has_answer k (starts_by the_server boot t o x).sent ≡ true
 by_answer boot k t o None h = more_answers k t.sent _ h

@@ -768,3 +768,61 @@ granted_with_a_refusal h =
     let told : code_given (answer_at (codes "guest") in_part (past_of (set_up (script 1) ∷ []) (alters 0 asks_in_part (entries (start (script 1)) (begins 1 (acts.Open (operands.Fid file)) ∷ []))))) ≡ pos 0 =
     subst (λ (u : List ℕ). code_given (answer_at u in_part _) ≡ pos 0) (sym (one_user _ _ _ _ same)) (subst (λ (k : FsCall). code_given (answer_at g.user k _) ≡ pos 0) (sym (one_call _ _ _ _ same)) g.code) in
     let e : pos 22 ≡ pos 0 = told in absurd cc
+
+-- ---- a restart owes the clients of the script, and nobody else
+
+abbrev owes_two : Entry → Entry
+owes_two e = record e { lines = e.lines ++ lines.Owe (Server 1) (Client 2) None 2 ∷ [] }
+
+owed_to_a_stranger : Legal (alters 1 owes_two (entries (start (script 1)) (stops ∷ starts_again false comes_up ∷ []))) (script 1) → ⊥
+unfolding moved begin_row client_row server_row back_timeout_row wake_row start_row record_bytes head_form volume_form spelled opaque pad word laid_at led name_ok directory_bytes name_bytes rights_of image acl_text digits entry_text directory_of names_at opaque_at word_at counted_at whole_at count_at name_at spelled_at bytes_below
+owed_to_a_stranger h = let e : 2 ≤ 1 = h.1.0.0.0.1.1.0.1.1.1.1 in absurd (omega arith)
+
+-- ---- what is given back is gone from the step on that answers it, and a call answers nothing
+
+abbrev as_a_call : Entry → Entry
+as_a_call e = record e { sent = map (λ (m : Message). record m { head = record m.head { half = halves.Call } }) e.sent }
+
+-- a client drops the file, asks for it again, and gives it back; the server promises it anew, and then answers the gift by a call
+abbrev numbered : ℕ → List Message → List Message
+numbered n ms = map (λ (m : Message). record m { head = record m.head { number = n } }) ms
+
+abbrev gave_rest : List Entry
+gave_rest =
+    step_of (Client 1) (lines.Begin (Client 1) acts.GiveUp ∷ lines.Drop (Client 1) file ∷ []) (numbered 2 (sent_by (start (script 2)) (begins 1 (acts.Open (operands.Fid file)) ∷ [])) ++ numbered 3 (gift ∷ []))
+    ∷ step_of (Server 1) (lines.Given 3 ∷ lines.Grant (Server 1) (Client 1) file 1 7200 ∷ []) []
+    ∷ as_a_call (step_of (Server 1) (lines.Given 4 ∷ []) (numbered 3 (gift_answer ∷ [])))
+    ∷ step_of (Client 2) (stores 2 ∷ []) (sent_by (start (script 2)) (begins 2 (acts.Close (operands.Fid file) (Hex (codes "def"))) ∷ []))
+    ∷ step_of (Server 1) (lines.Given 6 ∷ lines.Change (Server 1) (record { node = Client 2; epoch = 1; number = 1 }) 1 ∷ lines.Version (record { fid = file; index = 2; data_version = 2; body = bodies.File (codes "def") }) ∷ []) [] ∷ []
+
+answered_by_a_call : Legal (entries (start (script 2)) open_front ++ gave_rest) (script 2) → ⊥
+unfolding moved begin_row client_row server_row back_timeout_row wake_row start_row record_bytes head_form volume_form spelled opaque pad word laid_at led name_ok directory_bytes name_bytes rights_of image acl_text digits entry_text directory_of names_at opaque_at word_at counted_at whole_at count_at name_at spelled_at bytes_below
+answered_by_a_call h = h.1.1.1.1.1.1.1.0.0.0.1.0.1.owed 1 file 7200 (λ e. absurd cc) (inl refl) refl (omega arith)
+
+-- ---- a reply has the opcode of its call
+
+-- what that says of the entry that ran it
+record RanStore (e : Entry) (older : List Entry) : Type 0 where
+  message : Message
+  given : given_message e.lines (sent_of older) ≡ Some message
+  opcode : message.head.opcode ≡ 133
+
+abbrev as_of_a_store : Head
+as_of_a_store = record { half = halves.Reply; from = Server 1; to = Client 1; epoch = 1; number = 1; boot = 1; stamp = 0; opcode = 133 }
+
+ran_store : (past : List Entry) → Ran as_of_a_store past → Among RanStore past
+ran_store past r = subst (Among RanStore) (sym r.split) (is_among RanStore r.newer r.at r.older (record { message = r.message; given = r.given; opcode = r.opcode }))
+
+stored_none : (e : Entry) (older : List Entry) → given_message e.lines (sent_of older) ≡ None → RanStore e older → ⊥
+stored_none e older none x = let no_ : None ≡ Some x.message = sym none ∙ x.given in absurd cc
+
+stored_fetch : (e : Entry) (older : List Entry) (m : Message) → given_message e.lines (sent_of older) ≡ Some m → m.head.opcode ≡ 130 → RanStore e older → ⊥
+stored_fetch e older m at fetch x = let no_ : 130 ≡ 133 = sym fetch ∙ (ap (λ (q : Message). q.head.opcode) (some_of m x.message (sym at ∙ x.given)) ∙ x.opcode) in absurd (omega (arith, no_))
+
+answered_as_a_store : Legal (alters 1 (λ e. record e { sent = map (λ (m : Message). record m { head = record m.head { opcode = 133 } }) e.sent }) (entries (start (script 1)) (begins 1 (acts.Open (operands.Fid file)) ∷ gives 1 steady ∷ []))) (script 1) → ⊥
+unfolding moved begin_row client_row server_row back_timeout_row wake_row start_row record_bytes head_form volume_form spelled opaque pad word laid_at led name_ok directory_bytes name_bytes rights_of image acl_text digits entry_text directory_of names_at opaque_at word_at counted_at whole_at count_at name_at spelled_at bytes_below
+answered_as_a_store h =
+    elim (ran_store _ (h.1.0.1.1.0 1 1 (refl, tt) refl refl)) [
+      | inl x ↦ stored_fetch _ _ _ refl refl x
+      | inr y ↦ elim y [ inl x ↦ stored_none _ _ refl x | inr z ↦ elim z [ inl x ↦ stored_none _ _ refl x | inr w ↦ w ] ]
+    ]

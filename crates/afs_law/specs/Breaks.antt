@@ -13,6 +13,8 @@ use Rattle.afs_num.specs.declared.calls.FsCall.TheVariants as calls
 use Rattle.afs_law.specs.Ideal.{clock_of}
 use Rattle.afs_history.specs.declared.lines.Line.{Line}
 use Rattle.afs_law.specs.Past.{server_boot, onto, lines_on, lines_of, sent_of, given_message, IsCallUnder, WasSent, answered_key, called_key, same_key}
+use Rattle.afs_num.specs.declared.types.Half.{Half}
+use Rattle.afs_num.specs.declared.types.Half.TheVariants as halves
 use Rattle.afs_num.specs.declared.types.Head.{Head}
 use Rattle.afs_num.specs.declared.messages.Carried.{Carried}
 use Rattle.afs_num.specs.declared.messages.Carried.TheVariants as carried
@@ -80,13 +82,13 @@ fids_given_up (calls.GiveUpCallBacks fids callbacks) = fids
 fids_given_up call = []
 
 -- a reply with code 0
-abbrev pub is_told : Carried → Bool
-is_told (carried.Reply reply) = true
-is_told c = false
+abbrev pub is_told : Half → Carried → Bool
+is_told halves.Reply (carried.Reply reply) = true
+is_told half c = false
 
 abbrev pub has_answer : Key → List Message → Bool
 has_answer k [] = false
-has_answer k (m ∷ ms) = if (same_key (answered_key m.head) k && is_told m.carried) then true else has_answer k ms
+has_answer k (m ∷ ms) = if (same_key (answered_key m.head) k && is_told m.head.half m.carried) then true else has_answer k ms
 
 abbrev pub drops_of : Node → List Fid → List Line
 drops_of c [] = []

@@ -231,10 +231,15 @@ HasRisen s [] = ⊥
 HasRisen s (lines.Restart n boot ∷ own) = (n ≡ s) ⊎ HasRisen s own
 HasRisen s (l ∷ own) = HasRisen s own
 
--- a break becomes owed where a fid changes, or where the server began again
-abbrev pub GoodOwe : Node → Node → Option Fid → List Line → Type 0
-GoodOwe s c None own = HasRisen s own
-GoodOwe s c (Some f) own = IsWithdrawn s c f own
+-- a client that the script has
+abbrev pub IsClientOf : Script → Node → Type 0
+IsClientOf s (Client j) = (1 ≤ j) × (j ≤ s.clients)
+IsClientOf s n = ⊥
+
+-- a break becomes owed where a fid changes, or, to each client of the script, where the server began again
+abbrev pub GoodOwe : Script → Node → Node → Option Fid → List Line → Type 0
+GoodOwe s server c None own = HasRisen server own × IsClientOf s c
+GoodOwe s server c (Some f) own = IsWithdrawn server c f own
 
 -- a version stands under its change; that these are not too many is said of the change
 abbrev pub IsUnderChange : List Line → Type 0
@@ -510,7 +515,7 @@ IsGood s who (lines.Restart n boot) past own next = (who ≡ actors.Node n) × G
 IsGood s who (lines.Full n) past own next = IsOfServer who n
 IsGood s who (lines.Drop c f) past own next = IsOfClient who c
 IsGood s who (lines.DropAll c server) past own next = IsOfClient who c
-IsGood s who (lines.Owe server c what n) past own next = IsOfServer who server × ((last_number server (own ++ lines_of past) < n) × GoodOwe server c what own)
+IsGood s who (lines.Owe server c what n) past own next = IsOfServer who server × ((last_number server (own ++ lines_of past) < n) × GoodOwe s server c what own)
 IsGood s who (lines.Settle server c n) past own next = IsOfServer who server × GoodSettle server c n past own
 IsGood s who (lines.Quit server c n) past own next = IsOfServer who server × GoodQuit server c n past own
 IsGood s who lines.Void past own next = who ≡ actors.Nobody
@@ -521,7 +526,7 @@ AreGood s who past own (l ∷ next) = IsGood s who l past own next × AreGood s 
 
 -- the script has the node whose entry this is; a tick and what is void are of none
 abbrev pub IsOfScript : Script → Actor → Type 0
-IsOfScript s (actors.Node (Client j)) = (1 ≤ j) × (j ≤ s.clients)
+IsOfScript s (actors.Node (Client j)) = IsClientOf s (Client j)
 IsOfScript s (actors.Node (Server i)) = (1 ≤ i) × (i ≤ s.servers)
 IsOfScript s (actors.Node n) = ⊥
 IsOfScript s actors.Clock = ⊤

@@ -204,8 +204,8 @@ abbrev pub IsToCome : Node → Key → ℕ → List Entry → Type 0
 IsToCome s k boot [] = ⊤
 IsToCome s k boot (e ∷ past) = (IsCallFrom s k boot (given_message e.lines (sent_of past)) → ⊥) × IsToCome s k boot past
 
--- The past, split at the entry that ran the call which this is the reply to: the callee's first that was given it, in
--- the boot that the reply tells, and before any later call of that node. In this boot the callee then was, for it runs no call to
+-- The past, split at the entry that ran the call which this is the reply to, by its key and its opcode: the callee's first that was
+-- given it, in the boot that the reply tells, and before any later call of that node. In this boot the callee then was, for it runs no call to
 -- another one; and a later entry finds the kept reply.
 pub record Ran (reply : Head) (past : List Entry) : Type 0 where
   pub newer : List Entry
@@ -216,6 +216,7 @@ pub record Ran (reply : Head) (past : List Entry) : Type 0 where
   pub given : given_message at.lines (sent_of older) ≡ Some message
   pub is_call : IsCall message.carried
   pub key : called_key message.head ≡ answered_key reply
+  pub opcode : message.head.opcode ≡ reply.opcode
   pub boot : message.head.boot ≡ reply.boot
   pub up : server_boot reply.from (lines_of older) ≡ Some reply.boot
   pub callee : message.head.to ≡ reply.from
