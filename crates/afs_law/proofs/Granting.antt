@@ -78,13 +78,13 @@ new_one id v es n f h (inl e) = found_there id n (edited_all id es v) f h e
 new_one id v es n f h (inr none) = absurd none
 
 pub newly : (id : ℕ) (caller : Caller) (call : FsCall) (v : Volume) (es : List Edit) (shown : ℕ) (f : Found) → volume_called call ≡ Some id → op id caller call v ≡ changes es shown → IsAmong f (granted_new id (counted (edited_all id es v)) shown call) → IsNewly id v es shown call f
-newly id caller (calls.CreateFile d name status) v es shown f of is yes =
-    let q = new_one id v es shown f (shown_at id v _ es _ shown (accepted id caller (calls.CreateFile d name status) v es shown is).effected (creating_at id d name status None (new_file d) v)) yes in
+newly id caller (calls.CreateFile d name status) v es shown f of is among =
+    let q = new_one id v es shown f (shown_at id v _ es _ shown (accepted id caller (calls.CreateFile d name status) v es shown is).effected (creating_at id d name status None (new_file d) v)) among in
     record { asked = newly_by id d.volume shown (edited_all id es v) f q of; at = q.at; fid = q.fid }
-newly id caller (calls.MakeDir d name status) v es shown f of is yes =
-    let q = new_one id v es shown f (shown_at id v _ es _ shown (accepted id caller (calls.MakeDir d name status) v es shown is).effected (creating_at id d name status (Some (links_of (vnode_of d v) + 1)) (new_directory d (acl_of (vnode_of d v))) v)) yes in
+newly id caller (calls.MakeDir d name status) v es shown f of is among =
+    let q = new_one id v es shown f (shown_at id v _ es _ shown (accepted id caller (calls.MakeDir d name status) v es shown is).effected (creating_at id d name status (Some (links_of (vnode_of d v) + 1)) (new_directory d (acl_of (vnode_of d v))) v)) among in
     record { asked = newly_by id d.volume shown (edited_all id es v) f q of; at = q.at; fid = q.fid }
-newly id caller call v es shown f of is yes = absurd yes
+newly id caller call v es shown f of is among = absurd among
 
 -- its version is the last one
 pub made_last : (id : ℕ) (v : Volume) (es : List Edit) (shown : ℕ) (call : FsCall) (f : Found) (ls : List Line) → IsNewly id v es shown call f → Sound id (edited_all id es v) (on_top (versions_by id es v) ls) → last_version f.fid (on_top (versions_by id es v) ls) ≡ Some (version_at id shown f.vnode)

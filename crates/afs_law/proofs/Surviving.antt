@@ -21,7 +21,7 @@ use Rattle.afs_law.proofs.Facts.{Goes, Holds, IsOne}
 use Rattle.afs_law.proofs.Law.{first_passed, onto_last, onto_more}
 use Rattle.afs_law.proofs.Made.{MadeBy, acknowledged_by, good_in}
 use Rattle.afs_law.proofs.Members.{runs_legal}
-use Rattle.afs_law.proofs.OneCell.{Cell, Moved, begun_by_disk, server_ends, the_server}
+use Rattle.afs_law.proofs.OneCell.{Cell, Moved, server_ends, the_server}
 use Rattle.afs_law.proofs.Ops.{Storing, amend_of, stored_kind, storing}
 use Rattle.afs_law.proofs.Serving.{last_has}
 use Rattle.afs_law.proofs.Servers.{run_same, seen_in}
@@ -44,12 +44,12 @@ use Rattle.afs_num.specs.declared.types.Fid.{Fid}
 use Rattle.afs_num.specs.declared.types.Key.{Key}
 use Rattle.afs_num.specs.declared.types.Node.{Node}
 use Rattle.afs_history.specs.Written.{bytes_in}
-use Rattle.afs_rows.specs.Going.{Going, asked, stored_whole}
-use Rattle.afs_rows.specs.Runs.{Entry, Fall, fails_midway}
+use Rattle.afs_rows.specs.Going.{Going, asked, nothing_set, stored_whole}
+use Rattle.afs_rows.specs.Runs.{Entry, Fall, begun_by_disk, fails_midway}
 use Rattle.afs_rows.specs.Runs as cells
 use Rattle.afs_rows.specs.ServerRow.{Begun}
 use Rattle.afs_rows.specs.States.{volume_in}
-use Rattle.std.proofs.Common.{◌≡◌, ℕ, ◌≤◌, ◌⊎◌, inl, inr, ◌+◌, Bool, true, false, cond, List, [], ◌∷◌, ◌++◌, Option, Some, None, pos, refl, sym, ap, subst, append-nil, ◌∙◌}
+use Rattle.std.proofs.Common.{◌≡◌, ℕ, ◌≤◌, ◌⊎◌, inl, inr, ◌+◌, Bool, true, false, cond, length, List, [], ◌∷◌, ◌++◌, Option, Some, None, pos, refl, sym, ap, subst, append-nil, ◌∙◌}
 use Rattle.std.specs.Option.{option_map}
 
 -- ---- further lines
@@ -279,10 +279,10 @@ stored_by id caller f bytes v es shown of is =
       vnode = q.vnode;
       versions = ap (λ (xs : List Edit). versions_by id xs v) q.edits ∙ one_version id f.vnode (amend_of (stored_whole f bytes)) v q.vnode (get f.vnode v.vnodes) q.found;
       fid = ap (λ (i : ℕ). fid_at i f.vnode q.vnode.unique) (sym of) ∙ ap (λ (u : ℕ). fid_at f.volume f.vnode u) q.unique;
-      body = file_body id f bytes v q.vnode q.vnode.kind (stored_kind id caller f _ _ _ _ bytes v es shown is q.vnode q.found);
+      body = file_body id f bytes v q.vnode q.vnode.kind (stored_kind id caller f nothing_set (pos 0) (pos (length bytes)) (pos (length bytes)) bytes v es shown is q.vnode q.found);
     }
 
-pair_call : (u v : List ℕ) (c d : FsCall) → Some (u, c) ≡ Some (v, d) → c ≡ d
+pair_call : (u v : List ℕ) (c d : FsCall) → ◌≡◌ {A = Option (List ℕ × FsCall)} (Some (u, c)) (Some (v, d)) → c ≡ d
 pair_call u v c d e = cc
 
 sent_front : (P : Message → Type 0) (past es : List Entry) → Each P (sent_of (past_of past es)) → Each P (sent_of past)

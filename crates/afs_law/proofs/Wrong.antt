@@ -703,12 +703,27 @@ never_to q k user call [] h x = x
 never_to q k user call (e ∷ past) h (inl x) = not_to q k user call e.sent h.0 x
 never_to q k user call (e ∷ past) h (inr x) = never_to q k user call past h.1 x
 
+one_server : Server 1 ≡ Server 2 → ⊥
+one_server e = absurd cc
+
+no_client : Server 1 ≡ Client 1 → ⊥
+no_client e = absurd cc
+
+two_clients : Client 2 ≡ Client 1 → ⊥
+two_clients e = absurd cc
+
 -- a client's act is dead by timeouts of a server that it asked nothing
 abbrev of_two : Line → Line
 of_two (lines.Timeout c q e n k) = lines.Timeout c (Server 2) e n k
 of_two l = l
 
-dead_of_another_server : Legal (map (by_lines of_two) (entries (start (script 1)) (begins 1 (acts.Open (operands.Fid file)) ∷ waits 1 ∷ waits 1 ∷ waits 1 ∷ []))) (script 1) → ⊥
+abbrev dead_history : List Entry
+dead_history = map (by_lines of_two) (entries (start (script 1)) (begins 1 (acts.Open (operands.Fid file)) ∷ waits 1 ∷ waits 1 ∷ waits 1 ∷ []))
+
+abbrev dead_past : List Entry
+dead_past = past_of (set_up (script 1) ∷ []) (take 3 dead_history)
+
+dead_of_another_server : Legal dead_history (script 1) → ⊥
 unfolding moved begin_row client_row server_row back_timeout_row wake_row start_row record_bytes head_form volume_form spelled opaque pad word laid_at led name_ok directory_bytes name_bytes rights_of image acl_text digits entry_text directory_of names_at opaque_at word_at counted_at whole_at count_at name_at spelled_at bytes_below
 dead_of_another_server h =
     let g = h.1.1.1.0.0.0.1.0.1 in
@@ -718,7 +733,10 @@ dead_of_another_server h =
         | inl x ↦ let e : negsuc 0 ≡ pos x.number = x.is in absurd cc
         | inr z ↦ elim z [
           | inl x ↦ elim x.third [
-            | inl t ↦ never_to (Server 2) _ _ x.call _ ((λ e c. absurd cc, tt), ((λ e c. absurd cc, tt), ((λ e c. absurd cc, tt), (tt, tt)))) (subst (λ (q : Node). WasSent q (record { node = Client 1; epoch = x.epoch; number = x.number }) (codes "guest") x.call _) (sym t.1.0) x.to)
+            | inl t ↦
+                let none_ : NeverTo (Server 2) dead_past = ((λ e c. one_server e, tt), ((λ e c. one_server e, tt), ((λ e c. one_server e, tt), (tt, tt)))) in
+                let k : Key = record { node = Client 1; epoch = x.epoch; number = x.number } in
+                never_to (Server 2) k (codes "guest") x.call dead_past none_ (subst (λ (q : Node). WasSent q k (codes "guest") x.call dead_past) (sym t.1.0) x.to)
             | inr none ↦ none
           ]
           | inr x ↦ let e : negsuc 0 ≡ pos 0 = x.is in absurd cc
@@ -730,23 +748,36 @@ dead_of_another_server h =
 abbrev sent_to_two : Entry → Entry
 sent_to_two e = record e { sent = map (λ (m : Message). record m { head = record m.head { to = Client 2 } }) e.sent }
 
-quit_for_another_client : Legal (alters 3 sent_to_two (alters 4 sent_to_two (alters 5 sent_to_two (entries (start (script 2)) (begins 1 (acts.Open (operands.Fid file)) ∷ gives 1 steady ∷ begins 2 (acts.Close (operands.Fid file) (Hex (codes "def"))) ∷ gives 3 steady ∷ server_waits (Client 1) ∷ server_waits (Client 1) ∷ server_waits (Client 1) ∷ []))))) (script 2) → ⊥
+abbrev quit_history : List Entry
+quit_history = alters 3 sent_to_two (alters 4 sent_to_two (alters 5 sent_to_two (entries (start (script 2)) (begins 1 (acts.Open (operands.Fid file)) ∷ gives 1 steady ∷ begins 2 (acts.Close (operands.Fid file) (Hex (codes "def"))) ∷ gives 3 steady ∷ server_waits (Client 1) ∷ server_waits (Client 1) ∷ server_waits (Client 1) ∷ []))))
+
+abbrev quit_past : List Entry
+quit_past = past_of (set_up (script 2) ∷ []) (take 6 quit_history)
+
+quit_for_another_client : Legal quit_history (script 2) → ⊥
 unfolding moved begin_row client_row server_row back_timeout_row wake_row start_row record_bytes head_form volume_form spelled opaque pad word laid_at led name_ok directory_bytes name_bytes rights_of image acl_text digits entry_text directory_of names_at opaque_at word_at counted_at whole_at count_at name_at spelled_at bytes_below
 quit_for_another_client h =
     let g = h.1.1.1.1.1.1.0.0.0.1.0.1 in
-    never_to (Client 1) _ _ g.call _ ((λ e c. absurd cc, tt), ((λ e c. absurd cc, tt), ((λ e c. absurd cc, tt), ((λ e c. absurd cc, tt), ((λ e c. c, tt), ((λ e c. absurd cc, tt), (tt, tt))))))) g.called
+    let none_ : NeverTo (Client 1) quit_past = ((λ e c. two_clients e, tt), ((λ e c. two_clients e, tt), ((λ e c. two_clients e, tt), ((λ e c. no_client e, tt), ((λ e c. c, tt), ((λ e c. no_client e, tt), (tt, tt))))))) in
+    never_to (Client 1) (record { node = Server 1; epoch = g.epoch; number = g.number }) g.user g.call quit_past none_ g.called
 
 -- ---- a promise is what the reply to a call of the client carries
 
 abbrev grants : Fid → ℕ → Entry → Entry
 grants f index e = record e { lines = lines.Given 1 ∷ lines.Grant (Server 1) (Client 1) f index 7200 ∷ [] }
 
+file_apart : file ≡ root → ⊥
+file_apart e = absurd cc
+
+abbrev asked_past : List Entry
+asked_past = past_of (set_up (script 1) ∷ []) (entries (start (script 1)) (begins 1 (acts.Open (operands.Fid file)) ∷ []))
+
 -- a client asks for a file, and is promised its directory, which the reply doesn't show
 granted_unasked : Legal (alters 1 (grants root 1) (entries (start (script 1)) (begins 1 (acts.Open (operands.Fid file)) ∷ gives 1 steady ∷ []))) (script 1) → ⊥
 unfolding moved begin_row client_row server_row back_timeout_row wake_row start_row record_bytes head_form volume_form spelled opaque pad word laid_at led name_ok directory_bytes name_bytes rights_of image acl_text digits entry_text directory_of names_at opaque_at word_at counted_at whole_at count_at name_at spelled_at bytes_below
 granted_unasked h =
     let g = h.1.0.0.0.1.0.1 in
-    let e : file ≡ root = subst (λ (k : FsCall). IsPromisedBy root k (answer_at g.user g.call _)) (sym (one_call _ _ _ _ (some_of _ _ g.carries))) g.promises in absurd cc
+    file_apart (subst (λ (k : FsCall). IsPromisedBy root k (answer_at g.user g.call asked_past)) (sym (one_call _ _ _ _ (some_of _ _ g.carries))) g.promises)
 
 -- the promise tells an index that no version has
 granted_ahead : Legal (alters 1 (grants file 2) (entries (start (script 1)) (begins 1 (acts.Open (operands.Fid file)) ∷ gives 1 steady ∷ []))) (script 1) → ⊥
@@ -760,14 +791,18 @@ in_part = calls.FetchData file (pos 1) (pos 1)
 abbrev asks_in_part : Entry → Entry
 asks_in_part e = record e { sent = map (λ (m : Message). record m { carried = carried.Call (codes "guest") (ask.File in_part) }) e.sent }
 
+abbrev part_past : List Entry
+part_past = past_of (set_up (script 1) ∷ []) (alters 0 asks_in_part (entries (start (script 1)) (begins 1 (acts.Open (operands.Fid file)) ∷ [])))
+
+refused_not : pos 22 ≡ pos 0 → ⊥
+refused_not e = absurd cc
+
 granted_with_a_refusal : Legal (alters 0 asks_in_part (alters 1 (instead (lines.Given 1 ∷ lines.Grant (Server 1) (Client 1) file 1 7200 ∷ [])) (entries (start (script 1)) (begins 1 (acts.Open (operands.Fid file)) ∷ gives 1 steady ∷ [])))) (script 1) → ⊥
 unfolding moved begin_row client_row server_row back_timeout_row wake_row start_row record_bytes head_form volume_form spelled opaque pad word laid_at led name_ok directory_bytes name_bytes rights_of image acl_text digits entry_text directory_of names_at opaque_at word_at counted_at whole_at count_at name_at spelled_at bytes_below
 granted_with_a_refusal h =
     let g = h.1.0.0.0.1.0.1 in
     let same : carried.Call (codes "guest") (ask.File in_part) ≡ carried.Call g.user (ask.File g.call) = some_of _ _ g.carries in
-    let told : code_given (answer_at (codes "guest") in_part (past_of (set_up (script 1) ∷ []) (alters 0 asks_in_part (entries (start (script 1)) (begins 1 (acts.Open (operands.Fid file)) ∷ []))))) ≡ pos 0 =
-    subst (λ (u : List ℕ). code_given (answer_at u in_part _) ≡ pos 0) (sym (one_user _ _ _ _ same)) (subst (λ (k : FsCall). code_given (answer_at g.user k _) ≡ pos 0) (sym (one_call _ _ _ _ same)) g.code) in
-    let e : pos 22 ≡ pos 0 = told in absurd cc
+    refused_not (subst (λ (u : List ℕ). code_given (answer_at u in_part part_past) ≡ pos 0) (sym (one_user _ _ _ _ same)) (subst (λ (k : FsCall). code_given (answer_at g.user k part_past) ≡ pos 0) (sym (one_call _ _ _ _ same)) g.code))
 
 -- ---- a restart owes the clients of the script, and nobody else
 
