@@ -282,8 +282,8 @@ stored_by id caller f bytes v es shown of is =
       body = file_body id f bytes v q.vnode q.vnode.kind (stored_kind id caller f nothing_set (pos 0) (pos (length bytes)) (pos (length bytes)) bytes v es shown is q.vnode q.found);
     }
 
-pair_call : (u v : List ℕ) (c d : FsCall) → ◌≡◌ {A = Option (List ℕ × FsCall)} (Some (u, c)) (Some (v, d)) → c ≡ d
-pair_call u v c d e = cc
+one_call : (a b : List ℕ × FsCall) → Some a ≡ Some b → a.1 ≡ b.1
+one_call a b e = ap (λ (p : List ℕ × FsCall). p.1) (some_of a b e)
 
 sent_front : (P : Message → Type 0) (past es : List Entry) → Each P (sent_of (past_of past es)) → Each P (sent_of past)
 sent_front P past [] h = h
@@ -297,7 +297,7 @@ closed_by : (s : Script) (act : Going) (contents : Written) (k : Key) (f : Fid) 
 closed_by s act contents k f user call sent ls found at is asks =
     let g = found.good in
     let bytes : List ℕ = bytes_in contents in
-    let same : g.call ≡ stored_whole f bytes = pair_call g.user user g.call call (sym (found.carried (g.user, g.call) g.one) ∙ at) ∙ is in
+    let same : g.call ≡ stored_whole f bytes = one_call (g.user, g.call) (user, call) (sym (found.carried (g.user, g.call) g.one) ∙ at) ∙ is in
     let of : f.volume ≡ g.id = some_of f.volume g.id (sym (ap volume_called same) ∙ g.of_volume) in
     let q : IsStoredBy g.id f bytes g.before g.edits = stored_by g.id (the_user g.user) f bytes g.before g.edits g.shown of (subst (λ (c : FsCall). op g.id (the_user g.user) c g.before ≡ changes g.edits g.shown) same g.result) in
     let v : Version = stored_version g.id f bytes g.before q.vnode in

@@ -767,7 +767,7 @@ abbrev grants : Fid → ℕ → Entry → Entry
 grants f index e = record e { lines = lines.Given 1 ∷ lines.Grant (Server 1) (Client 1) f index 7200 ∷ [] }
 
 file_apart : file ≡ root → ⊥
-file_apart e = absurd cc
+file_apart e = let no_ : 2 ≡ 1 = ap (λ (f : Fid). f.vnode) e in absurd (omega (arith, no_))
 
 abbrev asked_past : List Entry
 asked_past = past_of (set_up (script 1) ∷ []) (entries (start (script 1)) (begins 1 (acts.Open (operands.Fid file)) ∷ []))
