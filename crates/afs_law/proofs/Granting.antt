@@ -1,9 +1,9 @@
 -- What a change makes anew stands in the volume behind it: the reply to its call promises that.
 use Rattle.afs_ideal.proofs.Scopes.{accepted}
-use Rattle.afs_ideal.specs.Operations.{Caller, Found, Result, changes, creating, effect, free_number, new_directory, new_file, op, volume_called, acl_of, links_of}
-use Rattle.afs_ideal.specs.Replies.{vnode_at, vnode_or_none}
+use Rattle.afs_ideal.specs.Operations.{Caller, Found, changes, creating, free_number, new_directory, new_file, op, volume_called, acl_of, links_of}
+use Rattle.afs_ideal.specs.Replies.{vnode_or_none}
 use Rattle.afs_ideal.specs.Tables.{get}
-use Rattle.afs_ideal.specs.Volumes.{Amend, Edit, Vnode, Volume, a_directory, a_file, amended, amends, amends_at, counted, edited, edited_all, fid_of, fresh, makes, makes_at, version_at, versions_by, vnode_of, ascending}
+use Rattle.afs_ideal.specs.Volumes.{Amend, Edit, Vnode, Volume, amended, amends, amends_at, counted, edited, edited_all, fresh, makes, makes_at, version_at, versions_by, vnode_of, ascending}
 use Rattle.afs_law.proofs.Basics.{some_of}
 use Rattle.afs_law.proofs.Edits.{Sound, fid_at, get-set, on_top, there}
 use Rattle.afs_law.proofs.Serving.{IsAmong}

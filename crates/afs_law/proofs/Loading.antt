@@ -22,8 +22,8 @@ use Rattle.afs_law.proofs.Owing.{CarriedOwe, AllOf, all_map, all_both, all_filte
 use Rattle.afs_law.proofs.Turning.{loaded, in_filter, put_call, kept_in}
 use Rattle.afs_law.specs.Breaks.{HasSettled, HasTimeout, last_grant, expiry_of, AllOwes, CarriesBreak, GoodQuit, live_grant, HasOwe, last_number, lines_at, drops_of, HasStopped, OweAt}
 use Rattle.afs_rows.specs.Callbacks.{is_all, alls, numbers, is_reply_to, key_answered, breaks_call, break_message, owe_line, settle_line, quit_line, settles, quits, retries, still_owed}
-use Rattle.afs_law.specs.Ideal.{clock_of, change_in}
-use Rattle.afs_law.specs.Legal.{HasRisen, IsNew, IsNot, IsKey, HasChange, AreGood, IsChanged}
+use Rattle.afs_law.specs.Ideal.{clock_of}
+use Rattle.afs_law.specs.Legal.{HasRisen, HasChange, AreGood, IsChanged}
 use Rattle.afs_history.specs.declared.lines.Line.{Line}
 use Rattle.afs_law.specs.Past.{onto, lines_of, sent_of, given_message, called_key, IsCallUnder}
 use Rattle.afs_rows.specs.Runs.{Entry, Fall}

@@ -8,7 +8,6 @@ use Rattle.afs_law.specs.OneServer.{AreAtServer, IsOneServer}
 use Rattle.afs_ideal.specs.Tables.{Table, get, set}
 use Rattle.afs_ideal.specs.Volumes.{Volume}
 use Rattle.afs_history.specs.declared.acts.Act.{Act}
-use Rattle.afs_num.specs.Nodes.{same_node}
 use Rattle.afs_num.specs.declared.types.Fid.{Fid}
 use Rattle.afs_num.specs.declared.types.Node.{Node}
 use Rattle.afs_num.specs.declared.types.Node.TheVariants.{Loc, Server, Client, Admin}

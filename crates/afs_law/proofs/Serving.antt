@@ -26,7 +26,7 @@ use Rattle.afs_law.proofs.Turning.{loaded, TurnSends, Pumps, pumps, expired_back
 use Rattle.afs_rows.specs.Callbacks.{Turn, replies_of, pumped, expired, turn_for, no_turn, settles, settles_by, is_back_awaited, renews, renews_by, turned_by, Started, starts, starts_by, held_after, given_out, if_to, put_at}
 use Rattle.afs_rows.specs.ClientRow.{names_told, body_told}
 use Rattle.afs_rows.specs.Going.{asked, Going}
-use Rattle.afs_law.specs.Ideal.{shown_status, Tells, TellsIn, TellsOf, volume_after, version_in, latest, IsThat, user_of, clock_of, last_version, HasVersion, reach, call_under}
+use Rattle.afs_law.specs.Ideal.{shown_status, Tells, TellsIn, TellsOf, volume_after, version_in, latest, IsThat, clock_of, last_version, HasVersion, reach, call_under}
 use Rattle.afs_law.specs.Legal.{IsPromisedBy, HasChange, GoodGrant, IsThere, code_given, IsResult, RunsHere, AreGood, Cause, IsTold, answer_at, answer_on, as_asked}
 use Rattle.afs_history.specs.declared.lines.Line.{Line}
 use Rattle.afs_law.specs.Past.{IsCallFrom, IsToCome, server_boot, IsCall, code_told, IsUnheard, lines_of, sent_of, given_message, called_key, HasCode, IsCallUnder, Ran, onto, same_key, answered_key}
@@ -1070,19 +1070,22 @@ shows_by s c past armed p n h user call r H up at w is code done =
     (granted_to_client t n fs (without_promises (Client n) r.given_up ps) (gone_to_clients (Client n) r.given_up ps (B.clients refl).promised))
     (all_promised (Client n) t c.clock fs (lines.Given p ∷ before_own e past) (without_promises (Client n) r.given_up ps) given)) (record { good = tt; calls = tt; dones = tt }) boots in
     record {
-      good = (refl, granted_then s past (lines.Given p ∷ []) (Client n) t fs [] (λ f yes. let q = read_shown c call r (answer_at user call past) f is yes in record {
-        key = called_key (client_head n h);
-        node = refl;
-        ran = runs_here s c past p n h user call H up at w;
-        going = λ z. z;
-        user = user;
-        call = call;
-        carries = ap (option_map (λ (m : Message). m.carried)) (at_told s c past p (call_at n h user call) H at);
-        code = code;
-        promises = q.0;
-        newest = ap (option_map (λ (y : Version). y.index)) (found_last s c past f.fid q.1.stored.volume f.vnode H (ap (option_map (λ (x : Stored). x.volume)) q.1.at) q.1.found);
-        lasts = ap (λ (i : ℕ). i + promise_ticks) (sym H.clock);
-      }) tt);
+      good = (
+        refl,
+        granted_then s past (lines.Given p ∷ []) (Client n) t fs [] (λ f yes. let q = read_shown c call r (answer_at user call past) f is yes in record {
+          key = called_key (client_head n h);
+          node = refl;
+          ran = runs_here s c past p n h user call H up at w;
+          going = λ z. z;
+          user = user;
+          call = call;
+          carries = ap (option_map (λ (m : Message). m.carried)) (at_told s c past p (call_at n h user call) H at);
+          code = code;
+          promises = q.0;
+          newest = ap (option_map (λ (y : Version). y.index)) (found_last s c past f.fid q.1.stored.volume f.vnode H (ap (option_map (λ (x : Stored). x.volume)) q.1.at) q.1.found);
+          lasts = ap (λ (i : ℕ). i + promise_ticks) (sym H.clock);
+        }) tt,
+      );
       holds = serves false s (Some c.server.lasting.boot) c past n h user call z e (stock c.server) (pumped the_server c.server.lasting.boot turn).backs None armed H w
           (serves_still s c past n h user call z e H w rest.file rest.reach rest.act (λ g. rest.last g (lines_of past)) (λ id. H.ideal id ∙ sym (rest.ideal id)) (λ id v found. rest.home id (lines_of past) (H.home id v found)) (λ key above. rest.new key (lines_of past) (H.new key above)) (λ key y. changed_before key (lines_of past) (lines_of (e ∷ past)) (rest.new key (lines_of past)) y) (k.clock (lines.Given p ∷ lines_of past) ∙ H.clock)
           (λ f i b x. subst (λ (o : Option Version). i ≤ index_in o) (sym (rest.last f (lines_of past))) (H.top f i b (rest.back f i b (lines_of past) x))) (λ f i a b x y. H.one f i a b (rest.back f i a (lines_of past) x) (rest.back f i b (lines_of past) y)) (λ y. y)

@@ -1,23 +1,20 @@
 -- What was acknowledged survives: its versions, or later ones, are what the server keeps, and what a step that was interrupted may have
 -- left.
-use Rattle.afs_history.specs.declared.acts.Act.TheVariants as acts
-use Rattle.afs_history.specs.declared.acts.Operand.{Operand}
 use Rattle.afs_history.specs.declared.acts.Written.{Written}
 use Rattle.afs_history.specs.declared.lines.Line.{Line}
 use Rattle.afs_history.specs.declared.lines.Line.TheVariants as lines
 use Rattle.afs_history.specs.declared.scripts.Script.{Script}
-use Rattle.afs_history.specs.declared.scripts.VolumeLine.{VolumeLine}
 use Rattle.afs_ideal.specs.Operations.{Caller, changes, op, the_user, volume_called}
 use Rattle.afs_ideal.specs.Tables.{get}
 use Rattle.afs_ideal.specs.Told.{live, fid_at}
 use Rattle.afs_ideal.specs.Volumes.{Amend, Edit, Kind, Vnode, Volume, a_directory, a_file, a_link, amended, amends_at, body_by, version_at, versions_by, vnode_of}
 use Rattle.afs_law.proofs.Agreeing.{at_end}
 use Rattle.afs_law.proofs.Asking.{called_one, each_front}
-use Rattle.afs_law.proofs.Basics.{Each, IfCall, same_key-refl, some_of}
-use Rattle.afs_law.proofs.Booting.{HasFront, disk_front}
+use Rattle.afs_law.proofs.Basics.{Each, IfCall, some_of}
+use Rattle.afs_law.proofs.Booting.{disk_front}
 use Rattle.afs_law.proofs.Deciding.{at_fall}
 use Rattle.afs_law.proofs.Edits.{Ones, SoundIn, Tops, agrees_of, index_in, last_of, none_has}
-use Rattle.afs_law.proofs.Facts.{Goes, Holds, IsOne}
+use Rattle.afs_law.proofs.Facts.{Holds, IsOne}
 use Rattle.afs_law.proofs.Law.{first_passed, onto_last, onto_more}
 use Rattle.afs_law.proofs.Made.{MadeBy, acknowledged_by, good_in}
 use Rattle.afs_law.proofs.Members.{runs_legal}
@@ -333,10 +330,11 @@ run_survives s history before after e first rest c code act end one r split line
           closed_by s act contents k f.0 m.made.user m.made.call end.sent (own ++ lines_of past) (found_at_end s k (sent_of past) end.sent (own ++ lines_of past) (subst (IsFound s k (sent_of past)) here found) (λ x at. subst (λ (ms : List Message). call_under k ms ≡ Some x) (ap sent_of (sym all) ∙ H.sent.told) (carried_behind k x past (e ∷ after) at)))
           (called_one m.client.0 k m.made.user m.made.call end.sent past (m.made.node ∙ m.client.1) m.made.called ones) (stored_call m.made.call f.0 (bytes_in contents) (m.asks ∙ f.1)) f.1;
       survive = λ v has. survives s history end v one r (subst (λ (es : List Entry). HasVersion v.fid v.index v.body (lines_of es)) (sym all) (has_behind v.fid v.index v.body (e ∷ past) after
-      (subst (λ (ls : List Line). HasVersion v.fid v.index v.body (onto (lines_of past) ls)) (sym line) (subst (HasVersion v.fid v.index v.body) (sym (onto_more (lines_of past) first (lines.Answer c code ∷ rest))) (has_onto v.fid v.index v.body (lines.Answer c code ∷ rest) (onto (lines_of past) first) (subst (HasVersion v.fid v.index v.body) (sym here) (made_told k v (own ++ lines_of past) has)))))));
+          (subst (λ (ls : List Line). HasVersion v.fid v.index v.body (onto (lines_of past) ls)) (sym line) (subst (HasVersion v.fid v.index v.body) (sym (onto_more (lines_of past) first (lines.Answer c code ∷ rest))) (has_onto v.fid v.index v.body (lines.Answer c code ∷ rest) (onto (lines_of past) first) (subst (HasVersion v.fid v.index v.body) (sym here) (made_told k v (own ++ lines_of past) has)))))));
     }
   where
     found_lines : (s : Script) (k : Key) (sent : List Message) (ls more : List Line) → IsFound s k sent ls → IsFound s k sent (onto ls more)
     found_lines s k sent ls more h = record { server = h.server; count = h.count; past = h.past; own = h.own; next = h.next; good = h.good; under = λ v vs is. made_onto k v more ls (h.under v vs is); carried = h.carried }
+
     found_at_end : (s : Script) (k : Key) (sent all : List Message) (ls : List Line) → IsFound s k sent ls → ((x : List ℕ × FsCall) → call_under k sent ≡ Some x → call_under k all ≡ Some x) → IsFound s k all ls
     found_at_end s k sent all ls h w = record { server = h.server; count = h.count; past = h.past; own = h.own; next = h.next; good = h.good; under = h.under; carried = λ x at. w x (h.carried x at) }

@@ -140,9 +140,11 @@ gives_up_by s c past n act h runs twice =
     let last : (f : Fid) → last_version f (lines_of (e ∷ past)) ≡ last_version f (lines_of past) = λ f. (skips n dead_code es).last f _ in
     let held : ℕ = (h.floors n).held in
     let g : Ghost = holding h.floors n held in
-    moves s c past n g (gives_up_on the_server n x (volume_changed call)) h (client_ended s x cache (h.own n) (left_as (volume_changed call) x.cache (h.own n).apart))
-    ((refl, ((refl, refl), drops_alone n es)), dead_good s n act the_server x.epoch x.last past es (lines.Timeout (Client n) the_server x.epoch x.last 3 ∷ []) ((h.clients n).runs act runs) (inl (refl, (refl, (refl, (refl, refl))))) ((h.tried n).told act runs 1 (omega arith) (omega arith)) ((h.tried n).told act runs 2 (omega arith) twice) refl (its_call x.gifts act) (asks_is x.gifts act) ((h.clients n).asked act runs)
-    (called_to n (last_key n (view h.floors c n)) (user_of s (Client n)) (its_call x.gifts act) (view h.floors c) past refl ((h.clients n).asked act runs) (subst (λ (ms : List Message). Each (IfCall (CallIn (view h.floors c))) ms) (sym h.sent.told) h.sent.calls)))
+    moves s c past n g (gives_up_on the_server n x (volume_changed call)) h (client_ended s x cache (h.own n) (left_as (volume_changed call) x.cache (h.own n).apart)) (
+      (refl, ((refl, refl), drops_alone n es)),
+      dead_good s n act the_server x.epoch x.last past es (lines.Timeout (Client n) the_server x.epoch x.last 3 ∷ []) ((h.clients n).runs act runs) (inl (refl, (refl, (refl, (refl, refl))))) ((h.tried n).told act runs 1 (omega arith) (omega arith)) ((h.tried n).told act runs 2 (omega arith) twice) refl (its_call x.gifts act) (asks_is x.gifts act) ((h.clients n).asked act runs)
+          (called_to n (last_key n (view h.floors c n)) (user_of s (Client n)) (its_call x.gifts act) (view h.floors c) past refl ((h.clients n).asked act runs) (subst (λ (ms : List Message). Each (IfCall (CallIn (view h.floors c))) ms) (sym h.sent.told) h.sent.calls)),
+    )
     (drop_passes s c past n (timed x.epoch x.last) dead_code es (λ k boot y. y))
     (ended_facts s c past n cache held e h (h.clients n).holds (ended_running s n dead_code es (lines.Timeout (Client n) the_server x.epoch x.last 3 ∷ lines_of past))
     (λ k u found lasts.

@@ -31,7 +31,7 @@ use Rattle.afs_rows.specs.Runs.{Entry, comes_up, steady}
 use Rattle.afs_xdr.specs.Words.{opaque, pad, word, opaque_at, word_at, counted_at}
 use Rattle.afs_law.specs.Ideal.{set_up}
 use Rattle.afs_law.specs.Once.{past_of}
-use Rattle.afs_law.specs.Past.{WasSent, SendsTo, IsCall, server_boot, CalledSince, IsToCome, called_key, AreWithin, has_begun, IsUnheard, IsCallUnder, Ran, answered_key, code_told, given_message, lines_of, sent_of}
+use Rattle.afs_law.specs.Past.{WasSent, SendsTo, IsCall, server_boot, CalledSince, IsToCome, called_key, IsUnheard, IsCallUnder, Ran, answered_key, code_told, given_message, lines_of, sent_of}
 use Rattle.afs_num.specs.declared.calls.FsCall.{FsCall}
 use Rattle.afs_num.specs.declared.calls.FsCall.TheVariants as calls
 use Rattle.afs_num.specs.declared.histories.Actor.TheVariants as actors
