@@ -2,7 +2,7 @@
 -- caller's last one that changed something. So a key changes something at most once, and no call or reply has one to come.
 use Rattle.afs_history.specs.declared.acts.Act.{Act}
 use Rattle.afs_law.proofs.Backing.{all_lines, is_unchanging}
-use Rattle.afs_law.proofs.Basics.{a_key, same_key-true, Above, Each, IfCall, IfReply, OfClient, OfReply, by_client, if_reply, UpTo, at_put, below_not, below_up_to, both, client_number, each_at, each_map, each_more, if_call, node_apart, same_key-refl, same_node-true, up_to_below, up_to_same, below-true, below-false, some_of, OfNotice, OfCall, ByClient}
+use Rattle.afs_law.proofs.Basics.{a_key, same_key-true, Above, Each, IfCall, IfReply, OfClient, OfReply, by_client, if_reply, UpTo, at_put, below_not, below_up_to, client_number, each_at, each_map, each_more, if_call, node_apart, same_key-refl, up_to_below, up_to_same, below-true, below-false, some_of, OfNotice, OfCall, ByClient}
 use Rattle.afs_law.proofs.Calling.{mild_unchanging, AreReplies, IsAnswer, answer_over, GoesOn, IsLastOf, Tame, begins_tame, caller_at, falls_tame, given_tame, rises_tame, uncalled_any, waits_tame, any_call}
 use Rattle.afs_law.proofs.Hosting.{Begins, HasOne, HostStep, Hosts, IsCutBy, IsSound, Memory, decides_due, disk_begins, memory_of, serves_step, starts_step, times_step, wakes_step, IsRunBy}
 use Rattle.afs_law.specs.Laws.{ArePairsKnown, IsKnownTo, AreChanges, HasReply, seat_key}
@@ -16,9 +16,8 @@ use Rattle.afs_rows.specs.ServerRow.{Begun, device_calls, key_of}
 use Rattle.afs_rows.specs.States.{Seat, BackCall, ServerState}
 use Rattle.afs_rows.specs.Steps.{Step}
 use Rattle.afs_model.specs.Calls.{call_seat, pair_below}
-use Rattle.std.proofs.Common.{zero, suc, ◌≡◌, ℕ, inl, inr, Bool, true, false, cond, eqb-true, nat_eq, List, [], ◌∷◌, ◌++◌, Option, Some, None, refl, sym, ap, subst, ◌∙◌}
+use Rattle.std.proofs.Common.{zero, suc, ◌≡◌, ℕ, inl, inr, Bool, true, false, cond, nat_eq, List, [], ◌∷◌, ◌++◌, Option, Some, None, refl, sym, ap, subst, ◌∙◌}
 use Rattle.std.specs.Prelude.{⊤, ◌&&◌}
-use Rattle.afs_num.specs.Nodes.{same_node}
 use Rattle.afs_num.specs.declared.types.Head.{Head}
 use Rattle.afs_num.specs.declared.types.Key.{Key}
 use Rattle.afs_num.specs.declared.types.Node.{Node}

@@ -18,6 +18,7 @@ pub mod Notes
 pub mod Pumping
 pub mod Serving
 pub mod Naming
+pub mod Granting
 pub mod Saving
 pub mod Deciding
 pub mod Nexts
@@ -56,5 +57,6 @@ pub mod Placing
 pub mod Sending
 pub mod Dying
 pub mod Made
+pub mod Surviving
 pub mod Worked
 pub mod Wrong

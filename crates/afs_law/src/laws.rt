@@ -1,6 +1,6 @@
 //! Laws about the runs of a script. Each is the contract of a function that does nothing.
 
-ghost use Rattle.afs_law.specs.Laws.{AcknowledgedAreMade, AnswersAreRecent, ChangesAreFolded, EffectsAreTold, KeysRunOnce, ReadsAreNewest, RunsAreLegal, RunsAreOne, SetUpsAreFirst, StartsAreFolded, VolumesAreTold, PairsAreKnown, TrustedIsGood, RoomlessAreRefused, UnservedAreRefused, CallsRunOnce, RepliesAreCaused, RepliesAreRan, KeptAreRan, DurableAreChanges, GrantsAreKept, BreaksAreOwed, RepliesFollowDrops, UnawaitedAreUntrusted, DeadAreUntrusted};
+ghost use Rattle.afs_law.specs.Laws.{AcknowledgedAreKept, AcknowledgedAreMade, AnswersAreRecent, ChangesAreFolded, EffectsAreTold, KeysRunOnce, ReadsAreNewest, RunsAreLegal, RunsAreOne, SetUpsAreFirst, StartsAreFolded, VolumesAreTold, PairsAreKnown, TrustedIsGood, RoomlessAreRefused, UnservedAreRefused, CallsRunOnce, RepliesAreCaused, RepliesAreRan, KeptAreRan, DurableAreChanges, GrantsAreKept, BreaksAreOwed, RepliesFollowDrops, UnawaitedAreUntrusted, DeadAreUntrusted};
 ghost use Rattle.afs_law.specs.Parts.{ActsAreTold, CallsAreAsked, ChangesAreIdeal, LinesAreInPlace, MessagesAreOwn};
 
 /// Every run of a script for one server is legal.
@@ -21,6 +21,11 @@ pub fn reads_are_newest()
 /// In a legal history an act that changes something is answered 0 only where one of its calls changed it.
 pub fn acknowledged_are_made()
     ensures { AcknowledgedAreMade }
+{}
+
+/// What was acknowledged survives every crash: its server's disk holds it, or something later.
+pub fn acknowledged_are_kept()
+    ensures { AcknowledgedAreKept }
 {}
 
 /// In a legal history an act is answered by a reply to a call that ran since it began.
