@@ -18,6 +18,7 @@ pub mod Notes
 pub mod Pumping
 pub mod Serving
 pub mod Naming
+pub mod Granting
 pub mod Saving
 pub mod Deciding
 pub mod Nexts
@@ -43,7 +44,19 @@ pub mod KeysOnce
 pub mod Standing
 pub mod Hearing
 pub mod Members
+pub mod Moving
+pub mod Seating
+pub mod Acting
+pub mod Choosing
+pub mod Knowing
+pub mod Origins
+pub mod Ideals
+pub mod Cutting
+pub mod Changing
+pub mod Placing
+pub mod Sending
 pub mod Dying
 pub mod Made
+pub mod Surviving
 pub mod Worked
 pub mod Wrong

@@ -22,8 +22,8 @@ use Rattle.afs_law.proofs.Owing.{CarriedOwe, AllOf, all_map, all_both, all_filte
 use Rattle.afs_law.proofs.Turning.{loaded, in_filter, put_call, kept_in}
 use Rattle.afs_law.specs.Breaks.{HasSettled, HasTimeout, last_grant, expiry_of, AllOwes, CarriesBreak, GoodQuit, live_grant, HasOwe, last_number, lines_at, drops_of, HasStopped, OweAt}
 use Rattle.afs_rows.specs.Callbacks.{is_all, alls, numbers, is_reply_to, key_answered, breaks_call, break_message, owe_line, settle_line, quit_line, settles, quits, retries, still_owed}
-use Rattle.afs_law.specs.Ideal.{clock_of, change_in}
-use Rattle.afs_law.specs.Legal.{HasRisen, IsNew, IsNot, IsKey, HasChange, AreGood, IsChanged}
+use Rattle.afs_law.specs.Ideal.{clock_of}
+use Rattle.afs_law.specs.Legal.{HasRisen, HasChange, AreGood, IsChanged}
 use Rattle.afs_history.specs.declared.lines.Line.{Line}
 use Rattle.afs_law.specs.Past.{onto, lines_of, sent_of, given_message, called_key, IsCallUnder}
 use Rattle.afs_rows.specs.Runs.{Entry, Fall}
@@ -946,9 +946,9 @@ alls_rising : (x k m : ℕ) (base : List Line) → last_number the_server base �
 alls_rising x k zero base le h = h
 alls_rising x k (suc m) base le h = alls_rising x (k + 1) m (lines.Owe the_server (Client (k + 1)) None (k + 1) ∷ base) (le_refl _) (λ e. omega arith, h)
 
-pub alls_good : (s : Script) (x k m : ℕ) (past : List Entry) (own : List Line) → last_number the_server (own ++ lines_of past) ≤ k → HasRisen the_server own → AreGood s (actors.Node the_server) past own (map (owe_line the_server) (owes_all x k m))
-alls_good s x k zero past own h w = tt
-alls_good s x k (suc m) past own h w = ((refl, (omega arith, w)), alls_good s x (k + 1) m past (lines.Owe the_server (Client (k + 1)) None (k + 1) ∷ own) (le_refl _) w)
+pub alls_good : (s : Script) (x k m : ℕ) (past : List Entry) (own : List Line) → last_number the_server (own ++ lines_of past) ≤ k → HasRisen the_server own → k + m ≤ s.clients → AreGood s (actors.Node the_server) past own (map (owe_line the_server) (owes_all x k m))
+alls_good s x k zero past own h w few = tt
+alls_good s x k (suc m) past own h w few = ((refl, (omega arith, (w, (omega arith, omega arith)))), alls_good s x (k + 1) m past (lines.Owe the_server (Client (k + 1)) None (k + 1) ∷ own) (le_refl _) w (omega arith))
 
 pub alls_rise : (x k m : ℕ) (base : List Line) → last_number the_server base ≤ k → last_number the_server (onto base (map (owe_line the_server) (owes_all x k m))) ≤ k + m
 alls_rise x k zero base h = omega arith
