@@ -39,7 +39,7 @@ use Rattle.afs_num.specs.declared.types.Head.{Head}
 use Rattle.afs_num.specs.declared.types.Key.{Key}
 use Rattle.afs_num.specs.declared.types.Node.{Node}
 use Rattle.afs_num.specs.declared.types.Node.TheVariants.{Client}
-use Rattle.afs_rows.specs.ClientRow.{Look, Walked, admits_call, awaits, begin_row, begins_by, behind, behind_batch, body_told, breaks, call_message, call_of, calls_again, calls_step, client_row, counts, dead_code, drop_line, dropped, dropped_after, ends_step, entries_told, entry_told, find_cached, gift_of, given, given_up_in, gives_by, goes_by, hears, ignores, in_order, is_awaited, is_busy_code, is_older, is_spent, is_trusted, look_at, looked, most_busy, most_reads, put_entries, put_entry, read_lines, reborn, refuses, replies_step, runs_carried, shown_by, status_look, status_told, stays, takes, takes_bulk, takes_bytes, takes_data, takes_entries, takes_entry, takes_given, takes_list, takes_plain, takes_rights, takes_set, takes_shown, takes_status, takes_stored, timeout_line, timeout_row, told_step, trusted_in, untrusted_in, used_first, walked, walked_at, walked_by, walked_with, walks_on, whole, with_statuses}
+use Rattle.afs_rows.specs.ClientRow.{Look, Walked, admits_call, awaits, begin_row, begins_by, behind_batch, body_told, breaks, call_message, call_of, calls_again, calls_step, client_row, counts, dead_code, drop_line, dropped, dropped_after, ends_step, entries_told, entry_told, find_cached, gift_of, given, given_up_in, gives_by, goes_by, hears, ignores, in_order, is_awaited, is_busy_code, is_older, is_spent, is_trusted, look_at, looked, most_busy, most_reads, put_entries, put_entry, read_lines, reborn, refuses, replies_step, runs_carried, shown_by, status_look, status_told, stays, takes, takes_bulk, takes_bytes, takes_data, takes_entries, takes_entry, takes_given, takes_list, takes_plain, takes_rights, takes_set, takes_shown, takes_status, takes_stored, timeout_line, timeout_row, told_step, trusted_in, untrusted_in, used_first, walked, walked_at, walked_by, walked_with, walks_on, whole, with_statuses}
 use Rattle.afs_rows.specs.Going.{ClientState, Going, Need, answers, began, gives_back, next, reads, reads_status, with_read}
 use Rattle.afs_rows.specs.Runs.{Entry, locations}
 use Rattle.afs_rows.specs.ServerRow.{boot_told, key_of, replied}

@@ -4,11 +4,11 @@ use Rattle.afs_history.specs.declared.lines.Line.TheVariants as lines
 use Rattle.afs_history.specs.declared.scripts.Script.{Script}
 use Rattle.afs_ideal.specs.Operations.{volume_called}
 use Rattle.afs_ideal.specs.Tables.{Table}
-use Rattle.afs_law.proofs.Acting.{Acts, begins_acts, falls_acts, given_acts, is_of, rises_acts, waits_acts, who_at}
+use Rattle.afs_law.proofs.Acting.{begins_acts, given_acts, is_of, waits_acts}
 use Rattle.afs_law.proofs.Backing.{all_lines}
-use Rattle.afs_law.proofs.Basics.{Above, IfCall, both, each_at, same_node-refl}
+use Rattle.afs_law.proofs.Basics.{Above, IfCall, both, each_at}
 use Rattle.afs_law.proofs.Choosing.{Saves, Works, disk_works, is_from, risen_from, risen_lines, serves_works, starts_works, times_works, wakes_works}
-use Rattle.afs_law.proofs.Cutting.{CutOf, CutsAt, CutsIn, HearsCuts, comes_first, cuts_moves, now_up}
+use Rattle.afs_law.proofs.Cutting.{CutOf, CutsIn, HearsCuts, comes_first, cuts_moves, now_up}
 use Rattle.afs_law.proofs.Edits.{on_top}
 use Rattle.afs_law.proofs.Facts.{IsOne, Origin}
 use Rattle.afs_law.proofs.Ideals.{AreBlank, CutIs, Held, IsCalled, IsSent, Saved, blank_by, blank_key, blow_blank, cut_by, found_volume, from_blank, held_kept, is_blank, no_more, of_blank, of_this, own_from, saved_at, volumes_first}
@@ -20,29 +20,25 @@ use Rattle.afs_law.proofs.Saving.{first_on, later_by}
 use Rattle.afs_law.proofs.Standing.{runs_admitted}
 use Rattle.afs_law.specs.Breaks.{HasStopped}
 use Rattle.afs_law.specs.Ideal.{change_key, set_up, user_of}
-use Rattle.afs_law.specs.Legal.{EndsBoot, HasChangeBy, IsLater, IsNew, RanBefore, RunsHere, as_asked, versions_first}
+use Rattle.afs_law.specs.Legal.{EndsBoot, HasChangeBy, IsNew, as_asked, versions_first}
 use Rattle.afs_law.specs.Parts.{ChangesAreIdeal, EachEntry, EachLine, IdealChange, IsIdeal}
-use Rattle.afs_law.specs.Past.{Called, IsCall, IsCallUnder, IsToCome, called_key, given_message, lines_of, onto, sent_of}
+use Rattle.afs_law.specs.Past.{Called, IsCall, IsCallUnder, IsToCome, given_message, lines_of, onto, sent_of}
 use Rattle.afs_model.specs.Calls.{call_seat}
-use Rattle.afs_num.specs.Nodes.{same_node}
 use Rattle.afs_num.specs.declared.calls.FsCall.{FsCall}
 use Rattle.afs_num.specs.declared.calls.FsCall.TheVariants as calls
 use Rattle.afs_num.specs.declared.histories.Actor.{Actor}
 use Rattle.afs_num.specs.declared.histories.Actor.TheVariants as actors
 use Rattle.afs_num.specs.declared.histories.Version.{Version}
-use Rattle.afs_num.specs.declared.messages.Carried.{Carried}
 use Rattle.afs_num.specs.declared.messages.Message.{Message}
-use Rattle.afs_num.specs.declared.messages.Received.TheVariants.{Whole}
 use Rattle.afs_num.specs.declared.types.Head.{Head}
 use Rattle.afs_num.specs.declared.types.Key.{Key}
 use Rattle.afs_num.specs.declared.types.Node.{Node}
-use Rattle.afs_num.specs.declared.types.Node.TheVariants.{Client, Server}
+use Rattle.afs_num.specs.declared.types.Node.TheVariants.{Server}
 use Rattle.afs_records.specs.Durable.{Stored}
-use Rattle.afs_rows.specs.Runs.{Cell, Entry, Fall, Input, Leads, Moved, RunsTo, begun_by_disk, blow_line, message_at, moved, start}
+use Rattle.afs_rows.specs.Runs.{Cell, Entry, Fall, Input, Leads, Moved, begun_by_disk, blow_line, message_at, moved, start}
 use Rattle.afs_rows.specs.ServerRow.{Begun, Change, key_of, made, versioned}
-use Rattle.afs_rows.specs.ServerSteps.{back_timeout_row, server_row, start_row, wake_row}
 use Rattle.afs_rows.specs.States.{ServerState}
-use Rattle.std.proofs.Common.{◌≡◌, ℕ, ◌⊎◌, inl, inr, Bool, true, false, length, List, [], ◌∷◌, ◌++◌, Option, Some, None, refl, sym, ap, subst, ◌∙◌}
+use Rattle.std.proofs.Common.{◌≡◌, ℕ, ◌⊎◌, inl, inr, Bool, true, length, List, [], ◌∷◌, ◌++◌, Some, None, refl, sym, ap, subst, ◌∙◌}
 use Rattle.std.specs.Prelude.{⊤}
 
 -- ---- lines without a change

@@ -7,14 +7,13 @@ use Rattle.afs_ideal.specs.Operations.{Caller, Found, Result, refused, reads, ch
 use Rattle.afs_ideal.specs.Tables.{Table, get, set}
 use Rattle.afs_law.proofs.Backing.{all_lines}
 use Rattle.afs_ideal.specs.Volumes.{Volume}
-use Rattle.afs_law.proofs.Basics.{both, same_node-refl, same_node-true}
+use Rattle.afs_law.proofs.Basics.{same_node-refl, same_node-true}
 use Rattle.afs_law.proofs.Keeping.{found_started, unflagged}
 use Rattle.afs_model.specs.Calls as pairs
 use Rattle.afs_model.specs.Calls.{Admitted, admitted, call_seat}
 use Rattle.afs_num.specs.Nodes.{same_node}
 use Rattle.afs_num.specs.declared.calls.FsCall.{FsCall}
 use Rattle.afs_num.specs.declared.calls.FsCall.TheVariants as calls
-use Rattle.afs_num.specs.declared.histories.Version.{Version}
 use Rattle.afs_num.specs.declared.messages.Call.TheVariants as ask
 use Rattle.afs_num.specs.declared.messages.Carried.{Carried}
 use Rattle.afs_num.specs.declared.messages.Carried.TheVariants as carried
@@ -23,14 +22,14 @@ use Rattle.afs_num.specs.declared.messages.Received.{Received}
 use Rattle.afs_num.specs.declared.messages.Received.TheVariants.{Whole}
 use Rattle.afs_num.specs.declared.types.Head.{Head}
 use Rattle.afs_num.specs.declared.types.Node.{Node}
-use Rattle.afs_num.specs.declared.types.Node.TheVariants.{Admin, Client, Loc, Server}
+use Rattle.afs_num.specs.declared.types.Node.TheVariants.{Client}
 use Rattle.afs_records.specs.Durable.{Stored, has_room}
-use Rattle.afs_rows.specs.Callbacks.{Turn, expired, held_under, is_back_awaited, is_ready, is_seat_of, key_answered, new_owes, owe_line, quit_line, renews_by, repeats_by, risen_turn, settle_line, settles_by, still_owed, timed, turn_for, turned_by, turned_in}
-use Rattle.afs_rows.specs.Runs.{Fall, at_rest, begun_by_disk, blow_line, in_boot, in_step}
-use Rattle.afs_rows.specs.ServerRow.{Begun, Change, Decision, Sight, admits, begun_after, decided, decides, does, drops, granted, granted_in, hears, in_volume, is_client, is_unflagged, key_of, made, not_served, promise_ticks, record_of, refuses, repeats, revived, runs_received, saved, saves, serves_call, several, shows, sights, stored_by, tells_boot, versioned, whole, with_volume}
+use Rattle.afs_rows.specs.Callbacks.{Turn, expired, held_under, is_back_awaited, is_ready, is_seat_of, key_answered, new_owes, owe_line, quit_line, renews_by, repeats_by, risen_turn, settle_line, settles_by, still_owed, turn_for, turned_by, turned_in}
+use Rattle.afs_rows.specs.Runs.{Fall, at_rest, begun_by_disk, in_boot, in_step}
+use Rattle.afs_rows.specs.ServerRow.{Begun, Change, Decision, Sight, admits, begun_after, decided, decides, does, drops, granted, granted_in, hears, in_volume, is_client, is_unflagged, key_of, made, not_served, promise_ticks, record_of, refuses, repeats, runs_received, saves, serves_call, several, shows, sights, stored_by, tells_boot, versioned, whole, with_volume}
 use Rattle.afs_rows.specs.ServerSteps.{back_timeout_row, server_row, start_row, wake_row}
 use Rattle.afs_rows.specs.States.{BackCall, Backs, Held, ServerState, durable_of, volume_in}
-use Rattle.std.proofs.Common.{◌≡◌, ℕ, ℤ, ◌+◌, ◌⊎◌, inl, inr, Bool, true, false, cond, List, [], ◌∷◌, ◌++◌, map, length, filter, Option, Some, None, refl, sym, ap, subst, nat_eq, ◌∙◌}
+use Rattle.std.proofs.Common.{◌≡◌, ℕ, ℤ, ◌+◌, ◌⊎◌, inl, inr, Bool, true, false, cond, List, [], ◌∷◌, ◌++◌, map, length, filter, Option, Some, None, refl, sym, subst, ◌∙◌}
 use Rattle.std.specs.Prelude as outcome
 use Rattle.std.specs.Prelude.{⊤, ◌&&◌, nat_lt, Ok, Err}
 

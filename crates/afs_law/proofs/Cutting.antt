@@ -13,13 +13,12 @@ use Rattle.afs_law.specs.Legal.{AreFailed}
 use Rattle.afs_law.specs.Past.{IsToCome, called_key, given_message, lines_of, sent_of, server_boot}
 use Rattle.afs_model.specs.Calls as pairs
 use Rattle.afs_model.specs.Calls.{admitted, call_seat}
-use Rattle.afs_num.specs.declared.histories.Actor.{Actor}
 use Rattle.afs_num.specs.declared.histories.Actor.TheVariants as actors
 use Rattle.afs_num.specs.declared.messages.Message.{Message}
 use Rattle.afs_num.specs.declared.types.Node.{Node}
 use Rattle.afs_num.specs.declared.types.Node.TheVariants.{Client, Server}
 use Rattle.afs_rows.specs.Callbacks.{put}
-use Rattle.afs_rows.specs.Runs.{Cell, Entry, Fall, Host, at_rest, blow_line, in_boot, in_step, message_at, server_falls}
+use Rattle.afs_rows.specs.Runs.{Cell, Entry, Fall, Host, blow_line, in_step, message_at, server_falls}
 use Rattle.afs_rows.specs.States.{ServerState}
 use Rattle.std.proofs.Common.{◌≡◌, ℕ, inl, inr, Bool, true, false, List, [], ◌∷◌, ◌++◌, Option, Some, None, refl, sym, ap, subst, ◌∙◌}
 

@@ -3,28 +3,28 @@ use Rattle.afs_history.specs.declared.lines.Line.{Line}
 use Rattle.afs_history.specs.declared.lines.Line.TheVariants as lines
 use Rattle.afs_history.specs.declared.scripts.Script.{Script}
 use Rattle.afs_history.specs.declared.scripts.VolumeLine.{VolumeLine}
-use Rattle.afs_ideal.specs.Operations.{Result, changes, op, the_user, volume_called}
+use Rattle.afs_ideal.specs.Operations.{changes, op, the_user, volume_called}
 use Rattle.afs_ideal.specs.SetUp.{first_volume}
 use Rattle.afs_ideal.specs.Tables.{Table, get, set}
 use Rattle.afs_ideal.specs.Told.{Agrees}
 use Rattle.afs_ideal.specs.Volumes.{Edit, Volume, counted, edited_all, versions_by}
 use Rattle.afs_law.proofs.Acting.{Acts, begins_acts, falls_acts, given_acts, is_of, rises_acts, waits_acts, who_at}
 use Rattle.afs_law.proofs.Backing.{all_lines}
-use Rattle.afs_law.proofs.Basics.{ByClient, IfCall, OfCall, at_more, at_put, both, by_client, each_at, same_node-refl, some_of}
-use Rattle.afs_law.proofs.Choosing.{AreFrom, AreLeft, Chosen, IfCut, Saves, Still, Works, disk_works, is_from, risen_from, risen_lines, serves_works, starts_works, times_works, wakes_works}
+use Rattle.afs_law.proofs.Basics.{ByClient, IfCall, OfCall, at_more, at_put, both, by_client, each_at, same_node-refl}
+use Rattle.afs_law.proofs.Choosing.{AreLeft, IfCut, Saves, Works, disk_works, is_from, risen_from, risen_lines, serves_works, starts_works, times_works, wakes_works}
 use Rattle.afs_law.proofs.Edits.{Grow, Sound, SoundIn, Told, agrees_of, counted_sound, edits_told, fid_at, get-set, not_touched, on_top, sound_same, untouched}
-use Rattle.afs_law.proofs.Facts.{AreFine, IsFine, IsOne}
-use Rattle.afs_law.proofs.Keeping.{first_in, unflagged, volume_put}
+use Rattle.afs_law.proofs.Facts.{AreFine, IsOne}
+use Rattle.afs_law.proofs.Keeping.{first_in, volume_put}
 use Rattle.afs_law.proofs.KeysOnce.{IsKnown, any_told, by_key}
-use Rattle.afs_law.proofs.Law.{FirstFacts, any_home, first_facts, found_there, ideal_first, not_some}
+use Rattle.afs_law.proofs.Law.{FirstFacts, any_home, first_facts, found_there, ideal_first}
 use Rattle.afs_law.proofs.Moving.{Behind, EachMove, IsKept, each_moved, run_keeps}
 use Rattle.afs_law.proofs.Naming.{fine_after}
-use Rattle.afs_law.proofs.Origins.{AskedIn, KnownAsked, asked_first, asked_kept, of_client}
+use Rattle.afs_law.proofs.Origins.{KnownAsked, asked_first, asked_kept, of_client}
 use Rattle.afs_law.proofs.Saving.{ideal_by, onto_versioned, volume_test}
 use Rattle.afs_law.specs.Ideal.{Accepts, applied, applied_by, brought, call_under, change_key, changed_under, is_at, last_version, set_up, versions_in, volume_after}
 use Rattle.afs_law.specs.Laws.{VolumesAreTold}
 use Rattle.afs_law.specs.Once.{past_of}
-use Rattle.afs_law.specs.Past.{called_key, lines_of, onto, sent_of}
+use Rattle.afs_law.specs.Past.{lines_of, onto, sent_of}
 use Rattle.afs_num.specs.Nodes.{same_node}
 use Rattle.afs_num.specs.declared.calls.FsCall.{FsCall}
 use Rattle.afs_num.specs.declared.histories.Actor.TheVariants as actors
@@ -41,16 +41,15 @@ use Rattle.afs_num.specs.declared.types.Node.{Node}
 use Rattle.afs_num.specs.declared.types.Node.TheVariants.{Client, Server}
 use Rattle.afs_records.specs.Durable.{Stored}
 use Rattle.afs_rows.specs.Callbacks.{put}
-use Rattle.afs_rows.specs.Runs.{Armed, Cell, Entry, Fall, Host, Moved, RunsTo, at_rest, begun_by_disk, blow_line, counts_later, first_host, first_volumes, in_boot, in_step, message_at, placed_at, server_moves, server_stays, start, unarmed, unless_there, volumes_at}
-use Rattle.afs_rows.specs.Scopes.{is_volume}
+use Rattle.afs_rows.specs.Runs.{Armed, Cell, Entry, Fall, Host, RunsTo, at_rest, begun_by_disk, blow_line, counts_later, first_host, first_volumes, in_boot, in_step, message_at, placed_at, server_moves, server_stays, start, unarmed, unless_there, volumes_at}
 use Rattle.afs_rows.specs.Going.{ClientState}
-use Rattle.afs_rows.specs.ServerRow.{Begun, Change, key_of, made, result, stored_by, versioned}
+use Rattle.afs_rows.specs.ServerRow.{Begun, Change, key_of, result, stored_by, versioned}
 use Rattle.afs_rows.specs.ServerSteps.{back_timeout_row, server_row, start_row, wake_row}
 use Rattle.afs_rows.specs.States.{ServerState, volume_in}
 use Rattle.afs_rows.specs.Steps.{Step}
 use Rattle.std.proofs.Common.{◌≡◌, ℕ, ◌⊎◌, inl, inr, Bool, true, false, cond, eqb, eqb-true, eq-eqb, nat_eq, length, List, [], ◌∷◌, ◌++◌, Option, Some, None, refl, sym, ap, subst, ◌∙◌}
 use Rattle.std.specs.Option.{option_map}
-use Rattle.std.specs.Prelude.{is_some, ⊤, ◌&&◌}
+use Rattle.std.specs.Prelude.{is_some, ⊤}
 
 -- ---- lines that tell no change and no version
 

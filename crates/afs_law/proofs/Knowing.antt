@@ -3,25 +3,24 @@ use Rattle.afs_history.specs.declared.scripts.Script.{Script}
 use Rattle.afs_law.proofs.Basics.{Each, IfCall, each_at, each_map, if_call, some_of}
 use Rattle.afs_law.proofs.Calling.{IsAnswer, IsUncalled, answer_over, any_call}
 use Rattle.afs_law.proofs.Hearing.{HearsIn, first_hears, moved_hears}
-use Rattle.afs_law.proofs.Hosting.{Begins, HostStep, IsCutBy, IsSound, decides_due, disk_begins, memory_of, serves_step, starts_step, times_step, wakes_step}
-use Rattle.afs_law.proofs.KeysOnce.{EachChange, HasCut, HasRun, IsCutOf, IsKnown, Stands, StandsIn, any_told, by_key, first_stands, moved_keeps, sound_over}
+use Rattle.afs_law.proofs.Hosting.{IsCutBy, IsSound, decides_due, disk_begins, memory_of, serves_step, starts_step, times_step, wakes_step}
+use Rattle.afs_law.proofs.KeysOnce.{EachChange, HasCut, HasRun, IsCutOf, IsKnown, StandsIn, any_told, by_key, first_stands, moved_keeps, sound_over}
 use Rattle.afs_law.proofs.Law.{first_passed}
 use Rattle.afs_law.proofs.Moving.{IsKept}
-use Rattle.afs_law.specs.Ideal.{first_lines, set_up}
+use Rattle.afs_law.specs.Ideal.{set_up}
 use Rattle.afs_law.specs.Once.{AreOnce}
 use Rattle.afs_law.specs.Past.{lines_of}
 use Rattle.afs_num.specs.declared.messages.Message.{Message}
 use Rattle.afs_num.specs.declared.messages.Received.TheVariants.{Whole}
-use Rattle.afs_num.specs.declared.types.Head.{Head}
 use Rattle.afs_num.specs.declared.types.Key.{Key}
 use Rattle.afs_num.specs.declared.types.Node.{Node}
 use Rattle.afs_num.specs.declared.types.Node.TheVariants.{Server}
 use Rattle.afs_rows.specs.Callbacks.{replies_of}
-use Rattle.afs_rows.specs.Runs.{Cell, Entry, Fall, Input, at_rest, begun_by_disk, in_boot, in_step, message_at, start}
-use Rattle.afs_rows.specs.ServerRow.{key_of, reply_head}
+use Rattle.afs_rows.specs.Runs.{Cell, Entry, Fall, at_rest, begun_by_disk, in_boot, in_step, message_at, start}
+use Rattle.afs_rows.specs.ServerRow.{key_of}
 use Rattle.afs_rows.specs.ServerSteps.{back_timeout_row, server_row, start_row, wake_row}
 use Rattle.afs_rows.specs.States.{BackCall, ServerState}
-use Rattle.std.proofs.Common.{◌≡◌, ℕ, Bool, List, [], ◌∷◌, Option, Some, None, refl, subst}
+use Rattle.std.proofs.Common.{◌≡◌, ℕ, Bool, List, [], ◌∷◌, Option, Some, None, subst}
 use Rattle.std.specs.Prelude.{⊤}
 
 pub record Known (c : Cell) (past : List Entry) : Type 0 where

@@ -1,20 +1,18 @@
 -- A walk over the runs of a cell, however many servers it has: a fact that every kind of step keeps holds after every entry.
 use Rattle.afs_law.specs.Once.{past_of}
 use Rattle.afs_history.specs.declared.acts.Act.{Act}
-use Rattle.afs_history.specs.declared.lines.Line.{Line}
 use Rattle.afs_history.specs.declared.lines.Line.TheVariants as lines
-use Rattle.afs_history.specs.declared.scripts.Script.{Script}
 use Rattle.afs_num.specs.declared.messages.Message.{Message}
 use Rattle.afs_num.specs.declared.messages.Received.TheVariants.{Whole}
 use Rattle.afs_num.specs.declared.types.Node.{Node}
 use Rattle.afs_num.specs.declared.types.Node.TheVariants.{Admin, Client, Loc, Server}
 use Rattle.afs_rows.specs.ClientRow.{begin_row, client_row, timeout_row}
 use Rattle.afs_rows.specs.Going.{Going}
-use Rattle.afs_rows.specs.Runs.{Armed, Blow, Cell, Entry, Fall, Input, Leads, Luck, Moved, Outcome, at_rest, back_timed, begins, begun_by, begun_by_disk, blow_line, client_falls, client_moves, client_rises, client_starts, client_stops, comes_up, decided_at, fails_early, fails_midway, given_at, given_to, gives, has_host, in_boot, in_step, is_away, is_full, message_at, moved, nothing, server_armed, server_ends, server_falls, server_given, server_moves, server_restarted, server_rises, server_served, server_set, server_stays, server_stopped, server_timed, server_waits, server_wakes, sets_fail, sets_stop, settled, start, starts_again, stops, struck, ticked, ticks, unarmed, voided, waited_by, waits, wakes}
-use Rattle.afs_rows.specs.ServerRow.{Begun, device_calls}
+use Rattle.afs_rows.specs.Runs.{Armed, Blow, Cell, Entry, Fall, Input, Leads, Luck, Moved, Outcome, at_rest, back_timed, begins, begun_by, begun_by_disk, blow_line, client_falls, client_moves, client_rises, client_starts, client_stops, comes_up, decided_at, fails_early, fails_midway, given_at, given_to, gives, has_host, in_boot, in_step, is_away, is_full, message_at, moved, nothing, server_armed, server_ends, server_falls, server_given, server_moves, server_restarted, server_rises, server_served, server_set, server_stays, server_stopped, server_timed, server_waits, server_wakes, sets_fail, sets_stop, settled, starts_again, stops, struck, ticked, ticks, voided, waited_by, waits, wakes}
+use Rattle.afs_rows.specs.ServerRow.{device_calls}
 use Rattle.afs_rows.specs.ServerSteps.{back_timeout_row, server_row, wake_row}
 use Rattle.afs_rows.specs.States.{BackCall}
-use Rattle.std.proofs.Common.{zero, suc, ◌≡◌, ℕ, Bool, true, false, cond, List, [], ◌∷◌, ◌++◌, Option, Some, None, refl, sym, ap, subst}
+use Rattle.std.proofs.Common.{zero, suc, ◌≡◌, ℕ, Bool, true, false, cond, List, [], ◌∷◌, ◌++◌, Option, Some, None, refl, sym, subst}
 
 -- ---- every kind of step
 

@@ -15,14 +15,14 @@ use Rattle.afs_law.proofs.Facts.{IsOne, Origin}
 use Rattle.afs_law.proofs.KeysOnce.{IsKnown, any_told, by_key, known_pair}
 use Rattle.afs_law.proofs.Knowing.{Known, known_first, known_kept, served_uncalled, started_uncalled, timed_uncalled, woken_uncalled}
 use Rattle.afs_law.proofs.Law.{first_passed}
-use Rattle.afs_law.proofs.Moving.{Behind, EachMove, IsKept, each_moved, run_gives, run_keeps}
+use Rattle.afs_law.proofs.Moving.{Behind, EachMove, IsKept, each_moved, run_keeps}
 use Rattle.afs_law.proofs.Seating.{AreSeated}
-use Rattle.afs_law.specs.Ideal.{call_in, call_under, first_lines, set_up, user_of}
+use Rattle.afs_law.specs.Ideal.{call_in, call_under, set_up, user_of}
 use Rattle.afs_law.specs.Legal.{as_asked}
 use Rattle.afs_law.specs.Once.{past_of}
 use Rattle.afs_records.specs.Durable.{Stored}
 use Rattle.afs_law.specs.Parts.{ActsAreTold, CallsAreAsked, IsAsked}
-use Rattle.afs_law.specs.Past.{Called, CalledSince, Sends, called_key, has_begun, has_sent, is_called, is_late, lines_of, onto, running, same_key, sent_of}
+use Rattle.afs_law.specs.Past.{CalledSince, Sends, called_key, has_begun, has_sent, is_called, is_late, lines_of, onto, running, same_key, sent_of}
 use Rattle.afs_num.specs.Nodes.{same_node}
 use Rattle.afs_num.specs.declared.calls.FsCall.{FsCall}
 use Rattle.afs_num.specs.declared.histories.Actor.TheVariants as actors
@@ -39,13 +39,13 @@ use Rattle.afs_num.specs.declared.types.Node.TheVariants.{Admin, Client, Loc, Se
 use Rattle.afs_rows.specs.Callbacks.{put}
 use Rattle.afs_rows.specs.ClientRow.{call_by, call_message, call_of}
 use Rattle.afs_rows.specs.Going.{ClientState, Going, asked, began, next, read_on}
-use Rattle.afs_rows.specs.Runs.{Armed, Cell, Entry, Fall, Moved, at_rest, in_boot, in_step, RunsTo, begun_by_disk, blow_line, client_moves, locations, server_moves, start, unarmed, user_at}
+use Rattle.afs_rows.specs.Runs.{Armed, Cell, Entry, Fall, at_rest, in_boot, in_step, RunsTo, begun_by_disk, blow_line, locations, server_moves, start, unarmed, user_at}
 use Rattle.afs_rows.specs.ServerRow.{key_of, made, versioned}
 use Rattle.afs_rows.specs.ServerSteps.{back_timeout_row, server_row, start_row, wake_row}
 use Rattle.afs_rows.specs.States.{Gift, ServerState}
 use Rattle.afs_rows.specs.Steps.{Step}
-use Rattle.std.proofs.Common.{◌≡◌, ℕ, ◌+◌, ◌≤◌, ◌<◌, ◌⊎◌, inl, inr, arith, Bool, true, false, cond, not, List, [], ◌∷◌, ◌++◌, Option, Some, None, refl, sym, ap, subst, ◌∙◌}
-use Rattle.std.specs.Prelude.{⊤, ◌&&◌}
+use Rattle.std.proofs.Common.{◌≡◌, ℕ, ◌+◌, ◌⊎◌, inl, inr, Bool, true, false, cond, not, List, [], ◌∷◌, ◌++◌, Option, Some, None, refl, sym, ap, subst, ◌∙◌}
+use Rattle.std.specs.Prelude.{⊤}
 
 -- ---- lines that leave the act that runs at a client
 

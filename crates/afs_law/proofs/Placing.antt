@@ -4,14 +4,14 @@ use Rattle.afs_history.specs.declared.lines.Line.{Line}
 use Rattle.afs_history.specs.declared.lines.Line.TheVariants as lines
 use Rattle.afs_history.specs.declared.scripts.Script.{Script}
 use Rattle.afs_ideal.specs.Operations.{Found}
-use Rattle.afs_law.proofs.Acting.{Acts, begins_acts, falls_acts, given_acts, rises_acts, waits_acts, who_at}
+use Rattle.afs_law.proofs.Acting.{begins_acts, falls_acts, given_acts, rises_acts, waits_acts}
 use Rattle.afs_law.proofs.Backing.{all_lines}
 use Rattle.afs_law.proofs.Basics.{both, same_node-refl, same_node-true}
 use Rattle.afs_law.proofs.Changing.{run_each}
 use Rattle.afs_law.proofs.Choosing.{risen_lines}
 use Rattle.afs_law.proofs.KeysOnce.{IsKnown, any_told, by_key}
 use Rattle.afs_law.proofs.Moving.{Behind, EachMove, IsKept, each_moved}
-use Rattle.afs_law.proofs.Origins.{AskedIn, KnownAsked, asked_first, asked_kept}
+use Rattle.afs_law.proofs.Origins.{KnownAsked, asked_first, asked_kept}
 use Rattle.afs_law.proofs.Promising.{owes_all, risen_is}
 use Rattle.afs_law.specs.Breaks.{HasOwe}
 use Rattle.afs_law.specs.Ideal.{set_up}
@@ -20,7 +20,6 @@ use Rattle.afs_law.specs.Parts.{EachLine, IsInPlace, LinesAreInPlace}
 use Rattle.afs_law.specs.Past.{has_begun, has_given}
 use Rattle.afs_model.specs.Calls.{call_seat}
 use Rattle.afs_num.specs.Nodes.{same_node}
-use Rattle.afs_num.specs.declared.histories.Actor.{Actor}
 use Rattle.afs_num.specs.declared.histories.Actor.TheVariants as actors
 use Rattle.afs_num.specs.declared.histories.Version.{Version}
 use Rattle.afs_num.specs.declared.messages.Carried.{Carried}
@@ -32,11 +31,11 @@ use Rattle.afs_num.specs.declared.types.Head.{Head}
 use Rattle.afs_num.specs.declared.types.Node.{Node}
 use Rattle.afs_num.specs.declared.types.Node.TheVariants.{Client, Server}
 use Rattle.afs_rows.specs.Callbacks.{Turn, expired, held_under, is_back_awaited, is_ready, is_seat_of, key_answered, new_owes, owe_line, quit_line, renews_by, repeats_by, risen_turn, settle_line, settles_by, still_owed, timed, turn_for, turned_by, turned_in}
-use Rattle.afs_rows.specs.Runs.{Cell, Entry, Fall, Moved, RunsTo, at_rest, begun_by_disk, blow_line, in_boot, in_step, start}
-use Rattle.afs_rows.specs.ServerRow.{Begun, Decision, begun_after, decides, does, drops, granted, granted_in, key_of, made, promise_ticks, refuses, repeats, saves, shows, tells_boot, versioned}
+use Rattle.afs_rows.specs.Runs.{Cell, Entry, Fall, Moved, at_rest, begun_by_disk, blow_line, in_boot, in_step, start}
+use Rattle.afs_rows.specs.ServerRow.{Decision, begun_after, decides, does, drops, granted, granted_in, key_of, made, promise_ticks, refuses, repeats, saves, shows, tells_boot, versioned}
 use Rattle.afs_rows.specs.ServerSteps.{back_timeout_row, server_row, start_row, wake_row}
 use Rattle.afs_rows.specs.States.{BackCall, Backs, Held, ServerState}
-use Rattle.std.proofs.Common.{zero, suc, ◌≡◌, ℕ, ◌+◌, ◌≤◌, ◌<◌, ◌⊎◌, inl, inr, arith, Bool, true, false, cond, List, [], ◌∷◌, ◌++◌, map, length, Option, Some, None, refl, sym, ap, subst, ◌∙◌}
+use Rattle.std.proofs.Common.{zero, suc, ◌≡◌, ℕ, ◌+◌, ◌≤◌, ◌<◌, ◌⊎◌, inl, inr, arith, Bool, true, false, cond, List, [], ◌∷◌, map, length, Option, Some, None, refl, sym, ap, subst, ◌∙◌}
 use Rattle.std.proofs.Math.Nat.{eq-or-lt_of_le}
 use Rattle.std.specs.Prelude.{⊤, ◌&&◌, nat_lt}
 

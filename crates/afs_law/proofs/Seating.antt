@@ -1,13 +1,11 @@
 -- A reply that a server keeps for a caller is that server's, to that caller, under the pair of its last call; however many servers a
 -- cell has.
-use Rattle.afs_history.specs.declared.lines.Line.{Line}
-use Rattle.afs_history.specs.declared.lines.Line.TheVariants as lines
 use Rattle.afs_history.specs.declared.scripts.Script.{Script}
 use Rattle.afs_law.proofs.Basics.{LastSeat, a_key, at_put, at_seat, kept_last, same_node-true, some_of}
 use Rattle.afs_law.proofs.Hearing.{HearsIn, hears_at, reply_ran}
 use Rattle.afs_law.proofs.Hosting.{HasHead, served_head}
 use Rattle.afs_law.proofs.Keeping.{at_placed}
-use Rattle.afs_law.proofs.Moving.{Behind, EachMove, IsKept, each_moved, run_keeps}
+use Rattle.afs_law.proofs.Moving.{Behind, EachMove, each_moved, run_keeps}
 use Rattle.afs_law.specs.Ideal.{set_up}
 use Rattle.afs_law.specs.Laws.{seat_key}
 use Rattle.afs_law.specs.Once.{past_of}
@@ -27,8 +25,8 @@ use Rattle.afs_num.specs.declared.types.Head.{Head}
 use Rattle.afs_num.specs.declared.types.Node.{Node}
 use Rattle.afs_num.specs.declared.types.Node.TheVariants.{Client, Server}
 use Rattle.afs_rows.specs.Callbacks.{put}
-use Rattle.afs_rows.specs.Runs.{Armed, Cell, Entry, Fall, Host, RunsTo, at_rest, begun_by_disk, in_boot, in_step, start}
-use Rattle.afs_rows.specs.ServerRow.{Begun, Change, Decision, admits, begun_after, carried_by, decides, does, drops, hears, is_client, not_served, promise_ticks, refuses, repeats, replied, reply_head, runs_received, saves, seat_for, seat_placed, serves_call, shows, tells_boot, whole}
+use Rattle.afs_rows.specs.Runs.{Cell, Entry, Fall, Host, RunsTo, at_rest, begun_by_disk, in_boot, in_step, start}
+use Rattle.afs_rows.specs.ServerRow.{Begun, Change, Decision, admits, begun_after, carried_by, decides, does, drops, hears, is_client, not_served, promise_ticks, refuses, repeats, replied, runs_received, saves, seat_for, seat_placed, serves_call, shows, tells_boot, whole}
 use Rattle.afs_rows.specs.ServerSteps.{back_timeout_row, server_row, start_row, wake_row}
 use Rattle.afs_rows.specs.States.{BackCall, Seat, ServerState}
 use Rattle.std.proofs.Common.{◌≡◌, ℕ, ◌+◌, Bool, true, false, cond, List, [], ◌∷◌, Option, Some, None, refl, sym, ap, subst, nat_eq, ◌∙◌}

@@ -1,15 +1,14 @@
 -- Each message of a run is sent by the node that it names, and each call of a client has a key of its own act, however many servers a
 -- cell has.
 use Rattle.afs_breaks.specs.declared.types.OwedBreak.{OwedBreak}
-use Rattle.afs_history.specs.declared.lines.Line.TheVariants as lines
 use Rattle.afs_history.specs.declared.scripts.Script.{Script}
-use Rattle.afs_law.proofs.Acting.{Acts, IsTheCall, begins_acts, falls_acts, given_acts, last_key, rises_acts, waits_acts, who_at}
+use Rattle.afs_law.proofs.Acting.{Acts, IsTheCall, begins_acts, given_acts, last_key, waits_acts, who_at}
 use Rattle.afs_law.proofs.Basics.{ByClient, Each, IfCall, OfCall, at_put, by_client, each_more, same_node-true}
 use Rattle.afs_law.proofs.Changing.{run_each}
 use Rattle.afs_law.proofs.Hosting.{HasHead, served_head}
 use Rattle.afs_law.proofs.KeysOnce.{IsKnown, any_told, by_key}
 use Rattle.afs_law.proofs.Moving.{Behind, EachMove, IsKept, each_moved}
-use Rattle.afs_law.proofs.Origins.{AskedIn, KnownAsked, asked_first, asked_kept, last_late, of_client, the_calls}
+use Rattle.afs_law.proofs.Origins.{KnownAsked, asked_first, asked_kept, last_late, of_client, the_calls}
 use Rattle.afs_law.proofs.Pumping.{each_both, each_filter}
 use Rattle.afs_law.proofs.Seating.{AreSeated, SitsIn, kept_from, sits_moves}
 use Rattle.afs_law.specs.Ideal.{set_up}
@@ -20,7 +19,6 @@ use Rattle.afs_model.specs.Calls as pairs
 use Rattle.afs_model.specs.Calls.{Admitted, admitted, call_seat}
 use Rattle.afs_num.specs.Nodes.{same_node}
 use Rattle.afs_num.specs.declared.calls.FsCall.{FsCall}
-use Rattle.afs_num.specs.declared.histories.Actor.TheVariants as actors
 use Rattle.afs_num.specs.declared.messages.Call.TheVariants as ask
 use Rattle.afs_num.specs.declared.messages.Carried.{Carried}
 use Rattle.afs_num.specs.declared.messages.Carried.TheVariants as carried
@@ -33,12 +31,12 @@ use Rattle.afs_num.specs.declared.types.Node.{Node}
 use Rattle.afs_num.specs.declared.types.Node.TheVariants.{Client, Server}
 use Rattle.afs_rows.specs.Callbacks.{Started, Turn, expired, held_under, is_back_awaited, is_ready, is_seat_of, key_answered, no_turn, pumped, put, renews_by, repeats_by, replies_of, risen_turn, settles_by, starts, starts_by, timed, turn_for, turned_by, turned_in}
 use Rattle.afs_rows.specs.Going.{ClientState, Going}
-use Rattle.afs_rows.specs.Runs.{Armed, Cell, Entry, Fall, Host, Moved, RunsTo, at_rest, begun_by_disk, in_boot, in_step, server_moves, start, unarmed}
+use Rattle.afs_rows.specs.Runs.{Armed, Cell, Entry, Fall, Host, Moved, at_rest, begun_by_disk, in_boot, in_step, server_moves, start, unarmed}
 use Rattle.afs_rows.specs.ServerRow.{Begun, Decision, admits, begun_after, decides, does, drops, hears, is_client, not_served, refuses, repeats, revived, runs_received, saves, serves_call, shows, tells_boot, whole}
 use Rattle.afs_rows.specs.ServerSteps.{back_timeout_row, server_row, start_row, wake_row}
-use Rattle.afs_rows.specs.States.{BackCall, Backs, Held, Seat, ServerState}
+use Rattle.afs_rows.specs.States.{BackCall, Backs, Held, ServerState}
 use Rattle.afs_rows.specs.Steps.{Step}
-use Rattle.std.proofs.Common.{◌≡◌, ℕ, Bool, true, false, cond, List, [], ◌∷◌, ◌++◌, Option, Some, None, refl, sym, ap, subst, not, ◌∙◌}
+use Rattle.std.proofs.Common.{◌≡◌, ℕ, Bool, true, false, cond, List, [], ◌∷◌, ◌++◌, Option, Some, None, refl, sym, subst, not}
 use Rattle.std.specs.Prelude.{⊤, ◌&&◌, nat_lt}
 
 -- ---- what a server decides

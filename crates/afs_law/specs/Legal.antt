@@ -194,10 +194,10 @@ pub record RanBefore (server : Node) (k : Key) (past : List Entry) (own next : L
 
 -- A change runs a key for the first time, at a server that accepts stores of the volume, and is the only one of its entry. What
 -- the server changed before for the same node it did under keys of earlier calls, and while an act runs there, under none of
--- that act. No server did under another key of this key's act, were that long over: an act changes things once. The entry ran the key's call, or is the restart behind the one that was interrupted in that.
--- The key's call was sent by its node, for its user, and is that of the act that ran there, with the act's own bytes. The
--- versions that follow are just those of the ideal operation on the ideal volume. Each other client's last grant on one of their
--- fids that lasts has a break behind the change
+-- that act. No server did under another key of this key's act, were that long over: an act changes things once. The entry ran the
+-- key's call, or is the restart behind the one that was interrupted in that. The key's call was sent by its node, for its user, and
+-- is that of the act that ran there, with the act's own bytes. The versions that follow are just those of the ideal operation on the
+-- ideal volume. Each other client's last grant on one of their fids that lasts has a break behind the change
 pub record GoodChange (s : Script) (server : Node) (k : Key) (count : ℕ) (past : List Entry) (own next : List Line) : Type 0 where
   pub fresh : IsNew k (own ++ lines_of past)
   pub latest : (l : Key) → HasChangeBy server l (own ++ lines_of past) → l.node ≡ k.node → IsLater k l
@@ -495,8 +495,8 @@ IsOfServer who n = ⊥
 abbrev pub IsTimed : Node → List Line → List Line → Type 0
 IsTimed c own next = ((has_given own ≡ false) × (has_begun c own ≡ false)) × ((has_given next ≡ false) × (has_begun c next ≡ false))
 
--- An entry is given one message at most, and each line stands in an entry of its own node: a begin, a read, an answer, a drop in one of its client, a change, a grant, a
--- break in one of its server, a tick in the clock's, and that nothing happened in nobody's
+-- An entry is given one message at most, and each line stands in an entry of its own node: a begin, a read, an answer, a drop in one
+-- of its client, a change, a grant, a break in one of its server, a tick in the clock's, and that nothing happened in nobody's
 abbrev pub IsGood : Script → Actor → Line → List Entry → List Line → List Line → Type 0
 IsGood s who (lines.Begin c act) past own next = IsOfClient who c
 IsGood s who (lines.Given place) past own next = has_given own ≡ false

@@ -205,8 +205,8 @@ IsToCome s k boot [] = ⊤
 IsToCome s k boot (e ∷ past) = (IsCallFrom s k boot (given_message e.lines (sent_of past)) → ⊥) × IsToCome s k boot past
 
 -- The past, split at the entry that ran the call which this is the reply to, by its key and its opcode: the callee's first that was
--- given it, in the boot that the reply tells, and before any later call of that node. In this boot the callee then was, for it runs no call to
--- another one; and a later entry finds the kept reply.
+-- given it, in the boot that the reply tells, and before any later call of that node. In this boot the callee then was, for it runs
+-- no call to another one; and a later entry finds the kept reply.
 pub record Ran (reply : Head) (past : List Entry) : Type 0 where
   pub newer : List Entry
   pub at : Entry
