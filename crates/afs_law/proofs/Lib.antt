@@ -55,6 +55,7 @@ pub mod Cutting
 pub mod Changing
 pub mod Placing
 pub mod Sending
+pub mod Entering
 pub mod Dying
 pub mod Made
 pub mod Surviving

@@ -280,7 +280,7 @@ record MayQuit (n : Node) (past : List Entry) (boot number most : ℕ) (call : F
   owe : CarriedOwe n number most boot (lines_of past) o
   carries : CarriesBreak call o.what
 
-two_all : {A : Type 0} → (P Q R : A → Type 0) → ((x : A) → P x → Q x → R x) → (xs : List A) → AllOf P xs → AllOf Q xs → AllOf R xs
+pub two_all : {A : Type 0} → (P Q R : A → Type 0) → ((x : A) → P x → Q x → R x) → (xs : List A) → AllOf P xs → AllOf Q xs → AllOf R xs
 two_all P Q R w [] h k = tt
 two_all P Q R w (x ∷ xs) h k = (w x h.0 k.0, two_all P Q R w xs h.1 k.1)
 
@@ -930,9 +930,9 @@ change_loaded who b ps more boot seats now cs clock sent e past pre os hd m h gr
     (λ j seat k x y. seated_over None None b after boot clock clock e past s j k (h.seated j seat k x y)))
 
 -- numbers of new breaks
-pub numbers_good : (s : Script) (k : ℕ) (ps : List Promise) (past : List Entry) (own : List Line) → last_number the_server (own ++ lines_of past) ≤ k → AllOf (λ (p : Promise). IsWithdrawn the_server p.client p.fid own) ps → AreGood s (actors.Node the_server) past own (map (owe_line the_server) (owes_from k ps))
-numbers_good s k [] past own h w = tt
-numbers_good s k (p ∷ ps) past own h w = ((refl, (omega arith, w.0)), numbers_good s (k + 1) ps past (lines.Owe the_server p.client (Some p.fid) (k + 1) ∷ own) (le_refl _) w.1)
+pub numbers_good : (s : Script) (k : ℕ) (ps : List Promise) (past : List Entry) (own : List Line) → last_number the_server (own ++ lines_of past) ≤ k → AllOf (λ (p : Promise). IsWithdrawn the_server p.client p.fid own) ps → AllOf (λ (p : Promise). (x : ℕ) × (last_grant the_server p.client p.fid (own ++ lines_of past) ≡ Some x)) ps → AreGood s (actors.Node the_server) past own (map (owe_line the_server) (owes_from k ps))
+numbers_good s k [] past own h w g = tt
+numbers_good s k (p ∷ ps) past own h w g = ((refl, (omega arith, (w.0, g.0))), numbers_good s (k + 1) ps past (lines.Owe the_server p.client (Some p.fid) (k + 1) ∷ own) (le_refl _) w.1 g.1)
 
 pub numbers_rise : (k : ℕ) (ps : List Promise) (base : List Line) → last_number the_server base ≤ k → last_number the_server (onto base (map (owe_line the_server) (owes_from k ps))) ≤ k + length (owes_from k ps)
 numbers_rise k [] base h = omega arith

@@ -167,6 +167,9 @@ run_sound s (x ∷ xs) c past (e ∷ es) end H r h =
     let m : Stays s (moved c x) = moved_stays s c x H in
     ((subst (λ (y : Entry). IsOfScript s y.actor) (sym r.0) m.of, (risen_back (e ∷ past) es h).0), run_sound s xs (moved c x).cell (e ∷ past) es end m.nodes r.1 h)
 
+-- of any script
+pub run_entries : (s : Script) (h : List Entry) (end : Cell) → RunsTo h s end → AreEntries s (set_up s ∷ []) h
+run_entries s h end r = run_sound s r.inputs (start s) (set_up s ∷ []) h end (record { clients = refl; servers = refl; away = λ j e. absurd cc }) r.leads (hears_at s h end r).boots.risen
+
 pub runs_legal : (s : Script) (h : List Entry) (end : Cell) → IsOneServer s → RunsTo h s end → Legal h s
-runs_legal s h end is r = legal s h (seen_in end) is (run_same s h end is r)
-    (run_sound s r.inputs (start s) (set_up s ∷ []) h end (record { clients = refl; servers = refl; away = λ j e. absurd cc }) r.leads (hears_at s h end r).boots.risen)
+runs_legal s h end is r = legal s h (seen_in end) is (run_same s h end is r) (run_entries s h end r)

@@ -178,7 +178,7 @@ owes_ahead (e ∷ f ∷ es) = e ∷ owes_ahead (f ∷ es)
 
 owed_ahead : Legal (owes_ahead (entries (start (script 2)) six_front)) (script 2) → ⊥
 unfolding moved begin_row client_row server_row back_timeout_row wake_row start_row record_bytes head_form volume_form spelled opaque pad word laid_at led name_ok directory_bytes name_bytes rights_of image acl_text digits entry_text directory_of names_at opaque_at word_at counted_at whole_at count_at name_at spelled_at bytes_below
-owed_ahead h = h.1.1.1.0.0.0.0.1.1
+owed_ahead h = h.1.1.1.0.0.0.0.1.1.0
 
 -- a break is given up by timeouts of before it became owed
 abbrev timeouts_first : List Entry → List Entry
@@ -861,3 +861,14 @@ answered_as_a_store h =
       | inl x ↦ stored_fetch _ _ _ refl refl x
       | inr y ↦ elim y [ inl x ↦ stored_none _ _ refl x | inr z ↦ elim z [ inl x ↦ stored_none _ _ refl x | inr w ↦ w ] ]
     ]
+
+-- ---- a break on a file is owed to who was promised it
+
+abbrev owes_one : Entry → Entry
+owes_one e = record e { lines = e.lines ++ lines.Owe (Server 1) (Client 1) (Some file) 1 ∷ []; sent = [] }
+
+owed_unpromised : Legal (alters 1 owes_one (entries (start (script 2)) (begins 2 (acts.Close (operands.Fid file) (Hex (codes "def"))) ∷ gives 1 steady ∷ []))) (script 2) → ⊥
+unfolding moved begin_row client_row server_row back_timeout_row wake_row start_row record_bytes head_form volume_form spelled opaque pad word laid_at led name_ok directory_bytes name_bytes rights_of image acl_text digits entry_text directory_of names_at opaque_at word_at counted_at whole_at count_at name_at spelled_at bytes_below
+owed_unpromised h =
+    let g = h.1.0.0.0.1.1.1.0.1.1.1 in
+    let e : None ≡ Some g.0 = g.1 in absurd cc

@@ -15,7 +15,7 @@ use Rattle.afs_num.specs.declared.messages.Carried.{Carried}
 use Rattle.afs_num.specs.declared.messages.Message.{Message}
 use Rattle.afs_ideal.specs.Operations.{Caller, the_user, Result, refused, changes, no_operation, op, code_of, volume_called}
 use Rattle.afs_ideal.specs.Volumes.{Volume, Edit, versions_by}
-use Rattle.afs_law.specs.Breaks.{IsNamedIn, AllOwes, HasStopped, HasTimeout, EndedOf, EndedAll, GoodSettle, GoodQuit, live_grant, lines_at, HasOwe, last_number}
+use Rattle.afs_law.specs.Breaks.{last_grant, IsNamedIn, AllOwes, HasStopped, HasTimeout, EndedOf, EndedAll, GoodSettle, GoodQuit, live_grant, lines_at, HasOwe, last_number}
 use Rattle.afs_rows.specs.Going.{Going, Need, answers, asks_for, next, asked, gives_back, reads_rights}
 use Rattle.afs_law.specs.Grants.{is_promised, read_reply, GrantOf, since, until, IsWithdrawn, IsDropped}
 use Rattle.afs_law.specs.Ideal.{last_version, Unless, set_up, IsLast, WasLast, HasBeen, HasVersion, Accepts, clock_of, user_of, seen, change_in, change_key, call_under, volume_after}
@@ -236,10 +236,10 @@ abbrev pub IsClientOf : Script → Node → Type 0
 IsClientOf s (Client j) = (1 ≤ j) × (j ≤ s.clients)
 IsClientOf s n = ⊥
 
--- a break becomes owed where a fid changes, or, to each client of the script, where the server began again
-abbrev pub GoodOwe : Script → Node → Node → Option Fid → List Line → Type 0
-GoodOwe s server c None own = HasRisen server own × IsClientOf s c
-GoodOwe s server c (Some f) own = IsWithdrawn server c f own
+-- a break becomes owed where a fid changes that the client was promised, or, to each client of the script, where the server began again
+abbrev pub GoodOwe : Script → Node → Node → Option Fid → List Entry → List Line → Type 0
+GoodOwe s server c None past own = HasRisen server own × IsClientOf s c
+GoodOwe s server c (Some f) past own = IsWithdrawn server c f own × ((expiry : ℕ) × (last_grant server c f (own ++ lines_of past) ≡ Some expiry))
 
 -- a version stands under its change; that these are not too many is said of the change
 abbrev pub IsUnderChange : List Line → Type 0
@@ -515,7 +515,7 @@ IsGood s who (lines.Restart n boot) past own next = (who ≡ actors.Node n) × G
 IsGood s who (lines.Full n) past own next = IsOfServer who n
 IsGood s who (lines.Drop c f) past own next = IsOfClient who c
 IsGood s who (lines.DropAll c server) past own next = IsOfClient who c
-IsGood s who (lines.Owe server c what n) past own next = IsOfServer who server × ((last_number server (own ++ lines_of past) < n) × GoodOwe s server c what own)
+IsGood s who (lines.Owe server c what n) past own next = IsOfServer who server × ((last_number server (own ++ lines_of past) < n) × GoodOwe s server c what past own)
 IsGood s who (lines.Settle server c n) past own next = IsOfServer who server × GoodSettle server c n past own
 IsGood s who (lines.Quit server c n) past own next = IsOfServer who server × GoodQuit server c n past own
 IsGood s who lines.Void past own next = who ≡ actors.Nobody

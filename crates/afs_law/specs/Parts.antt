@@ -7,7 +7,7 @@ use Rattle.afs_ideal.specs.Operations.{changes, op, the_user, volume_called}
 use Rattle.afs_ideal.specs.Volumes.{Edit, Volume, versions_by}
 use Rattle.afs_law.specs.Breaks.{HasStopped}
 use Rattle.afs_law.specs.Ideal.{Accepts, call_under, change_key, set_up, user_of, volume_after}
-use Rattle.afs_law.specs.Legal.{GoodCall, IsBy, GoodRestart, HasAct, HasChangeBy, IsLater, IsNew, IsOfClient, IsOfServer, IsTimed, IsUnderChange, RanBefore, RunsHere, as_asked, versions_first}
+use Rattle.afs_law.specs.Legal.{AreRan, IsEntryOf, GoodCall, IsBy, GoodRestart, HasAct, HasChangeBy, IsLater, IsNew, IsOfClient, IsOfServer, IsTimed, IsUnderChange, RanBefore, RunsHere, as_asked, versions_first}
 use Rattle.afs_law.specs.Once.{past_of}
 use Rattle.afs_law.specs.Past.{Called, CalledSince, called_key, has_given, is_late, lines_of, running, sent_of}
 use Rattle.afs_num.specs.declared.calls.FsCall.{FsCall}
@@ -71,6 +71,13 @@ EachEntry G past (e ∷ es) = G past e × EachEntry G (e ∷ past) es
 
 abbrev pub AllLines : LineRule → Script → List Entry → Type 0
 AllLines G s history = EachEntry (λ past e. EachLine G e.actor past [] e.lines) (set_up s ∷ []) history
+
+-- ---- entries
+
+-- each entry of a run is of a node of the script, lays no volume and begins no boot twice; and what it sends as a server's reply to a
+-- client is that of the entry which ran its call
+abbrev pub EntriesAreSound : Type 0
+EntriesAreSound = (s : Script) (history : List Entry) (end : Cell) → RunsTo history s end → EachEntry (λ past e. IsEntryOf s past e × AreRan (e ∷ past) e.sent) (set_up s ∷ []) history
 
 -- ---- where lines stand
 

@@ -1,7 +1,7 @@
 //! Laws about the runs of a script. Each is the contract of a function that does nothing.
 
 ghost use Rattle.afs_law.specs.Laws.{AcknowledgedAreKept, AcknowledgedAreMade, AnswersAreRecent, ChangesAreFolded, EffectsAreTold, KeysRunOnce, ReadsAreNewest, RunsAreLegal, RunsAreOne, SetUpsAreFirst, StartsAreFolded, VolumesAreTold, PairsAreKnown, TrustedIsGood, RoomlessAreRefused, UnservedAreRefused, CallsRunOnce, RepliesAreCaused, RepliesAreRan, KeptAreRan, DurableAreChanges, GrantsAreKept, BreaksAreOwed, RepliesFollowDrops, UnawaitedAreUntrusted, DeadAreUntrusted};
-ghost use Rattle.afs_law.specs.Parts.{ActsAreTold, CallsAreAsked, ChangesAreIdeal, LinesAreInPlace, MessagesAreOwn};
+ghost use Rattle.afs_law.specs.Parts.{ActsAreTold, CallsAreAsked, ChangesAreIdeal, EntriesAreSound, LinesAreInPlace, MessagesAreOwn};
 
 /// Every run of a script for one server is legal.
 pub fn runs_are_legal()
@@ -141,6 +141,11 @@ pub fn acts_are_told()
 /// Each call of a client is one that the act asked which ran there.
 pub fn calls_are_asked()
     ensures { CallsAreAsked }
+{}
+
+/// Each entry is of a node of the script, and each reply that it sends to a client was run.
+pub fn entries_are_sound()
+    ensures { EntriesAreSound }
 {}
 
 /// Each line stands in an entry of its node, where it may.
