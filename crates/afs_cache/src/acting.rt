@@ -458,7 +458,8 @@ impl CacheManager {
         ensures { Goes (λ front. begins_by self.old.node (record self.old.state { busy = 0 }) now front going (next going)) lines self.old self.new result }
     {
         let need = next(self.alloc, &going)?;
-        if is_giving(&need) {
+        let gives = is_giving(&need);
+        if gives {
             self.begin_giving(going, lines, now)
         } else {
             self.begin_walking(going, need, lines, now)
