@@ -151,13 +151,7 @@ impl CacheManager {
         })
     }
 
-    fn plan_asking(
-        &self,
-        going: Going,
-        need: Need,
-        gifts: Vec<Gift>,
-        lines: Lines,
-    ) -> Mem<Plan>
+    fn plan_asking(&self, going: Going, need: Need, gifts: Vec<Gift>, lines: Lines) -> Mem<Plan>
         requires short { IsShortAct going.act }
         requires need { need_of need ≡ next going }
         requires nodes { All IsGift gifts.items }
@@ -313,8 +307,9 @@ impl CacheManager {
             cache: &self.cache,
             fresh,
         };
-        let Walked { going, need, used } =
-            walk(self.alloc, self.node, sight, now, going, need, &mut lines)?;
+        let Walked { going, need, used } = walk(
+            self.alloc, self.node, sight, now, going, need, &mut lines,
+        )?;
         let plan = self.plan_by(going, need, lines)?;
         Ok(Way { used, plan })
     }
