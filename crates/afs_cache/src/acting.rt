@@ -151,7 +151,8 @@ impl CacheManager {
         })
     }
 
-    fn plan_asking(&self, going: Going, need: Need, gifts: Vec<Gift>, lines: Lines) -> Mem<Plan>
+    /// Behind these lines an act asks for this need.
+    fn plan_call(&self, going: Going, need: Need, gifts: Vec<Gift>, lines: Lines) -> Mem<Plan>
         requires short { IsShortAct going.act }
         requires need { need_of need ≡ next going }
         requires nodes { All IsGift gifts.items }
@@ -161,6 +162,18 @@ impl CacheManager {
     {
         let asks = self.asks(going, need, gifts, lines)?;
         Ok(Plan::Asks(asks))
+    }
+
+    /// The same, where it hasn't been found yet what the act needs.
+    fn plan_asking(&self, going: Going, gifts: Vec<Gift>, lines: Lines) -> Mem<Plan>
+        requires short { IsShortAct going.act }
+        requires nodes { All IsGift gifts.items }
+        requires last { self.now.state.last < number_limit }
+        ensures plan { IfOk result (λ p. PlansFor (λ d front. calls_step self.now.node (record d { gifts = gifts.items }) going front) lines self.now.state p) }
+        ensures follows { IfOk result (CanFollow self.now.state.last) }
+    {
+        let need = next(self.alloc, &going)?;
+        self.plan_call(going, need, gifts, lines)
     }
 
     /// Behind these lines an act is answered.
@@ -196,7 +209,7 @@ impl CacheManager {
         ensures follows { IfOk result (CanFollow self.now.state.last) }
     {
         let gifts = self.copy_gifts()?;
-        self.plan_asking(going, need, gifts, lines)
+        self.plan_call(going, need, gifts, lines)
     }
 
     /// Behind these lines an act has come so far: it is answered, or asks.
@@ -232,8 +245,7 @@ impl CacheManager {
     {
         let gifts = asked.copy_gifts(self.alloc)?;
         let going = asked.copy_going(self.alloc)?;
-        let need = next(self.alloc, &going)?;
-        self.plan_asking(going, need, gifts, lines)
+        self.plan_asking(going, gifts, lines)
     }
 
     /// Behind these lines these promises are given back, or all of them were.
@@ -247,8 +259,7 @@ impl CacheManager {
         if gifts.is_empty() {
             self.plan_ending(Code(0), lines)
         } else {
-            let need = next(self.alloc, &going)?;
-            self.plan_asking(going, need, gifts, lines)
+            self.plan_asking(going, gifts, lines)
         }
     }
 
