@@ -38,6 +38,10 @@ needed_within gifts (going.asks_for c) h = h
 needed_within gifts going.gives_back h = (counted (length (map (λ (g : Gift). g.fid) (batch gifts))) (fids_few gifts), (counted (length (map given_promise (batch gifts))) (promises_few gifts), tt))
 needed_within gifts (going.answers n) h = tt
 
+-- what an act needs within its limits
+pub need_fits : (g : Going) (need : Need) → IsShortAct g.act → need ≡ next g → FitsNeed need
+need_fits g need s q = subst FitsNeed (sym q) (next_fits g s)
+
 -- the call of an act within its limits
 pub call_within : (g : Going) (gifts : List Gift) → IsShortAct g.act → IsWithin cell_calls (ask.File (call_by gifts (next g)))
 call_within g gifts s = needed_within gifts (next g) (next_fits g s)

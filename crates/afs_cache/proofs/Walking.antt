@@ -101,6 +101,7 @@ walked_on : (me : Node) (clock : ℕ) (cache : List CacheEntry) (whole : Walked)
     → comes_to left clock cache w ≡ stays w.going (touched_all w.used.items cache) → IsOnWay me clock cache whole told left w ls → HasWalked me cache whole told w ls
 walked_on me clock cache whole told left w ls e h = record {
   short = h.short;
+  need = h.need;
   act = sym (ap (λ (x : Walked). x.act) e) ∙ h.act;
   cache = sym (ap (λ (x : Walked). x.cache) e) ∙ h.cache;
   told = sym (append-nil ls) ∙ (sym (ap (λ (x : Walked). ls ++ looked me x.looks []) e) ∙ h.told);
@@ -132,6 +133,7 @@ gone_on : (me : Node) (clock : ℕ) (cache : List CacheEntry) (whole : Walked) (
     → comes_to (suc left) clock cache w ≡ behind l (comes_to left clock cache new) → Notes me l w new ls new_ls → IsOnWay me clock cache whole told (suc left) w ls → IsOnWay me clock cache whole told left new new_ls
 gone_on me clock cache whole told left l w new ls new_ls e n h = record {
   short = rw n.act h.short;
+  need = n.need;
   act = sym (ap (λ (x : Walked). x.act) e) ∙ h.act;
   cache = sym (ap (λ (x : Walked). x.cache) e) ∙ h.cache;
   told =

@@ -7,9 +7,10 @@ use Rattle.afs_num.specs.declared.histories.ReadSource.TheVariants.{Cached}
 use Rattle.afs_history.specs.declared.lines.Line.{Line}
 use Rattle.afs_history.specs.declared.lines.Line.TheVariants as lines
 use Rattle.afs_rows.specs.States.{CacheEntry}
-use Rattle.afs_rows.specs.Going.{Need, reads, reads_status, with_read}
+use Rattle.afs_rows.specs.Going.{Need, next, reads, reads_status, with_read}
 use Rattle.afs_rows.specs.ClientRow.{Look, Walked, find_cached, is_trusted, look_at, looked, shown_by, walked}
 use Rattle.afs_acts.specs.Acts.{IsShortAct}
+use Rattle.afs_acts.specs.Walks.{need_of}
 use Rattle.afs_entries.specs.Cached.{touched_all}
 use Rattle.afs_cache.specs.declared.looks.Look as program
 use Rattle.afs_cache.specs.declared.looks.Walked as program_walked
@@ -43,9 +44,10 @@ found_of clock cache need (Some f) = found_at clock need (find_cached f cache)
 abbrev pub found_by : ℕ → List CacheEntry → Need → Option Look
 found_by clock cache need = found_of clock cache need (fid_needed need)
 
--- a read was noted
+-- a read was noted, and what the act needs behind it
 pub record Notes (me : Node) (l : Look) (old new : program_walked.Walked) (told_old told_new : List Line) : Type 0 where
   pub act : new.going ≡ with_read l.fid l.body old.going
+  pub need : need_of new.need ≡ next new.going
   pub used : new.used.items ≡ old.used.items ++ l.fid ∷ []
   pub told : told_new ≡ told_old ++ read_line me l ∷ []
 
@@ -61,13 +63,15 @@ comes_to left clock cache w = walked left clock w.going (touched_all w.used.item
 -- the act has come so far along its whole walk from these entries; the reads so far were told behind other lines
 pub record IsOnWay (me : Node) (clock : ℕ) (entries : List CacheEntry) (whole : Walked) (before : List Line) (left : ℕ) (w : program_walked.Walked) (ls : List Line) : Type 0 where
   pub short : IsShortAct w.going.act
+  pub need : need_of w.need ≡ next w.going
   pub act : (comes_to left clock entries w).act ≡ whole.act
   pub cache : (comes_to left clock entries w).cache ≡ whole.cache
   pub told : ls ++ looked me (comes_to left clock entries w).looks [] ≡ before ++ looked me whole.looks []
 
--- the act has made its whole walk from these entries
+-- the act has made its whole walk from these entries, and it was found what it needs then
 pub record HasWalked (me : Node) (entries : List CacheEntry) (whole : Walked) (before : List Line) (w : program_walked.Walked) (ls : List Line) : Type 0 where
   pub short : IsShortAct w.going.act
+  pub need : need_of w.need ≡ next w.going
   pub act : w.going ≡ whole.act
   pub cache : touched_all w.used.items entries ≡ whole.cache
   pub told : ls ≡ before ++ looked me whole.looks []

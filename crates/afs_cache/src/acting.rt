@@ -11,17 +11,18 @@ ghost use Rattle.afs_rows.specs.Going.{began, next};
 ghost use Rattle.afs_rows.specs.ClientRow.{begin_row, begins_by, boot_of, call_by, calls_step, drop_line, ends_step, gift_of, gives_all, gives_by, goes_on, in_order, put_entries, put_entry, stays, trusted_in, walks_on};
 ghost use Rattle.afs_history.specs.declared.lines.Line.TheVariants as told;
 ghost use Rattle.afs_acts.specs.Acts.{IsShortAct};
+ghost use Rattle.afs_acts.specs.Walks.{need_of};
 ghost use Rattle.afs_entries.specs.Cached.{entry_of, HasBody, touched_all};
 ghost use Rattle.afs_cache.specs.Asking.{asking_of, IsGift, is_giving};
 ghost use Rattle.afs_cache.specs.Acting.{called_by, CanFollow, followed, head_of, IsAsking, IsDropping, IsWay, outs_of, PlansFor, seen_with, sent_to, whole_walk};
 ghost use Rattle.afs_cache.specs.Managing.{Answers, Goes, number_limit};
 
-use crate::asked::{Asked, code_now, gives_now};
+use crate::asked::{Asked, code_in, is_giving};
 use crate::calls::boot_of;
 use crate::looks::{Walked, walk};
 use crate::messages::{outs_calling, quiet};
 use crate::node::CacheManager;
-use afs_acts::{Going, copy_act, opcode, server_at, volume_asked};
+use afs_acts::{Going, Need, copy_act, next, opcode, server_at, volume_asked};
 use afs_entries::{Drops, Fresh, Gift, Sight, first_server_of, in_order};
 use afs_history::acts::Act;
 use afs_history::lines::{Line, Lines, Outs};
@@ -133,13 +134,14 @@ impl CacheManager {
     }
 
     /// Behind these lines an act asks what it needs.
-    fn asks(&self, going: Going, gifts: Vec<Gift>, lines: Lines) -> Mem<Asks>
+    fn asks(&self, going: Going, need: Need, gifts: Vec<Gift>, lines: Lines) -> Mem<Asks>
         requires short { IsShortAct going.act }
+        requires need { need_of need ≡ next going }
         requires nodes { All IsGift gifts.items }
         requires last { self.now.state.last < number_limit }
         ensures { IfOk result (λ a. IsAsking self.now.node self.now.state going gifts.items lines a) }
     {
-        let asked = Asked::new(self.alloc, going, gifts)?;
+        let asked = Asked::new(self.alloc, going, need, gifts)?;
         let callee = self.callee(&asked);
         let outs = self.first_outs(callee, &asked, lines)?;
         Ok(Asks {
@@ -149,6 +151,20 @@ impl CacheManager {
         })
     }
 
+    /// Behind these lines an act asks for this need.
+    fn plan_call(&self, going: Going, need: Need, gifts: Vec<Gift>, lines: Lines) -> Mem<Plan>
+        requires short { IsShortAct going.act }
+        requires need { need_of need ≡ next going }
+        requires nodes { All IsGift gifts.items }
+        requires last { self.now.state.last < number_limit }
+        ensures plan { IfOk result (λ p. PlansFor (λ d front. calls_step self.now.node (record d { gifts = gifts.items }) going front) lines self.now.state p) }
+        ensures follows { IfOk result (CanFollow self.now.state.last) }
+    {
+        let asks = self.asks(going, need, gifts, lines)?;
+        Ok(Plan::Asks(asks))
+    }
+
+    /// The same, where it hasn't been found yet what the act needs.
     fn plan_asking(&self, going: Going, gifts: Vec<Gift>, lines: Lines) -> Mem<Plan>
         requires short { IsShortAct going.act }
         requires nodes { All IsGift gifts.items }
@@ -156,8 +172,8 @@ impl CacheManager {
         ensures plan { IfOk result (λ p. PlansFor (λ d front. calls_step self.now.node (record d { gifts = gifts.items }) going front) lines self.now.state p) }
         ensures follows { IfOk result (CanFollow self.now.state.last) }
     {
-        let asks = self.asks(going, gifts, lines)?;
-        Ok(Plan::Asks(asks))
+        let need = next(self.alloc, &going)?;
+        self.plan_call(going, need, gifts, lines)
     }
 
     /// Behind these lines an act is answered.
@@ -185,27 +201,40 @@ impl CacheManager {
     }
 
     /// Behind these lines an act asks, and what it gives back still stays.
-    fn plan_next(&self, going: Going, lines: Lines) -> Mem<Plan>
+    fn plan_next(&self, going: Going, need: Need, lines: Lines) -> Mem<Plan>
         requires short { IsShortAct going.act }
+        requires need { need_of need ≡ next going }
         requires last { self.now.state.last < number_limit }
         ensures plan { IfOk result (λ p. PlansFor (λ d front. calls_step self.now.node (record d { gifts = self.now.state.gifts }) going front) lines self.now.state p) }
         ensures follows { IfOk result (CanFollow self.now.state.last) }
     {
         let gifts = self.copy_gifts()?;
-        self.plan_asking(going, gifts, lines)
+        self.plan_call(going, need, gifts, lines)
     }
 
     /// Behind these lines an act has come so far: it is answered, or asks.
+    fn plan_by(&self, going: Going, need: Need, lines: Lines) -> Mem<Plan>
+        requires short { IsShortAct going.act }
+        requires need { need_of need ≡ next going }
+        requires last { self.now.state.last < number_limit }
+        ensures plan { IfOk result (λ p. PlansFor (λ d front. goes_on self.now.node d front (stays going d.cache)) lines self.now.state p) }
+        ensures follows { IfOk result (CanFollow self.now.state.last) }
+    {
+        match code_in(&need) {
+            Some(code) => self.plan_ending(code, lines),
+            None => self.plan_next(going, need, lines),
+        }
+    }
+
+    /// The same, where it hasn't been found yet what the act needs.
     pub(crate) fn plan(&self, going: Going, lines: Lines) -> Mem<Plan>
         requires short { IsShortAct going.act }
         requires last { self.now.state.last < number_limit }
         ensures plan { IfOk result (λ p. PlansFor (λ d front. goes_on self.now.node d front (stays going d.cache)) lines self.now.state p) }
         ensures follows { IfOk result (CanFollow self.now.state.last) }
     {
-        match code_now(self.alloc, &going)? {
-            Some(code) => self.plan_ending(code, lines),
-            None => self.plan_next(going, lines),
-        }
+        let need = next(self.alloc, &going)?;
+        self.plan_by(going, need, lines)
     }
 
     /// Behind these lines the call is made again under the next number.
@@ -270,9 +299,17 @@ impl CacheManager {
 
     /// An act goes on as far as the cache shows what it needs, behind these lines. The cache may be seen as it will be
     /// with an entry that comes.
-    fn way(&self, fresh: Option<&Fresh>, going: Going, lines: Lines, now: u32) -> Mem<Way>
+    fn way(
+        &self,
+        fresh: Option<&Fresh>,
+        going: Going,
+        need: Need,
+        lines: Lines,
+        now: u32,
+    ) -> Mem<Way>
         requires body { HasBody (option_copied fresh) }
         requires short { IsShortAct going.act }
+        requires need { need_of need ≡ next going }
         requires last { self.now.state.last < number_limit }
         ensures { IfOk result (λ w. IsWay self.now.node self.now.state (whole_walk now going (seen_with self.now.state (option_copied fresh.entry))) (seen_with self.now.state (option_copied fresh.entry)) lines w) }
     {
@@ -281,18 +318,21 @@ impl CacheManager {
             cache: &self.cache,
             fresh,
         };
-        let Walked { going, used } = walk(self.alloc, self.node, sight, now, going, &mut lines)?;
-        let plan = self.plan(going, lines)?;
+        let Walked { going, need, used } = walk(
+            self.alloc, self.node, sight, now, going, need, &mut lines,
+        )?;
+        let plan = self.plan_by(going, need, lines)?;
         Ok(Way { used, plan })
     }
 
     /// An act begins to walk, behind these lines.
-    fn begin_walking(&mut self, going: Going, lines: Lines, now: u32) -> Mem<Outs>
+    fn begin_walking(&mut self, going: Going, need: Need, lines: Lines, now: u32) -> Mem<Outs>
         requires short { IsShortAct going.act }
+        requires need { need_of need ≡ next going }
         requires last { self.old.state.last < number_limit }
         ensures { Goes (λ front. walks_on self.old.node (record self.old.state { busy = 0 }) now front going self.old.state.cache) lines self.old self.new result }
     {
-        let Way { used, plan } = self.way(None, going, lines, now)?;
+        let Way { used, plan } = self.way(None, going, need, lines, now)?;
         self.cache.touch_all(&used);
         self.busy = 0;
         Ok(self.follow(plan))
@@ -333,7 +373,8 @@ impl CacheManager {
         requires last { self.old.state.last < number_limit }
         ensures { Goes (λ front. walks_on self.old.node self.old.state now front going (put_entry self.old.state.capacity (entry_of fresh) self.old.state.cache)) lines self.old self.new result }
     {
-        let Way { used, plan } = self.way(Some(&fresh), going, lines, now)?;
+        let need = next(self.alloc, &going)?;
+        let Way { used, plan } = self.way(Some(&fresh), going, need, lines, now)?;
         self.put_used(fresh, &used)?;
         Ok(self.follow(plan))
     }
@@ -422,11 +463,12 @@ impl CacheManager {
         requires last { self.old.state.last < number_limit }
         ensures { Goes (λ front. begins_by self.old.node (record self.old.state { busy = 0 }) now front going (next going)) lines self.old self.new result }
     {
-        let gives = gives_now(self.alloc, &going)?;
+        let need = next(self.alloc, &going)?;
+        let gives = is_giving(&need);
         if gives {
             self.begin_giving(going, lines, now)
         } else {
-            self.begin_walking(going, lines, now)
+            self.begin_walking(going, need, lines, now)
         }
     }
 

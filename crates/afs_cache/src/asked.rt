@@ -11,7 +11,7 @@ ghost use Rattle.afs_acts.specs.Walks.{need_of};
 ghost use Rattle.afs_cache.specs.Asking.{code_of, IsGift, is_giving};
 ghost use Rattle.afs_num.specs.declared.messages.Call.TheVariants as ask;
 
-use afs_acts::{Going, Need, next};
+use afs_acts::{Going, Need};
 use afs_entries::{Gift, batch_len, copy_gifts, gift_batch, gift_call};
 use afs_num::calls::FsCall;
 use afs_num::messages::Call;
@@ -38,8 +38,8 @@ impl Model for Asked {
     ghost invariant = { λ a. IsAsked a.going a.gifts.items a.call a.gives_back };
 }
 
-/// The code with which an act is answered now.
-fn code_in(need: &Need) -> Option<Code>
+/// The code with which an act is answered; it has none where it asks for something.
+pub fn code_in(need: &Need) -> Option<Code>
     requires { FitsNeed (need_of need.now) }
     ensures { result ≡ code_of (need_of need.now) }
 {
@@ -49,29 +49,11 @@ fn code_in(need: &Need) -> Option<Code>
     }
 }
 
-/// The code with which an act is answered now; it has none where it asks for something.
-pub fn code_now(alloc: Global, going: &Going) -> Mem<Option<Code>>
-    requires { IsShortAct going.now.act }
-    ensures { IfOk result (λ code. code ≡ code_of (next going.now)) }
-{
-    let need = next(alloc, going)?;
-    Ok(code_in(&need))
-}
-
 /// Whether promises are given back.
-fn is_giving(need: &Need) -> bool
+pub fn is_giving(need: &Need) -> bool
     ensures { result ≡ is_giving (need_of need.now) }
 {
     matches!(need, Need::GiveBack)
-}
-
-/// Whether an act gives promises back now.
-pub fn gives_now(alloc: Global, going: &Going) -> Mem<bool>
-    requires { IsShortAct going.now.act }
-    ensures { IfOk result (λ gives. gives ≡ is_giving (next going.now)) }
-{
-    let need = next(alloc, going)?;
-    Ok(is_giving(&need))
 }
 
 /// The call for a need.
@@ -93,24 +75,16 @@ fn call_for(alloc: Global, need: Need, gifts: &[Gift]) -> Mem<FsCall>
     }
 }
 
-/// The call for what an act needs now.
-fn call_now(alloc: Global, going: &Going, gifts: &[Gift]) -> Mem<FsCall>
-    requires { IsShortAct going.now.act }
-    ensures { IfOk result (λ c. c ≡ call_by gifts.now (next going.now)) }
-{
-    let need = next(alloc, going)?;
-    call_for(alloc, need, gifts)
-}
-
 impl Asked {
-    /// An act that goes on with the call for what it needs now.
-    pub fn new(alloc: Global, going: Going, gifts: Vec<Gift>) -> Mem<Asked>
+    /// An act that goes on with the call for what it needs.
+    pub fn new(alloc: Global, going: Going, need: Need, gifts: Vec<Gift>) -> Mem<Asked>
         requires short { IsShortAct going.act }
+        requires need { need_of need ≡ next going }
         requires nodes { All IsGift gifts.items }
         ensures { IfOk result (λ a. a ≡ record { going = going; gifts = gifts.items }) }
     {
-        let gives_back = gives_now(alloc, &going)?;
-        let call = Call::File(call_now(alloc, &going, &gifts)?);
+        let gives_back = is_giving(&need);
+        let call = Call::File(call_for(alloc, need, &gifts)?);
         Ok(Asked {
             going,
             gifts,

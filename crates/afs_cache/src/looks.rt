@@ -17,10 +17,11 @@ use afs_num::histories::{ReadBody, ReadSource};
 use afs_num::types::{Fid, Mem, Node};
 use std::alloc::Global;
 
-/// What an act has read from the cache: it has come so far, and these entries were used.
+/// What an act has read from the cache: it has come so far, needs this next, and these entries were used.
 #[derive(Drop)]
 pub struct Walked {
     pub going: Going,
+    pub need: Need,
     pub used: Vec<Fid>,
 }
 
@@ -80,8 +81,9 @@ fn look_up(alloc: Global, sight: Sight<'_>, now: u32, need: &Need) -> Mem<Option
 }
 
 impl Walked {
-    /// Notes a read from the cache.
+    /// Notes a read from the cache, and what the act needs behind it.
     fn note(&mut self, alloc: Global, node: Node, look: Look, lines: &mut Lines) -> Mem<()>
+        requires { IsShortAct self.old.going.act }
         ensures { OnOk result (Notes node (look_of look) self.old self.new lines.old lines.new) }
     {
         let Look { fid, index, body } = look;
@@ -95,10 +97,11 @@ impl Walked {
         })?;
         self.used.push(fid)?;
         self.going.add(fid, shown)?;
+        self.need = next(alloc, &self.going)?;
         Ok(())
     }
 
-    /// Reads from the cache what the act needs next, if a trusted entry shows it.
+    /// Reads from the cache what the act needs, if a trusted entry shows it.
     fn turn(
         &mut self,
         alloc: Global,
@@ -108,11 +111,11 @@ impl Walked {
         lines: &mut Lines,
     ) -> Mem<bool>
         requires short { IsShortAct self.old.going.act }
+        requires need { need_of self.old.need ≡ next self.old.going }
         requires body { HasBody (option_copied sight.fresh) }
         ensures { IfOk result (λ read. Turns node (found_by now (in_sight sight.entry.cache.now (option_copied sight.entry.fresh)) (next self.old.going)) read self.old self.new lines.old lines.new) }
     {
-        let need = next(alloc, &self.going)?;
-        let Some(look) = look_up(alloc, sight, now, &need)? else {
+        let Some(look) = look_up(alloc, sight, now, &self.need)? else {
             return Ok(false);
         };
         self.note(alloc, node, look, lines)?;
@@ -127,15 +130,18 @@ pub fn walk(
     sight: Sight<'_>,
     now: u32,
     going: Going,
+    need: Need,
     lines: &mut Lines,
 ) -> Mem<Walked>
     requires short { IsShortAct going.act }
+    requires need { need_of need ≡ next going }
     requires body { HasBody (option_copied sight.fresh) }
     ensures { IfOk result (λ w. HasWalked node (in_sight sight.entry.cache.now (option_copied sight.entry.fresh)) (walked (most_reads going) now going (in_sight sight.entry.cache.now (option_copied sight.entry.fresh))) lines.old w lines.new) }
 {
     let mut left = most_reads(&going.act);
     let mut walked = Walked {
         going,
+        need,
         used: Vec::new(alloc),
     };
     while left > 0 {

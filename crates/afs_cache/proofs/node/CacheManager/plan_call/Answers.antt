@@ -1,5 +1,5 @@
 use Rattle.afs_cache.proofs.Planning.{plans_asking}
-use Rattle.afs_cache.proofs.node.CacheManager.plan_asking.Goals as goal
+use Rattle.afs_cache.proofs.node.CacheManager.plan_call.Goals as goal
 
 pub returns-clause-plan : goal.returns-clause-plan
 returns-clause-plan c = plans_asking c.args.self.now.node c.args.self.now.state c.args.going c.args.gifts.items c.args.lines c.in_ok-asks.asks c.in_ok-asks.ensures
