@@ -1,5 +1,5 @@
 -- What the parts of a world's step are, whatever was let go before.
-use Rattle.std.proofs.Common.{ap, refl, sym, subst, ◌∙◌, ◌≡◌, ◌≤◌, ◌<◌, ◌+◌, ◌-◌, ℕ, List, [], ◌∷◌, ◌++◌, length, true, false, Option, Some, None, Result, Ok, Err}
+use Rattle.std.proofs.Common.{ap, ap₂, inl, inr, refl, sym, subst, ◌∙◌, ◌≡◌, ◌≤◌, ◌<◌, ◌+◌, ◌-◌, ◌⊎◌, ℕ, List, [], ◌∷◌, ◌++◌, drop, length, true, false, Option, Some, None, Result, Ok, Err}
 use Rattle.std.proofs.lemmas.List.{append-nil}
 use Rattle.afs_num.specs.Places.{at_place}
 use Rattle.afs_num.specs.declared.histories.Actor.{Actor}
@@ -7,16 +7,19 @@ use Rattle.afs_num.specs.declared.histories.Actor.TheVariants as actors
 use Rattle.afs_num.specs.declared.types.Node.{Node}
 use Rattle.afs_num.specs.declared.types.Node.TheVariants.{Admin, Client, Loc, Server}
 use Rattle.afs_num.specs.declared.types.Parcel.{Parcel}
+use Rattle.afs_history.specs.declared.lines.Entry as kept
 use Rattle.afs_history.specs.declared.lines.Line.{Line}
 use Rattle.afs_history.specs.declared.lines.Line.TheVariants as lines
 use Rattle.afs_history.specs.declared.scripts.Event.{Event}
 use Rattle.afs_history.specs.declared.scripts.Event.TheVariants as events
+use Rattle.afs_wire.specs.Sent as wire
+use Rattle.afs_wire.specs.Sent.{Sent}
 use Rattle.afs_schedule.specs.Schedules.{IsInput, Turn}
 use Rattle.afs_cell.specs.Happening.{ClientHears, ClientsHappened, ClientTakes, HasHeard, HasStep, IsAsked, IsFallen, IsGiven, IsVoidClient, IsVoidServer, NothingSettles, ServersHappened, Settles}
 use Rattle.afs_cell.specs.Noting.{Notes}
 use Rattle.afs_cell.specs.Ready.{AllCanStep, AllReady}
 use Rattle.afs_cell.specs.Meaning.{IsMeant}
-use Rattle.afs_cell.specs.Since.{whole, DeliversKept, IsBefore, IsSafeSince, Keeps, SteppedSince}
+use Rattle.afs_cell.specs.Since.{whole, DeliversKept, IsBefore, IsSafeSince, Keeps, LetsGo, SteppedSince}
 use Rattle.afs_cell.specs.Worlds.{most_entries, most_ticks, HistoryTold, LetGo, ServerSeat, WorldState}
 use Rattle.afs_cell.specs.declared.clients.ClientSeat.{ClientSeat}
 use Rattle.afs_cell.specs.declared.events.Given.TheVariants as given
@@ -155,3 +158,25 @@ as_nothing_since {D} seen may_leave faults limit w new result event going few me
 
 pub kept_place : {D : Type 0} (w : WorldState D) (event : Event) (place : ℕ) → IsMeant event (given.Message place) → DeliversKept w event → w.gone.messages < place
 kept_place {D} w event place meant kept = subst (λ (e : Event). DeliversKept w e) meant kept
+
+-- ---- more is let go
+
+one_behind : (places old_gone new_gone gone : ℕ) → old_gone ≡ gone → (new_gone ≡ old_gone) ⊎ (new_gone ≤ places) → (new_gone ≡ gone) ⊎ (new_gone ≤ places)
+one_behind places old_gone new_gone gone same (inl still) = inl (still ∙ same)
+one_behind places old_gone new_gone gone same (inr few) = inr few
+
+pub lets_go : {D : Type 0} (places : ℕ) (parts w : WorldState D) → parts ≡ w → (sent : ℕ) → sent ≡ parts.gone.messages + length parts.wire → (es : List kept.Entry) → es ≡ [] → (old new : Sent) → old.gone ≡ parts.gone.messages → old.messages ≡ parts.wire → wire.LetsGo places old new
+    → LetsGo places w (record parts { wire = new.messages; history = es; gone = record { entries = parts.gone.entries + length parts.history; sent = sent; messages = new.gone } })
+lets_go {D} places parts w same sent counted es none old new gone messages go =
+    let entries = parts.gone.entries + length parts.history in
+    let left = drop go.count parts.wire in
+    subst (λ (v : WorldState D). LetsGo places v (record parts { wire = new.messages; history = es; gone = record { entries = entries; sent = sent; messages = new.gone } })) same
+    (record {
+      count = go.count;
+      within = subst (λ (ps : List Parcel). go.count ≤ length ps) messages go.within;
+      is =
+          ap (λ (ps : List Parcel). record parts { wire = ps; history = es; gone = record { entries = entries; sent = sent; messages = new.gone } }) (go.messages ∙ ap (λ (ps : List Parcel). drop go.count ps) messages)
+          ∙ (ap (λ (hs : List kept.Entry). record parts { wire = left; history = hs; gone = record { entries = entries; sent = sent; messages = new.gone } }) none
+          ∙ ap₂ (λ (a b : ℕ). record parts { wire = left; history = []; gone = record { entries = entries; sent = a; messages = b } }) counted (go.gone ∙ ap (λ (n : ℕ). n + go.count) gone));
+      none_behind = one_behind places old.gone new.gone parts.gone.messages gone go.none_behind;
+    })
