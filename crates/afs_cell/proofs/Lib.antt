@@ -17,7 +17,7 @@ mod Eventful
 mod Scheduled
 mod Clocks
 mod Parts
-mod Played
+mod Meant
 mod Ticked
 mod Picked
 mod Shortened

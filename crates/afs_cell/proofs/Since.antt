@@ -29,7 +29,7 @@ use Rattle.afs_cell.specs.declared.happening.Happened.{Happened}
 use Rattle.afs_cell.specs.declared.happening.Happened.TheVariants as happened
 use Rattle.afs_cell.specs.declared.happening.ServerInput.{ServerInput}
 use Rattle.afs_cell.proofs.Parts.{admin_heard, asked, can_all, inside_clients, loc_heard, message_heard, message_served, nobody_heard, ready_all, served}
-use Rattle.afs_cell.proofs.Played.{as_nothing}
+use Rattle.afs_cell.proofs.Meant.{as_nothing}
 use Rattle.afs_cell.proofs.Ticked.{not_ticked, ticked}
 use Rattle.afs_cell.proofs.Whole.{at_behind, few_whole, nothing_whole, notes_whole, settles_whole}
 

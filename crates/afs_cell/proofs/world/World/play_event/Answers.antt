@@ -3,7 +3,7 @@ use Rattle.afs_grammar.specs.CellScripts.{counts_of}
 use Rattle.afs_cell.proofs.Clocks.{nothing_clock}
 use Rattle.afs_cell.specs.Since.{whole}
 use Rattle.afs_cell.proofs.Picked.{picked_as}
-use Rattle.afs_cell.proofs.Played.{as_client, as_message, as_server, as_ticks, clock_ticks, some_ticks, ticks_within}
+use Rattle.afs_cell.proofs.Meant.{as_client, as_message, as_server, as_ticks, clock_ticks, some_ticks, ticks_within}
 use Rattle.afs_cell.proofs.Since.{as_nothing_since, keeps_skipped, kept_place}
 use Rattle.afs_cell.proofs.world.World.play_event.Goals as goal
 
