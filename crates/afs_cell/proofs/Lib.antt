@@ -22,11 +22,11 @@ mod Ticked
 mod Picked
 mod Shortened
 mod NextEvents
-mod UnderWay
+pub mod UnderWay
 mod FirstStores
 mod FirstSeated
 mod FirstWorlds
 mod GivenBack
-mod Whole
+pub mod Whole
 mod Since
 mod NextSince
