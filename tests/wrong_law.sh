@@ -1,5 +1,5 @@
 #!/bin/sh
-# Tries wrong rows, as tests/wrong_rows.sh does, against the law over volumes: each tests/wrong_law/NAME.edit changes one
+# Tries wrong rows against the law over volumes: each tests/wrong_law/NAME.edit changes one
 # definition of the rows (crates afs_rows and afs_breaks) or one lemma, and the walk of crate afs_law has to break at the lemma
 # of that case. Run it when the rows, what is legal or the walk has changed. It takes half a minute a row, so it is no part of
 # the gate. With NAMEs it tries these alone. All is done in a copy: the repository stays as it is.

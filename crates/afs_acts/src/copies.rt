@@ -3,28 +3,17 @@
 ghost use Rattle.std.specs.Prelude.{◌≡◌, IfOk};
 
 use afs_history::acts::{Act, Operand, Path, Written};
-use afs_num::directories::Names;
 use afs_num::histories::{Body, ReadBody};
 use afs_num::sequences::{Octets, Sequence};
 use afs_num::types::Mem;
 use std::alloc::Global;
-
-fn copy_names(alloc: Global, names: &Names) -> Mem<Names>
-    ensures { IfOk result (λ c. c ≡ names.now) }
-{
-    let mut copy = Sequence::new(alloc);
-    for name in names.as_slice() {
-        copy.push(name.copy(alloc)?)?;
-    }
-    Ok(copy)
-}
 
 pub fn copy_body(alloc: Global, body: &Body) -> Mem<Body>
     ensures { IfOk result (λ c. c ≡ body.now) }
 {
     match body {
         Body::File(contents) => Ok(Body::File(contents.copy(alloc)?)),
-        Body::Dir(names) => Ok(Body::Dir(copy_names(alloc, names)?)),
+        Body::Dir(names) => Ok(Body::Dir(names.copy()?)),
         Body::Link(text) => Ok(Body::Link(text.copy(alloc)?)),
         Body::Gone => Ok(Body::Gone),
     }

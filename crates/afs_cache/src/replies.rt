@@ -17,7 +17,7 @@ use afs_entries::{Drops, Entry, Fresh};
 use afs_num::calls::{AfsCallBack, AfsFetchStatus, AfsVolSync, FsCall};
 use afs_num::directories::Names;
 use afs_num::histories::{Body, ReadStatus};
-use afs_num::sequences::{Octets, Sequence};
+use afs_num::sequences::Octets;
 use afs_num::types::{Code, Fid, Mem, Node};
 use std::alloc::{AllocError, Global};
 
@@ -110,9 +110,9 @@ fn names_told(alloc: Global, contents: &[u8]) -> Mem<Names>
     ensures { IfOk result (λ ns. ns ≡ names_told (directory_of contents.now)) }
 {
     match Dir::from_bytes(alloc, contents) {
-        Ok(directory) => directory.list(),
+        Ok(directory) => directory.into_names(),
         Err(DirFault::OutOfMemory) => Err(AllocError),
-        Err(_) => Ok(Sequence::new(alloc)),
+        Err(_) => Names::from_vec(Vec::new(alloc)),
     }
 }
 

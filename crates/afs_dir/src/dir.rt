@@ -133,9 +133,9 @@ impl Dir {
         })
     }
 
-    /// The names in byte order. It takes no memory.
-    pub fn into_names(self) -> Names
-        ensures { result ≡ self }
+    /// The names in byte order, without a copy of them.
+    pub fn into_names(self) -> Mem<Names>
+        ensures { IfOk result (λ names. names ≡ self) }
     {
         let Dir { alloc: _, names } = self;
         Names::from_vec(names)
@@ -146,7 +146,7 @@ impl Dir {
         ensures { IfOk result (λ names. names ≡ self.now) }
     {
         let names = copies(self.alloc, &self.names)?;
-        Ok(Names::from_vec(names))
+        Names::from_vec(names)
     }
 
     /// The bytes that spell the directory.

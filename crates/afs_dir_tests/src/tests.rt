@@ -47,7 +47,7 @@ fn names_stand_in_byte_order(rt: HostRuntime) -> Result<(), Fail> {
     }
     let names = dir.list()?;
     let wanted = [b"B".as_slice(), b"a", b"a-", b"ab", b"b", b"\xff"];
-    assert_eq!(rt; names.len(), wanted.len());
+    assert_eq!(rt; names.as_slice().len(), wanted.len());
     for (name, want) in names.as_slice().iter().zip(wanted) {
         assert_eq!(rt; name.name.as_slice(), want);
     }

@@ -14,7 +14,7 @@ use Rattle.afs_history.specs.declared.scripts.Event.{Event}
 use Rattle.afs_history.specs.declared.scripts.Plan.{Plan}
 use Rattle.afs_history.specs.declared.scripts.Task.{Task}
 use Rattle.afs_model.specs.ScriptWords.{ended, number_at, word_at}
-use Rattle.afs_model.proofs.ScriptServer.{bound, ok_of}
+use Rattle.afs_model.proofs.ScriptReaders.{bound, ok_of}
 use Rattle.afs_words.specs.declared.nodes.Counts.{Counts}
 use Rattle.afs_words.specs.Words.{act_path_at, actors, all_nodes, callees, callers, disk_nodes, label_at, mode_at, name_at, node_at, operand_at, server_at, written_at}
 use Rattle.afs_grammar.specs.declared.spellings.ActWord.{ActWord}

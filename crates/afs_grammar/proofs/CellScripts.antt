@@ -18,7 +18,7 @@ use Rattle.afs_history.specs.declared.scripts.UserLine.{UserLine}
 use Rattle.afs_history.specs.declared.scripts.VolumeLine.{VolumeLine}
 use Rattle.afs_model.specs.ScriptWords.{◌>>=◌, ended, must, number_at, parts, word_at}
 use Rattle.afs_model.specs.Script.{at_line, is_silent}
-use Rattle.afs_model.proofs.ScriptServer.{bound, le_of_test, must_true, ok_of, at_line_ok}
+use Rattle.afs_model.proofs.ScriptReaders.{bound, le_of_test, must_true, ok_of, at_line_ok}
 use Rattle.afs_words.specs.declared.nodes.Counts.{Counts}
 use Rattle.afs_words.specs.Words.{label_at, name_at, node_number_at, path_at, server_at, written_at}
 use Rattle.afs_grammar.specs.declared.spellings.FirstWord.{FirstWord}

@@ -17,7 +17,7 @@ use Rattle.afs_history.specs.declared.acts.Operand.TheVariants as operands
 use Rattle.afs_history.specs.declared.acts.Path.{Path}
 use Rattle.afs_history.specs.declared.acts.Written.{Written}
 use Rattle.afs_model.specs.ScriptWords.{◌>>=◌, fid_of, hex_from, must, node_number, number_at, parts, ranged, word_at}
-use Rattle.afs_model.proofs.ScriptServer.{bound, le_of_test, must_true, ok_of, range, some_in}
+use Rattle.afs_model.proofs.ScriptReaders.{bound, le_of_test, must_true, ok_of, range, some_in}
 use Rattle.afs_words.specs.declared.nodes.Counts.{Counts}
 use Rattle.afs_words.specs.declared.nodes.Kinds.{Kinds}
 use Rattle.afs_words.specs.Words.{act_path_at, byte_of, fill_in, fill_of, fit_in, hex_in, is_fid, is_numeral, label_at, loc_of, name_at, name_of, names_from, node_at, node_number_at, node_of, numbered, operand_at, operand_of, or_else, path_in, path_of, unescaped_from, written_at, written_of}

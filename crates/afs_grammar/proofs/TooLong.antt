@@ -5,10 +5,9 @@ use Rattle.afs_num.specs.declared.scripts.Reason.{Reason}
 use Rattle.afs_num.specs.declared.scripts.Reason.TheVariants as reasons
 use Rattle.afs_model.specs.ScriptWords.{◌>>=◌, must, parts}
 use Rattle.afs_model.specs.ScriptText.{is_part}
-use Rattle.afs_model.proofs.ScriptNumbers.{all_append}
 use Rattle.afs_history.specs.declared.scripts.Script.{Script}
 use Rattle.afs_model.specs.Script.{at_line}
-use Rattle.afs_model.proofs.ScriptLines.{uncut}
+use Rattle.afs_model.proofs.ScriptLines.{all_append, uncut}
 use Rattle.afs_grammar.specs.Lines.{LinesRead, nothing_read, line_at, last_at, lines_at, script_of}
 use Rattle.afs_grammar.proofs.FirstBad.{line_then}
 

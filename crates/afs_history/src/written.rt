@@ -21,9 +21,7 @@ pub fn bytes_in(alloc: Global, written: &Written) -> Mem<Octets>
 fn filled(alloc: Global, count: u32, byte: u8) -> Mem<Octets>
     ensures { IfOk result (λ b. b ≡ replicate count byte) }
 {
-    let mut bytes = Sequence::new(alloc);
-    for _ in 0..count {
-        bytes.push(byte)?;
-    }
-    Ok(bytes)
+    let mut bytes = Vec::new(alloc);
+    bytes.resize(count as usize, byte)?;
+    Ok(Sequence::from_vec(bytes))
 }

@@ -7,17 +7,13 @@ use Rattle.afs_num.specs.declared.histories.Body.{Body}
 use Rattle.afs_num.specs.declared.histories.ReadBody.{ReadBody}
 use Rattle.afs_rows.specs.ClientRow.{body_seen}
 use Rattle.afs_num.specs.declared.histories.ReadBody.TheVariants as seen
-use Rattle.afs_ideal.specs.Told.{Agrees}
-use Rattle.afs_ideal.specs.Volumes.{Volume}
 use Rattle.afs_law.proofs.Answering.{idle_newest, idle_reached}
-use Rattle.afs_law.proofs.Edits.{granted_in, agrees_of, SoundIn}
+use Rattle.afs_law.proofs.Edits.{granted_in}
 use Rattle.afs_law.proofs.Facts.{view, Holds}
 use Rattle.afs_law.proofs.Law.{goes, starts}
 use Rattle.afs_rows.specs.ClientRow.{find_cached}
-use Rattle.afs_law.specs.Ideal.{versions_in, set_up}
-use Rattle.afs_law.specs.Laws.{IsHeld}
+use Rattle.afs_law.specs.Ideal.{set_up}
 use Rattle.afs_law.specs.Legal.{GoodRead}
-use Rattle.afs_history.specs.declared.lines.Line.{Line}
 use Rattle.afs_law.specs.Once.{past_of}
 use Rattle.afs_law.specs.OneServer.{IsOneServer}
 use Rattle.afs_rows.specs.Runs.{Entry}
@@ -25,7 +21,7 @@ use Rattle.afs_law.proofs.OneCell.{Cell, Input, moved, Leads, start, RunsTo}
 use Rattle.afs_rows.specs.States.{CacheEntry}
 use Rattle.afs_num.specs.declared.histories.ReadSource.TheVariants.{Cached}
 use Rattle.afs_num.specs.declared.types.Node.TheVariants.{Client}
-use Rattle.std.proofs.Common.{◌<◌, ◌≡◌, ℕ, List, [], ◌∷◌, Option, Some, None, refl, sym, ap, subst, ◌∙◌}
+use Rattle.std.proofs.Common.{◌<◌, ◌≡◌, ℕ, List, [], ◌∷◌, Some, None, refl, sym, ap, subst, ◌∙◌}
 use Rattle.afs_num.specs.declared.types.Fid.{Fid}
 use Rattle.afs_history.specs.declared.scripts.Script.{Script}
 
@@ -42,20 +38,6 @@ holds_after s (x ∷ xs) c past (e ∷ es) end h r =
 
 pub at_end : (s : Script) (h : List Entry) (end : Cell) → IsOneServer s → RunsTo h s end → Holds s end (past_of (set_up s ∷ []) h)
 at_end s h end one r = holds_after s r.inputs (start s) (set_up s ∷ []) h end (starts s one) r.leads
-
-agrees_by : (id : ℕ) (v : Volume) (o : Option Volume) (ls : List Line) → o ≡ Some v → SoundIn id o ls → Agrees id v (versions_in ls)
-agrees_by id v None ls e x = absurd cc
-agrees_by id v (Some u) ls e x =
-    let same : u ≡ v = cc in
-    subst (λ (w : Volume). Agrees id w (versions_in ls)) same (agrees_of id u ls x)
-
-pub held : (s : Script) (h : List Entry) (end : Cell) → IsOneServer s → RunsTo h s end → (id : ℕ) → IsHeld id end.server.lasting.volumes (past_of (set_up s ∷ []) h)
-held s h end one r id =
-    let k : Holds s end (past_of (set_up s ∷ []) h) = at_end s h end one r in
-    record {
-      ideal = k.ideal id;
-      told = λ v e. agrees_by id v _ _ (k.ideal id ∙ e) (k.sound id);
-    }
 
 -- ---- what a client trusts
 

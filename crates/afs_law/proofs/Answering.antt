@@ -30,7 +30,7 @@ use Rattle.afs_num.specs.declared.histories.ReadStatus.{ReadStatus}
 use Rattle.afs_law.proofs.Apart.{apart_filter, apart_put, apart_refreshed, found_take}
 use Rattle.afs_law.proofs.Walking.{walked_apart, onto_last, looked_more, walk_made, walk_reached, walk_current, walk_answered, walked_found, tail_given, tail_fetched, tail_quiet, ends_answered, ends_here, EndsReach, AreTail, walks_on, Ready, Walks}
 use Rattle.std.specs.Prelude.{◌⊎◌, ◌&&◌, pos, ℤ}
-use Rattle.afs_law.proofs.Basics.{same_key-refl, IfCall, ByClient, Above, IfReply, IfNotice, OfReply, OfNotice, up_to_by, yes_no, both, same_fid-true, same_fid-refl, same_node-refl, client_number, found-cached-fid, found-first, found-refreshed, OfCall, each_at, some_of, ByServer, OfClient, by_client, IfBack, up_to_next, next_not, raised_up_to}
+use Rattle.afs_law.proofs.Basics.{IfCall, ByClient, Above, IfReply, IfNotice, OfReply, OfNotice, up_to_by, yes_no, both, same_fid-true, same_fid-refl, same_node-refl, client_number, found-cached-fid, found-first, found-refreshed, OfCall, each_at, some_of, ByServer, OfClient, by_client, IfBack, up_to_next, next_not, raised_up_to}
 use Rattle.afs_ideal.specs.Operations.{volume_changed}
 use Rattle.afs_law.proofs.Asking.{carried_is, client_asking, client_ended, own_read, safe_over, client_kept, call_known, reply_still, step_entry, view_after, moves, nothing_new, Heard, told_passes, answered_seen, own_zero, answered_lines, answered_file, answered_reach, answered_passes, quiet, safe_cache, own_call, asks, own_begun, no_scope, same_one, heard_dull, new_one}
 use Rattle.afs_law.proofs.Dropping.{left_out, called_goes}
@@ -50,7 +50,7 @@ use Rattle.afs_law.specs.Grants.{until, has_fetched, fetch_reply, since}
 use Rattle.afs_law.specs.Ideal.{Reach, HasBeen, raised, is_zero_code, reach, last_version, HasVersion}
 use Rattle.afs_law.specs.Legal.{AreGood, Shows, Cause, GoodCode}
 use Rattle.afs_history.specs.declared.lines.Line.{Line}
-use Rattle.afs_law.specs.Past.{has_sent, is_late, is_called, same_key, AreWithin, code_told, HasCode, IsCallUnder, onto, lines_of, sent_of, given_message, answered_key, running, has_begun, CalledSince}
+use Rattle.afs_law.specs.Past.{code_told, HasCode, IsCallUnder, onto, lines_of, sent_of, given_message, answered_key, running, has_begun, CalledSince}
 use Rattle.afs_rows.specs.Runs.{user_at, locations, Entry, message_at}
 use Rattle.afs_law.proofs.OneCell.{the_server, Moved, Cell, client_moves, begun_by}
 use Rattle.afs_rows.specs.Scopes.{is_in_scope}

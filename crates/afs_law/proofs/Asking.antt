@@ -2,7 +2,7 @@ use Rattle.afs_law.proofs.Nexts.{as_is, asks_is}
 use Rattle.afs_num.specs.declared.types.Node.{Node}
 use Rattle.afs_rows.specs.States.{Location, Gift, CacheEntry, Seat}
 use Rattle.afs_law.proofs.Basics.{at_put, found-first, Each, IfCall, ByClient, OfClient, by_client, both, same_node-true, same_node-refl, node_apart, client_number, up_to_same, up_to_next, next_not, below_not, at_puts, each_map, if_call, raised_up_to, some_of, IfBack, IfDone, same_key-refl, OfCall, UpTo}
-use Rattle.std.proofs.Common.{not, ◌≡◌, ℕ, ◌+◌, ◌≤◌, ◌⊎◌, inl, inr, Bool, true, false, cond, List, [], ◌∷◌, Option, Some, None, refl, sym, ap, subst, ◌∙◌, nat_eq, eqb-true, ◌++◌}
+use Rattle.std.proofs.Common.{not, ◌≡◌, ℕ, ◌+◌, ◌≤◌, inl, inr, Bool, true, false, cond, List, [], ◌∷◌, Option, Some, None, refl, sym, ap, subst, ◌∙◌, nat_eq, eqb-true, ◌++◌}
 use Rattle.std.specs.Prelude.{◌&&◌}
 use Rattle.afs_num.specs.Nodes.{same_node}
 use Rattle.afs_num.specs.declared.types.Code.{Code}
@@ -15,7 +15,7 @@ use Rattle.afs_num.specs.declared.messages.Message.{Message}
 use Rattle.afs_ideal.specs.Operations.{volume_changed}
 use Rattle.afs_law.proofs.Backing.{Plain, backed_plain, seated_over, plain_step}
 use Rattle.afs_law.proofs.Edits.{index_in, fid_at, sound_same}
-use Rattle.afs_law.proofs.Facts.{RanOn, fids_of_gifts, AreApart, IsClient, back_seat, Ghost, IsAged, View, view_of, view, desk, last_key, LastRan, ReplyFact, ClientFacts, IsUntrusted, IsSafe, CallFact, CallIn, Holds, Goes, Reading, InScope, IsOne, AreGifts, IsOpen, Tried, its_call}
+use Rattle.afs_law.proofs.Facts.{RanOn, fids_of_gifts, AreApart, IsClient, back_seat, Ghost, IsAged, View, view_of, view, desk, last_key, LastRan, ReplyFact, ClientFacts, IsUntrusted, IsSafe, CallFact, CallIn, Holds, Goes, InScope, IsOne, AreGifts, IsOpen, Tried, its_call}
 use Rattle.afs_law.proofs.Owing.{BackIn, DoneIn, SeatedIn}
 use Rattle.afs_law.proofs.Passing.{changing_more, changed_before, own_gift, all_dropped_onto, tried_kept, tried_more, tried_new, old_over, PassesFile, PassesAct, PassesReach, stays, PassesBoth, PassesSeen, current_over, reply_over, kept_over, client_still, News, more_sent, fallen_over, one_more, ran_over}
 use Rattle.afs_law.proofs.Serving.{told_file, told_reach, told_act, reached_still}
@@ -459,7 +459,7 @@ late_by : (t a b : Bool) → a ≡ false → b ≡ true → cond t (not a) b ≡
 late_by true a b h e = ap not h
 late_by false a b h e = e
 
-unsent_late : (n : Node) (k : Key) (past : List Entry) → has_sent k (sent_of past) ≡ false → is_late n k past ≡ true
+pub unsent_late : (n : Node) (k : Key) (past : List Entry) → has_sent k (sent_of past) ≡ false → is_late n k past ≡ true
 unsent_late n k [] h = refl
 unsent_late n k (e ∷ past) h = let none : has_sent k (sent_of past) ≡ false = not_front k (sent_of past) e.sent h in late_by (has_begun n e.lines) (has_sent k (sent_of past)) (is_late n k past) none (unsent_late n k past none)
 

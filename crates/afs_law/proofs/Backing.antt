@@ -129,7 +129,7 @@ granted_other true b s x o h = absurd cc
 granted_other false b true x o h = refl
 granted_other false b false x o h = refl
 
-grant_before_to : (c : Node) (f : Fid) (l : Line) (o : List Line) → is_still_to c l ≡ true → last_grant the_server c f (l ∷ o) ≡ last_grant the_server c f o
+pub grant_before_to : (c : Node) (f : Fid) (l : Line) (o : List Line) → is_still_to c l ≡ true → last_grant the_server c f (l ∷ o) ≡ last_grant the_server c f o
 grant_before_to c f (lines.Grant s d g index expiry) o h = granted_other (same_node d c) (same_fid g f) (same_node s the_server) expiry (last_grant the_server c f o) h
 grant_before_to c f l o h = refl
 

@@ -17,7 +17,7 @@ use Rattle.afs_num.specs.declared.messages.Received.TheVariants.{Whole}
 use Rattle.afs_num.specs.declared.types.Head.{Head}
 use Rattle.afs_num.specs.declared.types.Node.{Node}
 use Rattle.afs_num.specs.declared.types.Node.TheVariants.{Server, Client, Loc, Admin}
-use Rattle.afs_rows.specs.Callbacks.{Turn, expired, held_under, is_back_awaited, is_ready, is_seat_of, key_answered, new_owes, owe_line, put, quit_line, renews_by, repeats_by, risen_turn, settle_line, settles_by, still_owed, timed, turn_for, turned_by, turned_in}
+use Rattle.afs_rows.specs.Callbacks.{Turn, expired, held_under, is_back_awaited, is_ready, is_seat_of, key_answered, new_owes, owe_line, put, quit_line, renews_by, repeats_by, risen_turn, settle_line, settles_by, still_owed, turn_for, turned_by, turned_in}
 use Rattle.afs_rows.specs.Runs.{Entry, Fall, Host, at_rest, begun_by_disk, blow_line, in_boot, in_step}
 use Rattle.afs_rows.specs.ServerRow.{Begun, Decision, begun_after, decides, does, drops, granted, granted_in, key_of, made, promise_ticks, refuses, repeats, saves, shows, tells_boot, versioned}
 use Rattle.afs_rows.specs.ServerSteps.{back_timeout_row, server_row, start_row, wake_row}
@@ -198,7 +198,7 @@ rise_boots hosts i h e past front notes are stand note was up grows B =
     (subst (λ (n : ℕ). n ≤ b) (sym (ap (last_boot (Server i)) at ∙ ((all_same i notes (rise ∷ o) note).last ∙ own))) (omega arith))
     (λ j ne. subst (λ (ls : List Line). Same j ls (lines_of past)) (sym at) (then_same (all_same j notes (rise ∷ o) note)
     (then_same (record { boot = ap (λ (t : Bool). cond t (risen (server_boot (Server j) o) b) (server_boot (Server j) o)) (server_apart i j ne); last = ap (λ (t : Bool). cond t b (last_boot (Server j) o)) (server_apart i j ne) }) (all_same j front (lines_of past) stand))))
-    (subst (AreRising (lines_of past)) (sym are) (rise_both front (rise ∷ notes) (lines_of past) (all_rise front (lines_of past) stand) (above, all_rise notes (rise ∷ o) note))) B
+    (subst (AreRising (lines_of past)) (sym are) (rise_both front (rise ∷ notes) (lines_of past) (all_rise front (lines_of past) stand) ((none, above), all_rise notes (rise ∷ o) note))) B
 
 -- ---- the lines of a server's steps
 

@@ -23,7 +23,7 @@ use Rattle.afs_law.proofs.Passing.{no_change, ran_over, kept_over, replies_over,
 use Rattle.afs_law.proofs.Pumping.{no_news, pumped_news, starts_held, news_break}
 use Rattle.afs_law.proofs.Resting.{fall_backed, Rests, fault_rests, full_rests, alone, rests, still, voids, unheard_still, fallen_still, server_crash_rests, cut_entry, cut_rests}
 use Rattle.afs_law.proofs.Saving.{changed_later, versions_lines, versioned_front, saves_clock, Way, rises_to, faults, fills, saved_lines, saved_sent, saved_entry, given_on, Change', change_at, stock_after, NewEntry, saves_change_good, saves_holds, versions_good, saves_boot, saves_goes, top_number, reply_saved}
-use Rattle.afs_law.proofs.Serving.{up_boots, shows_goes, answered_goes, noticed_goes, nothing_done, quiet, acts_alone, still_loads, given_plain, Loads, up_backed, seats_of, Gives, noted, Dull, at_told, client_head, Now, call_at, taken, seats_after, views_after, ran_now, served_cell, unheard_later, refuses_goes, server_adds, server_does, IsRead, answer_in, AllSeen, IsSeen, IsLook}
+use Rattle.afs_law.proofs.Serving.{shows_goes, answered_goes, noticed_goes, nothing_done, quiet, acts_alone, still_loads, given_plain, Loads, up_backed, seats_of, Gives, noted, Dull, at_told, client_head, Now, call_at, taken, seats_after, views_after, ran_now, served_cell, unheard_later, refuses_goes, server_adds, server_does, IsRead, answer_in, AllSeen, IsSeen, IsLook}
 use Rattle.afs_law.proofs.Turning.{Pumps, pumps, put_call, break_good, reply_key}
 use Rattle.afs_law.specs.Breaks.{HasStopped, last_number, AllOwes}
 use Rattle.afs_rows.specs.Callbacks.{quit_line, still_owed, retries, quits, Turn, replies_of, pumped, expired, turn_for, no_turn, repeats_by, key_answered, is_seat_of, alls, put_at, held_under, asked_again, is_ready, is_reply_to}
@@ -674,6 +674,10 @@ down_number s c past fall h e = (subst (λ (d : Option Fall). BackedIn d c.serve
 pub rises_owed : (s : Script) (c : Cell) → {past : List Entry} → Holds s c past → GoodRestart s the_server (rising c).lines
 rises_owed s c h j a b = all_owed (c.clock + promise_ticks) 0 c.count j (omega arith) (let le : j ≤ c.count = subst (λ (k : ℕ). j ≤ k) (sym h.count) b in omega arith)
 
+-- and nobody beside them
+owed_few : (s : Script) (c : Cell) (past : List Entry) → Holds s c past → 0 + c.count ≤ s.clients
+owed_few s c past h = let few : c.count ≤ s.clients = le_of_eq h.count in omega arith
+
 -- what a restart sends
 pub rising_gives : {s : Script} → (views : ℕ → View) (boot b : ℕ) (past : List Entry) (c : Cell) (held : List Held) → Gives s views b past held (pumped the_server boot (rising c)).sent held
 rising_gives {s} views boot b past c held h = ((pumped_news views b past boot (rising c) (all_clients (c.clock + promise_ticks) 0 c.count) (no_news _ _ _) tt tt).0, h)
@@ -697,7 +701,7 @@ rises_as s c past fall h e =
     record {
       replies = pump.good;
       volumes = refl;
-      good = ((refl, rises_owed s c h), alls_good s (c.clock + promise_ticks) 0 c.count past _ (le_of_eq (down_number s c past fall h e)) (inl refl));
+      good = ((refl, rises_owed s c h), alls_good s (c.clock + promise_ticks) 0 c.count past _ (le_of_eq (down_number s c past fall h e)) (inl refl) (owed_few s c past h));
       holds = revives s (Some b) _ (x ∷ past) (pumped the_server b t).backs (noted s (Some b) c past c.armed (Some at_rest) x c.server.backs h (sk.boot _ ∙ rises_at s c past fall b h e) (risen_rests s b t.lines (pumped the_server b t).sent past sk) (sk.clock _)
           (unheard_still (Some at_rest) c x past (sk.given (sent_of past)) (λ k i l. unheard_later c.down c.server.seats c.server.lasting.boot past h.unheard k i l)) tt (rising_gives _ b _ _ c c.server.backs.held) (λ z. absurd cc)) (λ fl z. nothing_held b c _ _) (λ z. pump.backed);
     }
@@ -791,7 +795,7 @@ saved_up s c past fall n h user call time id st es shown H e w q is_cut =
     record {
       replies = pump.good;
       volumes = refl;
-      good = after_good s c past n h user call id st.volume es shown (lines.Restart the_server x ∷ t.lines) H w q e refl is_cut (inl refl) ((refl, rises_owed s c H), alls_good s (c.clock + promise_ticks) 0 c.count past _ (le_of_eq (top_number vs (lines.Change the_server key (length vs) ∷ []) (lines_of past) ∙ down_number s c past fall H e)) (inl refl));
+      good = after_good s c past n h user call id st.volume es shown (lines.Restart the_server x ∷ t.lines) H w q e refl is_cut (inl refl) ((refl, rises_owed s c H), alls_good s (c.clock + promise_ticks) 0 c.count past _ (le_of_eq (top_number vs (lines.Change the_server key (length vs) ∷ []) (lines_of past) ∙ down_number s c past fall H e)) (inl refl) (owed_few s c past H));
       holds = revives s (Some x) _ _ (pumped the_server x t).backs (after_holds y s (Some x) c past c.server.backs at_rest n h user call time id st es shown H w q is_cut given (λ u z b. tt) (saves_boot y key vs r past ∙ (sk.boot _ ∙ rises_at s c past fall x H e)) (λ own. rising_gives _ x _ _ c c.server.backs.held) (λ z. absurd cc)) (λ fl z. nothing_held x c _ _) (λ z. pump.backed);
     }
 

@@ -8,10 +8,10 @@ use Rattle.afs_law.proofs.Standing.{runs_admitted}
 use Rattle.afs_law.proofs.Apart.{found_filter}
 use Rattle.afs_law.proofs.Basics.{Above, above_up, Below, ByClient, Each, IfCall, IfReply, OfCall, OfClient, OfReply, UpTo, at_put, both, by_client, client_number, each_at, each_map, each_more, if_call, of_client, same_key-refl, same_node-refl, same_node-true, some_of, up_to_by}
 use Rattle.afs_law.proofs.Booting.{HaveRisen}
-use Rattle.afs_law.proofs.Calling.{AreReplies, IsAnswer, IsLastOf, Tame, begins_tame, caller_at, falls_tame, given_tame, rises_tame, waits_tame}
+use Rattle.afs_law.proofs.Calling.{IsLastOf, Tame, begins_tame, caller_at, falls_tame, rises_tame, waits_tame}
 use Rattle.afs_law.proofs.Dropping.{left_out}
 use Rattle.afs_law.proofs.Facts.{Goes, MayRun, AreApart, CallFact, CallIn, ClientFacts, Holds, IsUntrusted, ReplyFact, ReplyIn, View, last_key, view}
-use Rattle.afs_law.proofs.Hearing.{first_hears, HearsIn, IsHad, client_given, IsNoted, IsRan, call_is, first_had, hears_at, kept_on, moved_hears}
+use Rattle.afs_law.proofs.Hearing.{first_hears, HearsIn, IsHad, client_given, IsNoted, IsRan, first_had, hears_at, kept_on, moved_hears}
 use Rattle.afs_law.proofs.Law.{AreVersions, all_versions, goes, starts, last_each}
 use Rattle.afs_law.proofs.OneCell as one
 use Rattle.afs_law.proofs.OneCell.{the_server}
@@ -22,7 +22,7 @@ use Rattle.afs_law.proofs.Walking.{walked_found}
 use Rattle.afs_law.specs.Breaks.{HasTimeout}
 use Rattle.afs_law.specs.Ideal.{first_lines, set_up, user_of}
 use Rattle.afs_law.specs.Legal.{AreGood, AreGoodSent, AreRising, IsBy, IsRising}
-use Rattle.afs_law.specs.Past.{HasCode, IsToCome, IsCallFrom, IsCall, Ran, called_key, answered_key, CalledSince, Sends, given_message, has_begun, has_given, has_sent, is_called, is_late, last_boot, lines_of, onto, risen, same_key, running, sent_of, server_boot}
+use Rattle.afs_law.specs.Past.{HasCode, IsToCome, IsCallFrom, Ran, called_key, CalledSince, Sends, given_message, has_begun, has_given, has_sent, is_called, is_late, last_boot, lines_of, onto, risen, same_key, running, sent_of, server_boot}
 use Rattle.afs_ideal.specs.Operations.{volume_changed}
 use Rattle.afs_history.specs.declared.lines.Line.{Line}
 use Rattle.afs_history.specs.declared.lines.Line.TheVariants as lines
@@ -42,10 +42,10 @@ use Rattle.afs_num.specs.declared.types.Head.{Head}
 use Rattle.afs_num.specs.declared.types.Key.{Key}
 use Rattle.afs_num.specs.declared.types.Node.{Node}
 use Rattle.afs_num.specs.declared.types.Node.TheVariants.{Admin, Client, Loc, Server}
-use Rattle.afs_rows.specs.ClientRow.{Walked, admits_call, awaits, begin_row, begins_by, breaks, call_of, client_row, counts, dead_code, dropped, find_cached, gift_of, given_up_in, gives_by, gives_up, goes_by, hears, ignores, in_order, is_awaited, is_named, is_trusted, left_in, most_reads, reborn, runs_carried, timeout_row, tries_again, trusted_in, untrusted_in, walked, whole}
+use Rattle.afs_rows.specs.ClientRow.{Walked, admits_call, awaits, begin_row, begins_by, breaks, call_of, client_row, counts, dead_code, dropped, find_cached, gift_of, given_up_in, gives_by, gives_up, goes_by, hears, ignores, in_order, is_awaited, is_named, is_trusted, most_reads, reborn, runs_carried, timeout_row, tries_again, trusted_in, untrusted_in, walked, whole}
 use Rattle.afs_rows.specs.Going.{ClientState, Going, Need, answers, began, gives_back, next, read_on}
 use Rattle.afs_rows.specs.Callbacks.{put}
-use Rattle.afs_rows.specs.Runs.{Armed, Blow, Cell, Entry, Fall, Input, Leads, Luck, Moved, Outcome, RunsTo, back_timed, begins, begun_by, begun_by_disk, client_moves, client_starts, client_stops, comes_up, decided_at, fails_early, fails_midway, given_at, given_to, gives, has_host, is_away, is_full, message_at, moved, nothing, server_armed, server_ends, server_given, server_restarted, server_served, server_stopped, server_timed, server_waits, server_wakes, sets_fail, sets_stop, settled, start, starts_again, stops, struck, ticked, ticks, voided, waited_by, waits, wakes}
+use Rattle.afs_rows.specs.Runs.{Armed, Blow, Cell, Entry, Fall, Input, Leads, Luck, Moved, Outcome, back_timed, begins, begun_by, begun_by_disk, client_moves, client_starts, client_stops, comes_up, decided_at, fails_early, fails_midway, given_at, given_to, gives, has_host, is_away, is_full, message_at, moved, nothing, server_armed, server_ends, server_given, server_restarted, server_served, server_stopped, server_timed, server_waits, server_wakes, sets_fail, sets_stop, settled, start, starts_again, stops, struck, ticked, ticks, voided, waited_by, waits, wakes}
 use Rattle.afs_rows.specs.ServerRow.{Begun, device_calls}
 use Rattle.afs_rows.specs.Scopes.{is_volume}
 use Rattle.afs_rows.specs.States.{BackCall, CacheEntry, Gift}
@@ -80,7 +80,7 @@ restart_above true i b last o e r q =
 restart_above false i b last o e r q = le_refl last
 
 line_above : (l : Line) (o : List Line) → IsRising l o → last_boot the_server o ≤ last_boot the_server (l ∷ o)
-line_above (lines.Restart (Server i) b) o r = restart_above (same_node (Server i) the_server) i b (last_boot the_server o) o refl r refl
+line_above (lines.Restart (Server i) b) o r = restart_above (same_node (Server i) the_server) i b (last_boot the_server o) o refl r.1 refl
 line_above (lines.Restart (Client i) b) o r = le_refl _
 line_above (lines.Restart (Admin i) b) o r = le_refl _
 line_above (lines.Restart Loc b) o r = le_refl _
@@ -107,7 +107,7 @@ up_last : (ls : List Line) → LinesRise ls → (b : ℕ) → server_boot the_se
 up_last [] h b e = let same : 1 ≡ b = some_of 1 b e in omega arith
 up_last (lines.Crash n ∷ o) h b e = up_last o h.1 b (stop_up (same_node n the_server) (server_boot the_server o) b e)
 up_last (lines.Fault n ∷ o) h b e = up_last o h.1 b (stop_up (same_node n the_server) (server_boot the_server o) b e)
-up_last (lines.Restart (Server i) boot ∷ o) h b e = restart_up (same_node (Server i) the_server) i boot b o refl h.0 e (up_last o h.1 b)
+up_last (lines.Restart (Server i) boot ∷ o) h b e = restart_up (same_node (Server i) the_server) i boot b o refl h.0.1 e (up_last o h.1 b)
 up_last (lines.Restart (Client i) boot ∷ o) h b e = up_last o h.1 b e
 up_last (lines.Restart (Admin i) boot ∷ o) h b e = up_last o h.1 b e
 up_last (lines.Restart Loc boot ∷ o) h b e = up_last o h.1 b e

@@ -69,7 +69,7 @@ own_had : (hosts : ℕ → Host) (i : ℕ) (h : Host) (b : ℕ) → b ≤ h.stat
 own_had hosts i h b l q e j f = at_put i j (λ (x : Host). b ≤ x.state.lasting.boot) h hosts (λ same. l) (λ other. absurd (other (server_is i j (sym e ∙ f))))
 
 ran_later : (e : Entry) (past : List Entry) (h : Head) → Ran h past → Ran h (e ∷ past)
-ran_later e past h r = record { newer = e ∷ r.newer; at = r.at; older = r.older; split = ap (λ (x : List Entry). e ∷ x) r.split; message = r.message; given = r.given; is_call = r.is_call; key = r.key; boot = r.boot; up = r.up; callee = r.callee; node = r.node; first = r.first }
+ran_later e past h r = record { newer = e ∷ r.newer; at = r.at; older = r.older; split = ap (λ (x : List Entry). e ∷ x) r.split; message = r.message; given = r.given; is_call = r.is_call; key = r.key; opcode = r.opcode; boot = r.boot; up = r.up; callee = r.callee; node = r.node; first = r.first }
 
 ran_over : (e : Entry) (past : List Entry) (h : Head) → IsRan past h → IsRan (e ∷ past) h
 ran_over e past h w i q = ran_later e past h (w i q)
@@ -86,6 +86,7 @@ ran_here e past m i boot actor given is to own first up = record {
   given = given;
   is_call = is;
   key = refl;
+  opcode = refl;
   boot = own;
   up = subst (λ (q : Node). server_boot q (lines_of past) ≡ Some boot) (sym to) up;
   callee = refl;
@@ -707,7 +708,7 @@ run_unheard s h end r i j up head from e =
     let a = runs_admitted (end.hosts i).state.lasting.boot (end.hosts i).state.seats head e in
     (hears_at s h end r).unheard i j (called_key head) head.boot from (subst (λ (d : Option Fall). MayRun d (end.hosts i).state.lasting.boot (call_seat head.from (end.hosts i).state.seats) (called_key head) head.boot) (sym up) (inr a))
 
-reply_ran : (past : List Entry) (i j : ℕ) (head : Head) (x : Carried) → HasCode x → head.from ≡ Server i → head.to ≡ Client j → OfReply (OfClient head.to (IsRan past head)) x → Ran head past
+pub reply_ran : (past : List Entry) (i j : ℕ) (head : Head) (x : Carried) → HasCode x → head.from ≡ Server i → head.to ≡ Client j → OfReply (OfClient head.to (IsRan past head)) x → Ran head past
 reply_ran past i j head (carried.Refusal code) is from to w = by_client j head.to (IsRan past head) to w i from
 reply_ran past i j head (carried.Reply reply) is from to w = by_client j head.to (IsRan past head) to w i from
 reply_ran past i j head x is from to w = absurd is

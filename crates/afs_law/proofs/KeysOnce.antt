@@ -2,7 +2,7 @@
 -- caller's last one that changed something. So a key changes something at most once, and no call or reply has one to come.
 use Rattle.afs_history.specs.declared.acts.Act.{Act}
 use Rattle.afs_law.proofs.Backing.{all_lines, is_unchanging}
-use Rattle.afs_law.proofs.Basics.{a_key, same_key-true, Above, Each, IfCall, IfReply, OfClient, OfReply, by_client, if_reply, UpTo, at_put, below_not, below_up_to, both, client_number, each_at, each_map, each_more, if_call, node_apart, same_key-refl, same_node-true, up_to_below, up_to_same, below-true, below-false, some_of, OfNotice, OfCall, ByClient}
+use Rattle.afs_law.proofs.Basics.{a_key, same_key-true, Above, Each, IfCall, IfReply, OfClient, OfReply, by_client, if_reply, UpTo, at_put, below_not, below_up_to, client_number, each_at, each_map, each_more, if_call, node_apart, same_key-refl, up_to_below, up_to_same, below-true, below-false, some_of, OfNotice, OfCall, ByClient}
 use Rattle.afs_law.proofs.Calling.{mild_unchanging, AreReplies, IsAnswer, answer_over, GoesOn, IsLastOf, Tame, begins_tame, caller_at, falls_tame, given_tame, rises_tame, uncalled_any, waits_tame, any_call}
 use Rattle.afs_law.proofs.Hosting.{Begins, HasOne, HostStep, Hosts, IsCutBy, IsSound, Memory, decides_due, disk_begins, memory_of, serves_step, starts_step, times_step, wakes_step, IsRunBy}
 use Rattle.afs_law.specs.Laws.{ArePairsKnown, IsKnownTo, AreChanges, HasReply, seat_key}
@@ -16,9 +16,8 @@ use Rattle.afs_rows.specs.ServerRow.{Begun, device_calls, key_of}
 use Rattle.afs_rows.specs.States.{Seat, BackCall, ServerState}
 use Rattle.afs_rows.specs.Steps.{Step}
 use Rattle.afs_model.specs.Calls.{call_seat, pair_below}
-use Rattle.std.proofs.Common.{zero, suc, ◌≡◌, ℕ, inl, inr, Bool, true, false, cond, eqb-true, nat_eq, List, [], ◌∷◌, ◌++◌, Option, Some, None, refl, sym, ap, subst, ◌∙◌}
+use Rattle.std.proofs.Common.{zero, suc, ◌≡◌, ℕ, inl, inr, Bool, true, false, cond, nat_eq, List, [], ◌∷◌, ◌++◌, Option, Some, None, refl, sym, ap, subst, ◌∙◌}
 use Rattle.std.specs.Prelude.{⊤, ◌&&◌}
-use Rattle.afs_num.specs.Nodes.{same_node}
 use Rattle.afs_num.specs.declared.types.Head.{Head}
 use Rattle.afs_num.specs.declared.types.Key.{Key}
 use Rattle.afs_num.specs.declared.types.Node.{Node}
@@ -33,16 +32,16 @@ use Rattle.afs_history.specs.declared.lines.Line.TheVariants as lines
 
 -- ---- small laws
 
-server_number : (i j : ℕ) → Server i ≡ Server j → i ≡ j
+pub server_number : (i j : ℕ) → Server i ≡ Server j → i ≡ j
 server_number i j e = cc
 
 -- ---- the changes among lines
 
-abbrev IfChange : (Node → Key → Type 0) → Line → Type 0
+abbrev pub IfChange : (Node → Key → Type 0) → Line → Type 0
 IfChange P (lines.Change q k count) = P q k
 IfChange P l = ⊤
 
-abbrev EachChange : (Node → Key → Type 0) → List Line → Type 0
+abbrev pub EachChange : (Node → Key → Type 0) → List Line → Type 0
 EachChange P [] = ⊤
 EachChange P (l ∷ o) = IfChange P l × EachChange P o
 
@@ -75,7 +74,7 @@ one_once me c (lines.Change q k count ∷ ls) o p w h = plain_once ls (lines.Cha
 one_once me c (l ∷ ls) o p w h = one_once me c ls (l ∷ o) p w h
 
 -- a key that none of them has is new
-new_key : (P : Node → Key → Type 0) (k : Key) (o : List Line) → ((q : Node) (l : Key) → P q l → k ≡ l → ⊥) → EachChange P o → IsNew k o
+pub new_key : (P : Node → Key → Type 0) (k : Key) (o : List Line) → ((q : Node) (l : Key) → P q l → k ≡ l → ⊥) → EachChange P o → IsNew k o
 new_key P k [] w h = tt
 new_key P k (lines.Change q l count ∷ o) w h = (w q l h.0, new_key P k o w h.1)
 new_key P k (l ∷ o) w h = new_key P k o w h.1
@@ -86,16 +85,16 @@ by_more : (s : Node) (k : Key) (l : Line) (o : List Line) → HasChangeBy s k o 
 by_more s k (lines.Change q m count) o h = inr h
 by_more s k l o h = h
 
-by_onto : (s : Node) (k : Key) (ls o : List Line) → HasChangeBy s k o → HasChangeBy s k (onto o ls)
+pub by_onto : (s : Node) (k : Key) (ls o : List Line) → HasChangeBy s k o → HasChangeBy s k (onto o ls)
 by_onto s k [] o h = h
 by_onto s k (l ∷ ls) o h = by_onto s k ls (l ∷ o) (by_more s k l o h)
 
-one_by : (s : Node) (k : Key) (c : Option Key) (ls o : List Line) → HasOne s c ls → c ≡ Some k → HasChangeBy s k (onto o ls)
+pub one_by : (s : Node) (k : Key) (c : Option Key) (ls o : List Line) → HasOne s c ls → c ≡ Some k → HasChangeBy s k (onto o ls)
 one_by s k c [] o p e = let no_ : Some k ≡ None = sym e ∙ p in absurd cc
 one_by s k c (lines.Change q l count ∷ ls) o p e = by_onto s k ls (lines.Change q l count ∷ o) (inl (p.0, some_of l k (sym p.1.0 ∙ e)))
 one_by s k c (l ∷ ls) o p e = one_by s k c ls (l ∷ o) p e
 
-of_change : (P : Node → Key → Type 0) (s : Node) (k : Key) (o : List Line) → HasChangeBy s k o → EachChange P o → P s k
+pub of_change : (P : Node → Key → Type 0) (s : Node) (k : Key) (o : List Line) → HasChangeBy s k o → EachChange P o → P s k
 of_change P s k [] h all = absurd h
 of_change P s k (lines.Change q l count ∷ o) (inl e) all = subst (λ (n : Node). P n k) e.0 (subst (P q) e.1 all.0)
 of_change P s k (lines.Change q l count ∷ o) (inr h) all = of_change P s k o h all.1
@@ -104,32 +103,32 @@ of_change P s k (l ∷ o) h all = of_change P s k o h all.1
 -- ---- what holds after every entry
 
 -- a key of a client, not above its last one, whose callee is this
-record IsKnown (callees : Key → Node) (clients : ℕ → ClientState) (to : Node) (k : Key) : Type 0 where
-  client : ℕ
-  node : k.node ≡ Client client
-  called : to ≡ callees k
-  behind : UpTo k.epoch k.number (clients client).epoch (clients client).last
+pub record IsKnown (callees : Key → Node) (clients : ℕ → ClientState) (to : Node) (k : Key) : Type 0 where
+  pub client : ℕ
+  pub node : k.node ≡ Client client
+  pub called : to ≡ callees k
+  pub behind : UpTo k.epoch k.number (clients client).epoch (clients client).last
 
 -- it changed something at this server, which keeps it
-record HasRun (callees : Key → Node) (clients : ℕ → ClientState) (hosts : ℕ → Host) (q : Node) (k : Key) : Type 0 where
-  server : ℕ
-  is : q ≡ Server server
-  known : IsKnown callees clients q k
-  ran : Above (call_seat k.node (hosts server).state.lasting.kept) k.epoch k.number → ⊥
+pub record HasRun (callees : Key → Node) (clients : ℕ → ClientState) (hosts : ℕ → Host) (q : Node) (k : Key) : Type 0 where
+  pub server : ℕ
+  pub is : q ≡ Server server
+  pub known : IsKnown callees clients q k
+  pub ran : Above (call_seat k.node (hosts server).state.lasting.kept) k.epoch k.number → ⊥
 
-abbrev last_of : ℕ → ClientState → Key
+abbrev pub last_of : ℕ → ClientState → Key
 last_of j c = record { node = Client j; epoch = c.epoch; number = c.last }
 
 -- the header is that of a reply under such a key
-abbrev by_key : (Node → Key → Type 0) → Head → Type 0
+abbrev pub by_key : (Node → Key → Type 0) → Head → Type 0
 by_key K h = K h.from (answered_key h)
 
 -- the key of an interrupted step's message
-abbrev IsCutOf : (Node → Key → Type 0) → Fall → Type 0
+abbrev pub IsCutOf : (Node → Key → Type 0) → Fall → Type 0
 IsCutOf K (in_step m clock) = IfCall (λ x user call. K x.to (key_of x)) m
 IsCutOf K fall = ⊤
 
-abbrev HasCut : (Node → Key → Type 0) → Option Fall → Type 0
+abbrev pub HasCut : (Node → Key → Type 0) → Option Fall → Type 0
 HasCut K None = ⊤
 HasCut K (Some fall) = IsCutOf K fall
 
@@ -145,33 +144,33 @@ any_notice (carried.Reply reply) = tt
 any_notice carried.Notice = tt
 
 -- a notice may have any header
-abbrev any_told : Head → Type 0
+abbrev pub any_told : Head → Type 0
 any_told h = ⊤
 
 -- any may have been told
 abbrev any_boot : Node → ℕ → Type 0
 any_boot q b = ⊤
 
-run_key : (K : Node → Key → Type 0) (me : Node) (k : Key) → IsRunBy (by_key K) me k → K me k
+pub run_key : (K : Node → Key → Type 0) (me : Node) (k : Key) → IsRunBy (by_key K) me k → K me k
 run_key K me k r = subst (λ (n : Node). K n k) r.1.0 (subst (K r.0.from) r.1.1.0 r.1.1.1)
 
-record Stands (clients : ℕ → ClientState) (hosts : ℕ → Host) (sent : List Message) (o : List Line) : Type 0 where
-  callees : Key → Node
-  own : (j : ℕ) → callees (last_of j (clients j)) ≡ (clients j).callee
-  calls : Each (IfCall (λ h user call. IsKnown callees clients h.to (key_of h))) sent
-  answers : Each (IfReply (λ r. IsKnown callees clients r.head.from (answered_key r.head))) sent
-  replies : (j : ℕ) → AreReplies (by_key (IsKnown callees clients)) any_told (clients j).seats
-  sound : (i : ℕ) → IsSound (by_key (IsKnown callees clients)) any_told (memory_of (hosts i).state)
-  held : (i : ℕ) → Each (IsAnswer (by_key (IsKnown callees clients)) any_told) (replies_of (hosts i).state.backs.held)
-  falls : (i : ℕ) → HasCut (IsKnown callees clients) (hosts i).down
-  ran : EachChange (HasRun callees clients hosts) o
-  once : AreOnce o
-  stored : (i : ℕ) (n : Node) (seat : Seat) → call_seat n (hosts i).state.lasting.kept ≡ Some seat → HasChangeBy (Server i) (seat_key n seat) o × HasReply n seat
+pub record Stands (clients : ℕ → ClientState) (hosts : ℕ → Host) (sent : List Message) (o : List Line) : Type 0 where
+  pub callees : Key → Node
+  pub own : (j : ℕ) → callees (last_of j (clients j)) ≡ (clients j).callee
+  pub calls : Each (IfCall (λ h user call. IsKnown callees clients h.to (key_of h))) sent
+  pub answers : Each (IfReply (λ r. IsKnown callees clients r.head.from (answered_key r.head))) sent
+  pub replies : (j : ℕ) → AreReplies (by_key (IsKnown callees clients)) any_told (clients j).seats
+  pub sound : (i : ℕ) → IsSound (by_key (IsKnown callees clients)) any_told (memory_of (hosts i).state)
+  pub held : (i : ℕ) → Each (IsAnswer (by_key (IsKnown callees clients)) any_told) (replies_of (hosts i).state.backs.held)
+  pub falls : (i : ℕ) → HasCut (IsKnown callees clients) (hosts i).down
+  pub ran : EachChange (HasRun callees clients hosts) o
+  pub once : AreOnce o
+  pub stored : (i : ℕ) (n : Node) (seat : Seat) → call_seat n (hosts i).state.lasting.kept ≡ Some seat → HasChangeBy (Server i) (seat_key n seat) o × HasReply n seat
 
-abbrev StandsIn : Cell → List Line → Type 0
+abbrev pub StandsIn : Cell → List Line → Type 0
 StandsIn c o = Stands c.clients c.hosts c.sent o
 
-abbrev Keeps : List Line → Moved → Type 0
+abbrev pub Keeps : List Line → Moved → Type 0
 Keeps o m = StandsIn m.cell (onto o m.entry.lines)
 
 -- ---- a step of a server
@@ -188,7 +187,7 @@ grown_run callees clients hosts i h grows q k r = record {
 }
 
 -- a key that is to run at its callee, above all that is kept of its caller, ran nowhere
-not_run : (callees : Key → Node) (clients : ℕ → ClientState) (hosts : ℕ → Host) (i : ℕ) (k : Key) → IsKnown callees clients (Server i) k → Above (call_seat k.node (hosts i).state.lasting.kept) k.epoch k.number → (q : Node) (l : Key) → HasRun callees clients hosts q l → k ≡ l → ⊥
+pub not_run : (callees : Key → Node) (clients : ℕ → ClientState) (hosts : ℕ → Host) (i : ℕ) (k : Key) → IsKnown callees clients (Server i) k → Above (call_seat k.node (hosts i).state.lasting.kept) k.epoch k.number → (q : Node) (l : Key) → HasRun callees clients hosts q l → k ≡ l → ⊥
 not_run callees clients hosts i k known above q l r same =
     let here : i ≡ r.server = server_number i r.server (known.called ∙ (ap callees same ∙ (sym r.known.called ∙ r.is))) in
     r.ran (subst (λ (j : ℕ). Above (call_seat l.node (hosts j).state.lasting.kept) l.epoch l.number) here (subst (λ (x : Key). Above (call_seat x.node (hosts i).state.lasting.kept) x.epoch x.number) same above))
@@ -228,7 +227,7 @@ moves_keeps c o i D armed s S h =
     (each_more _ c.sent s.sent S.calls (each_map (IsAnswer (by_key (IsKnown S.callees c.clients)) any_told) _ (λ m a. uncalled_any (λ x user call. IsKnown S.callees c.clients x.to (key_of x)) m a.0) s.sent h.sent))
     (each_more _ c.sent s.sent S.answers (each_map (IsAnswer (by_key (IsKnown S.callees c.clients)) any_told) _ (λ m a. a.1.0) s.sent h.sent))
 
-same_hosts : (K : Head → Type 0) (L : Head → Type 0) (me : Node) (x : Memory) (ls : List Line) → IsSound K L x → HasOne me None ls → Hosts K L me x x ls
+pub same_hosts : (K : Head → Type 0) (L : Head → Type 0) (me : Node) (x : Memory) (ls : List Line) → IsSound K L x → HasOne me None ls → Hosts K L me x x ls
 same_hosts K L me x ls s h = record { changed = None; one = h; known = λ k e. absurd cc; new = λ k e. absurd cc; ran = λ k e a. absurd cc; grows = λ n e k a. a; stored = λ n seat e. inl e; sound = s }
 
 -- one that leaves what it keeps
@@ -357,10 +356,10 @@ cut_over K L w (Some (in_step m clock)) h = if_call (λ x user call. K x.to (key
 run_later : (callees more : Key → Node) (clients then : ℕ → ClientState) (hosts : ℕ → Host) → ((q : Node) (k : Key) → IsKnown callees clients q k → IsKnown more then q k) → (q : Node) (k : Key) → HasRun callees clients hosts q k → HasRun more then hosts q k
 run_later callees more clients then hosts w q k r = record { server = r.server; is = r.is; known = w q k r.known; ran = r.ran }
 
-replies_over : (K L : Head → Type 0) → ((h : Head) → K h → L h) → (seats : List Seat) → AreReplies K any_told seats → AreReplies L any_told seats
+pub replies_over : (K L : Head → Type 0) → ((h : Head) → K h → L h) → (seats : List Seat) → AreReplies K any_told seats → AreReplies L any_told seats
 replies_over K L w seats h n seat m e r = answer_over K L any_told any_told w (λ g x. x) m (h n seat m e r)
 
-sound_over : (K L : Head → Type 0) → ((h : Head) → K h → L h) → (x : Memory) → IsSound K any_told x → IsSound L any_told x
+pub sound_over : (K L : Head → Type 0) → ((h : Head) → K h → L h) → (x : Memory) → IsSound K any_told x → IsSound L any_told x
 sound_over K L w x h = record { seats = replies_over K L w x.seats h.seats; kept = replies_over K L w x.kept h.kept; lower = h.lower }
 
 told_over : (K L : Node → Key → Type 0) → ((q : Node) (k : Key) → K q k → L q k) → (m : Message) → IfReply (λ r. K r.head.from (answered_key r.head)) m → IfReply (λ r. L r.head.from (answered_key r.head)) m
@@ -415,7 +414,7 @@ waited_keeps c o n (Some act) e S = client_keeps c o n _ _ S (waits_tame (by_key
 ticked_keeps : (c : Cell) (o : List Line) (n : ℕ) → StandsIn c o → Stands c.clients c.hosts c.sent (lines.Tick n ∷ o)
 ticked_keeps c o n S = record { callees = S.callees; own = S.own; calls = S.calls; answers = S.answers; replies = S.replies; sound = S.sound; held = S.held; falls = S.falls; ran = (tt, S.ran); once = S.once; stored = S.stored }
 
-moved_keeps : (c : Cell) (o : List Line) (x : Input) → StandsIn c o → Keeps o (moved c x)
+pub moved_keeps : (c : Cell) (o : List Line) (x : Input) → StandsIn c o → Keeps o (moved c x)
 unfolding moved
 moved_keeps c o (begins n act) S = either_keeps o (is_away c n) _ _ (nothing_keeps c o S) (begun_keeps c o n act (c.clients n).running S)
 moved_keeps c o (gives p luck) S = at_keeps c o p luck (message_at c.sent p) refl S
@@ -434,14 +433,14 @@ moved_keeps c o nothing S = nothing_keeps c o S
 
 -- ---- a run
 
-run_stands : (xs : List Input) (c : Cell) (past es : List Entry) (end : Cell) → StandsIn c (lines_of past) → Leads c xs es end → StandsIn end (lines_of (past_of past es))
+pub run_stands : (xs : List Input) (c : Cell) (past es : List Entry) (end : Cell) → StandsIn c (lines_of past) → Leads c xs es end → StandsIn end (lines_of (past_of past es))
 run_stands [] c past [] end S r = subst (λ (x : Cell). StandsIn x (lines_of past)) (sym r) S
 run_stands [] c past (e ∷ es) end S r = absurd r
 run_stands (x ∷ xs) c past [] end S r = absurd r
 run_stands (x ∷ xs) c past (e ∷ es) end S r =
     subst (λ (y : Entry). StandsIn end (lines_of (past_of (y ∷ past) es))) (sym r.0) (run_stands xs (moved c x).cell ((moved c x).entry ∷ past) es end (moved_keeps c (lines_of past) x S) r.1)
 
-first_stands : (s : Script) → StandsIn (start s) []
+pub first_stands : (s : Script) → StandsIn (start s) []
 first_stands s = record {
   callees = λ k. Server 1;
   own = λ j. refl;
@@ -461,7 +460,7 @@ once s h end r = (run_stands r.inputs (start s) [] h end (first_stands s) r.lead
 
 -- ---- the pairs of calls, and of replies
 
-known_pair : (callees : Key → Node) (clients : ℕ → ClientState) (q : Node) (k : Key) (j : ℕ) → k.node ≡ Client j → IsKnown callees clients q k → UpTo k.epoch k.number (clients j).epoch (clients j).last
+pub known_pair : (callees : Key → Node) (clients : ℕ → ClientState) (q : Node) (k : Key) (j : ℕ) → k.node ≡ Client j → IsKnown callees clients q k → UpTo k.epoch k.number (clients j).epoch (clients j).last
 known_pair callees clients q k j e h = subst (λ (i : ℕ). UpTo k.epoch k.number (clients i).epoch (clients i).last) (client_number h.client j (sym h.node ∙ e)) h.behind
 
 call_pair : (callees : Key → Node) (clients : ℕ → ClientState) (j : ℕ) (h : Head) (x : Carried) → IsCall x → h.from ≡ Client j → OfCall (ByClient (λ y user call. IsKnown callees clients y.to (key_of y))) h x → IsKnownTo (clients j) h
@@ -484,11 +483,11 @@ pairs_known s h end r =
 
 -- ---- what the disks keep of callers
 
-seat_behind : (t : Bool) (k : Key) (seat : Seat) → pair_below seat.epoch seat.number k.epoch k.number ≡ t → (Above (Some seat) k.epoch k.number → ⊥) → IsUpTo k.epoch k.number seat.epoch seat.number
+pub seat_behind : (t : Bool) (k : Key) (seat : Seat) → pair_below seat.epoch seat.number k.epoch k.number ≡ t → (Above (Some seat) k.epoch k.number → ⊥) → IsUpTo k.epoch k.number seat.epoch seat.number
 seat_behind true k seat e not = absurd (not (below-true seat.epoch seat.number k.epoch k.number e))
 seat_behind false k seat e not = below-false seat.epoch seat.number k.epoch k.number e
 
-seat_of_last : (o : Option Seat) (k : Key) → (Above o k.epoch k.number → ⊥) → (seat : Seat) × ((o ≡ Some seat) × IsUpTo k.epoch k.number seat.epoch seat.number)
+pub seat_of_last : (o : Option Seat) (k : Key) → (Above o k.epoch k.number → ⊥) → (seat : Seat) × ((o ≡ Some seat) × IsUpTo k.epoch k.number seat.epoch seat.number)
 seat_of_last None k not = absurd (not tt)
 seat_of_last (Some seat) k not = (seat, (refl, seat_behind (pair_below seat.epoch seat.number k.epoch k.number) k seat refl not))
 

@@ -22,8 +22,8 @@ use Rattle.afs_law.proofs.Owing.{CarriedOwe, AllOf, all_map, all_both, all_filte
 use Rattle.afs_law.proofs.Turning.{loaded, in_filter, put_call, kept_in}
 use Rattle.afs_law.specs.Breaks.{HasSettled, HasTimeout, last_grant, expiry_of, AllOwes, CarriesBreak, GoodQuit, live_grant, HasOwe, last_number, lines_at, drops_of, HasStopped, OweAt}
 use Rattle.afs_rows.specs.Callbacks.{is_all, alls, numbers, is_reply_to, key_answered, breaks_call, break_message, owe_line, settle_line, quit_line, settles, quits, retries, still_owed}
-use Rattle.afs_law.specs.Ideal.{clock_of, change_in}
-use Rattle.afs_law.specs.Legal.{HasRisen, IsNew, IsNot, IsKey, HasChange, AreGood, IsChanged}
+use Rattle.afs_law.specs.Ideal.{clock_of}
+use Rattle.afs_law.specs.Legal.{HasRisen, HasChange, AreGood, IsChanged}
 use Rattle.afs_history.specs.declared.lines.Line.{Line}
 use Rattle.afs_law.specs.Past.{onto, lines_of, sent_of, given_message, called_key, IsCallUnder}
 use Rattle.afs_rows.specs.Runs.{Entry, Fall}
@@ -280,7 +280,7 @@ record MayQuit (n : Node) (past : List Entry) (boot number most : ℕ) (call : F
   owe : CarriedOwe n number most boot (lines_of past) o
   carries : CarriesBreak call o.what
 
-two_all : {A : Type 0} → (P Q R : A → Type 0) → ((x : A) → P x → Q x → R x) → (xs : List A) → AllOf P xs → AllOf Q xs → AllOf R xs
+pub two_all : {A : Type 0} → (P Q R : A → Type 0) → ((x : A) → P x → Q x → R x) → (xs : List A) → AllOf P xs → AllOf Q xs → AllOf R xs
 two_all P Q R w [] h k = tt
 two_all P Q R w (x ∷ xs) h k = (w x h.0 k.0, two_all P Q R w xs h.1 k.1)
 
@@ -930,9 +930,9 @@ change_loaded who b ps more boot seats now cs clock sent e past pre os hd m h gr
     (λ j seat k x y. seated_over None None b after boot clock clock e past s j k (h.seated j seat k x y)))
 
 -- numbers of new breaks
-pub numbers_good : (s : Script) (k : ℕ) (ps : List Promise) (past : List Entry) (own : List Line) → last_number the_server (own ++ lines_of past) ≤ k → AllOf (λ (p : Promise). IsWithdrawn the_server p.client p.fid own) ps → AreGood s (actors.Node the_server) past own (map (owe_line the_server) (owes_from k ps))
-numbers_good s k [] past own h w = tt
-numbers_good s k (p ∷ ps) past own h w = ((refl, (omega arith, w.0)), numbers_good s (k + 1) ps past (lines.Owe the_server p.client (Some p.fid) (k + 1) ∷ own) (le_refl _) w.1)
+pub numbers_good : (s : Script) (k : ℕ) (ps : List Promise) (past : List Entry) (own : List Line) → last_number the_server (own ++ lines_of past) ≤ k → AllOf (λ (p : Promise). IsWithdrawn the_server p.client p.fid own) ps → AllOf (λ (p : Promise). (x : ℕ) × (last_grant the_server p.client p.fid (own ++ lines_of past) ≡ Some x)) ps → AreGood s (actors.Node the_server) past own (map (owe_line the_server) (owes_from k ps))
+numbers_good s k [] past own h w g = tt
+numbers_good s k (p ∷ ps) past own h w g = ((refl, (omega arith, (w.0, g.0))), numbers_good s (k + 1) ps past (lines.Owe the_server p.client (Some p.fid) (k + 1) ∷ own) (le_refl _) w.1 g.1)
 
 pub numbers_rise : (k : ℕ) (ps : List Promise) (base : List Line) → last_number the_server base ≤ k → last_number the_server (onto base (map (owe_line the_server) (owes_from k ps))) ≤ k + length (owes_from k ps)
 numbers_rise k [] base h = omega arith
@@ -946,9 +946,9 @@ alls_rising : (x k m : ℕ) (base : List Line) → last_number the_server base �
 alls_rising x k zero base le h = h
 alls_rising x k (suc m) base le h = alls_rising x (k + 1) m (lines.Owe the_server (Client (k + 1)) None (k + 1) ∷ base) (le_refl _) (λ e. omega arith, h)
 
-pub alls_good : (s : Script) (x k m : ℕ) (past : List Entry) (own : List Line) → last_number the_server (own ++ lines_of past) ≤ k → HasRisen the_server own → AreGood s (actors.Node the_server) past own (map (owe_line the_server) (owes_all x k m))
-alls_good s x k zero past own h w = tt
-alls_good s x k (suc m) past own h w = ((refl, (omega arith, w)), alls_good s x (k + 1) m past (lines.Owe the_server (Client (k + 1)) None (k + 1) ∷ own) (le_refl _) w)
+pub alls_good : (s : Script) (x k m : ℕ) (past : List Entry) (own : List Line) → last_number the_server (own ++ lines_of past) ≤ k → HasRisen the_server own → k + m ≤ s.clients → AreGood s (actors.Node the_server) past own (map (owe_line the_server) (owes_all x k m))
+alls_good s x k zero past own h w few = tt
+alls_good s x k (suc m) past own h w few = ((refl, (omega arith, (w, (omega arith, omega arith)))), alls_good s x (k + 1) m past (lines.Owe the_server (Client (k + 1)) None (k + 1) ∷ own) (le_refl _) w (omega arith))
 
 pub alls_rise : (x k m : ℕ) (base : List Line) → last_number the_server base ≤ k → last_number the_server (onto base (map (owe_line the_server) (owes_all x k m))) ≤ k + m
 alls_rise x k zero base h = omega arith

@@ -1,5 +1,8 @@
 -- Where an act that changes something is answered 0, one of its calls changed it.
-use Rattle.std.proofs.Common.{◌≡◌, ℕ, ℤ, Bool, true, false, cond, List, [], ◌∷◌, ◌++◌, Option, Some, None, nat_eq, pos, negsuc, refl, sym, ap, subst, ◌∙◌, inl, inr}
+use Rattle.afs_num.specs.declared.types.Node.TheVariants.{Client}
+use Rattle.afs_history.specs.Written.{bytes_in}
+use Rattle.afs_history.specs.declared.acts.Written.{Written}
+use Rattle.std.proofs.Common.{◌+◌, arith, ◌≡◌, ℕ, ℤ, Bool, true, false, cond, List, [], ◌∷◌, ◌++◌, Option, Some, None, nat_eq, pos, negsuc, refl, sym, ap, subst, ◌∙◌, inl, inr}
 use Rattle.std.specs.Prelude.{◌&&◌, ◌||◌, ⊤, not}
 use Rattle.afs_history.specs.declared.acts.Act.{Act}
 use Rattle.afs_history.specs.declared.acts.Act.TheVariants as acts
@@ -27,10 +30,10 @@ use Rattle.afs_law.proofs.Nexts.{as_changed}
 use Rattle.afs_law.proofs.Ops.{op_code, op_is, reads_is, shown_reads}
 use Rattle.afs_law.specs.Ideal.{set_up, volume_after}
 use Rattle.afs_law.specs.Laws.{IsChangingAct, IsMade}
-use Rattle.afs_law.specs.Legal.{AreGood, EndsAct, GoodCode, HasChange, IsGood, IsTold, Legal, LegalAfter, answer_at, answer_on, code_given, op_on}
+use Rattle.afs_law.specs.Legal.{IsOfClient, as_asked, AreGood, EndsAct, GoodCode, HasChange, IsGood, IsTold, Legal, LegalAfter, answer_at, answer_on, code_given, op_on}
 use Rattle.afs_law.specs.Once.{past_of}
 use Rattle.afs_law.specs.Past.{answered_key, lines_of, onto, running}
-use Rattle.afs_rows.specs.Going.{Going, Homes, Need, Parted, Shown, Taken, act_needs, answers, asks_for, at_parent, by_body, call_for, fid_of, first_body, gives_back, in_directory, in_home, is_even, is_last_name, is_root, looked_up, next, parted, reads, reads_rights, reads_status, reads_statuses, root_of, step_to, to_object, to_parent, walk}
+use Rattle.afs_rows.specs.Going.{stored_whole, asked, Going, Homes, Need, Parted, Shown, Taken, act_needs, answers, asks_for, at_parent, by_body, call_for, fid_of, first_body, gives_back, in_directory, in_home, is_even, is_last_name, is_root, looked_up, next, parted, reads, reads_rights, reads_status, reads_statuses, root_of, step_to, to_object, to_parent, walk}
 use Rattle.afs_rows.specs.Runs.{Entry}
 
 -- ---- what an act needs that changes something: at its end a change, and no answer 0 before
@@ -41,31 +44,42 @@ IsUndone gives_back = ⊥
 IsUndone (answers n) = n ≡ 0 → ⊥
 IsUndone need = ⊤
 
-reading_by : (f : Fid) (more : Body → List Shown → Need) (o : Option (Taken Body)) → ((b : Body) (rest : List Shown) → IsUndone (more b rest)) → IsUndone (by_body f more o)
-reading_by f more None w = tt
-reading_by f more (Some t) w = w t.found t.rest
+-- it is so of what is read, and of what is answered but 0
+record OfNeeds (P : Need → Type 0) : Type 0 where
+  read : (f : Fid) → P (reads f)
+  refused : (n : ℕ) → (n ≡ 0 → ⊥) → P (answers n)
 
-if_even : (b : Bool) (need : Need) → IsUndone need → IsUndone (cond b (answers 20) need)
-if_even true need w = λ e. absurd cc
-if_even false need w = w
+some_code : (n : ℕ) → n + 1 ≡ 0 → ⊥
+some_code n e = absurd (omega (arith, e))
 
-step_undone : (inner : Bool) (more : Fid → Need) (volume : ℕ) (o : Option (Option Name)) → ((f : Fid) → IsUndone (more f)) → IsUndone (step_to inner more volume o)
-step_undone inner more volume None w = λ e. absurd cc
-step_undone inner more volume (Some None) w = λ e. absurd cc
-step_undone inner more volume (Some (Some n)) w = if_even (inner && is_even n.vnode) (more (fid_of volume n)) (w (fid_of volume n))
+of_reading : (P : Need → Type 0) → OfNeeds P → (f : Fid) (more : Body → List Shown → Need) (o : Option (Taken Body)) → ((b : Body) (rest : List Shown) → P (more b rest)) → P (by_body f more o)
+of_reading P q f more None w = q.read f
+of_reading P q f more (Some t) w = w t.found t.rest
 
-walk_undone : (all : Bool) (more : Fid → List Shown → Need) (names : List (List ℕ)) (rs : List Shown) (d : Fid) → ((f : Fid) (rest : List Shown) → IsUndone (more f rest)) → IsUndone (walk all more names rs d)
-walk_undone all more [] rs d w = w d rs
-walk_undone all more (name ∷ names) rs d w =
-    reading_by d _ (first_body d rs) (λ b rest. step_undone (all || not (is_last_name names)) (walk all more names rest) d.volume (looked_up name b) (λ f. walk_undone all more names rest f w))
+of_even : (P : Need → Type 0) → OfNeeds P → (b : Bool) (need : Need) → P need → P (cond b (answers 20) need)
+of_even P q true need w = q.refused 20 (some_code 19)
+of_even P q false need w = w
 
-home_undone : (home : Option ℕ) (more : ℕ → Need) → ((id : ℕ) → IsUndone (more id)) → IsUndone (in_home home more)
-home_undone None more w = λ e. absurd cc
-home_undone (Some id) more w = w id
+of_step : (P : Need → Type 0) → OfNeeds P → (inner : Bool) (more : Fid → Need) (volume : ℕ) (o : Option (Option Name)) → ((f : Fid) → P (more f)) → P (step_to inner more volume o)
+of_step P q inner more volume None w = q.refused 20 (some_code 19)
+of_step P q inner more volume (Some None) w = q.refused 2 (some_code 1)
+of_step P q inner more volume (Some (Some n)) w = of_even P q (inner && is_even n.vnode) (more (fid_of volume n)) (w (fid_of volume n))
 
-object_undone : (home : Option ℕ) (o : Operand) (rs : List Shown) (more : Fid → List Shown → Need) → ((f : Fid) (rest : List Shown) → IsUndone (more f rest)) → IsUndone (to_object home o rs more)
-object_undone home (operands.Fid f) rs more w = home_undone home _ (λ id. w f rs)
-object_undone home (operands.Path p) rs more w = home_undone home _ (λ id. walk_undone false more p.names rs (root_of id) w)
+of_walk : (P : Need → Type 0) → OfNeeds P → (all : Bool) (more : Fid → List Shown → Need) (names : List (List ℕ)) (rs : List Shown) (d : Fid) → ((f : Fid) (rest : List Shown) → P (more f rest)) → P (walk all more names rs d)
+of_walk P q all more [] rs d w = w d rs
+of_walk P q all more (name ∷ names) rs d w =
+    of_reading P q d _ (first_body d rs) (λ b rest. of_step P q (all || not (is_last_name names)) (walk all more names rest) d.volume (looked_up name b) (λ f. of_walk P q all more names rest f w))
+
+of_home : (P : Need → Type 0) → OfNeeds P → (home : Option ℕ) (more : ℕ → Need) → ((id : ℕ) → P (more id)) → P (in_home home more)
+of_home P q None more w = q.refused 363524 (some_code 363523)
+of_home P q (Some id) more w = w id
+
+of_object : (P : Need → Type 0) → OfNeeds P → (home : Option ℕ) (o : Operand) (rs : List Shown) (more : Fid → List Shown → Need) → ((f : Fid) (rest : List Shown) → P (more f rest)) → P (to_object home o rs more)
+of_object P q home (operands.Fid f) rs more w = of_home P q home _ (λ id. w f rs)
+of_object P q home (operands.Path p) rs more w = of_home P q home _ (λ id. of_walk P q false more p.names rs (root_of id) w)
+
+of_undone : OfNeeds IsUndone
+of_undone = record { read = λ f. tt; refused = λ n some. some }
 
 directory_undone : (need : Need) (b : Body) → IsUndone need → IsUndone (in_directory need b)
 directory_undone need (bodies.File k) w = λ e. absurd cc
@@ -76,7 +90,7 @@ directory_undone need bodies.Gone w = λ e. absurd cc
 parent_by : (home : Option ℕ) (o : Option Parted) (rs : List Shown) (more : Fid → List ℕ → List Shown → Need) → ((f : Fid) (name : List ℕ) (rest : List Shown) → IsUndone (more f name rest)) → IsUndone (at_parent home rs more o)
 parent_by home None rs more w = λ e. absurd cc
 parent_by home (Some p) rs more w =
-    home_undone home _ (λ id. walk_undone true _ p.front rs (root_of id) (λ d rest. reading_by d _ (first_body d rest) (λ b later. directory_undone (more d p.last later) b (w d p.last later))))
+    of_home IsUndone of_undone home _ (λ id. of_walk IsUndone of_undone true _ p.front rs (root_of id) (λ d rest. of_reading IsUndone of_undone d _ (first_body d rest) (λ b later. directory_undone (more d p.last later) b (w d p.last later))))
 
 parent_undone : (home : Option ℕ) (p : Path) (rs : List Shown) (more : Fid → List ℕ → List Shown → Need) → ((f : Fid) (name : List ℕ) (rest : List Shown) → IsUndone (more f name rest)) → IsUndone (to_parent home p rs more)
 parent_undone home p rs more w = parent_by home (parted p.names) rs more w
@@ -90,9 +104,9 @@ root_undone true need w = λ e. absurd cc
 root_undone false need w = w
 
 act_undone : (h : Homes) (a : Act) (rs : List Shown) → IsChangingAct a → IsUndone (act_needs h a rs)
-act_undone h (acts.Close o contents) rs is = object_undone h.first o rs _ (λ f rest e. absurd cc)
-act_undone h (acts.SetMode o mode) rs is = object_undone h.first o rs _ (λ f rest e. absurd cc)
-act_undone h (acts.SetAccessList o text) rs is = object_undone h.first o rs _ (λ f rest e. absurd cc)
+act_undone h (acts.Close o contents) rs is = of_object IsUndone of_undone h.first o rs _ (λ f rest e. absurd cc)
+act_undone h (acts.SetMode o mode) rs is = of_object IsUndone of_undone h.first o rs _ (λ f rest e. absurd cc)
+act_undone h (acts.SetAccessList o text) rs is = of_object IsUndone of_undone h.first o rs _ (λ f rest e. absurd cc)
 act_undone h (acts.Make p) rs is = parent_undone h.first p rs _ (λ d name rest e. absurd cc)
 act_undone h (acts.MakeDirectory p) rs is = parent_undone h.first p rs _ (λ d name rest e. absurd cc)
 act_undone h (acts.Symlink p target) rs is = parent_undone h.first p rs _ (λ d name rest e. absurd cc)
@@ -101,8 +115,28 @@ act_undone h (acts.RemoveDirectory p) rs is = parent_undone h.first p rs _ (λ d
 act_undone h (acts.Move p q) rs is =
     root_undone (is_root p || is_root q) _ (parent_undone h.first p rs _ (λ d old rest. parent_undone h.second q rest _ (λ e new later. one_undone (nat_eq d.volume e.volume) _ (λ z. absurd cc))))
 act_undone h (acts.Link p q) rs is =
-    root_undone (is_root q) _ (object_undone h.first (operands.Path p) rs _ (λ f rest. parent_undone h.second q rest _ (λ d name later. one_undone (nat_eq f.volume d.volume) _ (λ z. absurd cc))))
+    root_undone (is_root q) _ (of_object IsUndone of_undone h.first (operands.Path p) rs _ (λ f rest. parent_undone h.second q rest _ (λ d name later. one_undone (nat_eq f.volume d.volume) _ (λ z. absurd cc))))
 act_undone h a rs is = absurd is
+
+-- ---- what a close ends with: its bytes are stored
+
+abbrev IsStore : List ℕ → Need → Type 0
+IsStore bytes (asks_for call) = (f : Fid) × (call ≡ stored_whole f bytes)
+IsStore bytes gives_back = ⊥
+IsStore bytes need = ⊤
+
+close_stores : (g : Going) (o : Operand) (contents : Written) → g.act ≡ acts.Close o contents → IsStore (bytes_in contents) (next g)
+close_stores g o contents is =
+    subst (λ (a : Act). IsStore (bytes_in contents) (act_needs g.homes a g.reads)) (sym is) (of_object (IsStore (bytes_in contents)) (record { read = λ f. tt; refused = λ n some. tt }) g.homes.first o g.reads _ (λ f rest. (f, refl)))
+
+store_ends : (bytes : List ℕ) (need : Need) → IsStore bytes need → EndsAct need → (f : Fid) × (call_for need ≡ stored_whole f bytes)
+store_ends bytes (asks_for call) h e = h
+store_ends bytes gives_back h e = absurd h
+store_ends bytes (reads f) h e = absurd e
+store_ends bytes (reads_status f) h e = absurd e
+store_ends bytes (reads_statuses fs) h e = absurd e
+store_ends bytes (reads_rights f) h e = absurd e
+store_ends bytes (answers n) h e = absurd e
 
 -- ---- a changing call that is answered 0 was told
 
@@ -149,23 +183,35 @@ no_room code a b = let e : pos 108 ≡ pos 0 = sym a ∙ b in absurd cc
 no_death : (code : ℤ) → code ≡ negsuc 0 → code ≡ pos 0 → ⊥
 no_death code a b = let e : negsuc 0 ≡ pos 0 = sym a ∙ b in absurd cc
 
-made : (s : Script) (c : Node) (code : Code) (past : List Entry) (own : List Line) (act : Going) → GoodCode s c code past own → running s c (own ++ lines_of past) ≡ Some act → IsChangingAct act.act → code.0 ≡ pos 0 → IsMade c past own
-made s c code past own act g runs is zero =
+-- what was made, by a call of just this act
+pub record MadeBy (s : Script) (c : Node) (act : Going) (past : List Entry) (own : List Line) : Type 0 where
+  pub made : IsMade c past own
+  pub client : (n : ℕ) × (c ≡ Client n)
+  pub asks : as_asked made.call ≡ asked act
+  pub stores : (o : Operand) (contents : Written) → act.act ≡ acts.Close o contents → (f : Fid) × (asked act ≡ stored_whole f (bytes_in contents))
+
+made : (s : Script) (c : Node) (code : Code) (past : List Entry) (own : List Line) (act : Going) → GoodCode s c code past own → running s c (own ++ lines_of past) ≡ Some act → IsChangingAct act.act → code.0 ≡ pos 0 → (n : ℕ) × (c ≡ Client n) → MadeBy s c act past own
+made s c code past own act g runs is zero client =
     let one : g.act ≡ act = some_of g.act act (sym g.runs ∙ runs) in
     let undone : IsUndone (next g.act) = subst (λ (a : Going). IsUndone (next a)) (sym one) (act_undone act.homes act.act act.reads is) in
     elim g.cause [
       | inl x ↦
           let some : volume_changed x.cause.call ≡ None → ⊥ = λ z. ending (next g.act) undone (x.ends zero) (ap volume_changed (sym x.cause.asks) ∙ (as_changed x.cause.call ∙ z)) in
           record {
-            key = answered_key x.reply.head;
-            node = x.to;
-            user = x.cause.user;
-            call = x.cause.call;
-            called = x.called;
-            told = elim x.cause.result [
-              | inl y ↦ by_call x.cause.user x.cause.call x.cause.ran.older (answered_key x.reply.head) (own ++ lines_of past) some (y.0 ∙ zero) y.1
-              | inr y ↦ absurd (no_room code.0 y.0 zero)
-            ];
+            made = record {
+              key = answered_key x.reply.head;
+              node = x.to;
+              user = x.cause.user;
+              call = x.cause.call;
+              called = x.called;
+              told = elim x.cause.result [
+                | inl y ↦ by_call x.cause.user x.cause.call x.cause.ran.older (answered_key x.reply.head) (own ++ lines_of past) some (y.0 ∙ zero) y.1
+                | inr y ↦ absurd (no_room code.0 y.0 zero)
+              ];
+            };
+            client = client;
+            asks = x.cause.asks ∙ ap asked one;
+            stores = λ o contents is'. store_ends (bytes_in contents) (next act) (close_stores act o contents is') (subst (λ (a : Going). EndsAct (next a)) one (x.ends zero));
           }
       | inr y ↦ elim y [
         | inl x ↦ absurd (subst IsUndone x.by undone (answer_number code.0 x.number x.is zero))
@@ -176,9 +222,13 @@ made s c code past own act g runs is zero =
       ]
     ]
 
+client_of : (who : Actor) (c : Node) → IsOfClient who c → (n : ℕ) × (c ≡ Client n)
+client_of who (Client n) h = (n, refl)
+client_of who c h = absurd h
+
 -- ---- where a line of a legal history stands it is good
 
-good_in : (s : Script) (past before after : List Entry) (e : Entry) → LegalAfter s past (before ++ (e ∷ after)) → AreGood s e.actor (past_of past before) [] e.lines
+pub good_in : (s : Script) (past before after : List Entry) (e : Entry) → LegalAfter s past (before ++ (e ∷ after)) → AreGood s e.actor (past_of past before) [] e.lines
 good_in s past [] after e h = h.0.0.0
 good_in s past (b ∷ before) after e h = good_in s (b ∷ past) before after e h.1
 
@@ -186,9 +236,14 @@ good_behind : (s : Script) (who : Actor) (past : List Entry) (own first : List L
 good_behind s who past own [] l rest h = h.0
 good_behind s who past own (k ∷ first) l rest h = good_behind s who past (k ∷ own) first l rest h.1
 
-pub acknowledged : (s : Script) (history before after : List Entry) (e : Entry) (first rest : List Line) (c : Node) (code : Code) (act : Going) → Legal history s → history ≡ before ++ (e ∷ after) → e.lines ≡ first ++ lines.Answer c code ∷ rest
-    → running s c (onto [] first ++ lines_of (past_of (set_up s ∷ []) before)) ≡ Some act → IsChangingAct act.act → code.0 ≡ pos 0 → IsMade c (past_of (set_up s ∷ []) before) (onto [] first)
-acknowledged s history before after e first rest c code act legal split line runs is zero =
+pub acknowledged_by : (s : Script) (history before after : List Entry) (e : Entry) (first rest : List Line) (c : Node) (code : Code) (act : Going) → Legal history s → history ≡ before ++ (e ∷ after) → e.lines ≡ first ++ lines.Answer c code ∷ rest
+    → running s c (onto [] first ++ lines_of (past_of (set_up s ∷ []) before)) ≡ Some act → IsChangingAct act.act → code.0 ≡ pos 0 → MadeBy s c act (past_of (set_up s ∷ []) before) (onto [] first)
+acknowledged_by s history before after e first rest c code act legal split line runs is zero =
     let past : List Entry = past_of (set_up s ∷ []) before in
     let all : AreGood s e.actor past [] (first ++ lines.Answer c code ∷ rest) = subst (AreGood s e.actor past []) line (good_in s (set_up s ∷ []) before after e (subst (LegalAfter s (set_up s ∷ [])) split legal)) in
-    made s c code past (onto [] first) act (good_behind s e.actor past [] first (lines.Answer c code) rest all).1 runs is zero
+    let g = good_behind s e.actor past [] first (lines.Answer c code) rest all in
+    made s c code past (onto [] first) act g.1 runs is zero (client_of e.actor c g.0)
+
+pub acknowledged : (s : Script) (history before after : List Entry) (e : Entry) (first rest : List Line) (c : Node) (code : Code) (act : Going) → Legal history s → history ≡ before ++ (e ∷ after) → e.lines ≡ first ++ lines.Answer c code ∷ rest
+    → running s c (onto [] first ++ lines_of (past_of (set_up s ∷ []) before)) ≡ Some act → IsChangingAct act.act → code.0 ≡ pos 0 → IsMade c (past_of (set_up s ∷ []) before) (onto [] first)
+acknowledged s history before after e first rest c code act legal split line runs is zero = (acknowledged_by s history before after e first rest c code act legal split line runs is zero).made

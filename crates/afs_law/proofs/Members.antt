@@ -1,19 +1,17 @@
 -- Each entry of a run is of a node of its script, and no server begins a boot twice: so the runs are legal.
-use Rattle.afs_law.proofs.Basics.{at_put, both}
+use Rattle.afs_law.proofs.Basics.{at_put}
 use Rattle.afs_law.proofs.Booting.{HaveRisen}
 use Rattle.afs_law.proofs.Hearing.{hears_at}
 use Rattle.afs_law.proofs.Law.{AreEntries, legal}
 use Rattle.afs_law.proofs.Servers.{run_same, seen_in}
 use Rattle.afs_law.specs.Ideal.{set_up}
-use Rattle.afs_law.specs.Legal.{AreRising, IsOfScript, Legal}
+use Rattle.afs_law.specs.Legal.{IsOfScript, Legal}
 use Rattle.afs_law.specs.Once.{past_of}
 use Rattle.afs_law.specs.OneServer.{IsOneServer}
-use Rattle.afs_law.specs.Past.{lines_of}
 use Rattle.afs_history.specs.declared.acts.Act.{Act}
 use Rattle.afs_history.specs.declared.lines.Line.{Line}
 use Rattle.afs_history.specs.declared.lines.Line.TheVariants as lines
 use Rattle.afs_history.specs.declared.scripts.Script.{Script}
-use Rattle.afs_num.specs.declared.histories.Actor.{Actor}
 use Rattle.afs_num.specs.declared.messages.Message.{Message}
 use Rattle.afs_num.specs.declared.types.Node.{Node}
 use Rattle.afs_num.specs.declared.types.Node.TheVariants.{Admin, Client, Loc, Server}
@@ -22,7 +20,7 @@ use Rattle.afs_rows.specs.Going.{Going}
 use Rattle.afs_rows.specs.Runs.{Armed, Blow, Cell, Entry, Fall, Input, Leads, Luck, Moved, Outcome, RunsTo, back_timed, begins, begun_by, begun_by_disk, client_starts, client_stops, comes_up, decided_at, fails_early, fails_midway, given_at, given_to, gives, has_client, has_host, is_away, is_full, message_at, moved, nothing, server_armed, server_ends, server_given, server_restarted, server_served, server_stopped, server_timed, server_waits, server_wakes, sets_fail, sets_stop, settled, start, starts_again, stops, struck, ticks, voided, waited_by, waits, wakes}
 use Rattle.afs_rows.specs.ServerRow.{Begun, device_calls}
 use Rattle.afs_rows.specs.States.{BackCall}
-use Rattle.std.proofs.Common.{zero, suc, ◌≡◌, ℕ, ◌+◌, ◌<◌, ◌≤◌, arith, ltb-true, nat_lt, Bool, true, false, cond, List, [], ◌∷◌, Option, Some, None, refl, sym, ap, subst, ◌∙◌}
+use Rattle.std.proofs.Common.{zero, suc, ◌≡◌, ℕ, ◌<◌, ◌≤◌, arith, ltb-true, Bool, true, false, cond, List, [], ◌∷◌, Option, Some, None, refl, sym, subst, ◌∙◌}
 use Rattle.std.specs.Prelude.{not, ◌||◌}
 
 -- ---- the cell has the nodes of the script
@@ -169,6 +167,9 @@ run_sound s (x ∷ xs) c past (e ∷ es) end H r h =
     let m : Stays s (moved c x) = moved_stays s c x H in
     ((subst (λ (y : Entry). IsOfScript s y.actor) (sym r.0) m.of, (risen_back (e ∷ past) es h).0), run_sound s xs (moved c x).cell (e ∷ past) es end m.nodes r.1 h)
 
+-- of any script
+pub run_entries : (s : Script) (h : List Entry) (end : Cell) → RunsTo h s end → AreEntries s (set_up s ∷ []) h
+run_entries s h end r = run_sound s r.inputs (start s) (set_up s ∷ []) h end (record { clients = refl; servers = refl; away = λ j e. absurd cc }) r.leads (hears_at s h end r).boots.risen
+
 pub runs_legal : (s : Script) (h : List Entry) (end : Cell) → IsOneServer s → RunsTo h s end → Legal h s
-runs_legal s h end is r = legal s h (seen_in end) is (run_same s h end is r)
-    (run_sound s r.inputs (start s) (set_up s ∷ []) h end (record { clients = refl; servers = refl; away = λ j e. absurd cc }) r.leads (hears_at s h end r).boots.risen)
+runs_legal s h end is r = legal s h (seen_in end) is (run_same s h end is r) (run_entries s h end r)

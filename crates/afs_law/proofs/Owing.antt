@@ -11,11 +11,11 @@ use Rattle.afs_num.specs.declared.types.Node.TheVariants.{Client}
 use Rattle.afs_num.specs.declared.calls.FsCall.{FsCall}
 use Rattle.afs_num.specs.declared.messages.Message.{Message}
 use Rattle.afs_law.proofs.Basics.{Above, Each, IfBack, IfDone, OfReply}
-use Rattle.afs_law.specs.Breaks.{HasDrop, HasTimeout, last_grant, expiry_of, Owes, AllOwes, EndedBy, OweAt, CarriesBreak, WasSent, live_grant, last_number, lines_at}
+use Rattle.afs_law.specs.Breaks.{HasDrop, HasTimeout, last_grant, expiry_of, Owes, AllOwes, EndedBy, OweAt, CarriesBreak, live_grant, last_number, lines_at}
 use Rattle.afs_rows.specs.Callbacks.{key_answered, breaks_call, is_reply_to}
 use Rattle.afs_law.specs.Legal.{HasChange}
 use Rattle.afs_history.specs.declared.lines.Line.{Line}
-use Rattle.afs_law.specs.Past.{onto, lines_of, sent_of, given_message, IsCallUnder}
+use Rattle.afs_law.specs.Past.{WasSent, onto, lines_of, sent_of, given_message, IsCallUnder}
 use Rattle.afs_rows.specs.Runs.{Entry, Fall}
 use Rattle.afs_law.proofs.OneCell.{the_server}
 use Rattle.afs_rows.specs.States.{Seat, BackCall, Held, Backs}
@@ -108,7 +108,7 @@ pub record CallOut (j : Node) (c : BackCall) (last boot : ℕ) (past : List Entr
   pub number : c.number ≤ last
   pub client : IsClient j
   pub owes : AllOf (CarriedOwe j c.number c.tries boot (lines_of past)) c.breaks
-  pub sent : WasSent (record { node = the_server; epoch = boot; number = c.number }) [] (breaks_call c.breaks) past
+  pub sent : WasSent j (record { node = the_server; epoch = boot; number = c.number }) [] (breaks_call c.breaks) past
   pub carries : AllOf (λ (o : Owed). CarriesBreak (breaks_call c.breaks) o.what) c.breaks
 
 -- a call of the server under way: if it is the unanswered one, it carries its breaks

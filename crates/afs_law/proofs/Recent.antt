@@ -1,5 +1,5 @@
 -- Acts are answered by calls that ran since they began: each call of a client has a key that no act before used.
-use Rattle.std.proofs.Common.{◌≡◌, ℕ, zero, suc, ℤ, Bool, true, false, cond, not, List, [], ◌∷◌, ◌++◌, Option, Some, None, inl, inr, refl, sym, ap, subst, ◌∙◌}
+use Rattle.std.proofs.Common.{◌≡◌, ℕ, zero, suc, Bool, true, false, cond, not, List, [], ◌∷◌, ◌++◌, Some, inl, inr, refl, sym, ap, subst, ◌∙◌}
 use Rattle.std.specs.Prelude.{⊤}
 use Rattle.afs_history.specs.declared.lines.Line.{Line}
 use Rattle.afs_history.specs.declared.lines.Line.TheVariants as lines
@@ -8,7 +8,7 @@ use Rattle.afs_law.proofs.Basics.{same_key-refl}
 use Rattle.afs_law.proofs.Passing.{late_over}
 use Rattle.afs_law.specs.Ideal.{set_up}
 use Rattle.afs_law.specs.Laws.{AnswersAreRecent}
-use Rattle.afs_law.specs.Legal.{AreGoodSent, Cause, GoodCall, HasOwnKey, IsCaused, LegalAfter}
+use Rattle.afs_law.specs.Legal.{AreGoodSent, GoodCall, HasOwnKey, LegalAfter}
 use Rattle.afs_law.specs.Once.{past_of}
 use Rattle.afs_law.specs.Past.{AreWithin, CalledSince, Ran, Sends, answered_key, called_key, given_message, has_begun, has_sent, is_called, is_late, same_key, sent_of}
 use Rattle.afs_num.specs.declared.calls.FsCall.{FsCall}

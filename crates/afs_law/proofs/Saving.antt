@@ -1,5 +1,6 @@
+use Rattle.afs_law.proofs.Granting.{newly, made_last}
 use Rattle.afs_law.proofs.Nexts.{asks_scope, served_as}
-use Rattle.afs_law.proofs.Facts.{AreLone, IsChangingUnder, IsActs, IsOne, View, FitsBulk, its_call}
+use Rattle.afs_law.proofs.Facts.{AreLone, IsChangingUnder, FitsBulk, its_call}
 use Rattle.afs_breaks.specs.declared.types.Promise.{Promise}
 use Rattle.afs_breaks.specs.Promises.{owes_from}
 use Rattle.afs_rows.specs.ServerSteps.{done}
@@ -10,29 +11,29 @@ use Rattle.afs_ideal.specs.Replies.{vnode_or_none, change_reply, status_at, stat
 use Rattle.afs_ideal.specs.Tables.{Table, get, set}
 use Rattle.afs_ideal.specs.Told.{AreNext}
 use Rattle.afs_ideal.specs.Volumes.{or_old, with_status, Amend, Volume, Vnode, Kind, a_file, a_directory, a_link, body_by, body_of, version_at, Edit, versions_by, edited_all, counted, amended, vnode_of, if_unique}
-use Rattle.afs_law.proofs.Backing.{is_still_to, all_lines, is_up, is_still, is_oweless, is_unchanging, change_back, promised_given, rising_back}
-use Rattle.afs_law.proofs.Basics.{same_key-true, same_key-refl, both, by_client, ByClient, Each, IfCall, UpTo, Below, below-true, below-false, up_to_below, node_apart, Above, up_to_by, same_fid-true, same_node-true, client_number, below_not, up_to_same, raised_up_to, some_of, yes_no}
+use Rattle.afs_law.proofs.Backing.{grant_before_to, is_still_to, all_lines, is_up, is_still, is_oweless, is_unchanging, change_back, promised_given, rising_back}
+use Rattle.afs_law.proofs.Basics.{same_key-true, same_key-refl, UpTo, Below, below-true, below-false, up_to_below, node_apart, Above, up_to_by, same_fid-true, same_node-true, client_number, below_not, up_to_same, raised_up_to, some_of, yes_no}
 use Rattle.afs_law.proofs.Edits.{agrees_of, last_of, ones, Ones, index_in, fid_at, Sound, SoundIn, sound_same, Tops, on_top, Grow, Told, edits_told, counted_sound, rises, tops, touches, untouched, touched_volume, not_touched, there, none_has, live, live_is}
 use Rattle.afs_law.proofs.Facts.{FitsList, Leaves, HeldIn, Ghost, HoldsAt, up_boot, LastStored, IsStored, IsUntrusted, view, Spot, spot, ReplyFact, HasFallen, Reached, Stands, IsCurrent, Fits, Answers, IsReply, AreUnheard, stored_index, Holds, Goes, FitsReply, FitsData, FitsSet, FitsPlain, WasChanged, AreIdeal, AreSound, WasStored, FitsShown}
 use Rattle.afs_law.proofs.Keeping.{volume_put, own_placed}
-use Rattle.afs_law.proofs.Loading.{hits_hit, IsHit, hits_other, granted_all, onto_granted, left_granted, all_hits, change_loaded, owes_unchanging, all_new, number_front, number_second, left_promised, has_owe, touched_hit, numbers_good, numbers_rise, granted_to_client, owes_to_clients, owes_rising, all_left}
+use Rattle.afs_law.proofs.Loading.{two_all, IsOfOther, hits_hit, IsHit, hits_other, granted_all, onto_granted, left_granted, all_hits, change_loaded, owes_unchanging, all_new, number_front, number_second, left_promised, has_owe, touched_hit, numbers_good, numbers_rise, granted_to_client, owes_to_clients, owes_rising, all_left}
 use Rattle.afs_law.proofs.Naming.{fine_after}
 use Rattle.afs_law.proofs.Notes.{granted_notes, AreNotes, Skips, skips, owe_notes, no_versions}
 use Rattle.afs_law.proofs.Ops.{stored_kind, stored_fid, amend_of, in_scope, changes_is, Storing, storing, stored_vnode}
 use Rattle.afs_law.proofs.Owing.{all_map, BackedIn, IsGranted, Rising, IsClient}
-use Rattle.afs_law.proofs.Passing.{act_last, lone_at, changed_before, IsAmong, among_since, calls_both, no_change, reply_over, PassesBoth, PassesSeen, held_over, fetch_reply_by, cause_over, PassesFile, PassesAct, PassesReach, StaysNewest, client_over, PassesGrant}
+use Rattle.afs_law.proofs.Passing.{act_last, lone_at, changed_before, no_change, reply_over, PassesBoth, PassesSeen, held_over, fetch_reply_by, cause_over, PassesFile, PassesAct, PassesReach, StaysNewest, client_over, PassesGrant}
 use Rattle.afs_law.proofs.Pumping.{no_news, pumped_news}
-use Rattle.afs_law.proofs.Serving.{grant_more, runs_here, up_backed, seats_of, Gives, taken_not, up_boots, reached_at, at_told, client_head, Now, call_at, taken, seats_after, Stock, server_after, caller_view, views_after, durable_before, above_before, not_ran, unheard_after, HasRun, cause_now, running_act, stale_none, served_cell, serves, last_has, has_run, server_does, answer_in}
+use Rattle.afs_law.proofs.Serving.{granted_then, runs_here, up_backed, seats_of, Gives, taken_not, up_boots, reached_at, at_told, client_head, Now, call_at, taken, seats_after, Stock, server_after, caller_view, views_after, durable_before, above_before, not_ran, unheard_after, HasRun, cause_now, running_act, stale_none, served_cell, serves, last_has, has_run, server_does, answer_in}
 use Rattle.afs_law.proofs.Turning.{loaded, Pumps, pumps}
-use Rattle.afs_law.specs.Breaks.{HasStopped, live_grant, HasOwe, last_number, lines_at}
+use Rattle.afs_law.specs.Breaks.{last_grant, HasStopped, live_grant, HasOwe, last_number, lines_at}
 use Rattle.afs_rows.specs.Callbacks.{Turn, pumped, expired, numbers, alls}
 use Rattle.afs_rows.specs.ClientRow.{status_told}
 use Rattle.afs_rows.specs.Going.{Going, next}
 use Rattle.afs_law.specs.Grants.{IsWithdrawn, has_fetched, fetch_reply, since, change_below, IsByOther, IsDropped}
 use Rattle.afs_law.specs.Ideal.{versions_in, Reach, raised, IsLast, clock_of, last_version, HasVersion, Accepts, reach, volume_after, change_key, call_under, reach_over, applied, applied_by, HasBeen, TellsIn, TellsOf, shown_status}
-use Rattle.afs_law.specs.Legal.{HasChangeBy, IsLater, GoodGrant, RanBefore, RunsHere, code_given, AreGood, IsNew, HasChange, GoodChange, versions_first, IsTold, answer_at, IsUnderChange, IsChanged, op_on, as_asked}
+use Rattle.afs_law.specs.Legal.{IsPromisedBy, HasChangeBy, IsLater, RanBefore, RunsHere, code_given, AreGood, IsNew, HasChange, GoodChange, versions_first, IsTold, answer_at, IsUnderChange, IsChanged, op_on, as_asked}
 use Rattle.afs_history.specs.declared.lines.Line.{Line}
-use Rattle.afs_law.specs.Past.{is_sent_since, same_key, risen, server_boot, code_told, onto, lines_of, sent_of, given_message, called_key, HasCode, is_of_act, running, has_begun}
+use Rattle.afs_law.specs.Past.{same_key, risen, server_boot, code_told, onto, lines_of, sent_of, given_message, called_key, HasCode, is_of_act, running, has_begun}
 use Rattle.afs_rows.specs.Runs.{Entry, message_at, Armed, Fall}
 use Rattle.afs_law.proofs.OneCell.{Cell, server_moves, the_server}
 use Rattle.afs_rows.specs.Scopes.{is_in_scope, is_volume}
@@ -774,7 +775,7 @@ later_seat true e n k l t a not = absurd (not (below-true e n l.epoch l.number t
 later_seat false e n k l t a not = up_to_below l.epoch l.number e n k.epoch k.number (below-false e n l.epoch l.number t) a
 
 -- what isn't above a seat is below what is
-later_by : {R : Type 0} → (o : Option (CallSeat R)) (k l : Key) → Above o k.epoch k.number → (Above o l.epoch l.number → ⊥) → IsLater k l
+pub later_by : {R : Type 0} → (o : Option (CallSeat R)) (k l : Key) → Above o k.epoch k.number → (Above o l.epoch l.number → ⊥) → IsLater k l
 later_by None k l a not = absurd (not tt)
 later_by (Some seat) k l a not = later_seat (pair_below seat.epoch seat.number l.epoch l.number) seat.epoch seat.number k l refl a not
 
@@ -985,9 +986,24 @@ top_runs : (k : Key) (past : List Entry) (vs : List Version) (own : List Line) �
 top_runs k past [] own r = r
 top_runs k past (v ∷ vs) own r = top_runs k past vs (lines.Version v ∷ own) (record { boot = r.boot; up = r.up; given = r.given; first = r.first })
 
-pub granted_then : (s : Script) (past : List Entry) (own : List Line) (n x : ℕ) (fs : List Found) (tail : List Line) → GoodGrant the_server (Client n) x past own → AreGood s (actors.Node the_server) past (onto own (granted the_server (Client n) x fs [])) tail → AreGood s (actors.Node the_server) past own (granted the_server (Client n) x fs tail)
-granted_then s past own n x [] tail g h = h
-granted_then s past own n x (f ∷ fs) tail g h = ((refl, g), granted_then s past (lines.Grant the_server (Client n) f.fid f.vnode.index x ∷ own) n x fs tail (grant_more (Client n) f.fid f.vnode.index x past own g) h)
+top_grant : (c : Node) (f : Fid) (vs : List Version) (own o : List Line) → last_grant the_server c f (on_top vs own ++ o) ≡ last_grant the_server c f (own ++ o)
+top_grant c f [] own o = refl
+top_grant c f (v ∷ vs) own o = top_grant c f vs (lines.Version v ∷ own) o
+
+-- grants to one client are none to another
+granted_grant : (c : Node) (f : Fid) (n x : ℕ) (fs : List Found) (own o : List Line) → (Client n ≡ c → ⊥) → last_grant the_server c f (onto own (granted the_server (Client n) x fs []) ++ o) ≡ last_grant the_server c f (own ++ o)
+granted_grant c f n x [] own o ne = refl
+granted_grant c f n x (g ∷ fs) own o ne =
+    let l : Line = lines.Grant the_server (Client n) g.fid g.vnode.index x in
+    granted_grant c f n x fs (l ∷ own) o ne ∙ grant_before_to c f l (own ++ o) (ap not (node_apart (Client n) c ne))
+
+top_given : (vs : List Version) (own : List Line) (sent : List Message) → given_message (on_top vs own) sent ≡ given_message own sent
+top_given [] own sent = refl
+top_given (v ∷ vs) own sent = top_given vs (lines.Version v ∷ own) sent
+
+top_last : (f : Fid) (vs : List Version) (own o : List Line) → last_version f (on_top vs own ++ o) ≡ last_version f (on_top vs (own ++ o))
+top_last f [] own o = refl
+top_last f (v ∷ vs) own o = top_last f vs (lines.Version v ∷ own) o
 
 on_rising : (vs : List Version) (o : List Line) → Rising o → Rising (on_top vs o)
 on_rising [] o h = h
@@ -1015,6 +1031,7 @@ saves_by_turn s c past armed p n h user call id st es shown H up at w q =
     let fronted : e.lines ≡ front ++ tl = ap (λ (ls : List Line). lines.Given p ∷ lines.Change the_server k (length vs) ∷ ls) (versioned_front vs [] tl) in
     let are : e.lines ≡ pre ++ t.lines = ap (λ (ls : List Line). lines.Given p ∷ lines.Change the_server k (length vs) ∷ ls) (ap (versioned vs) (granted_front n x fs t.lines) ∙ versioned_front vs (granted the_server (Client n) x fs []) t.lines) in
     let base0 : List Line = on_top vs (base y k (length vs) (lines_of past)) in
+    let answer : answer_at user call past ≡ Some (changes es shown) = answer_is user call id st.volume es shown c.server.lasting.volumes past q.of_volume q.at H.ideal q.result in
     let hd : Held = record { reply = r; waits = numbers os ++ alls b0.lists.owed; again = false } in
     let loads : BackedIn None (loaded t) c.server.lasting.boot (seats_after c n h r) (seats_of c) c.clock c.sent (e ∷ past) =
     change_loaded (Client n) b0 t.backs.lists.promises t.backs.lists.last_owed c.server.lasting.boot c.server.seats (seats_after c n h r) (seats_of c) c.clock c.sent e past pre os hd (call_at n h user call) B
@@ -1053,19 +1070,28 @@ saves_by_turn s c past armed p n h user call id st es shown H up at w q =
             saves_change_good s c past (lines.Given p ∷ []) tl n h user call id st.volume es shown H w q (inl (runs_here s c past p n h user call H up at w)) (H.new _ w.above_durable) (changed_later s c past n h user call H w) (λ z. z) refl (H.home id st.volume q.at) (no_versions tl notes)
                 (λ j f z ne d l u. owe_behind (Client j) (Some f) vs tl (owe_granted (Client j) (Some f) n x fs t.lines (has_owe (Client j) f z b0.lists.last_owed (hits (Client n) vs b0.lists.promises) (touched_hit (Client n) (Client j) f z vs b0.lists.promises ne d (B.promised (Client j) f z l (subst (λ (i : ℕ). i < z) H.clock u)).1)))),
           ),
-          versions_good s past _ tl vs tt (granted_then s past (on_top vs (lines.Change the_server k (length vs) ∷ lines.Given p ∷ [])) n x fs t.lines
-              (record {
+          versions_good s past _ tl vs tt (granted_then s past (on_top vs (lines.Change the_server k (length vs) ∷ lines.Given p ∷ [])) (Client n) x fs t.lines
+              (λ f yes. let made = newly id (the_user user) call st.volume es shown f q.of_volume q.result yes in record {
                 key = k;
                 node = refl;
                 ran = let r0 = runs_here s c past p n h user call H up at w in top_runs k past vs (lines.Change the_server k (length vs) ∷ lines.Given p ∷ []) (record { boot = r0.boot; up = r0.up; given = r0.given; first = r0.first });
                 going = λ z. top_stopped vs (lines.Change the_server k (length vs) ∷ lines.Given p ∷ []) z;
+                user = user;
+                call = call;
+                carries = ap (option_map (λ (m : Message). m.carried)) (top_given vs (lines.Change the_server k (length vs) ∷ lines.Given p ∷ []) (sent_of past) ∙ at_told s c past p (call_at n h user call) H at);
+                code = ap code_given answer;
+                promises = subst (IsPromisedBy f.fid call) (sym answer) made.asked;
+                newest = ap (option_map (λ (v : Version). v.index)) (top_last f.fid vs (lines.Change the_server k (length vs) ∷ lines.Given p ∷ []) (lines_of past) ∙ made_last id st.volume es shown call f (lines.Change the_server k (length vs) ∷ lines.Given p ∷ lines_of past) made (told_at y s c past user call id st.volume es shown k H q).sound);
                 lasts = ap (λ (i : ℕ). i + promise_ticks) (sym (top_clock vs (lines.Change the_server k (length vs) ∷ lines.Given p ∷ []) (lines_of past) ∙ H.clock));
               })
               (numbers_good s b0.lists.last_owed (hits (Client n) vs b0.lists.promises) past (onto (on_top vs (lines.Change the_server k (length vs) ∷ lines.Given p ∷ [])) (granted the_server (Client n) x fs []))
               (subst (λ (i : ℕ). i ≤ b0.lists.last_owed) (sym (granted_top n x fs (on_top vs (lines.Change the_server k (length vs) ∷ lines.Given p ∷ [])) (lines_of past) ∙ top_number vs (lines.Change the_server k (length vs) ∷ lines.Given p ∷ []) (lines_of past))) B.numbered)
               (all_map (IsHit (Client n) vs) (λ (o : Promise). IsWithdrawn the_server o.client o.fid (onto (on_top vs (lines.Change the_server k (length vs) ∷ lines.Given p ∷ [])) (granted the_server (Client n) x fs [])))
               (λ o z. (skips (granted the_server (Client n) x fs []) (granted_notes (Client n) x fs [] tt)).withdrawn the_server o.client o.fid (on_top vs (lines.Change the_server k (length vs) ∷ lines.Given p ∷ [])) (on_breaks the_server o.client o.fid vs (lines.Change the_server k (length vs) ∷ lines.Given p ∷ []) (refl, λ q. z.1 (sym q)) z.0))
-              (hits (Client n) vs b0.lists.promises) (hits_hit (Client n) vs b0.lists.promises)))),
+              (hits (Client n) vs b0.lists.promises) (hits_hit (Client n) vs b0.lists.promises))
+              (two_all (IsOfOther (Client n)) (IsGranted (lines_of past)) (λ (o : Promise). (i : ℕ) × (last_grant the_server o.client o.fid (onto (on_top vs (lines.Change the_server k (length vs) ∷ lines.Given p ∷ [])) (granted the_server (Client n) x fs []) ++ lines_of past) ≡ Some i))
+              (λ o other was. (o.expiry, granted_grant o.client o.fid n x fs (on_top vs (lines.Change the_server k (length vs) ∷ lines.Given p ∷ [])) (lines_of past) (λ q. other (sym q)) ∙ (top_grant o.client o.fid vs (lines.Change the_server k (length vs) ∷ lines.Given p ∷ []) (lines_of past) ∙ was)))
+              (hits (Client n) vs b0.lists.promises) (hits_other (Client n) vs b0.lists.promises) (all_hits (IsGranted (lines_of past)) (Client n) vs b0.lists.promises (B.granted refl))))),
         ),
       );
       holds = saves_holds y s (Some c.server.lasting.boot) c past (pumped the_server c.server.lasting.boot t).backs armed None n h user call c.clock id st es shown H w q (has_run s c past p n h user call e H up at w refl refl) (saves_boot y k vs r past ∙ (sk.boot _ ∙ up_boots s c past H up)) (unheard_after s c past p n h user call r e H up at w refl) tt

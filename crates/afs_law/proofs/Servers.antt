@@ -1,14 +1,12 @@
 use Rattle.afs_law.proofs.OneCell as one
-use Rattle.afs_law.proofs.Agreeing.{held, trusted_good}
+use Rattle.afs_law.proofs.Agreeing.{trusted_good}
 use Rattle.afs_law.specs.Ideal.{set_up}
-use Rattle.afs_law.specs.Laws.{IsHeld}
 use Rattle.afs_law.specs.Legal.{GoodRead}
 use Rattle.afs_law.specs.Once.{past_of}
 use Rattle.afs_law.specs.OneServer.{AreAtServer, IsOneServer}
 use Rattle.afs_ideal.specs.Tables.{Table, get, set}
 use Rattle.afs_ideal.specs.Volumes.{Volume}
 use Rattle.afs_history.specs.declared.acts.Act.{Act}
-use Rattle.afs_num.specs.Nodes.{same_node}
 use Rattle.afs_num.specs.declared.types.Fid.{Fid}
 use Rattle.afs_num.specs.declared.types.Node.{Node}
 use Rattle.afs_num.specs.declared.types.Node.TheVariants.{Loc, Server, Client, Admin}
@@ -233,9 +231,6 @@ run_same s h end is r = record {
 }
 
 -- ---- the laws
-
-pub run_held : (s : Script) (h : List Entry) (end : Cell) → IsOneServer s → RunsTo h s end → (id : ℕ) → IsHeld id (end.hosts 1).state.lasting.volumes (past_of (set_up s ∷ []) h)
-run_held s h end is r = held s h (seen_in end) is (run_same s h end is r)
 
 pub run_trusted : (s : Script) (h : List Entry) (end : Cell) → IsOneServer s → RunsTo h s end → (j : ℕ) → (end.clients j).running ≡ None → (f : Fid) (e : CacheEntry) → find_cached f (end.clients j).cache ≡ Some e → end.clock < e.expiry
     → ((body : Body) → e.body ≡ Some body → GoodRead s (Client j) f e.index Cached (body_shown.Contents body) (past_of (set_up s ∷ []) h) []) × GoodRead s (Client j) f e.index Cached (body_shown.Status e.status) (past_of (set_up s ∷ []) h) []

@@ -26,8 +26,8 @@ use Rattle.afs_law.proofs.Turning.{loaded, TurnSends, Pumps, pumps, expired_back
 use Rattle.afs_rows.specs.Callbacks.{Turn, replies_of, pumped, expired, turn_for, no_turn, settles, settles_by, is_back_awaited, renews, renews_by, turned_by, Started, starts, starts_by, held_after, given_out, if_to, put_at}
 use Rattle.afs_rows.specs.ClientRow.{names_told, body_told}
 use Rattle.afs_rows.specs.Going.{asked, Going}
-use Rattle.afs_law.specs.Ideal.{shown_status, Tells, TellsIn, TellsOf, volume_after, version_in, latest, IsThat, user_of, clock_of, last_version, HasVersion, reach, call_under}
-use Rattle.afs_law.specs.Legal.{HasChange, GoodGrant, IsThere, code_given, IsResult, RunsHere, AreGood, Cause, IsTold, answer_at, answer_on, as_asked}
+use Rattle.afs_law.specs.Ideal.{shown_status, Tells, TellsIn, TellsOf, volume_after, version_in, latest, IsThat, clock_of, last_version, HasVersion, reach, call_under}
+use Rattle.afs_law.specs.Legal.{IsPromisedBy, HasChange, GoodGrant, IsThere, code_given, IsResult, RunsHere, AreGood, Cause, IsTold, answer_at, answer_on, as_asked}
 use Rattle.afs_history.specs.declared.lines.Line.{Line}
 use Rattle.afs_law.specs.Past.{IsCallFrom, IsToCome, server_boot, IsCall, code_told, IsUnheard, lines_of, sent_of, given_message, called_key, HasCode, IsCallUnder, Ran, onto, same_key, answered_key}
 use Rattle.afs_rows.specs.Runs.{Entry, message_at, Armed, Fall}
@@ -56,7 +56,7 @@ use Rattle.afs_num.specs.Nodes.{same_node}
 use Rattle.afs_breaks.specs.declared.types.Promise.{Promise}
 use Rattle.afs_law.proofs.Promising.{Owed, without_promises, shows_turn, shows_turn_is}
 use Rattle.afs_law.specs.Grants.{has_fetched, IsDropped}
-use Rattle.afs_law.specs.Breaks.{is_in, is_call_from, is_to_come, returned_in, returned_by, is_call, lines_at, fids_given_up, has_answer, drops_of, is_told}
+use Rattle.afs_law.specs.Breaks.{IsNamedIn, is_in, is_call_from, is_to_come, returned_in, returned_by, is_call, lines_at, fids_given_up, has_answer, drops_of, is_told}
 use Rattle.afs_rows.specs.ServerSteps.{stepped, done}
 use Rattle.afs_law.proofs.Keeping.{at_placed}
 use Rattle.afs_records.specs.Durable.{Stored}
@@ -398,6 +398,7 @@ ran_now s c past p n h user call e H up sent w is at = record {
   given = is ∙ at_told s c past p _ H sent;
   is_call = tt;
   key = refl;
+  opcode = refl;
   boot = w.boot;
   up = up_boots s c past H up;
   callee = refl;
@@ -745,14 +746,6 @@ grants_last : (c : Node) (x : ℕ) (fs : List Found) (f : Fid) (o : List Line) �
 grants_last c x [] f o = refl
 grants_last c x (g ∷ fs) f o = grants_last c x fs f (lines.Grant the_server c g.fid g.vnode.index x ∷ o)
 
--- grants are good where a call of the client runs
-pub grant_more : (c : Node) (f : Fid) (i x : ℕ) (past : List Entry) (own : List Line) → GoodGrant the_server c x past own → GoodGrant the_server c x past (lines.Grant the_server c f i x ∷ own)
-grant_more c f i x past own g = record { key = g.key; node = g.node; ran = record { boot = g.ran.boot; up = g.ran.up; given = g.ran.given; first = g.ran.first }; going = g.going; lasts = g.lasts }
-
-pub granted_good : (s : Script) (past : List Entry) (own : List Line) (c : Node) (x : ℕ) (fs : List Found) → GoodGrant the_server c x past own → AreGood s (actors.Node the_server) past own (granted the_server c x fs [])
-granted_good s past own c x [] g = tt
-granted_good s past own c x (f ∷ fs) g = ((refl, g), granted_good s past (lines.Grant the_server c f.fid f.vnode.index x ∷ own) c x fs (grant_more c f.fid f.vnode.index x past own g))
-
 pub version_fid : (f : Fid) (v : Volume) (x : Vnode) → vnode_of f v ≡ Some x → (version_at f.volume f.vnode x).fid ≡ f
 version_fid f v x e = ap (λ (u : ℕ). fid_at f.volume f.vnode u) (own_unique f.unique (get f.vnode v.vnodes) x e)
 
@@ -810,6 +803,64 @@ IsRead c call r = ⊥
 abbrev pub IsAmong : Found → List Found → Type 0
 IsAmong f [] = ⊥
 IsAmong f (x ∷ xs) = (x ≡ f) ⊎ IsAmong f xs
+
+-- each of these may be granted here
+abbrev pub AreGrants : Node → ℕ → List Entry → List Line → List Found → Type 0
+AreGrants c x past own fs = (f : Found) → IsAmong f fs → GoodGrant the_server c f.fid f.vnode.index x past own
+
+-- behind one grant the next is good
+grant_more : (c : Node) (x : ℕ) (g : Found) (past : List Entry) (own : List Line) (f : Found) → GoodGrant the_server c f.fid f.vnode.index x past own → GoodGrant the_server c f.fid f.vnode.index x past (lines.Grant the_server c g.fid g.vnode.index x ∷ own)
+grant_more c x g past own f h = record {
+  key = h.key;
+  node = h.node;
+  ran = record { boot = h.ran.boot; up = h.ran.up; given = h.ran.given; first = h.ran.first };
+  going = h.going;
+  user = h.user;
+  call = h.call;
+  carries = h.carries;
+  code = h.code;
+  promises = h.promises;
+  newest = h.newest;
+  lasts = h.lasts;
+}
+
+pub granted_then : (s : Script) (past : List Entry) (own : List Line) (c : Node) (x : ℕ) (fs : List Found) (tail : List Line) → AreGrants c x past own fs → AreGood s (actors.Node the_server) past (onto own (granted the_server c x fs [])) tail → AreGood s (actors.Node the_server) past own (granted the_server c x fs tail)
+granted_then s past own c x [] tail w h = h
+granted_then s past own c x (f ∷ fs) tail w h = ((refl, w f (inl refl)), granted_then s past (lines.Grant the_server c f.fid f.vnode.index x ∷ own) c x fs tail (λ g z. grant_more c x f past own g (w g (inr z))) h)
+
+-- what a reading call is told stands in the server's volumes, and it asked for that
+record IsShown (c : Cell) (f : Found) : Type 0 where
+  stored : Stored
+  at : get f.fid.volume c.server.lasting.volumes ≡ Some stored
+  found : vnode_of f.fid stored.volume ≡ Some f.vnode
+
+seen_shown : (c : Cell) (g : Fid) (st : Stored) (x f : Found) → IsSeen c g st x → x ≡ f → (g ≡ f.fid) × IsShown c f
+seen_shown c g st x f h e = (
+  h.fid ∙ ap (λ (z : Found). z.fid) e,
+  record { stored = st; at = subst (λ (z : Found). get z.fid.volume c.server.lasting.volumes ≡ Some st) e h.at; found = subst (λ (z : Found). vnode_of z.fid st.volume ≡ Some z.vnode) e h.found },
+)
+
+look_shown : (c : Cell) (g : Fid) (st : Stored) (x f : Found) → IsSeen c g st x → IsAmong f (x ∷ []) → (g ≡ f.fid) × IsShown c f
+look_shown c g st x f h (inl e) = seen_shown c g st x f h e
+look_shown c g st x f h (inr none) = absurd none
+
+all_shown : (c : Cell) (fids : List Fid) (xs : List Sight) (f : Found) → AllSeen c fids xs → IsAmong f (map (λ (x : Sight). x.found) xs) → IsNamedIn f.fid fids × IsShown c f
+all_shown c [] [] f h none = absurd none
+all_shown c [] (x ∷ xs) f h z = absurd h
+all_shown c (g ∷ fids) [] f h none = absurd none
+all_shown c (g ∷ fids) (x ∷ xs) f h (inl e) = let y = seen_shown c g x.stored x.found f h.0 e in (inl y.0, y.1)
+all_shown c (g ∷ fids) (x ∷ xs) f h (inr z) = let y = all_shown c fids xs f h.1 z in (inr y.0, y.1)
+
+-- it is promised what it asked for
+read_shown : (c : Cell) (call : FsCall) (r : Reading) (o : Option Result) (f : Found) → IsRead c call r → IsAmong f r.granted → IsPromisedBy f.fid call o × IsShown c f
+read_shown c (calls.FetchData g p w) r o f x z = look_shown c g x.stored x.found f x.seen (subst (λ (y : Reading). IsAmong f y.granted) x.is z)
+read_shown c (calls.FetchAcl g) r o f x z = absurd (subst (λ (y : Reading). IsAmong f y.granted) x.look.is z)
+read_shown c (calls.FetchStatus g) r o f x z = look_shown c g x.stored x.found f x.seen (subst (λ (y : Reading). IsAmong f y.granted) x.is z)
+read_shown c (calls.GetVolumeStatus k) r o f x z = absurd (subst (λ (y : Reading). IsAmong f y.granted) x.is z)
+read_shown c (calls.GiveUpCallBacks fids callbacks) r o f x z = absurd (subst (λ (y : Reading). IsAmong f y.granted) x z)
+read_shown c calls.GetTime r o f x z = absurd (subst (λ (y : Reading). IsAmong f y.granted) x.is z)
+read_shown c (calls.BulkStatus fids) r o f x z = all_shown c fids x.sights f x.seen (subst (λ (y : Reading). IsAmong f y.granted) x.is z)
+read_shown c call r o f x z = absurd x
 
 -- the index of what stands under a fid
 abbrev index_of : Option Vnode → ℕ
@@ -944,7 +995,7 @@ told_still k o ls h = tt
 
 more_answers : (k : Key) (ms ns : List Message) → has_answer k ms ≡ true → has_answer k (ms ++ ns) ≡ true
 more_answers k [] ns h = absurd cc
-more_answers k (m ∷ ms) ns h = answers_by (same_key (answered_key m.head) k && is_told m.carried) k ms ns h (more_answers k ms ns)
+more_answers k (m ∷ ms) ns h = answers_by (same_key (answered_key m.head) k && is_told m.head.half m.carried) k ms ns h (more_answers k ms ns)
 
 by_answer : (boot : ℕ) (k : Key) (t : Started) (o : Owed) (x : Option BackCall) → has_answer k t.sent ≡ true → has_answer k (starts_by the_server boot t o x).sent ≡ true
 by_answer boot k t o None h = more_answers k t.sent _ h
@@ -1019,7 +1070,22 @@ shows_by s c past armed p n h user call r H up at w is code done =
     (granted_to_client t n fs (without_promises (Client n) r.given_up ps) (gone_to_clients (Client n) r.given_up ps (B.clients refl).promised))
     (all_promised (Client n) t c.clock fs (lines.Given p ∷ before_own e past) (without_promises (Client n) r.given_up ps) given)) (record { good = tt; calls = tt; dones = tt }) boots in
     record {
-      good = (refl, granted_good s past (lines.Given p ∷ []) (Client n) t fs (record { key = called_key (client_head n h); node = refl; ran = runs_here s c past p n h user call H up at w; going = λ z. z; lasts = ap (λ (i : ℕ). i + promise_ticks) (sym H.clock) }));
+      good = (
+        refl,
+        granted_then s past (lines.Given p ∷ []) (Client n) t fs [] (λ f yes. let q = read_shown c call r (answer_at user call past) f is yes in record {
+          key = called_key (client_head n h);
+          node = refl;
+          ran = runs_here s c past p n h user call H up at w;
+          going = λ z. z;
+          user = user;
+          call = call;
+          carries = ap (option_map (λ (m : Message). m.carried)) (at_told s c past p (call_at n h user call) H at);
+          code = code;
+          promises = q.0;
+          newest = ap (option_map (λ (y : Version). y.index)) (found_last s c past f.fid q.1.stored.volume f.vnode H (ap (option_map (λ (x : Stored). x.volume)) q.1.at) q.1.found);
+          lasts = ap (λ (i : ℕ). i + promise_ticks) (sym H.clock);
+        }) tt,
+      );
       holds = serves false s (Some c.server.lasting.boot) c past n h user call z e (stock c.server) (pumped the_server c.server.lasting.boot turn).backs None armed H w
           (serves_still s c past n h user call z e H w rest.file rest.reach rest.act (λ g. rest.last g (lines_of past)) (λ id. H.ideal id ∙ sym (rest.ideal id)) (λ id v found. rest.home id (lines_of past) (H.home id v found)) (λ key above. rest.new key (lines_of past) (H.new key above)) (λ key y. changed_before key (lines_of past) (lines_of (e ∷ past)) (rest.new key (lines_of past)) y) (k.clock (lines.Given p ∷ lines_of past) ∙ H.clock)
           (λ f i b x. subst (λ (o : Option Version). i ≤ index_in o) (sym (rest.last f (lines_of past))) (H.top f i b (rest.back f i b (lines_of past) x))) (λ f i a b x y. H.one f i a b (rest.back f i a (lines_of past) x) (rest.back f i b (lines_of past) y)) (λ y. y)

@@ -25,12 +25,11 @@ use Rattle.afs_rows.specs.States.{BackCall, CacheEntry, Seat}
 use Rattle.afs_law.specs.Breaks.{AllOwes, live_grant, lines_at}
 use Rattle.afs_law.specs.Grants.{fetch_reply}
 use Rattle.afs_law.specs.Ideal.{user_of, set_up}
-use Rattle.afs_law.proofs.Answering.{same_parts}
-use Rattle.afs_law.specs.Laws.{seat_key, IsAccounted, IsAwaited, IsHandled, IsOwedIn, IsPromisedIn}
+use Rattle.afs_law.specs.Laws.{IsAccounted, IsAwaited, IsHandled, IsOwedIn, IsPromisedIn}
 use Rattle.afs_law.specs.Legal.{as_asked, Cause}
 use Rattle.afs_law.specs.Once.{past_of}
 use Rattle.afs_law.specs.OneServer.{IsOneServer}
-use Rattle.afs_law.specs.Past.{sent_of, HasCode, Ran, answered_key, lines_of}
+use Rattle.afs_law.specs.Past.{sent_of, HasCode, lines_of}
 use Rattle.afs_law.proofs.Agreeing.{at_end}
 use Rattle.afs_law.proofs.Basics.{Each, Above, IfCall, IfDone, IfReply, OfClient, OfReply, OfServer, by_client, by_server, client_number, each_at, runs_above}
 use Rattle.afs_law.proofs.Facts.{its_call, Origin, CallFact, CallIn, Holds, InScope, IsAged, IsSafe, ReplyFact, ReplyIn, view}
@@ -77,9 +76,6 @@ run_caused s h end is r j place m act at code to runs epoch number =
     let fact : ReplyFact j (view k.floors c j) past m = subst (λ (i : ℕ). ReplyFact i (view k.floors c i) past m) (client_number f.client j (sym f.to ∙ to)) f.fact in
     let a = fact.answers act runs epoch number in
     for_user s past j m a.code (its_call (end.clients j).gifts act) (asked act) a.cause (asks_is (end.clients j).gifts act) to c.sent k.sent.origins k.sent.told
-
-pub run_kept : (s : Script) (h : List Entry) (end : cells.Cell) → IsOneServer s → cells.RunsTo h s end → (j : ℕ) (seat : Seat) (m : Message) → call_seat (Client j) (end.hosts 1).state.seats ≡ Some seat → seat.reply ≡ Some m → Ran m.head (past_of (set_up s ∷ []) h) × (answered_key m.head ≡ seat_key (Client j) seat)
-run_kept s h end is r j seat m at reply = let q = ((holds_at s h end is r).clients j).kept seat m at reply in (q.1.ran, same_parts m.head.to (Client j) m.head.epoch seat.epoch m.head.number seat.number q.0.to q.0.epoch q.0.number)
 
 -- ---- promises and breaks
 

@@ -19,12 +19,12 @@ use Rattle.afs_num.specs.declared.messages.Message.{Message}
 use Rattle.afs_law.proofs.Backing.{back_pass, done_pass, CallsPass}
 use Rattle.afs_law.proofs.Basics.{both, same_node-true, Each, IfBack, IfDone, OfCall, OfReply, OfServer, ByServer, each_more, each_map, if_back, if_done, some_of}
 use Rattle.afs_law.proofs.Owing.{CarriedOwe, AllOf, all_map, all_both, all_filter, IsGranted, IsIn, IsNumberIn, HeldWaits, IsOwed, CallOut, BackIn, DoneIn, BackedIn, IsPromised, promise_to, IsClient, is_held}
-use Rattle.afs_law.specs.Breaks.{HasCome, AllOwes, EndedBy, EndedOf, EndedAll, CarriesBreak, NamesIn, WasSent}
+use Rattle.afs_law.specs.Breaks.{HasCome, AllOwes, EndedBy, EndedOf, EndedAll, CarriesBreak, NamesIn}
 use Rattle.afs_rows.specs.Callbacks.{put_at, Turn, Started, expired, is_all, waits_none, is_ready, is_reply_to, key_answered, fids_of, breaks_call, fid_before, call_for, break_message, first_of, is_for, most_breaks, carries_for, started_call, starts_by, starts, replies_of, held_after, given_out, pumped}
 use Rattle.afs_law.specs.Ideal.{clock_of}
 use Rattle.afs_law.specs.Legal.{IsBy, GoodCall, GoodGift, HasChange, GoodReply, AreGoodSent}
 use Rattle.afs_history.specs.declared.lines.Line.{Line}
-use Rattle.afs_law.specs.Past.{server_boot, lines_of, sent_of, given_message, answered_key, IsCallUnder, Sends}
+use Rattle.afs_law.specs.Past.{SendsTo, WasSent, server_boot, lines_of, sent_of, given_message, answered_key, IsCallUnder}
 use Rattle.afs_rows.specs.Runs.{Entry}
 use Rattle.afs_law.proofs.OneCell.{the_server}
 use Rattle.afs_rows.specs.States.{Seat, BackCall, Held, Backs}
@@ -304,17 +304,17 @@ put_call j k n c calls X at a b = put_by (same_node j k) j k n c (calls k) X ref
 started_pass : (t : Started) (o : Owed) → CallsPass t.backs.calls t.backs.last_call (put_at o.client (Some (started_call t.backs o)) t.backs.calls)
 started_pass t o j c at = put_call o.client j (started_call t.backs o) c t.backs.calls _ at (λ e q. inl (subst (λ (x : BackCall). t.backs.last_call < x.number) q (omega arith))) (λ e. inr (c, (e, (refl, refl))))
 
-sends_front : (k : Key) (user : List ℕ) (call : FsCall) (a b : List Message) → Sends k user call a → Sends k user call (a ++ b)
-sends_front k user call [] b h = absurd h
-sends_front k user call (m ∷ a) b (inl x) = inl x
-sends_front k user call (m ∷ a) b (inr x) = inr (sends_front k user call a b x)
+sends_front : (j : Node) (k : Key) (user : List ℕ) (call : FsCall) (a b : List Message) → SendsTo j k user call a → SendsTo j k user call (a ++ b)
+sends_front j k user call [] b h = absurd h
+sends_front j k user call (m ∷ a) b (inl x) = inl x
+sends_front j k user call (m ∷ a) b (inr x) = inr (sends_front j k user call a b x)
 
-sends_last : (k : Key) (user : List ℕ) (call : FsCall) (a : List Message) (m : Message) → Sends k user call (m ∷ []) → Sends k user call (a ++ m ∷ [])
-sends_last k user call [] m h = h
-sends_last k user call (x ∷ a) m h = inr (sends_last k user call a m h)
+sends_last : (j : Node) (k : Key) (user : List ℕ) (call : FsCall) (a : List Message) (m : Message) → SendsTo j k user call (m ∷ []) → SendsTo j k user call (a ++ m ∷ [])
+sends_last j k user call [] m h = h
+sends_last j k user call (x ∷ a) m h = inr (sends_last j k user call a m h)
 
 started_backed : (boot : ℕ) (seats : List Seat) (cs : ℕ → Option Seat) (clock : ℕ) (sent : List Message) (past : List Entry) (t : Started) (o : Owed) (x : Option BackCall) → IsBacked boot seats cs clock sent past t → IsOwed o.client (lines_of past) o → IsClient o.client
-    → ((c : BackCall) → x ≡ None → Sends (record { node = the_server; epoch = boot; number = c.number }) [] (breaks_call c.breaks) (t.sent ++ break_message the_server boot o.client (t.backs.known o.client) c ∷ []) → c ≡ started_call t.backs o → WasSent (record { node = the_server; epoch = boot; number = c.number }) [] (breaks_call c.breaks) past)
+    → ((c : BackCall) → x ≡ None → SendsTo o.client (record { node = the_server; epoch = boot; number = c.number }) [] (breaks_call c.breaks) (t.sent ++ break_message the_server boot o.client (t.backs.known o.client) c ∷ []) → c ≡ started_call t.backs o → WasSent o.client (record { node = the_server; epoch = boot; number = c.number }) [] (breaks_call c.breaks) past)
     → IsBacked boot seats cs clock sent past (starts_by the_server boot t o x)
 started_backed boot seats cs clock sent past t o (Some c) h is to was = h
 started_backed boot seats cs clock sent past t o None h is to was =
@@ -339,7 +339,7 @@ started_backed boot seats cs clock sent past t o None h is to was =
             number = le_refl _;
             client = to;
             owes = all_map (IsOwed o.client (lines_of past)) (CarriedOwe o.client n.number n.tries boot (lines_of past)) (λ z w. record { owe = w; tries = λ k a b. absurd (omega arith) }) n.breaks carried_.owes;
-            sent = was n refl (sends_last _ _ _ t.sent m (inl (refl, refl))) refl;
+            sent = was n refl (sends_last o.client _ _ _ t.sent m (inl (refl, (refl, refl)))) refl;
             carries = carried_.carries;
           })))
           (λ e. call_more j c last (last + 1) boot past le (h.outs y j c e));
@@ -360,26 +360,26 @@ started_backed boot seats cs clock sent past t o None h is to was =
     })
 
 abbrev IsSentBy : ℕ → Started → List Owed → List Entry → Type 0
-IsSentBy boot t os past = (k : Key) (user : List ℕ) (call : FsCall) → Sends k user call (starts the_server boot os t).sent → WasSent k user call past
+IsSentBy boot t os past = (j : Node) (k : Key) (user : List ℕ) (call : FsCall) → SendsTo j k user call (starts the_server boot os t).sent → WasSent j k user call past
 
-sent_by : (boot : ℕ) (t : Started) (o : Owed) (x : Option BackCall) (k : Key) (user : List ℕ) (call : FsCall) → Sends k user call t.sent → Sends k user call (starts_by the_server boot t o x).sent
-sent_by boot t o None k user call h = sends_front k user call t.sent _ h
-sent_by boot t o (Some c) k user call h = h
+sent_by : (boot : ℕ) (t : Started) (o : Owed) (x : Option BackCall) (j : Node) (k : Key) (user : List ℕ) (call : FsCall) → SendsTo j k user call t.sent → SendsTo j k user call (starts_by the_server boot t o x).sent
+sent_by boot t o None j k user call h = sends_front j k user call t.sent _ h
+sent_by boot t o (Some c) j k user call h = h
 
-sent_all : (boot : ℕ) (os : List Owed) (t : Started) (k : Key) (user : List ℕ) (call : FsCall) → Sends k user call t.sent → Sends k user call (starts the_server boot os t).sent
-sent_all boot [] t k user call h = h
-sent_all boot (o ∷ os) t k user call h = sent_all boot os (starts_by the_server boot t o (t.backs.calls o.client)) k user call (sent_by boot t o (t.backs.calls o.client) k user call h)
+sent_all : (boot : ℕ) (os : List Owed) (t : Started) (j : Node) (k : Key) (user : List ℕ) (call : FsCall) → SendsTo j k user call t.sent → SendsTo j k user call (starts the_server boot os t).sent
+sent_all boot [] t j k user call h = h
+sent_all boot (o ∷ os) t j k user call h = sent_all boot os (starts_by the_server boot t o (t.backs.calls o.client)) j k user call (sent_by boot t o (t.backs.calls o.client) j k user call h)
 
-new_sent : (boot : ℕ) (t : Started) (o : Owed) (x : Option BackCall) (c : BackCall) (k : Key) (user : List ℕ) (call : FsCall) → x ≡ None → c ≡ started_call t.backs o → Sends k user call (t.sent ++ break_message the_server boot o.client (t.backs.known o.client) c ∷ []) → Sends k user call (starts_by the_server boot t o x).sent
-new_sent boot t o None c k user call e q h = subst (λ (z : BackCall). Sends k user call (t.sent ++ break_message the_server boot o.client (t.backs.known o.client) z ∷ [])) q h
-new_sent boot t o (Some x) c k user call e q h = absurd cc
+new_sent : (boot : ℕ) (t : Started) (o : Owed) (x : Option BackCall) (c : BackCall) (j : Node) (k : Key) (user : List ℕ) (call : FsCall) → x ≡ None → c ≡ started_call t.backs o → SendsTo j k user call (t.sent ++ break_message the_server boot o.client (t.backs.known o.client) c ∷ []) → SendsTo j k user call (starts_by the_server boot t o x).sent
+new_sent boot t o None c j k user call e q h = subst (λ (z : BackCall). SendsTo j k user call (t.sent ++ break_message the_server boot o.client (t.backs.known o.client) z ∷ [])) q h
+new_sent boot t o (Some x) c j k user call e q h = absurd cc
 
 started_all : (boot : ℕ) (seats : List Seat) (cs : ℕ → Option Seat) (clock : ℕ) (sent : List Message) (past : List Entry) (os : List Owed) (t : Started) → IsBacked boot seats cs clock sent past t → AllOf (λ (o : Owed). IsOwed o.client (lines_of past) o) os → AllOf (λ (o : Owed). IsClient o.client) os → IsSentBy boot t os past → IsBacked boot seats cs clock sent past (starts the_server boot os t)
 started_all boot seats cs clock sent past [] t h is to was = h
 started_all boot seats cs clock sent past (o ∷ os) t h is to was =
     let x : Option BackCall = t.backs.calls o.client in
     let u : Started = starts_by the_server boot t o x in
-    started_all boot seats cs clock sent past os u (started_backed boot seats cs clock sent past t o x h is.0 to.0 (λ c e y q. was _ _ _ (sent_all boot os u _ _ _ (new_sent boot t o x c _ _ _ e q y)))) is.1 to.1 was
+    started_all boot seats cs clock sent past os u (started_backed boot seats cs clock sent past t o x h is.0 to.0 (λ c e y q. was _ _ _ _ (sent_all boot os u _ _ _ _ (new_sent boot t o x c _ _ _ _ e q y)))) is.1 to.1 was
 
 -- ---- the end of a step
 
@@ -451,8 +451,8 @@ pub record Pumps (boot : ℕ) (seats : List Seat) (cs : ℕ → Option Seat) (cl
   pub clients : AllOf (λ (o : Owed). IsClient o.client) t.backs.lists.owed
   pub backed : BackedIn None (pumped the_server boot t).backs boot seats cs clock (sent ++ (pumped the_server boot t).sent) past
 
-was_sent : (e : Entry) (past : List Entry) (k : Key) (user : List ℕ) (call : FsCall) → Sends k user call e.sent → WasSent k user call (e ∷ past)
-was_sent e past k user call h = inl h
+was_sent : (e : Entry) (past : List Entry) (j : Node) (k : Key) (user : List ℕ) (call : FsCall) → SendsTo j k user call e.sent → WasSent j k user call (e ∷ past)
+was_sent e past j k user call h = inl h
 
 pub pumps : (boot : ℕ) (seats : List Seat) (cs : ℕ → Option Seat) (clock : ℕ) (sent : List Message) (e : Entry) (past : List Entry) (t : Turn) → e.actor ≡ actors.Node the_server → e.sent ≡ (pumped the_server boot t).sent → clock_of (lines_of (e ∷ past)) ≡ clock → BackedIn None (loaded t) boot seats cs clock sent (e ∷ past) → TurnSends (loaded t) boot (e ∷ past) t.sent → server_boot the_server (lines_of (e ∷ past)) ≡ Some boot → Pumps boot seats cs clock sent (e ∷ past) t
 pumps boot seats cs clock sent e past t by is time h s up =
@@ -460,7 +460,7 @@ pumps boot seats cs clock sent e past t by is time h s up =
     record {
       good = calls_good boot (e ∷ past) t.backs.lists.owed _ by (good_more (e ∷ past) t.sent _ s.good (replies_good (loaded t) boot seats cs clock sent (e ∷ past) (t.outs ++ t.backs.held) h time (all_both (HeldWaits seats clock (e ∷ past)) t.outs t.backs.held q.1 q.0) up by));
       clients = (h.clients refl).owed;
-      backed = started_all boot seats cs clock sent (e ∷ past) t.backs.lists.owed _ (released boot seats cs clock sent (e ∷ past) t h s) (h.owing refl) (h.clients refl).owed (λ k user call x. was_sent e past k user call (subst (λ (ms : List Message). Sends k user call ms) (sym is) x));
+      backed = started_all boot seats cs clock sent (e ∷ past) t.backs.lists.owed _ (released boot seats cs clock sent (e ∷ past) t h s) (h.owing refl) (h.clients refl).owed (λ j k user call x. was_sent e past j k user call (subst (λ (ms : List Message). SendsTo j k user call ms) (sym is) x));
     }
 
 pub break_good : (past : List Entry) (boot : ℕ) (n : Node) (known : ℕ) (c : BackCall) → IsBy the_server past → AreGoodSent past (break_message the_server boot n known c ∷ [])

@@ -10,7 +10,7 @@ use Rattle.afs_num.specs.declared.messages.Message.{Message}
 use Rattle.afs_history.specs.declared.lines.Line.{Line}
 use Rattle.afs_history.specs.declared.lines.Line.TheVariants as lines
 use Rattle.afs_history.specs.declared.scripts.Script.{Script}
-use Rattle.afs_rows.specs.Runs.{message_at, user_at, Entry}
+use Rattle.afs_rows.specs.Runs.{user_at, Entry}
 use Rattle.afs_law.specs.Ideal.{user_of}
 use Rattle.afs_law.specs.Past.{given_message, sent_of, Ran}
 use Rattle.afs_law.proofs.Asking.{each_front}

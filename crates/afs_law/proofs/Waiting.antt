@@ -1,9 +1,13 @@
+use Rattle.afs_num.specs.declared.messages.Call.TheVariants as ask
+use Rattle.afs_num.specs.declared.messages.Carried.TheVariants as carried
+use Rattle.afs_num.specs.declared.messages.Carried.{Carried}
+use Rattle.afs_num.specs.declared.types.Key.{Key}
 use Rattle.afs_law.proofs.Nexts.{asks_is, asks_changed}
 use Rattle.afs_rows.specs.Steps.{Step}
 use Rattle.afs_num.specs.declared.types.Node.{Node}
 use Rattle.afs_law.proofs.Apart.{apart_filter}
-use Rattle.afs_law.proofs.Asking.{client_ended}
-use Rattle.afs_law.proofs.Facts.{last_key, fids_of_gifts, AreApart, IsClient, its_call}
+use Rattle.afs_law.proofs.Asking.{each_front, client_ended}
+use Rattle.afs_law.proofs.Facts.{CallIn, last_key, fids_of_gifts, AreApart, IsClient, its_call}
 use Rattle.afs_law.proofs.Passing.{late_over, all_dropped_onto, tried_idle, tried_kept, tried_once, old_over, old_within, ran_over}
 use Rattle.std.proofs.Common.{ltb-false, ◌≤◌, nat_eq, not, ◌≡◌, ℕ, ◌+◌, inl, inr, Bool, true, false, cond, nat_lt, List, [], ◌∷◌, ◌++◌, Option, Some, None, refl, sym, ap, subst, ◌∙◌, arith}
 use Rattle.std.specs.Prelude.{◌&&◌}
@@ -11,7 +15,7 @@ use Rattle.afs_num.specs.declared.histories.Actor.TheVariants as actors
 use Rattle.afs_ideal.specs.Operations.{volume_changed}
 use Rattle.afs_law.proofs.Answering.{holding, ended_facts, ended_reply, ended_stands}
 use Rattle.afs_law.proofs.Asking.{moves_back, step_entry, view_after, Passes, moves, nothing_new, runs_by_other, client_kept, call_known, reply_still, own_call, same_one}
-use Rattle.afs_law.proofs.Basics.{some_of, UpTo}
+use Rattle.afs_law.proofs.Basics.{Each, IfCall, OfCall, ByClient, by_client, some_of, UpTo}
 use Rattle.afs_law.proofs.Facts.{Ghost, IsAged, View, view, IsSafe, ReplyFact, Holds, Goes, InScope}
 use Rattle.afs_law.proofs.Passing.{PassesFile, PassesAct, PassesReach, stays, current_over, kept_over}
 use Rattle.afs_law.proofs.Resting.{voids}
@@ -23,7 +27,7 @@ use Rattle.afs_law.specs.Ideal.{last_version, user_of}
 use Rattle.afs_law.specs.Breaks.{HasTimeout}
 use Rattle.afs_law.specs.Legal.{AreGood, as_asked}
 use Rattle.afs_history.specs.declared.lines.Line.{Line}
-use Rattle.afs_law.specs.Past.{has_given, lines_of, has_begun, running, CalledSince}
+use Rattle.afs_law.specs.Past.{Sends, SendsTo, WasSent, called_key, sent_of, has_given, lines_of, has_begun, running, CalledSince}
 use Rattle.afs_rows.specs.Runs.{Entry}
 use Rattle.afs_law.proofs.OneCell.{the_server, Cell, Moved, client_moves, turned, client_falls, client_rises, waited_by}
 use Rattle.afs_rows.specs.States.{CacheEntry}
@@ -90,13 +94,27 @@ drops_alone : (n : ℕ) (es : List CacheEntry) → (has_given (dropped (Client n
 drops_alone n [] = (refl, refl)
 drops_alone n (e ∷ es) = drops_alone n es
 
+-- it was sent to the server
+sent_to : (n : ℕ) (k : Key) (user : List ℕ) (call : FsCall) (views : ℕ → View) (head : Head) (c : Carried) → k.node ≡ Client n → called_key head ≡ k → c ≡ carried.Call user (ask.File call) → OfCall (ByClient (CallIn views)) head c → head.to ≡ the_server
+sent_to n k user call views head c node key is h = (by_client n head.from (CallIn views head user call) (ap (λ (l : Key). l.node) key ∙ node) (subst (λ (x : Carried). OfCall (ByClient (CallIn views)) head x) is h)).to
+
+sends_to : (n : ℕ) (k : Key) (user : List ℕ) (call : FsCall) (views : ℕ → View) (ms : List Message) → k.node ≡ Client n → Sends k user call ms → Each (IfCall (CallIn views)) ms → SendsTo the_server k user call ms
+sends_to n k user call views [] node s h = absurd s
+sends_to n k user call views (m ∷ ms) node (inl s) h = inl (sent_to n k user call views m.head m.carried node s.0 s.1 h.0, s)
+sends_to n k user call views (m ∷ ms) node (inr s) h = inr (sends_to n k user call views ms node s h.1)
+
+called_to : (n : ℕ) (k : Key) (user : List ℕ) (call : FsCall) (views : ℕ → View) (past : List Entry) → k.node ≡ Client n → CalledSince k user call past → Each (IfCall (CallIn views)) (sent_of past) → WasSent the_server k user call past
+called_to n k user call views [] node x h = absurd x
+called_to n k user call views (e ∷ past) node (inl x) h = inl (sends_to n k user call views e.sent node x.1 (each_front (IfCall (CallIn views)) (sent_of past) e.sent h).1)
+called_to n k user call views (e ∷ past) node (inr x) h = inr (called_to n k user call views past node x.1 (each_front (IfCall (CallIn views)) (sent_of past) e.sent h).0)
+
 -- the answer is good behind the drops
 pub dead_good : (s : Script) (n : ℕ) (act : Going) (callee : Node) (epoch number : ℕ) (past : List Entry) (es : List CacheEntry) (own : List Line) → running s (Client n) (own ++ lines_of past) ≡ Some act → HasTimeout (Client n) callee epoch number 3 own → HasTimeout (Client n) callee epoch number 1 (lines_of past) → HasTimeout (Client n) callee epoch number 2 (lines_of past)
-    → has_begun (Client n) own ≡ false → (call : FsCall) → as_asked call ≡ asked act → CalledSince (record { node = Client n; epoch = epoch; number = number }) (user_of s (Client n)) call past
+    → has_begun (Client n) own ≡ false → (call : FsCall) → as_asked call ≡ asked act → CalledSince (record { node = Client n; epoch = epoch; number = number }) (user_of s (Client n)) call past → WasSent callee (record { node = Client n; epoch = epoch; number = number }) (user_of s (Client n)) call past
     → AreGood s (actors.Node (Client n)) past own (dropped (Client n) es (last_line n dead_code))
-dead_good s n act callee epoch number past [] own runs third first second before call asks called =
-    ((refl, record { act = act; runs = runs; cause = inr (inr (inl (record { is = refl; callee = callee; epoch = epoch; number = number; third = third; first = first; second = second; before = before; call = call; asks = asks; called = called }))) }), tt)
-dead_good s n act callee epoch number past (u ∷ es) own runs third first second before call asks called = (refl, dead_good s n act callee epoch number past es (lines.Drop (Client n) u.fid ∷ own) runs third first second before call asks called)
+dead_good s n act callee epoch number past [] own runs third first second before call asks called to =
+    ((refl, record { act = act; runs = runs; cause = inr (inr (inl (record { is = refl; callee = callee; epoch = epoch; number = number; third = third; first = first; second = second; before = before; call = call; asks = asks; called = called; to = to }))) }), tt)
+dead_good s n act callee epoch number past (u ∷ es) own runs third first second before call asks called to = (refl, dead_good s n act callee epoch number past es (lines.Drop (Client n) u.fid ∷ own) runs third first second before call asks called to)
 
 pub dead_safe : (call : FsCall) (t e l : ℕ) (act : Going) (o : Option Going) (cache : List CacheEntry) (aged older : Type 0) (head : Head) → o ≡ Some act → (aged → older) → IsSafe t e l o cache aged head call → IsSafe t e l None (left_in (volume_changed (asked act)) cache) older head call
 dead_safe call t e l act o cache aged older head runs w (inl x) = inl x
@@ -122,8 +140,11 @@ gives_up_by s c past n act h runs twice =
     let last : (f : Fid) → last_version f (lines_of (e ∷ past)) ≡ last_version f (lines_of past) = λ f. (skips n dead_code es).last f _ in
     let held : ℕ = (h.floors n).held in
     let g : Ghost = holding h.floors n held in
-    moves s c past n g (gives_up_on the_server n x (volume_changed call)) h (client_ended s x cache (h.own n) (left_as (volume_changed call) x.cache (h.own n).apart))
-    ((refl, ((refl, refl), drops_alone n es)), dead_good s n act the_server x.epoch x.last past es (lines.Timeout (Client n) the_server x.epoch x.last 3 ∷ []) ((h.clients n).runs act runs) (inl (refl, (refl, (refl, (refl, refl))))) ((h.tried n).told act runs 1 (omega arith) (omega arith)) ((h.tried n).told act runs 2 (omega arith) twice) refl (its_call x.gifts act) (asks_is x.gifts act) ((h.clients n).asked act runs))
+    moves s c past n g (gives_up_on the_server n x (volume_changed call)) h (client_ended s x cache (h.own n) (left_as (volume_changed call) x.cache (h.own n).apart)) (
+      (refl, ((refl, refl), drops_alone n es)),
+      dead_good s n act the_server x.epoch x.last past es (lines.Timeout (Client n) the_server x.epoch x.last 3 ∷ []) ((h.clients n).runs act runs) (inl (refl, (refl, (refl, (refl, refl))))) ((h.tried n).told act runs 1 (omega arith) (omega arith)) ((h.tried n).told act runs 2 (omega arith) twice) refl (its_call x.gifts act) (asks_is x.gifts act) ((h.clients n).asked act runs)
+          (called_to n (last_key n (view h.floors c n)) (user_of s (Client n)) (its_call x.gifts act) (view h.floors c) past refl ((h.clients n).asked act runs) (subst (λ (ms : List Message). Each (IfCall (CallIn (view h.floors c))) ms) (sym h.sent.told) h.sent.calls)),
+    )
     (drop_passes s c past n (timed x.epoch x.last) dead_code es (λ k boot y. y))
     (ended_facts s c past n cache held e h (h.clients n).holds (ended_running s n dead_code es (lines.Timeout (Client n) the_server x.epoch x.last 3 ∷ lines_of past))
     (λ k u found lasts.

@@ -21,7 +21,7 @@ use Rattle.afs_num.specs.declared.types.Node.{Node}
 use Rattle.afs_law.proofs.OneCell.{Cell, stops, the_server, server_waits, Input, begins, gives, moved, nothing, sets_stop, start, starts_again, waits}
 use Rattle.afs_law.proofs.Worked.{by_lines, stores, alters, answer, begun, entries, file, root, script, six_front}
 use Rattle.afs_law.specs.Breaks.{HasTimeout, HasStopped}
-use Rattle.afs_law.specs.Legal.{Cause, EndsAct, IsResult, Legal, answer_at, code_given}
+use Rattle.afs_law.specs.Legal.{IsPromisedBy, Cause, EndsAct, IsResult, Legal, answer_at, code_given}
 use Rattle.afs_model.specs.Messages.{spelled}
 use Rattle.afs_num.specs.Names.{name_ok}
 use Rattle.afs_num.specs.declared.types.Fid.{Fid}
@@ -31,7 +31,7 @@ use Rattle.afs_rows.specs.Runs.{Entry, comes_up, steady}
 use Rattle.afs_xdr.specs.Words.{opaque, pad, word, opaque_at, word_at, counted_at}
 use Rattle.afs_law.specs.Ideal.{set_up}
 use Rattle.afs_law.specs.Once.{past_of}
-use Rattle.afs_law.specs.Past.{server_boot, CalledSince, IsToCome, called_key, AreWithin, has_begun, IsUnheard, IsCallUnder, Ran, answered_key, code_told, given_message, lines_of, sent_of}
+use Rattle.afs_law.specs.Past.{WasSent, SendsTo, IsCall, server_boot, CalledSince, IsToCome, called_key, IsUnheard, IsCallUnder, Ran, answered_key, code_told, given_message, lines_of, sent_of}
 use Rattle.afs_num.specs.declared.calls.FsCall.{FsCall}
 use Rattle.afs_num.specs.declared.calls.FsCall.TheVariants as calls
 use Rattle.afs_num.specs.declared.histories.Actor.TheVariants as actors
@@ -48,7 +48,7 @@ use Rattle.afs_num.specs.declared.messages.Message.{Message}
 use Rattle.afs_num.specs.declared.types.Node.TheVariants.{Client, Server}
 use Rattle.std.proofs.Common.{arith, ◌<◌, ◌≤◌, ◌≡◌, ◌∙◌, true, false, ℕ, ℤ, List, [], ◌∷◌, ◌++◌, ◌⊎◌, Option, None, Some, ap, sym, subst, refl, inl, inr, negsuc, pos}
 use Rattle.std.specs.Fmt.{digits}
-use Rattle.std.specs.Prelude.{codes, drop, map, take}
+use Rattle.std.specs.Prelude.{⊤, codes, drop, map, take}
 
 -- an entry with other lines, which sends nothing
 abbrev instead : List Line → Entry → Entry
@@ -178,7 +178,7 @@ owes_ahead (e ∷ f ∷ es) = e ∷ owes_ahead (f ∷ es)
 
 owed_ahead : Legal (owes_ahead (entries (start (script 2)) six_front)) (script 2) → ⊥
 unfolding moved begin_row client_row server_row back_timeout_row wake_row start_row record_bytes head_form volume_form spelled opaque pad word laid_at led name_ok directory_bytes name_bytes rights_of image acl_text digits entry_text directory_of names_at opaque_at word_at counted_at whole_at count_at name_at spelled_at bytes_below
-owed_ahead h = h.1.1.1.0.0.0.0.1.1
+owed_ahead h = h.1.1.1.0.0.0.0.1.1.0
 
 -- a break is given up by timeouts of before it became owed
 abbrev timeouts_first : List Entry → List Entry
@@ -649,7 +649,7 @@ in_boot_one l = l
 
 begun_in_the_old_boot : Legal (alters 1 (by_lines in_boot_one) (entries (start (script 1)) (stops ∷ starts_again false comes_up ∷ []))) (script 1) → ⊥
 unfolding moved begin_row client_row server_row back_timeout_row wake_row start_row record_bytes head_form volume_form spelled opaque pad word laid_at led name_ok directory_bytes name_bytes rights_of image acl_text digits entry_text directory_of names_at opaque_at word_at counted_at whole_at count_at name_at spelled_at bytes_below
-begun_in_the_old_boot h = let e : 1 < 1 = h.1.0.1.0.1.0 in absurd (omega arith)
+begun_in_the_old_boot h = let e : 1 < 1 = h.1.0.1.0.1.0.1 in absurd (omega arith)
 
 -- ---- an act changes things once, were it long over
 
@@ -672,3 +672,203 @@ changed_twice h = h.1.1.1.1.1.0.0.0.1.0.1.alone (past_of [] (drop 1 (take 5 chan
 timed_out_beside_a_reply : Legal (alters 2 (instead (lines.Given 2 ∷ lines.Timeout (Client 1) (Server 1) 1 1 1 ∷ [])) (entries (start (script 1)) open_front)) (script 1) → ⊥
 unfolding moved begin_row client_row server_row back_timeout_row wake_row start_row record_bytes head_form volume_form spelled opaque pad word laid_at led name_ok directory_bytes name_bytes rights_of image acl_text digits entry_text directory_of names_at opaque_at word_at counted_at whole_at count_at name_at spelled_at bytes_below
 timed_out_beside_a_reply h = let e : true ≡ false = h.1.1.0.0.0.1.0.1.0.0 in absurd cc
+
+-- ---- a server that is up begins again
+
+abbrev begins_again : Entry
+begins_again = step_of (Server 1) (lines.Restart (Server 1) 2 ∷ lines.Owe (Server 1) (Client 1) None 1 ∷ []) []
+
+begun_when_up : Legal (begins_again ∷ []) (script 1) → ⊥
+unfolding moved begin_row client_row server_row back_timeout_row wake_row start_row record_bytes head_form volume_form spelled opaque pad word laid_at led name_ok directory_bytes name_bytes rights_of image acl_text digits entry_text directory_of names_at opaque_at word_at counted_at whole_at count_at name_at spelled_at bytes_below
+begun_when_up h = let e : Some 1 ≡ None = h.0.1.0.1.0.0 in absurd cc
+
+-- ---- timeouts count of the node to which the call was sent
+
+-- no call among the messages is to this node
+abbrev AreNotTo : Node → List Message → Type 0
+AreNotTo q [] = ⊤
+AreNotTo q (m ∷ ms) = (m.head.to ≡ q → IsCall m.carried → ⊥) × AreNotTo q ms
+
+abbrev NeverTo : Node → List Entry → Type 0
+NeverTo q [] = ⊤
+NeverTo q (e ∷ past) = AreNotTo q e.sent × NeverTo q past
+
+not_to : (q : Node) (k : Key) (user : List ℕ) (call : FsCall) (ms : List Message) → AreNotTo q ms → SendsTo q k user call ms → ⊥
+not_to q k user call [] h x = x
+not_to q k user call (m ∷ ms) h (inl x) = h.0 x.0 (subst IsCall (sym x.1.1) tt)
+not_to q k user call (m ∷ ms) h (inr x) = not_to q k user call ms h.1 x
+
+never_to : (q : Node) (k : Key) (user : List ℕ) (call : FsCall) (past : List Entry) → NeverTo q past → WasSent q k user call past → ⊥
+never_to q k user call [] h x = x
+never_to q k user call (e ∷ past) h (inl x) = not_to q k user call e.sent h.0 x
+never_to q k user call (e ∷ past) h (inr x) = never_to q k user call past h.1 x
+
+one_server : Server 1 ≡ Server 2 → ⊥
+one_server e = absurd cc
+
+no_client : Server 1 ≡ Client 1 → ⊥
+no_client e = absurd cc
+
+two_clients : Client 2 ≡ Client 1 → ⊥
+two_clients e = absurd cc
+
+-- a client's act is dead by timeouts of a server that it asked nothing
+abbrev of_two : Line → Line
+of_two (lines.Timeout c q e n k) = lines.Timeout c (Server 2) e n k
+of_two l = l
+
+abbrev dead_history : List Entry
+dead_history = map (by_lines of_two) (entries (start (script 1)) (begins 1 (acts.Open (operands.Fid file)) ∷ waits 1 ∷ waits 1 ∷ waits 1 ∷ []))
+
+abbrev dead_past : List Entry
+dead_past = past_of (set_up (script 1) ∷ []) (take 3 dead_history)
+
+dead_of_another_server : Legal dead_history (script 1) → ⊥
+unfolding moved begin_row client_row server_row back_timeout_row wake_row start_row record_bytes head_form volume_form spelled opaque pad word laid_at led name_ok directory_bytes name_bytes rights_of image acl_text digits entry_text directory_of names_at opaque_at word_at counted_at whole_at count_at name_at spelled_at bytes_below
+dead_of_another_server h =
+    let g = h.1.1.1.0.0.0.1.0.1 in
+    elim g.cause [
+      | inl x ↦ let e : None ≡ Some x.reply = x.by in absurd cc
+      | inr y ↦ elim y [
+        | inl x ↦ let e : negsuc 0 ≡ pos x.number = x.is in absurd cc
+        | inr z ↦ elim z [
+          | inl x ↦ elim x.third [
+            | inl t ↦
+                let none_ : NeverTo (Server 2) dead_past = ((λ e c. one_server e, tt), ((λ e c. one_server e, tt), ((λ e c. one_server e, tt), (tt, tt)))) in
+                let k : Key = record { node = Client 1; epoch = x.epoch; number = x.number } in
+                never_to (Server 2) k (codes "guest") x.call dead_past none_ (subst (λ (q : Node). WasSent q k (codes "guest") x.call dead_past) (sym t.1.0) x.to)
+            | inr none ↦ none
+          ]
+          | inr x ↦ let e : negsuc 0 ≡ pos 0 = x.is in absurd cc
+        ]
+      ]
+    ]
+
+-- a server gives a break up, and its call went to another client
+abbrev sent_to_two : Entry → Entry
+sent_to_two e = record e { sent = map (λ (m : Message). record m { head = record m.head { to = Client 2 } }) e.sent }
+
+abbrev quit_history : List Entry
+quit_history = alters 3 sent_to_two (alters 4 sent_to_two (alters 5 sent_to_two (entries (start (script 2)) (begins 1 (acts.Open (operands.Fid file)) ∷ gives 1 steady ∷ begins 2 (acts.Close (operands.Fid file) (Hex (codes "def"))) ∷ gives 3 steady ∷ server_waits (Client 1) ∷ server_waits (Client 1) ∷ server_waits (Client 1) ∷ []))))
+
+abbrev quit_past : List Entry
+quit_past = past_of (set_up (script 2) ∷ []) (take 6 quit_history)
+
+quit_for_another_client : Legal quit_history (script 2) → ⊥
+unfolding moved begin_row client_row server_row back_timeout_row wake_row start_row record_bytes head_form volume_form spelled opaque pad word laid_at led name_ok directory_bytes name_bytes rights_of image acl_text digits entry_text directory_of names_at opaque_at word_at counted_at whole_at count_at name_at spelled_at bytes_below
+quit_for_another_client h =
+    let g = h.1.1.1.1.1.1.0.0.0.1.0.1 in
+    let none_ : NeverTo (Client 1) quit_past = ((λ e c. two_clients e, tt), ((λ e c. two_clients e, tt), ((λ e c. two_clients e, tt), ((λ e c. no_client e, tt), ((λ e c. c, tt), ((λ e c. no_client e, tt), (tt, tt))))))) in
+    never_to (Client 1) (record { node = Server 1; epoch = g.epoch; number = g.number }) g.user g.call quit_past none_ g.called
+
+-- ---- a promise is what the reply to a call of the client carries
+
+abbrev grants : Fid → ℕ → Entry → Entry
+grants f index e = record e { lines = lines.Given 1 ∷ lines.Grant (Server 1) (Client 1) f index 7200 ∷ [] }
+
+file_apart : file ≡ root → ⊥
+file_apart e = let no_ : 2 ≡ 1 = ap (λ (f : Fid). f.vnode) e in absurd (omega (arith, no_))
+
+abbrev asked_past : List Entry
+asked_past = past_of (set_up (script 1) ∷ []) (entries (start (script 1)) (begins 1 (acts.Open (operands.Fid file)) ∷ []))
+
+-- a client asks for a file, and is promised its directory, which the reply doesn't show
+granted_unasked : Legal (alters 1 (grants root 1) (entries (start (script 1)) (begins 1 (acts.Open (operands.Fid file)) ∷ gives 1 steady ∷ []))) (script 1) → ⊥
+unfolding moved begin_row client_row server_row back_timeout_row wake_row start_row record_bytes head_form volume_form spelled opaque pad word laid_at led name_ok directory_bytes name_bytes rights_of image acl_text digits entry_text directory_of names_at opaque_at word_at counted_at whole_at count_at name_at spelled_at bytes_below
+granted_unasked h =
+    let g = h.1.0.0.0.1.0.1 in
+    file_apart (subst (λ (k : FsCall). IsPromisedBy root k (answer_at g.user g.call asked_past)) (sym (one_call _ _ _ _ (some_of _ _ g.carries))) g.promises)
+
+-- the promise tells an index that no version has
+granted_ahead : Legal (alters 1 (grants file 2) (entries (start (script 1)) (begins 1 (acts.Open (operands.Fid file)) ∷ gives 1 steady ∷ []))) (script 1) → ⊥
+unfolding moved begin_row client_row server_row back_timeout_row wake_row start_row record_bytes head_form volume_form spelled opaque pad word laid_at led name_ok directory_bytes name_bytes rights_of image acl_text digits entry_text directory_of names_at opaque_at word_at counted_at whole_at count_at name_at spelled_at bytes_below
+granted_ahead h = let e : Some 1 ≡ Some 2 = h.1.0.0.0.1.0.1.newest in absurd cc
+
+-- a client fetches a part of a file, which is refused, and is promised the file
+abbrev in_part : FsCall
+in_part = calls.FetchData file (pos 1) (pos 1)
+
+abbrev asks_in_part : Entry → Entry
+asks_in_part e = record e { sent = map (λ (m : Message). record m { carried = carried.Call (codes "guest") (ask.File in_part) }) e.sent }
+
+abbrev part_past : List Entry
+part_past = past_of (set_up (script 1) ∷ []) (alters 0 asks_in_part (entries (start (script 1)) (begins 1 (acts.Open (operands.Fid file)) ∷ [])))
+
+refused_not : pos 22 ≡ pos 0 → ⊥
+refused_not e = absurd cc
+
+granted_with_a_refusal : Legal (alters 0 asks_in_part (alters 1 (instead (lines.Given 1 ∷ lines.Grant (Server 1) (Client 1) file 1 7200 ∷ [])) (entries (start (script 1)) (begins 1 (acts.Open (operands.Fid file)) ∷ gives 1 steady ∷ [])))) (script 1) → ⊥
+unfolding moved begin_row client_row server_row back_timeout_row wake_row start_row record_bytes head_form volume_form spelled opaque pad word laid_at led name_ok directory_bytes name_bytes rights_of image acl_text digits entry_text directory_of names_at opaque_at word_at counted_at whole_at count_at name_at spelled_at bytes_below
+granted_with_a_refusal h =
+    let g = h.1.0.0.0.1.0.1 in
+    let same : carried.Call (codes "guest") (ask.File in_part) ≡ carried.Call g.user (ask.File g.call) = some_of _ _ g.carries in
+    refused_not (subst (λ (u : List ℕ). code_given (answer_at u in_part part_past) ≡ pos 0) (sym (one_user _ _ _ _ same)) (subst (λ (k : FsCall). code_given (answer_at g.user k part_past) ≡ pos 0) (sym (one_call _ _ _ _ same)) g.code))
+
+-- ---- a restart owes the clients of the script, and nobody else
+
+abbrev owes_two : Entry → Entry
+owes_two e = record e { lines = e.lines ++ lines.Owe (Server 1) (Client 2) None 2 ∷ [] }
+
+owed_to_a_stranger : Legal (alters 1 owes_two (entries (start (script 1)) (stops ∷ starts_again false comes_up ∷ []))) (script 1) → ⊥
+unfolding moved begin_row client_row server_row back_timeout_row wake_row start_row record_bytes head_form volume_form spelled opaque pad word laid_at led name_ok directory_bytes name_bytes rights_of image acl_text digits entry_text directory_of names_at opaque_at word_at counted_at whole_at count_at name_at spelled_at bytes_below
+owed_to_a_stranger h = let e : 2 ≤ 1 = h.1.0.0.0.1.1.0.1.1.1.1 in absurd (omega arith)
+
+-- ---- what is given back is gone from the step on that answers it, and a call answers nothing
+
+abbrev as_a_call : Entry → Entry
+as_a_call e = record e { sent = map (λ (m : Message). record m { head = record m.head { half = halves.Call } }) e.sent }
+
+-- a client drops the file, asks for it again, and gives it back; the server promises it anew, and then answers the gift by a call
+abbrev numbered : ℕ → List Message → List Message
+numbered n ms = map (λ (m : Message). record m { head = record m.head { number = n } }) ms
+
+abbrev gave_rest : List Entry
+gave_rest =
+    step_of (Client 1) (lines.Begin (Client 1) acts.GiveUp ∷ lines.Drop (Client 1) file ∷ []) (numbered 2 (sent_by (start (script 2)) (begins 1 (acts.Open (operands.Fid file)) ∷ [])) ++ numbered 3 (gift ∷ []))
+    ∷ step_of (Server 1) (lines.Given 3 ∷ lines.Grant (Server 1) (Client 1) file 1 7200 ∷ []) []
+    ∷ as_a_call (step_of (Server 1) (lines.Given 4 ∷ []) (numbered 3 (gift_answer ∷ [])))
+    ∷ step_of (Client 2) (stores 2 ∷ []) (sent_by (start (script 2)) (begins 2 (acts.Close (operands.Fid file) (Hex (codes "def"))) ∷ []))
+    ∷ step_of (Server 1) (lines.Given 6 ∷ lines.Change (Server 1) (record { node = Client 2; epoch = 1; number = 1 }) 1 ∷ lines.Version (record { fid = file; index = 2; data_version = 2; body = bodies.File (codes "def") }) ∷ []) [] ∷ []
+
+answered_by_a_call : Legal (entries (start (script 2)) open_front ++ gave_rest) (script 2) → ⊥
+unfolding moved begin_row client_row server_row back_timeout_row wake_row start_row record_bytes head_form volume_form spelled opaque pad word laid_at led name_ok directory_bytes name_bytes rights_of image acl_text digits entry_text directory_of names_at opaque_at word_at counted_at whole_at count_at name_at spelled_at bytes_below
+answered_by_a_call h = h.1.1.1.1.1.1.1.0.0.0.1.0.1.owed 1 file 7200 (λ e. absurd cc) (inl refl) refl (omega arith)
+
+-- ---- a reply has the opcode of its call
+
+-- what that says of the entry that ran it
+record RanStore (e : Entry) (older : List Entry) : Type 0 where
+  message : Message
+  given : given_message e.lines (sent_of older) ≡ Some message
+  opcode : message.head.opcode ≡ 133
+
+abbrev as_of_a_store : Head
+as_of_a_store = record { half = halves.Reply; from = Server 1; to = Client 1; epoch = 1; number = 1; boot = 1; stamp = 0; opcode = 133 }
+
+ran_store : (past : List Entry) → Ran as_of_a_store past → Among RanStore past
+ran_store past r = subst (Among RanStore) (sym r.split) (is_among RanStore r.newer r.at r.older (record { message = r.message; given = r.given; opcode = r.opcode }))
+
+stored_none : (e : Entry) (older : List Entry) → given_message e.lines (sent_of older) ≡ None → RanStore e older → ⊥
+stored_none e older none x = let no_ : None ≡ Some x.message = sym none ∙ x.given in absurd cc
+
+stored_fetch : (e : Entry) (older : List Entry) (m : Message) → given_message e.lines (sent_of older) ≡ Some m → m.head.opcode ≡ 130 → RanStore e older → ⊥
+stored_fetch e older m at fetch x = let no_ : 130 ≡ 133 = sym fetch ∙ (ap (λ (q : Message). q.head.opcode) (some_of m x.message (sym at ∙ x.given)) ∙ x.opcode) in absurd (omega (arith, no_))
+
+answered_as_a_store : Legal (alters 1 (λ e. record e { sent = map (λ (m : Message). record m { head = record m.head { opcode = 133 } }) e.sent }) (entries (start (script 1)) (begins 1 (acts.Open (operands.Fid file)) ∷ gives 1 steady ∷ []))) (script 1) → ⊥
+unfolding moved begin_row client_row server_row back_timeout_row wake_row start_row record_bytes head_form volume_form spelled opaque pad word laid_at led name_ok directory_bytes name_bytes rights_of image acl_text digits entry_text directory_of names_at opaque_at word_at counted_at whole_at count_at name_at spelled_at bytes_below
+answered_as_a_store h =
+    elim (ran_store _ (h.1.0.1.1.0 1 1 (refl, tt) refl refl)) [
+      | inl x ↦ stored_fetch _ _ _ refl refl x
+      | inr y ↦ elim y [ inl x ↦ stored_none _ _ refl x | inr z ↦ elim z [ inl x ↦ stored_none _ _ refl x | inr w ↦ w ] ]
+    ]
+
+-- ---- a break on a file is owed to who was promised it
+
+abbrev owes_one : Entry → Entry
+owes_one e = record e { lines = e.lines ++ lines.Owe (Server 1) (Client 1) (Some file) 1 ∷ []; sent = [] }
+
+owed_unpromised : Legal (alters 1 owes_one (entries (start (script 2)) (begins 2 (acts.Close (operands.Fid file) (Hex (codes "def"))) ∷ gives 1 steady ∷ []))) (script 2) → ⊥
+unfolding moved begin_row client_row server_row back_timeout_row wake_row start_row record_bytes head_form volume_form spelled opaque pad word laid_at led name_ok directory_bytes name_bytes rights_of image acl_text digits entry_text directory_of names_at opaque_at word_at counted_at whole_at count_at name_at spelled_at bytes_below
+owed_unpromised h =
+    let g = h.1.0.0.0.1.1.1.0.1.1.1 in
+    let e : None ≡ Some g.0 = g.1 in absurd cc

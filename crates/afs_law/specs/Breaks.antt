@@ -12,7 +12,9 @@ use Rattle.afs_num.specs.declared.calls.FsCall.{FsCall}
 use Rattle.afs_num.specs.declared.calls.FsCall.TheVariants as calls
 use Rattle.afs_law.specs.Ideal.{clock_of}
 use Rattle.afs_history.specs.declared.lines.Line.{Line}
-use Rattle.afs_law.specs.Past.{server_boot, onto, lines_on, lines_of, sent_of, given_message, IsCallUnder, Sends, answered_key, called_key, same_key}
+use Rattle.afs_law.specs.Past.{server_boot, onto, lines_on, lines_of, sent_of, given_message, IsCallUnder, WasSent, answered_key, called_key, same_key}
+use Rattle.afs_num.specs.declared.types.Half.{Half}
+use Rattle.afs_num.specs.declared.types.Half.TheVariants as halves
 use Rattle.afs_num.specs.declared.types.Head.{Head}
 use Rattle.afs_num.specs.declared.messages.Carried.{Carried}
 use Rattle.afs_num.specs.declared.messages.Carried.TheVariants as carried
@@ -80,13 +82,13 @@ fids_given_up (calls.GiveUpCallBacks fids callbacks) = fids
 fids_given_up call = []
 
 -- a reply with code 0
-abbrev pub is_told : Carried → Bool
-is_told (carried.Reply reply) = true
-is_told c = false
+abbrev pub is_told : Half → Carried → Bool
+is_told halves.Reply (carried.Reply reply) = true
+is_told half c = false
 
 abbrev pub has_answer : Key → List Message → Bool
 has_answer k [] = false
-has_answer k (m ∷ ms) = if (same_key (answered_key m.head) k && is_told m.carried) then true else has_answer k ms
+has_answer k (m ∷ ms) = if (same_key (answered_key m.head) k && is_told m.head.half m.carried) then true else has_answer k ms
 
 abbrev pub drops_of : Node → List Fid → List Line
 drops_of c [] = []
@@ -210,12 +212,7 @@ CarriesBreak (calls.CallBack fs callbacks) what = NamesIn what fs
 CarriesBreak calls.InitCallBackState what = what ≡ None
 CarriesBreak call what = ⊥
 
--- this call was sent under this key
-abbrev pub WasSent : Key → List ℕ → FsCall → List Entry → Type 0
-WasSent k user call [] = ⊥
-WasSent k user call (e ∷ past) = Sends k user call e.sent ⊎ WasSent k user call past
-
--- a call that carries the break was timed out for the third time in this entry, and twice since the break became owed
+-- a call to the client that carries the break was timed out for the third time in this entry, and twice since the break became owed
 pub record GoodQuit (s c : Node) (n : ℕ) (past : List Entry) (own : List Line) : Type 0 where
   pub what : Option Fid
   pub owe : OweAt s c what n (lines_of past)
@@ -226,5 +223,5 @@ pub record GoodQuit (s c : Node) (n : ℕ) (past : List Entry) (own : List Line)
   pub second : HasTimeout s c epoch number 2 owe.newer
   pub user : List ℕ
   pub call : FsCall
-  pub called : WasSent (record { node = s; epoch = epoch; number = number }) user call past
+  pub called : WasSent c (record { node = s; epoch = epoch; number = number }) user call past
   pub carries : CarriesBreak call what

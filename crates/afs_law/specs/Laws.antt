@@ -1,3 +1,8 @@
+use Rattle.afs_history.specs.Written.{bytes_in}
+use Rattle.afs_history.specs.declared.acts.Written.{Written}
+use Rattle.afs_history.specs.declared.acts.Operand.{Operand}
+use Rattle.std.specs.Option.{option_map}
+use Rattle.afs_num.specs.declared.histories.Version.{Version}
 use Rattle.afs_ideal.specs.ChangeLaws.{IsOneChange}
 use Rattle.afs_num.specs.declared.types.Key.{Key}
 use Rattle.afs_breaks.specs.declared.types.Promise.{Promise}
@@ -5,7 +10,7 @@ use Rattle.afs_breaks.specs.declared.types.OwedBreak.{OwedBreak}
 use Rattle.afs_rows.specs.Scopes.{is_in_scope}
 use Rattle.afs_law.specs.Breaks.{AllOwes, EndedBy, HasTimeout, Owes, GoodSettle, live_grant, lines_at}
 use Rattle.afs_model.specs.Calls.{admitted, call_seat}
-use Rattle.afs_rows.specs.Going.{ClientState, asked, Going}
+use Rattle.afs_rows.specs.Going.{stored_whole, ClientState, asked, Going}
 use Rattle.afs_ideal.specs.Operations.{Caller, the_user, Result, refused, reads, changes, no_operation, op, volume_called, volume_changed}
 -- Laws about the runs of a script.
 use Rattle.afs_num.specs.declared.histories.ReadSource.TheVariants.{Cached}
@@ -18,16 +23,16 @@ use Rattle.afs_records.specs.Changes.{boot_record}
 use Rattle.afs_records.specs.Durable.{folded, Stored, has_room, effect_of, Durable}
 use Rattle.afs_records.specs.Laws.{CanBeStored}
 use Rattle.std.specs.List.{AllByRecursion}
-use Rattle.afs_ideal.specs.Told.{Agrees}
-use Rattle.afs_ideal.specs.Volumes.{Volume}
-use Rattle.afs_law.specs.Grants.{since, IsOutstanding, fetch_reply}
-use Rattle.afs_law.specs.Ideal.{user_of, versions_in, volume_after, set_up, IsLast}
+use Rattle.afs_ideal.specs.Told.{live, Agrees}
+use Rattle.afs_ideal.specs.Volumes.{version_at, vnode_of, Volume}
+use Rattle.afs_law.specs.Grants.{change_below, since, IsOutstanding, fetch_reply}
+use Rattle.afs_law.specs.Ideal.{Accepts, last_version, user_of, versions_in, volume_after, set_up, IsLast}
 use Rattle.afs_law.specs.Legal.{IsCaused, HasChangeBy, GoodRead, HasChange, Legal, Cause}
 use Rattle.afs_history.specs.declared.lines.Line.{Line}
 use Rattle.afs_law.specs.Once.{past_of, ChangesOnce}
 use Rattle.afs_law.specs.OneServer.{IsOneServer}
 use Rattle.afs_law.specs.Past.{AreWithin, IsUpTo, CalledSince, HasCode, IsCall, lines_of, onto, running, IsUnheard, called_key, answered_key, Ran}
-use Rattle.afs_rows.specs.Runs.{message_at, Leads, start, Input, Entry, Cell, RunsTo, Host, first_lasting, first_stored, volumes_at}
+use Rattle.afs_rows.specs.Runs.{Fall, begun_by_disk, message_at, Leads, start, Input, Entry, Cell, RunsTo, Host, first_lasting, first_stored, volumes_at}
 use Rattle.afs_rows.specs.ServerRow.{Change, is_client, lasting_after, lasting_started, record_of, serves, runs, refuses, not_served, whole, is_client, no_room, key_of, made, versioned}
 use Rattle.afs_rows.specs.States.{CacheEntry, Seat, Lasting, durable_of, volume_in, ServerState, BackCall}
 use Rattle.afs_model.specs.FsRows.{call_number}
@@ -45,6 +50,7 @@ use Rattle.afs_history.specs.declared.scripts.VolumeLine.{VolumeLine}
 use Rattle.afs_records.specs.Changes as disks
 use Rattle.afs_history.specs.declared.scripts.Script.{Script}
 use Rattle.afs_num.specs.declared.histories.Body.{Body}
+use Rattle.afs_num.specs.declared.histories.Body.TheVariants as bodies
 use Rattle.afs_num.specs.declared.histories.ReadBody.{ReadBody}
 use Rattle.afs_num.specs.declared.histories.ReadBody.TheVariants as seen
 use Rattle.afs_num.specs.declared.histories.ReadSource.{ReadSource}
@@ -68,8 +74,18 @@ pub record IsHeld (id : ℕ) (volumes : Table Stored) (past : List Entry) : Type
   pub ideal : volume_in id volumes ≡ volume_after id past
   pub told : (v : Volume) → volume_after id past ≡ Some v → Agrees id v (versions_in (lines_of past))
 
+-- so are all of which a server accepts stores, and it holds no others
+pub record AreHeld (s : Script) (i : ℕ) (volumes : Table Stored) (past : List Entry) : Type 0 where
+  pub held : (id : ℕ) → Accepts s id (Server i) (lines_of past) → IsHeld id volumes past
+  pub alone : (id : ℕ) (v : Volume) → volume_in id volumes ≡ Some v → Accepts s id (Server i) (lines_of past)
+
+-- and of which no server does, that volume isn't there
+pub record AreTold (s : Script) (end : Cell) (past : List Entry) : Type 0 where
+  pub servers : (i : ℕ) → AreHeld s i (end.hosts i).state.lasting.volumes past
+  pub nowhere : (id : ℕ) → ((server : Node) → Accepts s id server (lines_of past) → ⊥) → volume_after id past ≡ None
+
 abbrev pub VolumesAreTold : Type 0
-VolumesAreTold = (s : Script) (history : List Entry) (end : Cell) → IsOneServer s → RunsTo history s end → (id : ℕ) → IsHeld id (end.hosts 1).state.lasting.volumes (past_of (set_up s ∷ []) history)
+VolumesAreTold = (s : Script) (history : List Entry) (end : Cell) → RunsTo history s end → AreTold s end (past_of (set_up s ∷ []) history)
 
 abbrev pub IsKnownTo : ClientState → Head → Type 0
 IsKnownTo c head = IsUpTo head.epoch head.number c.epoch c.last
@@ -123,6 +139,55 @@ abbrev pub AcknowledgedAreMade : Type 0
 AcknowledgedAreMade =
     (s : Script) (history before after : List Entry) (e : Entry) (first rest : List Line) (c : Node) (code : Code) (act : Going) → Legal history s → history ≡ before ++ (e ∷ after) → e.lines ≡ first ++ lines.Answer c code ∷ rest
     → running s c (onto [] first ++ lines_of (past_of (set_up s ∷ []) before)) ≡ Some act → IsChangingAct act.act → code.0 ≡ pos 0 → IsMade c (past_of (set_up s ∷ []) before) (onto [] first)
+
+-- the version stands under a change of this key
+abbrev pub IsOfKey : Key → Option (Node × Key) → Type 0
+IsOfKey k None = ⊥
+IsOfKey k (Some change) = change.1 ≡ k
+
+abbrev pub HasMade : Key → Version → List Line → Type 0
+HasMade k v [] = ⊥
+HasMade k v (lines.Version w ∷ older) = ((w ≡ v) × IsOfKey k (change_below older)) ⊎ HasMade k v older
+HasMade k v (l ∷ older) = HasMade k v older
+
+-- These volumes hold this version of its object, or a later one: the last one that these lines tell is it or a later one, and they hold
+-- just that. Where that says that the object is gone, they have nothing under its fid
+pub record IsKept (v : Version) (volumes : Table Stored) (told : List Line) : Type 0 where
+  pub last : Version
+  pub is_last : last_version v.fid told ≡ Some last
+  pub since : v.index ≤ last.index
+  pub same : last.index ≡ v.index → last.body ≡ v.body
+  pub volume : Volume
+  pub at : volume_in v.fid.volume volumes ≡ Some volume
+  pub held : live (Some last) ≡ option_map (version_at v.fid.volume v.fid.vnode) (vnode_of v.fid volume)
+
+-- It is so of what the server keeps. While the server is down, it is also so of what the step that was interrupted may have left,
+-- with what the restart then tells of that
+pub record Survives (v : Version) (host : Host) (past : List Entry) : Type 0 where
+  pub kept : IsKept v host.state.lasting.volumes (lines_of past)
+  pub behind : (fall : Fall) → host.down ≡ Some fall → IsKept v (begun_by_disk (Server 1) host.state true fall).state.lasting.volumes (onto (lines_of past) ((begun_by_disk (Server 1) host.state true fall).before []))
+
+-- the version gives a file the bytes that a close stores
+pub record IsClosed (act : Going) (contents : Written) (key : Key) (ls : List Line) : Type 0 where
+  pub version : Version
+  pub made : HasMade key version ls
+  pub asked_for : asked act ≡ stored_whole version.fid (bytes_in contents)
+  pub body : version.body ≡ bodies.File (bytes_in contents)
+
+-- one key of the act has a change line; where the act is a close, a version under that gives the file the bytes of the close; and each
+-- version under it survives
+pub record AreMadeAndKept (c : Node) (act : Going) (past : List Entry) (own : List Line) (host : Host) (later : List Entry) : Type 0 where
+  pub made : IsMade c past own
+  pub closed : (o : Operand) (contents : Written) → act.act ≡ acts.Close o contents → IsClosed act contents made.key (own ++ lines_of past)
+  pub survive : (v : Version) → HasMade made.key v (own ++ lines_of past) → Survives v host later
+
+-- What is acknowledged survives every crash. In every run, where an act that changes something was answered 0, what it changed, or
+-- something later, is from then on what its server's disk holds, wherever the server stops, and however often. Before the answer
+-- stand the entries `before`, and in its own entry the lines `first`; `end` is any moment behind it
+abbrev pub AcknowledgedAreKept : Type 0
+AcknowledgedAreKept =
+    (s : Script) (history before after : List Entry) (e : Entry) (first rest : List Line) (c : Node) (code : Code) (act : Going) (end : Cell) → IsOneServer s → RunsTo history s end → history ≡ before ++ (e ∷ after) → e.lines ≡ first ++ lines.Answer c code ∷ rest
+    → running s c (onto [] first ++ lines_of (past_of (set_up s ∷ []) before)) ≡ Some act → IsChangingAct act.act → code.0 ≡ pos 0 → AreMadeAndKept c act (past_of (set_up s ∷ []) before) (onto [] first) (end.hosts 1) (past_of (set_up s ∷ []) history)
 
 -- Behind a legal history, where a reply is the cause of a client's answer, its server ran the call since the act began
 abbrev pub AnswersAreRecent : Type 0
@@ -209,11 +274,11 @@ RepliesAreRan =
 abbrev pub seat_key : Node → Seat → Key
 seat_key n seat = record { node = n; epoch = seat.epoch; number = seat.number }
 
--- And so is each that the server keeps for a client, and it answers the call whose pair the seat has
+-- And so is each that a server keeps for a client: it is its own, and answers the call whose pair the seat has
 abbrev pub KeptAreRan : Type 0
 KeptAreRan =
-    (s : Script) (history : List Entry) (end : Cell) → IsOneServer s → RunsTo history s end → (j : ℕ) (seat : Seat) (m : Message) → call_seat (Client j) (end.hosts 1).state.seats ≡ Some seat → seat.reply ≡ Some m
-    → Ran m.head (past_of (set_up s ∷ []) history) × (answered_key m.head ≡ seat_key (Client j) seat)
+    (s : Script) (history : List Entry) (end : Cell) → RunsTo history s end → (i j : ℕ) (seat : Seat) (m : Message) → call_seat (Client j) (end.hosts i).state.seats ≡ Some seat → seat.reply ≡ Some m
+    → Ran m.head (past_of (set_up s ∷ []) history) × ((answered_key m.head ≡ seat_key (Client j) seat) × (m.head.from ≡ Server i))
 
 -- its reply is kept
 abbrev pub HasReply : Node → Seat → Type 0

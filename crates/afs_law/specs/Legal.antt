@@ -1,3 +1,4 @@
+use Rattle.std.specs.Option.{option_map}
 use Rattle.afs_num.specs.Fids.{same_fid}
 use Rattle.afs_rows.specs.ServerRow.{promise_ticks}
 use Rattle.std.specs.Prelude.{◌&&◌, ◌+◌, Bool, true, ◌≡◌, ℕ, ◌≤◌, ◌<◌, List, [], ◌∷◌, ◌++◌, false, Option, Some, None, ℤ, pos, negsuc, length, ⊤, ◌⊎◌, if◌then◌else◌}
@@ -14,12 +15,12 @@ use Rattle.afs_num.specs.declared.messages.Carried.{Carried}
 use Rattle.afs_num.specs.declared.messages.Message.{Message}
 use Rattle.afs_ideal.specs.Operations.{Caller, the_user, Result, refused, changes, no_operation, op, code_of, volume_called}
 use Rattle.afs_ideal.specs.Volumes.{Volume, Edit, versions_by}
-use Rattle.afs_law.specs.Breaks.{AllOwes, HasStopped, HasTimeout, EndedOf, EndedAll, GoodSettle, GoodQuit, live_grant, lines_at, HasOwe, last_number}
+use Rattle.afs_law.specs.Breaks.{last_grant, IsNamedIn, AllOwes, HasStopped, HasTimeout, EndedOf, EndedAll, GoodSettle, GoodQuit, live_grant, lines_at, HasOwe, last_number}
 use Rattle.afs_rows.specs.Going.{Going, Need, answers, asks_for, next, asked, gives_back, reads_rights}
 use Rattle.afs_law.specs.Grants.{is_promised, read_reply, GrantOf, since, until, IsWithdrawn, IsDropped}
 use Rattle.afs_law.specs.Ideal.{last_version, Unless, set_up, IsLast, WasLast, HasBeen, HasVersion, Accepts, clock_of, user_of, seen, change_in, change_key, call_under, volume_after}
 use Rattle.afs_history.specs.declared.lines.Line.{Line}
-use Rattle.afs_law.specs.Past.{last_boot, is_late, called_key, IsToCome, is_of_act, lines_of, sent_of, given_message, answered_key, code_told, IsReply, running, has_begun, has_given, Called, CalledSince, IsCallUnder, Ran, server_boot}
+use Rattle.afs_law.specs.Past.{WasSent, last_boot, is_late, called_key, IsToCome, is_of_act, lines_of, sent_of, given_message, answered_key, code_told, IsReply, running, has_begun, has_given, Called, CalledSince, IsCallUnder, Ran, server_boot}
 use Rattle.afs_rows.specs.Runs.{Entry}
 use Rattle.afs_history.specs.declared.scripts.Script.{Script}
 use Rattle.afs_num.specs.declared.histories.Actor.{Actor}
@@ -193,10 +194,10 @@ pub record RanBefore (server : Node) (k : Key) (past : List Entry) (own next : L
 
 -- A change runs a key for the first time, at a server that accepts stores of the volume, and is the only one of its entry. What
 -- the server changed before for the same node it did under keys of earlier calls, and while an act runs there, under none of
--- that act. No server did under another key of this key's act, were that long over: an act changes things once. The entry ran the key's call, or is the restart behind the one that was interrupted in that.
--- The key's call was sent by its node, for its user, and is that of the act that ran there, with the act's own bytes. The
--- versions that follow are just those of the ideal operation on the ideal volume. Each other client's last grant on one of their
--- fids that lasts has a break behind the change
+-- that act. No server did under another key of this key's act, were that long over: an act changes things once. The entry ran the
+-- key's call, or is the restart behind the one that was interrupted in that. The key's call was sent by its node, for its user, and
+-- is that of the act that ran there, with the act's own bytes. The versions that follow are just those of the ideal operation on the
+-- ideal volume. Each other client's last grant on one of their fids that lasts has a break behind the change
 pub record GoodChange (s : Script) (server : Node) (k : Key) (count : ℕ) (past : List Entry) (own next : List Line) : Type 0 where
   pub fresh : IsNew k (own ++ lines_of past)
   pub latest : (l : Key) → HasChangeBy server l (own ++ lines_of past) → l.node ≡ k.node → IsLater k l
@@ -224,24 +225,21 @@ pub record GoodChange (s : Script) (server : Node) (k : Key) (count : ℕ) (past
   pub owed : (j : ℕ) (f : Fid) (x : ℕ) → (Client j ≡ k.node → ⊥) → IsChanged f (versions_first next) → live_grant server (Client j) f (own ++ lines_at server past) ≡ Some x → clock_of (own ++ lines_of past) < x → HasOwe server (Client j) (Some f) next
   pub home : Accepts s id server (own ++ lines_of past)
 
--- the server grants in the entry that runs a call of the client, and so long
-pub record GoodGrant (server c : Node) (expiry : ℕ) (past : List Entry) (own : List Line) : Type 0 where
-  pub key : Key
-  pub node : key.node ≡ c
-  pub ran : RunsHere server key past own
-  pub going : HasStopped server own → ⊥
-  pub lasts : expiry ≡ clock_of (own ++ lines_of past) + promise_ticks
-
 -- the server began again in this entry
 abbrev pub HasRisen : Node → List Line → Type 0
 HasRisen s [] = ⊥
 HasRisen s (lines.Restart n boot ∷ own) = (n ≡ s) ⊎ HasRisen s own
 HasRisen s (l ∷ own) = HasRisen s own
 
--- a break becomes owed where a fid changes, or where the server began again
-abbrev pub GoodOwe : Node → Node → Option Fid → List Line → Type 0
-GoodOwe s c None own = HasRisen s own
-GoodOwe s c (Some f) own = IsWithdrawn s c f own
+-- a client that the script has
+abbrev pub IsClientOf : Script → Node → Type 0
+IsClientOf s (Client j) = (1 ≤ j) × (j ≤ s.clients)
+IsClientOf s n = ⊥
+
+-- a break becomes owed where a fid changes that the client was promised, or, to each client of the script, where the server began again
+abbrev pub GoodOwe : Script → Node → Node → Option Fid → List Entry → List Line → Type 0
+GoodOwe s server c None past own = HasRisen server own × IsClientOf s c
+GoodOwe s server c (Some f) past own = IsWithdrawn server c f own × ((expiry : ℕ) × (last_grant server c f (own ++ lines_of past) ≡ Some expiry))
 
 -- a version stands under its change; that these are not too many is said of the change
 abbrev pub IsUnderChange : List Line → Type 0
@@ -342,7 +340,8 @@ pub record IsDone (s : Script) (c : Node) (act : Going) (code : ℤ) (past : Lis
   pub by : next act ≡ answers number
   pub last : IsAtOnce c own ⊎ (HasUsed s c past own × (has_read c own ≡ true))
 
--- a call of this very act was timed out for the third time in this entry, and twice before: it is dead
+-- a call of this very act was timed out for the third time in this entry, and twice before: it is dead. The timeouts are of the
+-- node to which it was sent
 pub record IsDead (s : Script) (c : Node) (act : Going) (code : ℤ) (past : List Entry) (own : List Line) : Type 0 where
   pub is : code ≡ negsuc 0
   pub callee : Node
@@ -355,6 +354,7 @@ pub record IsDead (s : Script) (c : Node) (act : Going) (code : ℤ) (past : Lis
   pub call : FsCall
   pub asks : as_asked call ≡ asked act
   pub called : CalledSince (record { node = c; epoch = epoch; number = number }) (user_of s c) call past
+  pub to : WasSent callee (record { node = c; epoch = epoch; number = number }) (user_of s c) call past
 
 -- the client gave up a fid by itself
 abbrev pub has_dropped : Node → List Line → Bool
@@ -375,6 +375,38 @@ pub record GoodCode (s : Script) (c : Node) (code : Code) (past : List Entry) (o
   pub act : Going
   pub runs : running s c (own ++ lines_of past) ≡ Some act
   pub cause : IsCaused s c act code.0 past own ⊎ (IsDone s c act code.0 past own ⊎ (IsDead s c act code.0 past own ⊎ HasNothing c act code.0 own))
+
+-- ---- grants
+
+-- a new vnode of this number in this volume is what the ideal operation shows
+abbrev pub IsNewIn : ℕ → Fid → Option Result → Type 0
+IsNewIn id f (Some (changes es shown)) = (f.volume ≡ id) × (f.vnode ≡ shown)
+IsNewIn id f r = ⊥
+
+-- the reply to this call, of which the ideal operation makes this, promises the fid: the one that the call reads or names, or the
+-- new one that it makes
+abbrev pub IsPromisedBy : Fid → FsCall → Option Result → Type 0
+IsPromisedBy f (calls.FetchData g position wanted) r = g ≡ f
+IsPromisedBy f (calls.FetchStatus g) r = g ≡ f
+IsPromisedBy f (calls.BulkStatus fids) r = IsNamedIn f fids
+IsPromisedBy f (calls.CreateFile d name status) r = IsNewIn d.volume f r
+IsPromisedBy f (calls.MakeDir d name status) r = IsNewIn d.volume f r
+IsPromisedBy f call r = ⊥
+
+-- The server grants in the entry that runs a call of the client, and so long. The call's reply promises the fid, and the ideal
+-- operation gives it code 0. The index that the grant tells is the fid's last one
+pub record GoodGrant (server c : Node) (f : Fid) (index expiry : ℕ) (past : List Entry) (own : List Line) : Type 0 where
+  pub key : Key
+  pub node : key.node ≡ c
+  pub ran : RunsHere server key past own
+  pub going : HasStopped server own → ⊥
+  pub user : List ℕ
+  pub call : FsCall
+  pub carries : option_map (λ (m : Message). m.carried) (given_message own (sent_of past)) ≡ Some (carried.Call user (ask.File call))
+  pub code : code_given (answer_at user call past) ≡ pos 0
+  pub promises : IsPromisedBy f call (answer_at user call past)
+  pub newest : IsLast f index (own ++ lines_of past)
+  pub lasts : expiry ≡ clock_of (own ++ lines_of past) + promise_ticks
 
 -- ---- messages that are sent
 
@@ -439,9 +471,9 @@ abbrev pub GoodRestart : Script → Node → List Line → Type 0
 GoodRestart s (Server i) next = (j : ℕ) → 1 ≤ j → j ≤ s.clients → HasOwe (Server i) (Client j) None next
 GoodRestart s n next = ⊤
 
--- its boot is above all that it began before
+-- it was down, and its boot is above all that it began before
 abbrev pub IsRising : Line → List Line → Type 0
-IsRising (lines.Restart (Server i) boot) older = last_boot (Server i) older < boot
+IsRising (lines.Restart (Server i) boot) older = (server_boot (Server i) older ≡ None) × (last_boot (Server i) older < boot)
 IsRising l older = ⊤
 
 abbrev pub AreRising : List Line → List Line → Type 0
@@ -463,12 +495,12 @@ IsOfServer who n = ⊥
 abbrev pub IsTimed : Node → List Line → List Line → Type 0
 IsTimed c own next = ((has_given own ≡ false) × (has_begun c own ≡ false)) × ((has_given next ≡ false) × (has_begun c next ≡ false))
 
--- An entry is given one message at most, and each line stands in an entry of its own node: a begin, a read, an answer, a drop in one of its client, a change, a grant, a
--- break in one of its server, a tick in the clock's, and that nothing happened in nobody's
+-- An entry is given one message at most, and each line stands in an entry of its own node: a begin, a read, an answer, a drop in one
+-- of its client, a change, a grant, a break in one of its server, a tick in the clock's, and that nothing happened in nobody's
 abbrev pub IsGood : Script → Actor → Line → List Entry → List Line → List Line → Type 0
 IsGood s who (lines.Begin c act) past own next = IsOfClient who c
 IsGood s who (lines.Given place) past own next = has_given own ≡ false
-IsGood s who (lines.Grant server c f index expiry) past own next = IsOfServer who server × GoodGrant server c expiry past own
+IsGood s who (lines.Grant server c f index expiry) past own next = IsOfServer who server × GoodGrant server c f index expiry past own
 IsGood s who (lines.Change server k count) past own next = IsOfServer who server × GoodChange s server k count past own next
 IsGood s who (lines.Version v) past own next = IsUnderChange own
 IsGood s who (lines.Read c f index source body) past own next = (IsOfClient who c × HasAct s c past own) × GoodReadBy s (is_promised body) c f index source body past own
@@ -483,7 +515,7 @@ IsGood s who (lines.Restart n boot) past own next = (who ≡ actors.Node n) × G
 IsGood s who (lines.Full n) past own next = IsOfServer who n
 IsGood s who (lines.Drop c f) past own next = IsOfClient who c
 IsGood s who (lines.DropAll c server) past own next = IsOfClient who c
-IsGood s who (lines.Owe server c what n) past own next = IsOfServer who server × ((last_number server (own ++ lines_of past) < n) × GoodOwe server c what own)
+IsGood s who (lines.Owe server c what n) past own next = IsOfServer who server × ((last_number server (own ++ lines_of past) < n) × GoodOwe s server c what past own)
 IsGood s who (lines.Settle server c n) past own next = IsOfServer who server × GoodSettle server c n past own
 IsGood s who (lines.Quit server c n) past own next = IsOfServer who server × GoodQuit server c n past own
 IsGood s who lines.Void past own next = who ≡ actors.Nobody
@@ -494,13 +526,14 @@ AreGood s who past own (l ∷ next) = IsGood s who l past own next × AreGood s 
 
 -- the script has the node whose entry this is; a tick and what is void are of none
 abbrev pub IsOfScript : Script → Actor → Type 0
-IsOfScript s (actors.Node (Client j)) = (1 ≤ j) × (j ≤ s.clients)
+IsOfScript s (actors.Node (Client j)) = IsClientOf s (Client j)
 IsOfScript s (actors.Node (Server i)) = (1 ≤ i) × (i ≤ s.servers)
 IsOfScript s (actors.Node n) = ⊥
 IsOfScript s actors.Clock = ⊤
 IsOfScript s actors.Nobody = ⊤
 
--- an entry lays no volumes, for the set-up alone does; it is of a node of the script, and no server begins a boot twice
+-- an entry lays no volumes, for the set-up alone does; it is of a node of the script; and a server that begins again was down, and
+-- begins no boot twice
 abbrev pub IsEntryOf : Script → List Entry → Entry → Type 0
 IsEntryOf s past e = ((e.volumes ≡ []) × IsOfScript s e.actor) × AreRising (lines_of past) e.lines
 

@@ -6,3 +6,4 @@ pub mod Legal
 pub mod OneServer
 pub mod Once
 pub mod Laws
+pub mod Parts

@@ -138,7 +138,17 @@ abbrev pub Sends : Key → List ℕ → FsCall → List Message → Type 0
 Sends k user call [] = ⊥
 Sends k user call (m ∷ ms) = ((called_key m.head ≡ k) × (m.carried ≡ carried.Call user (ask.File call))) ⊎ Sends k user call ms
 
--- the same, by the key's node while this act ran there
+-- the same, and to this callee
+abbrev pub SendsTo : Node → Key → List ℕ → FsCall → List Message → Type 0
+SendsTo callee k user call [] = ⊥
+SendsTo callee k user call (m ∷ ms) = ((m.head.to ≡ callee) × ((called_key m.head ≡ k) × (m.carried ≡ carried.Call user (ask.File call)))) ⊎ SendsTo callee k user call ms
+
+-- this call was sent to this callee under this key, for this user
+abbrev pub WasSent : Node → Key → List ℕ → FsCall → List Entry → Type 0
+WasSent callee k user call [] = ⊥
+WasSent callee k user call (e ∷ past) = SendsTo callee k user call e.sent ⊎ WasSent callee k user call past
+
+-- this call was sent under this key, for this user, by the key's node while this act ran there
 abbrev pub Called : Script → Key → List ℕ → FsCall → Going → List Entry → Type 0
 Called s k user call act [] = ⊥
 Called s k user call act (e ∷ past) =
@@ -194,9 +204,9 @@ abbrev pub IsToCome : Node → Key → ℕ → List Entry → Type 0
 IsToCome s k boot [] = ⊤
 IsToCome s k boot (e ∷ past) = (IsCallFrom s k boot (given_message e.lines (sent_of past)) → ⊥) × IsToCome s k boot past
 
--- The past, split at the entry that ran the call which this is the reply to: the callee's first that was given it, in
--- the boot that the reply tells, and before any later call of that node. In this boot the callee then was, for it runs no call to
--- another one; and a later entry finds the kept reply.
+-- The past, split at the entry that ran the call which this is the reply to, by its key and its opcode: the callee's first that was
+-- given it, in the boot that the reply tells, and before any later call of that node. In this boot the callee then was, for it runs
+-- no call to another one; and a later entry finds the kept reply.
 pub record Ran (reply : Head) (past : List Entry) : Type 0 where
   pub newer : List Entry
   pub at : Entry
@@ -206,6 +216,7 @@ pub record Ran (reply : Head) (past : List Entry) : Type 0 where
   pub given : given_message at.lines (sent_of older) ≡ Some message
   pub is_call : IsCall message.carried
   pub key : called_key message.head ≡ answered_key reply
+  pub opcode : message.head.opcode ≡ reply.opcode
   pub boot : message.head.boot ≡ reply.boot
   pub up : server_boot reply.from (lines_of older) ≡ Some reply.boot
   pub callee : message.head.to ≡ reply.from

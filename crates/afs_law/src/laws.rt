@@ -1,6 +1,7 @@
 //! Laws about the runs of a script. Each is the contract of a function that does nothing.
 
-ghost use Rattle.afs_law.specs.Laws.{AcknowledgedAreMade, AnswersAreRecent, ChangesAreFolded, EffectsAreTold, KeysRunOnce, ReadsAreNewest, RunsAreLegal, RunsAreOne, SetUpsAreFirst, StartsAreFolded, VolumesAreTold, PairsAreKnown, TrustedIsGood, RoomlessAreRefused, UnservedAreRefused, CallsRunOnce, RepliesAreCaused, RepliesAreRan, KeptAreRan, DurableAreChanges, GrantsAreKept, BreaksAreOwed, RepliesFollowDrops, UnawaitedAreUntrusted, DeadAreUntrusted};
+ghost use Rattle.afs_law.specs.Laws.{AcknowledgedAreKept, AcknowledgedAreMade, AnswersAreRecent, ChangesAreFolded, EffectsAreTold, KeysRunOnce, ReadsAreNewest, RunsAreLegal, RunsAreOne, SetUpsAreFirst, StartsAreFolded, VolumesAreTold, PairsAreKnown, TrustedIsGood, RoomlessAreRefused, UnservedAreRefused, CallsRunOnce, RepliesAreCaused, RepliesAreRan, KeptAreRan, DurableAreChanges, GrantsAreKept, BreaksAreOwed, RepliesFollowDrops, UnawaitedAreUntrusted, DeadAreUntrusted};
+ghost use Rattle.afs_law.specs.Parts.{ActsAreTold, CallsAreAsked, ChangesAreIdeal, EntriesAreSound, LinesAreInPlace, MessagesAreOwn};
 
 /// Every run of a script for one server is legal.
 pub fn runs_are_legal()
@@ -22,6 +23,11 @@ pub fn acknowledged_are_made()
     ensures { AcknowledgedAreMade }
 {}
 
+/// What was acknowledged survives every crash: its server's disk holds it, or something later.
+pub fn acknowledged_are_kept()
+    ensures { AcknowledgedAreKept }
+{}
+
 /// In a legal history an act is answered by a reply to a call that ran since it began.
 pub fn answers_are_recent()
     ensures { AnswersAreRecent }
@@ -32,7 +38,7 @@ pub fn runs_are_one()
     ensures { RunsAreOne }
 {}
 
-/// What the server holds of its volumes is what the versions told.
+/// What each server holds of its volumes is what the versions told.
 pub fn volumes_are_told()
     ensures { VolumesAreTold }
 {}
@@ -92,7 +98,7 @@ pub fn replies_are_ran()
     ensures { RepliesAreRan }
 {}
 
-/// So is each reply that a server keeps for a client, and it answers the call whose pair is kept.
+/// So is each reply that a server keeps for a client: it is its own, and answers the call whose pair is kept.
 pub fn kept_are_ran()
     ensures { KeptAreRan }
 {}
@@ -125,4 +131,34 @@ pub fn unawaited_are_untrusted()
 /// Of the volume of a changing call that was given up and may still run its client trusts nothing.
 pub fn dead_are_untrusted()
     ensures { DeadAreUntrusted }
+{}
+
+/// The act that runs at a client is the one which the lines tell.
+pub fn acts_are_told()
+    ensures { ActsAreTold }
+{}
+
+/// Each call of a client is one that the act asked which ran there.
+pub fn calls_are_asked()
+    ensures { CallsAreAsked }
+{}
+
+/// Each entry is of a node of the script, and each reply that it sends to a client was run.
+pub fn entries_are_sound()
+    ensures { EntriesAreSound }
+{}
+
+/// Each line stands in an entry of its node, where it may.
+pub fn lines_are_in_place()
+    ensures { LinesAreInPlace }
+{}
+
+/// Each message is sent by the node that it names, and each call of a client under a key of its own act.
+pub fn messages_are_own()
+    ensures { MessagesAreOwn }
+{}
+
+/// Each change is what the ideal cell makes of the call that ran.
+pub fn changes_are_ideal()
+    ensures { ChangesAreIdeal }
 {}

@@ -1,34 +1,13 @@
 -- Small laws: fids, nodes and keys; pairs of epoch and number; seats; what is found; lists of messages.
-use Rattle.std.proofs.Common.{◌≡◌, ℕ, zero, suc, ◌+◌, ◌<◌, ◌≤◌, ◌⊎◌, inl, inr, Bool, true, false, cond, eqb, ltb, not, List, [], ◌∷◌, ◌++◌, map, Option, Some, None, refl, sym, ap, subst, ◌∙◌, arith, eq-eqb, eqb-true, ltb-true, ltb-false}
+use Rattle.std.proofs.Common.{◌≡◌, ℕ, ◌<◌, ◌≤◌, ◌⊎◌, inl, inr, Bool, true, false, cond, eqb, ltb, List, Option, Some, None, refl, sym, ap, ◌∙◌, arith, eq-eqb, eqb-true, ltb-true, ltb-false}
 use Rattle.std.specs.Prelude.{◌&&◌, ⊤}
-use Rattle.std.specs.declared.cmp.Ordering.{Ordering}
-use Rattle.std.specs.declared.cmp.Ordering.TheVariants.{Less, Equal, Greater}
-use Rattle.std.specs.Ordering.{nat_cmp, ordering_then, match_ordering}
-use Rattle.std.proofs.lemmas.Cmp.{tied_itself, nat_cmp_total}
-use Rattle.std.proofs.lemmas.Map.Lookups.{exact_unsigned}
-use Rattle.std.specs.Option.{option_map}
-use Rattle.std.proofs.Math.Nat.{max-le, eq-or-lt_of_le}
-use Rattle.afs_num.specs.Fids.{same_fid, fid_order}
-use Rattle.afs_num.specs.Keyed.{other_keyed}
+use Rattle.std.proofs.Math.Nat.{eq-or-lt_of_le}
 use Rattle.afs_num.specs.Nodes.{same_node}
-use Rattle.afs_num.specs.declared.types.Fid.{Fid}
-use Rattle.afs_num.specs.declared.types.Head.{Head}
 use Rattle.afs_num.specs.declared.types.Key.{Key}
 use Rattle.afs_num.specs.declared.types.Node.{Node}
 use Rattle.afs_num.specs.declared.types.Node.TheVariants.{Loc, Server, Client, Admin}
-use Rattle.afs_num.specs.declared.messages.Call.{Call}
-use Rattle.afs_num.specs.declared.messages.Carried.{Carried}
-use Rattle.afs_num.specs.declared.messages.Carried.TheVariants as carried
-use Rattle.afs_num.specs.declared.messages.Message.{Message}
-use Rattle.afs_num.specs.declared.states.StoredFile.{StoredFile}
-use Rattle.afs_num.specs.declared.states.CacheEntry.{CacheEntry}
-use Rattle.afs_model.specs.Past.{same_key}
-use Rattle.afs_model.specs.Ideal.{raised}
-use Rattle.afs_model.specs.Runs.{put, message_at}
-use Rattle.afs_model.specs.Calls.{CallSeat, Admitted, runs, kept, older, pair_below, caller_of, call_seat, call_seated, repeated, paired}
-use Rattle.afs_model.specs.ServerRow.{find_file, with_file}
-use Rattle.afs_model.specs.ClientRow.{cached_fid, find_cached, used_first, is_trusted, refreshed, refreshed_cache}
-use Rattle.afs_model.proofs.Keyed.{IsExact, found_key, found_left, found_own, at_last}
+use Rattle.afs_model.specs.Calls.{same_key, CallSeat, Admitted, runs, kept, older, pair_below, caller_of, call_seat, call_seated, repeated, paired}
+use Rattle.afs_model.proofs.Keyed.{IsExact, found_own, at_last}
 
 -- ---- fids, nodes, keys
 
@@ -38,31 +17,6 @@ both false b e = absurd cc
 
 pub yes_no : (b : Bool) → b ≡ true → b ≡ false → ⊥
 yes_no b t f = absurd cc
-
-abbrev fid_of : ℕ → ℕ → ℕ → Fid
-fid_of v n u = record { volume = v; vnode = n; unique = u }
-
-pub same_fid-true : (a b : Fid) → same_fid a b ≡ true → a ≡ b
-same_fid-true a b e =
-    let p = both (eqb a.volume b.volume) (eqb a.vnode b.vnode && eqb a.unique b.unique) e in
-    let q = both (eqb a.vnode b.vnode) (eqb a.unique b.unique) p.1 in
-    ap (λ (v : ℕ). fid_of v a.vnode a.unique) (eqb-true _ _ p.0) ∙ (ap (λ (n : ℕ). fid_of b.volume n a.unique) (eqb-true _ _ q.0) ∙ ap (fid_of b.volume b.vnode) (eqb-true _ _ q.1))
-
-pub same_fid-refl : (a : Fid) → same_fid a a ≡ true
-same_fid-refl a = rw (eq-eqb a.volume a.volume refl, eq-eqb a.vnode a.vnode refl, eq-eqb a.unique a.unique refl) refl
-
-apart_by : (f g : Fid) (t : Bool) → same_fid g f ≡ t → same_fid f g ≡ false → t ≡ false
-apart_by f g false e ne = refl
-apart_by f g true e ne =
-    let one : g ≡ f = same_fid-true g f e in
-    let yes : same_fid f g ≡ true = ap (λ (x : Fid). same_fid x g) (sym one) ∙ same_fid-refl g in
-    absurd cc
-
-pub apart-found : (x f g : Fid) → same_fid f g ≡ false → same_fid x g ≡ true → same_fid x f ≡ false
-apart-found x f g ne e = ap (λ (y : Fid). same_fid y f) (same_fid-true x g e) ∙ apart_by f g (same_fid g f) refl ne
-
-pub apart : (f g : Fid) → same_fid f g ≡ false → f ≡ g → ⊥
-apart f g ne e = let yes : same_fid f g ≡ true = ap (λ (x : Fid). same_fid x g) e ∙ same_fid-refl g in absurd cc
 
 pub same_node-true : (a b : Node) → same_node a b ≡ true → a ≡ b
 same_node-true Loc Loc e = refl
@@ -83,14 +37,6 @@ node_apart_by a b false e ne = refl
 
 pub node_apart : (a b : Node) → (a ≡ b → ⊥) → same_node a b ≡ false
 node_apart a b ne = node_apart_by a b (same_node a b) refl ne
-
-number_of : Node → ℕ
-number_of (Client i) = i
-number_of n = 0
-
-pub client_number : (i j : ℕ) → Client i ≡ Client j → i ≡ j
-unfolding number_of
-client_number i j e = ap number_of e
 
 pub same_key-refl : (k : Key) → same_key k k ≡ true
 same_key-refl k = rw (same_node-refl k.node, eq-eqb k.epoch k.epoch refl, eq-eqb k.number k.number refl) refl
@@ -149,21 +95,6 @@ up_to_both e n d m (inr x) (inr y) = let q : n ≤ m = x.1 in let r : m ≤ n = 
 pub up_to_same : (e n d m : ℕ) → e ≡ d → n ≡ m → UpTo e n d m
 up_to_same e n d m p q = inr (p, omega arith)
 
-pub up_to_next : (e n d m : ℕ) → UpTo e n d m → UpTo e n d (m + 1)
-up_to_next e n d m (inl x) = inl x
-up_to_next e n d m (inr x) = let q : n ≤ m = x.1 in inr (x.0, omega arith)
-
--- what is not above stays behind the next number
-pub next_not : (e n d m : ℕ) → UpTo e n d m → e ≡ d → n ≡ m + 1 → ⊥
-next_not e n d m (inl x) p q = absurd (omega arith)
-next_not e n d m (inr x) p q = let y : n ≤ m = x.1 in absurd (omega arith)
-
--- ---- a seat, and a call above it
-
--- a caller's seat at a server
-abbrev pub Seat : Type 0
-Seat = CallSeat Message
-
 abbrev pub Above : {R : Type 0} → Option (CallSeat R) → ℕ → ℕ → Type 0
 Above {R} None e n = ⊤
 Above {R} (Some seat) e n = Below seat.epoch seat.number e n
@@ -181,16 +112,6 @@ newer_by (Some x) false false e = absurd cc
 pub runs_above : {R : Type 0} (e n : ℕ) (o : Option (CallSeat R)) → paired e n o ≡ runs → Above o e n
 runs_above e n None r = tt
 runs_above e n (Some seat) r = below-true _ _ _ _ (newer_by seat.reply (pair_below e n seat.epoch seat.number) (pair_below seat.epoch seat.number e n) r)
-
-not_by : {R : Type 0} (e n : ℕ) (seat : CallSeat R) (a b : Bool) → (stands seat.reply a b ≡ runs → ⊥) → pair_below e n seat.epoch seat.number ≡ a → pair_below seat.epoch seat.number e n ≡ b → Below seat.epoch seat.number e n → ⊥
-not_by e n seat true b ne x y l = below_not _ _ _ _ l (below_up_to _ _ _ _ (below-true _ _ _ _ x))
-not_by e n seat false true ne x y l = ne refl
-not_by e n seat false false ne x y l = below_not _ _ _ _ l (below-false _ _ _ _ y)
-
--- and any other is not
-pub not_above : {R : Type 0} (e n : ℕ) (o : Option (CallSeat R)) → (paired e n o ≡ runs → ⊥) → Above o e n → ⊥
-not_above e n None ne a = ne refl
-not_above e n (Some seat) ne a = not_by e n seat (pair_below e n seat.epoch seat.number) (pair_below seat.epoch seat.number e n) ne refl refl a
 
 -- the reply of the seat's own call
 pub record LastSeat {R : Type 0} (e n : ℕ) (o : Option (CallSeat R)) (r : R) : Type 0 where
@@ -224,190 +145,3 @@ own_seat {R} x seats = found_own (caller_of {R = R}) same_node exact_node x seat
 
 pub at_seat : {R : Type 0} (x : CallSeat R) (m : Node) (seats : List (CallSeat R)) (P : Option (CallSeat R) → Type 0) → (x.caller ≡ m → P (Some x)) → ((x.caller ≡ m → ⊥) → P (call_seat m seats)) → P (call_seat m (call_seated x seats))
 at_seat {R} x m seats P a b = at_last (caller_of {R = R}) same_node exact_node x m seats P a b
-
--- ---- a map changed at one place
-
-put_by : {A : Type 0} (t : Bool) (P : A → Type 0) (x y : A) → (t ≡ true → P x) → (t ≡ false → P y) → P (cond t x y)
-put_by true P x y a b = a refl
-put_by false P x y a b = b refl
-
-pub at_put : {A : Type 0} (c j : ℕ) (P : A → Type 0) (x : A) (h : ℕ → A) → (c ≡ j → P x) → ((c ≡ j → ⊥) → P (h j)) → P (put c x h j)
-at_put c j P x h a b = put_by (eqb c j) P x (h j) (λ t. a (eqb-true c j t)) (λ t. b (λ e. let y = eq-eqb c j e in absurd cc))
-
--- ---- files
-
-pub exact_fid : IsExact same_fid
-exact_fid = record { exact = same_fid-true; itself = same_fid-refl }
-
-abbrev file_fid : StoredFile → Fid
-file_fid v = v.fid
-
-pub found-fid : (f : Fid) (vs : List StoredFile) (v : StoredFile) → find_file f vs ≡ Some v → same_fid v.fid f ≡ true
-found-fid f vs v e = found_key file_fid same_fid exact_fid f vs v e
-
--- ---- the order of files
-
-then_equal : (o p : Ordering) → ordering_then o p ≡ Equal → (o ≡ Equal) × (p ≡ Equal)
-then_equal Less p e = absurd cc
-then_equal Equal p e = (refl, e)
-then_equal Greater p e = absurd cc
-
-pub order_equal : (a b : Fid) → fid_order a b ≡ Equal → a ≡ b
-order_equal a b e =
-    let p = then_equal (nat_cmp a.volume b.volume) (ordering_then (nat_cmp a.vnode b.vnode) (nat_cmp a.unique b.unique)) e in
-    let q = then_equal (nat_cmp a.vnode b.vnode) (nat_cmp a.unique b.unique) p.1 in
-    ap (λ (v : ℕ). fid_of v a.vnode a.unique) (exact_unsigned _ _ p.0) ∙ (ap (λ (n : ℕ). fid_of b.volume n a.unique) (exact_unsigned _ _ q.0) ∙ ap (fid_of b.volume b.vnode) (exact_unsigned _ _ q.1))
-
-pub order_itself : (a : Fid) → fid_order a a ≡ Equal
-order_itself a = rw (tied_itself nat_cmp_total a.volume, tied_itself nat_cmp_total a.vnode, tied_itself nat_cmp_total a.unique) refl
-
-absorbed : (a b : Bool) (x v : StoredFile) (o : Option StoredFile) → a ≡ b → cond a (Some x) o ≡ cond a (Some x) (cond b (Some v) o)
-absorbed true b x v o e = refl
-absorbed false true x v o e = absurd cc
-absorbed false false x v o e = refl
-
-swapped : (a b : Bool) (x v : StoredFile) (o : Option StoredFile) → (a ≡ true → b ≡ true → ⊥) → cond b (Some v) (cond a (Some x) o) ≡ cond a (Some x) (cond b (Some v) o)
-swapped true true x v o ne = absurd (ne refl refl)
-swapped true false x v o ne = refl
-swapped false b x v o ne = refl
-
-placed_by : (o : Ordering) (x v : StoredFile) (f : Fid) (files rest : List StoredFile) → fid_order x.fid v.fid ≡ o → find_file f rest ≡ cond (same_fid x.fid f) (Some x) (find_file f files)
-    → find_file f (match_ordering o (x ∷ v ∷ files) (x ∷ files) (v ∷ rest)) ≡ cond (same_fid x.fid f) (Some x) (cond (same_fid v.fid f) (Some v) (find_file f files))
-placed_by Less x v f files rest e ih = refl
-placed_by Equal x v f files rest e ih = absorbed (same_fid x.fid f) (same_fid v.fid f) x v (find_file f files) (ap (λ (g : Fid). same_fid g f) (order_equal x.fid v.fid e))
-placed_by Greater x v f files rest e ih =
-    ap (λ (o : Option StoredFile). cond (same_fid v.fid f) (Some v) o) ih
-    ∙ swapped (same_fid x.fid f) (same_fid v.fid f) x v (find_file f files) (λ a b.
-    let one : x.fid ≡ v.fid = same_fid-true x.fid f a ∙ sym (same_fid-true v.fid f b) in
-    let equal : fid_order x.fid v.fid ≡ Equal = ap (fid_order x.fid) (sym one) ∙ order_itself x.fid in
-    absurd cc)
-
--- a file that took a place is found under its fid, and another as before
-pub found-with_file : (x : StoredFile) (f : Fid) (files : List StoredFile) → find_file f (with_file x files) ≡ cond (same_fid x.fid f) (Some x) (find_file f files)
-found-with_file x f [] = refl
-found-with_file x f (v ∷ files) = placed_by (fid_order x.fid v.fid) x v f files (with_file x files) refl (found-with_file x f files)
-
--- ---- caches
-
-pub found-cached-fid : (f : Fid) (vs : List CacheEntry) (v : CacheEntry) → find_cached f vs ≡ Some v → same_fid v.fid f ≡ true
-found-cached-fid f vs v e = found_key cached_fid same_fid exact_fid f vs v e
-
-abbrev without : Fid → List CacheEntry → List CacheEntry
-without f cache = other_keyed cached_fid same_fid f cache
-
--- a file other than the one that was taken out is found as before
-found-left : (f g : Fid) (es : List CacheEntry) → (f ≡ g → ⊥) → find_cached g (without f es) ≡ find_cached g es
-found-left f g es ne = found_left cached_fid same_fid exact_fid f g es ne
-
-first_by : (t : Bool) (g : Fid) (n : CacheEntry) (es : List CacheEntry) (v : CacheEntry) → same_fid n.fid g ≡ t → cond t (Some n) (find_cached g (without n.fid es)) ≡ Some v → ((n.fid ≡ g) × (n ≡ v)) ⊎ ((n.fid ≡ g → ⊥) × (find_cached g es ≡ Some v))
-first_by true g n es v t e = inl (same_fid-true n.fid g t, cc)
-first_by false g n es v t e = let ne = apart n.fid g t in inr (ne, sym (found-left n.fid g es ne) ∙ e)
-
--- the entry that was used is found, or another that was there
-pub found-first : (g : Fid) (n : CacheEntry) (es : List CacheEntry) (v : CacheEntry) → find_cached g (used_first n es) ≡ Some v → ((n.fid ≡ g) × (n ≡ v)) ⊎ ((n.fid ≡ g → ⊥) × (find_cached g es ≡ Some v))
-found-first g n es v e = first_by (same_fid n.fid g) g n es v refl e
-
-none_by : (t : Bool) (g : Fid) (n : CacheEntry) (es : List CacheEntry) → same_fid n.fid g ≡ t → find_cached n.fid es ≡ Some n → find_cached g es ≡ None → cond t (Some n) (find_cached g (without n.fid es)) ≡ None
-none_by true g n es t at e = let yes : find_cached g es ≡ Some n = ap (λ (x : Fid). find_cached x es) (sym (same_fid-true n.fid g t)) ∙ at in absurd cc
-none_by false g n es t at e = found-left n.fid g es (apart n.fid g t) ∙ e
-
--- what was not there is not there where another was used
-pub none-first : (g : Fid) (n : CacheEntry) (es : List CacheEntry) → find_cached n.fid es ≡ Some n → find_cached g es ≡ None → find_cached g (used_first n es) ≡ None
-none-first g n es at e = none_by (same_fid n.fid g) g n es refl at e
-
-not_refreshed : (clock : ℕ) (f g : Fid) (i : ℕ) (b : List ℕ) (o : Option CacheEntry) → ((v : CacheEntry) → o ≡ Some v → same_fid v.fid f ≡ false) → o ≡ option_map (refreshed clock f i b) o
-not_refreshed clock f g i b None h = refl
-not_refreshed clock f g i b (Some v) h = rw (h v refl) refl
-
-refreshed_fid_by : (c : Bool) (i : ℕ) (b : List ℕ) (v : CacheEntry) → (cond c (record v { index = i; contents = b }) v).fid ≡ v.fid
-refreshed_fid_by true i b v = refl
-refreshed_fid_by false i b v = refl
-
-cached_by : (c : Bool) (h : CacheEntry → CacheEntry) (v : CacheEntry) (o : Option CacheEntry) → cond c (Some (h v)) (option_map h o) ≡ option_map h (cond c (Some v) o)
-cached_by true h v o = refl
-cached_by false h v o = refl
-
--- the entries of another fid than the one that was refreshed
-others_stay : (clock : ℕ) (f g : Fid) (i : ℕ) (b : List ℕ) (t : Bool) (v : CacheEntry) (vs : List CacheEntry) → same_fid v.fid g ≡ t → same_fid v.fid f ≡ true
-    → cond t (Some (refreshed clock f i b v)) (find_cached g vs) ≡ cond t (Some (refreshed clock f i b v)) (option_map (refreshed clock f i b) (find_cached g vs))
-others_stay clock f g i b true v vs e at = refl
-others_stay clock f g i b false v vs e at = not_refreshed clock f g i b (find_cached g vs) (λ w found.
-    let gw : same_fid w.fid g ≡ true = found-cached-fid g vs w found in
-    apart_by f w.fid (same_fid w.fid f) refl (let ne : same_fid f g ≡ false = ap (λ (x : Fid). same_fid x g) (sym (same_fid-true v.fid f at)) ∙ e in ap (same_fid f) (same_fid-true w.fid g gw) ∙ ne))
-
-refreshed_by : (clock : ℕ) (f g : Fid) (i : ℕ) (b : List ℕ) (t : Bool) (v : CacheEntry) (vs rest : List CacheEntry) → same_fid v.fid f ≡ t → find_cached g rest ≡ option_map (refreshed clock f i b) (find_cached g vs)
-    → find_cached g (cond t (refreshed clock f i b v ∷ vs) (v ∷ rest)) ≡ option_map (refreshed clock f i b) (find_cached g (v ∷ vs))
-refreshed_by clock f g i b true v vs rest e ih =
-    let fid : (refreshed clock f i b v).fid ≡ v.fid = refreshed_fid_by (same_fid v.fid f && is_trusted clock v) i b v in
-    ap (λ (x : Fid). cond (same_fid x g) (Some (refreshed clock f i b v)) (find_cached g vs)) fid
-    ∙ (others_stay clock f g i b (same_fid v.fid g) v vs refl e ∙ cached_by (same_fid v.fid g) (refreshed clock f i b) v (find_cached g vs))
-refreshed_by clock f g i b false v vs rest e ih =
-    let own : refreshed clock f i b v ≡ v = rw e refl in
-    ap (λ (o : Option CacheEntry). cond (same_fid v.fid g) (Some v) o) ih
-    ∙ (ap (λ (x : CacheEntry). cond (same_fid v.fid g) (Some x) (option_map (refreshed clock f i b) (find_cached g vs))) (sym own) ∙ cached_by (same_fid v.fid g) (refreshed clock f i b) v (find_cached g vs))
-
-pub found-refreshed : (clock : ℕ) (f g : Fid) (i : ℕ) (b : List ℕ) (vs : List CacheEntry) → find_cached g (refreshed_cache clock f i b vs) ≡ option_map (refreshed clock f i b) (find_cached g vs)
-found-refreshed clock f g i b [] = refl
-found-refreshed clock f g i b (v ∷ vs) = refreshed_by clock f g i b (same_fid v.fid f) v vs (refreshed_cache clock f i b vs) refl (found-refreshed clock f g i b vs)
-
--- ---- every call, every reply in a list of messages
-
-abbrev pub OfCall : (Head → List ℕ → Call → Type 0) → Head → Carried → Type 0
-OfCall P head (carried.Call user call) = P head user call
-OfCall P head c = ⊤
-
-abbrev pub OfReply : Type 0 → Carried → Type 0
-OfReply P (carried.Refusal code) = P
-OfReply P (carried.Reply reply) = P
-OfReply P c = ⊤
-
-abbrev pub IfCall : (Head → List ℕ → Call → Type 0) → Message → Type 0
-IfCall P m = OfCall P m.head m.carried
-
-abbrev pub IfReply : (Message → Type 0) → Message → Type 0
-IfReply P m = OfReply (P m) m.carried
-
-abbrev pub Each : (Message → Type 0) → List Message → Type 0
-Each P [] = ⊤
-Each P (m ∷ ms) = P m × Each P ms
-
-pub each_more : (P : Message → Type 0) (a b : List Message) → Each P a → Each P b → Each P (a ++ b)
-each_more P [] b h k = k
-each_more P (m ∷ a) b h k = (h.0, each_more P a b h.1 k)
-
-pub each_map : (P Q : Message → Type 0) → ((m : Message) → P m → Q m) → (a : List Message) → Each P a → Each Q a
-each_map P Q w [] h = tt
-each_map P Q w (m ∷ a) h = (w m h.0, each_map P Q w a h.1)
-
-pub each_at : (P : Message → Type 0) (a : List Message) (p : ℕ) (m : Message) → message_at a p ≡ Some m → Each P a → P m
-each_at P [] p m e h = absurd cc
-each_at P (x ∷ a) zero m e h = absurd cc
-each_at P (x ∷ a) (suc zero) m e h = let one : x ≡ m = cc in subst P one h.0
-each_at P (x ∷ a) (suc (suc p)) m e h = each_at P a (suc p) m e h.1
-
-of_call : (P Q : Head → List ℕ → Call → Type 0) → ((head : Head) (user : List ℕ) (call : Call) → P head user call → Q head user call) → (head : Head) (c : Carried) → OfCall P head c → OfCall Q head c
-of_call P Q w head (carried.Call user call) h = w head user call h
-of_call P Q w head (carried.Refusal code) h = tt
-of_call P Q w head (carried.Reply reply) h = tt
-of_call P Q w head carried.Notice h = tt
-
-pub if_call : (P Q : Head → List ℕ → Call → Type 0) → ((head : Head) (user : List ℕ) (call : Call) → P head user call → Q head user call) → (m : Message) → IfCall P m → IfCall Q m
-if_call P Q w m h = of_call P Q w m.head m.carried h
-
-of_reply : (P Q : Type 0) → (P → Q) → (c : Carried) → OfReply P c → OfReply Q c
-of_reply P Q w (carried.Call user call) h = tt
-of_reply P Q w (carried.Refusal code) h = w h
-of_reply P Q w (carried.Reply reply) h = w h
-of_reply P Q w carried.Notice h = tt
-
-pub if_reply : (P Q : Message → Type 0) → ((m : Message) → P m → Q m) → (m : Message) → IfReply P m → IfReply Q m
-if_reply P Q w m h = of_reply (P m) (Q m) (w m) m.carried h
-
--- ---- numbers
-
-pub raised_up_to : (t : Bool) (i base k : ℕ) → (t ≡ true → i ≤ k) → base ≤ k → raised t i base ≤ k
-raised_up_to true i base k a b = max-le (a refl) b
-raised_up_to false i base k a b = b
-
-pub some_of : {A : Type 0} (x y : A) → Some x ≡ Some y → x ≡ y
-some_of x y e = cc

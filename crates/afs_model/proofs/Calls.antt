@@ -5,9 +5,7 @@ use Rattle.afs_num.specs.Nodes.{same_node}
 use Rattle.afs_num.specs.declared.types.Head.{Head}
 use Rattle.afs_num.specs.declared.types.Key.{Key}
 use Rattle.afs_num.specs.declared.types.Node.{Node}
-use Rattle.afs_model.specs.Past.{same_key}
-use Rattle.afs_model.specs.ServerRow.{key_of}
-use Rattle.afs_model.specs.Calls.{CallSeat, Admitted, pair_below, runs, kept, wrong_boot, call_seat, call_seated, paired, admitted, is_last_call}
+use Rattle.afs_model.specs.Calls.{same_key, key_of, CallSeat, Admitted, pair_below, runs, kept, wrong_boot, call_seat, call_seated, paired, admitted, is_last_call}
 use Rattle.afs_model.specs.CallLaws.{CallEvent, starts, finishes, seats_after, StartsWhatRuns, WasStarted, last_reply}
 use Rattle.afs_model.proofs.Basics.{both, yes_no, same_node-true, node_apart, same_key-refl, Below, UpTo, below-false, up_to_below, below_up_to, below_not, up_to_same, runs_above, LastSeat, kept_last, at_seat}
 

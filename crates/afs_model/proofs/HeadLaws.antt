@@ -73,9 +73,6 @@ known_ok None behind x rest e = absurd cc
 words_then : (a : List ℕ) (n : ℕ) (b : List ℕ) (ns c : List ℕ) → Takes a (word n) b → Takes b (words ns) c → Takes a (words (n ∷ ns)) c
 words_then a n b ns c p q = rw flat_map-cons (Takes-then a (word n) b (words ns) c p q)
 
-nothing_taken : (bytes : List ℕ) → IsBytes bytes → Takes bytes (words []) bytes
-nothing_taken bytes fits = record { parts = refl; rest_fits = fits }
-
 -- a word that was taken from the front
 pub record TakesWord (bytes : List ℕ) (n : ℕ) (rest : List ℕ) : Type 0 where
   pub takes : Takes bytes (word n) rest

@@ -10,17 +10,14 @@ use Rattle.afs_num.specs.declared.types.Half.TheVariants as halves
 use Rattle.afs_num.specs.declared.types.Node.{Node}
 use Rattle.afs_num.specs.declared.types.Head.{Head}
 use Rattle.afs_num.specs.declared.types.Parcel.{Parcel}
-use Rattle.afs_num.specs.declared.messages.Carried.{Carried}
 use Rattle.afs_num.specs.declared.messages.Carried.TheVariants as carried
 use Rattle.afs_num.specs.declared.messages.Message.{Message}
 use Rattle.afs_num.specs.declared.messages.Received.TheVariants.{Whole}
 use Rattle.afs_xdr.specs.declared.faults.XdrFault.{XdrFault}
 use Rattle.afs_xdr.specs.Words.{◌>>=◌, word_at}
-use Rattle.afs_num.specs.declared.messages.Received.{Received}
 use Rattle.afs_num.specs.declared.messages.Call.{Call}
 use Rattle.afs_num.specs.declared.messages.Reply.{Reply}
 use Rattle.afs_shape.specs.declared.faults.ShapeFault.{ShapeFault}
-use Rattle.afs_shape.specs.declared.faults.ShapeFault.TheVariants as faults
 use Rattle.afs_shape.specs.declared.kinds.Field.{Field}
 use Rattle.afs_shape.specs.Reading.{in_place, signed_at, fields_to_end_at}
 use Rattle.afs_shape.proofs.FieldLaws.{bind_ok, in_place_ok, shape_ok_is}
@@ -228,13 +225,6 @@ parcel_same wire place p m head bytes read =
     ap (λ (h : Head). sent_text wire place h (code_at p.bytes) p.bytes) head
     ∙ (sent_same wire place m.head (code_at p.bytes) (code_of m.carried) p.bytes (λ reply. reply_code p.bytes m reply read)
     ∙ ap (λ (b : List ℕ). sent_text wire place m.head (code_of m.carried) b) bytes)
-
--- a parcel's header, its bytes, and what is read in them
-abbrev Seen : Type 0
-Seen = Head × List ℕ × Received
-
-first_is : {A : Type 0} {x y : A} {xs ys : List A} → x ∷ xs ≡ y ∷ ys → x ≡ y
-first_is h = cc
 
 others_are : {A : Type 0} {x y : A} {xs ys : List A} → x ∷ xs ≡ y ∷ ys → xs ≡ ys
 others_are h = cc

@@ -2,9 +2,7 @@
 use Rattle.std.specs.Prelude.{◌≡◌, ℕ, List, [], ◌∷◌, false, Option, Some, None, ◌⊎◌, if◌then◌else◌}
 use Rattle.afs_num.specs.declared.types.Head.{Head}
 use Rattle.afs_num.specs.declared.types.Key.{Key}
-use Rattle.afs_model.specs.Past.{same_key}
-use Rattle.afs_model.specs.ServerRow.{key_of}
-use Rattle.afs_model.specs.Calls.{CallSeat, pair_below, runs, kept, call_seat, paired, admitted, started, finished}
+use Rattle.afs_model.specs.Calls.{same_key, key_of, CallSeat, pair_below, runs, kept, call_seat, paired, admitted, started, finished}
 
 pub data CallEvent : Type 0 where
   starts : Key → CallEvent

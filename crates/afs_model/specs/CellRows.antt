@@ -67,22 +67,9 @@ interface_of_reply (replies.File reply) = of_files
 interface_of_reply (replies.Volume reply) = of_volumes
 interface_of_reply (replies.Location reply) = of_locations
 
--- ---- which calls a kind of node serves, by their opcodes
-
--- a file server, so far
-abbrev pub file_server_calls : List ℕ
-file_server_calls = 130 ∷ 133 ∷ []
-
 -- a client: CallBack, InitCallBackState and Probe
 abbrev pub client_calls : List ℕ
 client_calls = 204 ∷ 205 ∷ 206 ∷ []
-
--- a volume server, and the location database: all of their interfaces
-abbrev pub volume_server_calls : List ℕ
-volume_server_calls = opcodes vol_calls
-
-abbrev pub location_calls : List ℕ
-location_calls = opcodes loc_calls
 
 -- all that any node may serve
 abbrev pub all_calls : List ℕ

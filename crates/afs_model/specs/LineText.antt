@@ -8,13 +8,9 @@ use Rattle.afs_num.specs.declared.types.Code.{Code}
 use Rattle.afs_num.specs.declared.types.Fid.{Fid}
 use Rattle.afs_num.specs.declared.types.Key.{Key}
 use Rattle.afs_num.specs.declared.types.Node.{Node}
-use Rattle.afs_num.specs.declared.scripts.Act.{Act}
-use Rattle.afs_num.specs.declared.scripts.Act.TheVariants.{Open, Close}
 use Rattle.afs_num.specs.declared.directories.Name.{Name}
 use Rattle.afs_num.specs.declared.histories.Body.{Body}
 use Rattle.afs_num.specs.declared.histories.Body.TheVariants as bodies
-use Rattle.afs_num.specs.declared.histories.Line.{Line}
-use Rattle.afs_num.specs.declared.histories.Line.TheVariants as lines
 use Rattle.afs_num.specs.declared.histories.ReadBody.{ReadBody}
 use Rattle.afs_num.specs.declared.histories.ReadBody.TheVariants.{Contents, Status, AccessList}
 use Rattle.afs_num.specs.declared.histories.ReadSource.{ReadSource}
@@ -43,10 +39,6 @@ unfoldable pub name_text : List ℕ → List ℕ
 name_text name = flat_map name_byte name
 
 -- ---- what lines show
-
-unfoldable pub act_text : Act → List ℕ
-act_text (Open fid) = codes "open @" ++ fid_text fid
-act_text (Close fid contents) = codes "close @" ++ (fid_text fid ++ (codes " hex:" ++ hex_text contents))
 
 -- a name in a directory and what it names; a comma stands before all names but the first
 abbrev pub entry_name_text : Name → List ℕ
@@ -78,10 +70,7 @@ abbrev pub source_text : ReadSource → List ℕ
 source_text Cached = codes "cached"
 source_text Fetched = codes "fetched"
 
--- ---- acts, versions, reads and answers
-
-unfoldable pub begin_text : Node → Act → List ℕ
-begin_text node act = codes "begin " ++ (node_text node ++ (codes " " ++ (act_text act ++ codes "\n")))
+-- ---- versions, reads and answers
 
 unfoldable pub change_text : Node → Key → ℕ → List ℕ
 change_text server key count = codes "change " ++ (node_text server ++ (codes " " ++ (key_text key ++ (codes " " ++ (decimal count ++ codes "\n")))))
@@ -153,33 +142,7 @@ timeout_text caller callee epoch number count =
 unfoldable pub tick_text : ℕ → List ℕ
 tick_text ticks = codes "tick " ++ (decimal ticks ++ codes "\n")
 
--- ---- lines
+-- ---- messages that are given
 
 unfoldable pub given_text : ℕ → List ℕ
 given_text place = codes "given " ++ (decimal place ++ codes "\n")
-
-unfoldable pub line_text : Line → List ℕ
-line_text (lines.Begin node act) = begin_text node act
-line_text (lines.Given place) = given_text place
-line_text (lines.Grant server client fid index expiry) = grant_text server client fid index expiry
-line_text (lines.Change server key count) = change_text server key count
-line_text (lines.Version version) = version_text version
-line_text (lines.Read client fid index source body) = read_text client fid index source body
-line_text (lines.Answer node code) = answer_text node code
-line_text (lines.Timeout caller callee epoch number count) = timeout_text caller callee epoch number count
-line_text (lines.Tick ticks) = tick_text ticks
-line_text (lines.Stop node calls pick) = stop_text node calls pick
-line_text (lines.Fail node calls) = fail_text node calls
-line_text (lines.Crash node) = crash_text node
-line_text (lines.Fault node) = fault_text node
-line_text (lines.Restart node boot) = restart_text node boot
-line_text (lines.Full node) = full_text node
-line_text (lines.Drop client fid) = drop_text client fid
-line_text (lines.DropAll client server) = drop_all_text client server
-line_text (lines.Owe server client fid number) = owe_text server client fid number
-line_text (lines.Settle server client number) = settle_text server client number
-line_text (lines.Quit server client number) = quit_text server client number
-line_text lines.Void = codes "void\n"
-
-unfoldable pub lines_text : List Line → List ℕ
-lines_text ls = flat_map line_text ls

@@ -1,15 +1,13 @@
 -- What the program keeps of a run, and the history that this tells. It keeps the parcels that were sent, each with the
 -- bytes of its message, and entries that say how many of them are theirs.
-use Rattle.std.specs.Prelude.{◌≡◌, ℕ, ◌+◌, List, [], ◌∷◌, Result, Ok, Err, ℤ, pos, take, drop}
+use Rattle.std.specs.Prelude.{◌≡◌, ℕ, List, [], ◌∷◌, Result, Ok, Err, ℤ, pos, drop}
 use Rattle.afs_num.specs.declared.types.Parcel.{Parcel}
 use Rattle.afs_num.specs.declared.messages.Message.{Message}
 use Rattle.afs_num.specs.declared.messages.Received.{Received}
 use Rattle.afs_num.specs.declared.messages.Received.TheVariants.{Whole}
-use Rattle.afs_num.specs.declared.histories.Entry as kept
 use Rattle.afs_xdr.specs.declared.faults.XdrFault.{XdrFault}
 use Rattle.afs_shape.specs.Reading.{signed_at}
 use Rattle.afs_model.specs.Messages.{received, parcels_read, messages_spelled}
-use Rattle.afs_model.specs.Runs.{Entry}
 
 abbrev pub with_received : Received → List Message → List Message
 with_received (Whole m) ms = m ∷ ms
@@ -23,16 +21,6 @@ messages_of (p ∷ ps) = with_received (received p.bytes) (messages_of ps)
 -- all parcels are the spellings of messages, and are read as these
 abbrev pub AreRead : List Parcel → Type 0
 AreRead ps = parcels_read ps ≡ messages_spelled (messages_of ps)
-
--- the history that these entries tell, each with the next of these parcels
-abbrev pub told : List Parcel → List kept.Entry → List Entry
-told ps [] = []
-told ps (e ∷ es) = record { actor = e.actor; lines = e.lines; sent = messages_of (take e.sent ps) } ∷ told (drop e.sent ps) es
-
--- how many messages these entries sent
-abbrev pub sent_by : List kept.Entry → ℕ
-sent_by [] = 0
-sent_by (e ∷ es) = e.sent + sent_by es
 
 -- the code of a reply is its first word behind the header, which has 32 bytes
 abbrev pub code_read : Result (ℤ × List ℕ) XdrFault → ℤ

@@ -1,5 +1,5 @@
 -- Lists with one item a key. An item has the key that `key` takes from it, and `same` compares two keys.
-use Rattle.std.specs.Prelude.{ℕ, ◌+◌, ◌≤◌, ◌<◌, List, [], ◌∷◌, ◌++◌, Bool, not, Option, Some, None, find, filter, if◌then◌else◌}
+use Rattle.std.specs.Prelude.{ℕ, ◌+◌, ◌≤◌, ◌<◌, List, [], ◌∷◌, ◌++◌, Bool, not, Option, Some, None, find, filter}
 
 abbrev pub keyed : {T K : Type 0} → (T → K) → (K → K → Bool) → K → List T → Option T
 keyed {T} key same k items = find (λ (x : T). same (key x) k) items
@@ -13,11 +13,6 @@ put_last key same x items = other_keyed key same (key x) items ++ x ∷ []
 
 abbrev pub put_first : {T K : Type 0} → (T → K) → (K → K → Bool) → T → List T → List T
 put_first key same x items = x ∷ other_keyed key same (key x) items
-
--- what is under a key, changed where it stands
-abbrev pub changed : {T K : Type 0} → (T → K) → (K → K → Bool) → K → (T → T) → List T → List T
-changed key same k f [] = []
-changed key same k f (x ∷ items) = if same (key x) k then f x ∷ items else x ∷ changed key same k f items
 
 -- an item whose key has one already needs no room
 abbrev pub HasRoom : {T : Type 0} → Option T → ℕ → Type 0

@@ -1,9 +1,8 @@
 //! What is told of a run.
 
 use crate::directories::Names;
-use crate::scripts::Act;
 use crate::sequences::{Octets, Sequence};
-use crate::types::{Code, Fid, Key, Node, Parcels};
+use crate::types::{Fid, Node};
 
 /// What a version holds: a file's bytes, a directory's names, a link's text; or the vnode is gone.
 #[derive(Drop)]
@@ -50,130 +49,6 @@ pub enum ReadBody {
     AccessList(Octets),
 }
 
-/// A line of a history. Messages stand beside the lines of their entry.
-#[derive(Drop)]
-pub enum Line {
-    /// An act begins.
-    Begin {
-        node: Node,
-        act: Act,
-    },
-    /// The node is given the message of this place.
-    Given {
-        place: u64,
-    },
-    /// The server promises the client to tell it of changes of this fid, until the clock reaches the expiry.
-    Grant {
-        server: Node,
-        client: Node,
-        fid: Fid,
-        index: u32,
-        expiry: u32,
-    },
-    /// The server changes under this key; so many versions follow.
-    Change {
-        server: Node,
-        key: Key,
-        count: u32,
-    },
-    Version {
-        version: Version,
-    },
-    Read {
-        client: Node,
-        fid: Fid,
-        index: u32,
-        source: ReadSource,
-        body: ReadBody,
-    },
-    Answer {
-        node: Node,
-        code: Code,
-    },
-    /// The caller's call of this epoch and number to the callee stayed unanswered; so often by now.
-    Timeout {
-        caller: Node,
-        callee: Node,
-        epoch: u32,
-        number: u32,
-        count: u32,
-    },
-    /// The clock rises by so many ticks.
-    Tick {
-        ticks: u32,
-    },
-    /// The node's disk is set to stop the node once it has passed so many device calls; the pick, 0 to 3, says what
-    /// is left of the writes that weren't synced.
-    Stop {
-        node: Node,
-        calls: u32,
-        pick: u8,
-    },
-    /// The node's disk is set to fail at this one of its next device calls, counted from 1.
-    Fail {
-        node: Node,
-        calls: u32,
-    },
-    /// The node stops, and loses all but what is on its disk.
-    Crash {
-        node: Node,
-    },
-    /// The node stops because its disk failed.
-    Fault {
-        node: Node,
-    },
-    /// The node begins again, with this boot number; a client's is its epoch.
-    Restart {
-        node: Node,
-        boot: u32,
-    },
-    /// The node can't begin again: the record of its boot doesn't fit on its disk.
-    Full {
-        node: Node,
-    },
-    /// The client gives its cached entry of the fid up, or handles a break of the promise on it.
-    Drop {
-        client: Node,
-        fid: Fid,
-    },
-    /// The client gives up all that the server promised, as the server breaks all of it.
-    DropAll {
-        client: Node,
-        server: Node,
-    },
-    /// The server owes the client a break of its promise on the fid, or of all promises where no fid is named. A
-    /// server numbers the breaks that it owes from 1 in each boot.
-    Owe {
-        server: Node,
-        client: Node,
-        fid: Option<Fid>,
-        number: u32,
-    },
-    /// The client has answered the owed break of this number.
-    Settle {
-        server: Node,
-        client: Node,
-        number: u32,
-    },
-    /// The server gives up the owed break of this number: the client hasn't answered.
-    Quit {
-        server: Node,
-        client: Node,
-        number: u32,
-    },
-    /// Nothing happened.
-    Void,
-}
-
-pub type Lines = Sequence<Line>;
-
-/// What one step told and sent.
-#[derive(Drop)]
-pub struct Outs {
-    pub parcels: Parcels,
-    pub lines: Lines,
-}
-
 /// Whose a step is: a node's, the clock's where it rises, or nobody's where nothing happened.
 #[derive(Clone, Copy, Debug, PartialEq, Eq)]
 pub enum Actor {
@@ -181,14 +56,3 @@ pub enum Actor {
     Clock,
     Nobody,
 }
-
-/// One step of a run: whose it is, its lines, and how many messages it sent. These have the next places behind those of
-/// the entries before, and their bytes are the wire's.
-#[derive(Drop)]
-pub struct Entry {
-    pub actor: Actor,
-    pub lines: Lines,
-    pub sent: usize,
-}
-
-pub type History = Sequence<Entry>;

@@ -1,7 +1,6 @@
 //! Lists with one item a key.
 
 ghost use Rattle.std.specs.Prelude.{◌≡◌, ◌≤◌, ◌-◌, length};
-ghost use Rattle.std.specs.List.{position};
 ghost use Rattle.std.specs.Option.{option_copied};
 ghost use Rattle.std.specs.Vec.{vec_capacity};
 ghost use Rattle.afs_num.specs.Keyed.{keyed, other_keyed, put_last, put_first, HasRoom, KeepsRoom, Frees};
@@ -30,13 +29,6 @@ pub fn find_keyed<'a, T: Keyed>(items: &'a [T], key: &T::Key) -> Option<&'a T>
     ensures { option_copied result ≡ keyed T.key T.same key.now items.entry.now }
 {
     items.iter().find(|item| item.is_under(key))
-}
-
-/// Where the item under this key stands.
-pub fn place_keyed<T: Keyed>(items: &[T], key: &T::Key) -> Option<usize>
-    ensures { result ≡ position (λ x. T.same (T.key x) key.now) items.now }
-{
-    items.iter().position(|item| item.is_under(key))
 }
 
 /// Drops what is under this key.

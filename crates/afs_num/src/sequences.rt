@@ -83,9 +83,9 @@ impl Sequence<u8> {
     pub fn from_slice(alloc: Global, bytes: &[u8]) -> Result<Self, AllocError>
         ensures { IfOk result (λ s. s ≡ bytes.now) }
     {
-        let mut items = Vec::new(alloc);
-        items.extend_from_slice(bytes)?;
-        Ok(Sequence { items })
+        Ok(Sequence {
+            items: Vec::from_slice(alloc, bytes)?,
+        })
     }
 
     /// A copy.
@@ -98,9 +98,6 @@ impl Sequence<u8> {
 
 /// Bytes.
 pub type Octets = Sequence<u8>;
-
-/// A path: the names on its way, each as its bytes.
-pub type Path = Sequence<Octets>;
 
 /// The records of a journal, each as its bytes.
 pub type Records = Sequence<Octets>;

@@ -1,4 +1,4 @@
-ghost use Rattle.std.specs.Prelude.{◌≡◌, ◌==◌, ◌%◌, IfSome};
+ghost use Rattle.std.specs.Prelude.{◌≡◌, IfSome};
 
 use crate::sequences::{Octets, Sequence};
 use std::alloc::AllocError;
@@ -16,15 +16,6 @@ pub struct Fid {
     pub volume: u32,
     pub vnode: u32,
     pub unique: u32,
-}
-
-impl Fid {
-    /// Directories have odd vnode numbers, files and links even ones.
-    pub fn is_dir(&self) -> bool
-        ensures { result ≡ (self.now.vnode % 2 == 1) }
-    {
-        self.vnode % 2 == 1
-    }
 }
 
 /// A node of the cell: the location database, or a server, a client or an administrator by its number.

@@ -1,12 +1,12 @@
 -- What is written piece by piece: the pieces one behind another, or, where a write failed, a beginning of them.
-use Rattle.std.proofs.Common.{◌≡◌, ℕ, suc, zero, ◌+◌, ◌≤◌, List, [], ◌∷◌, ◌++◌, ◌<◌, length, take, drop, refl, ap, sym, ◌∙◌, subst, drop_of_length-le, append-nil, Result, Ok, Err, Option, Some, None, arith}
+use Rattle.std.proofs.Common.{◌≡◌, ℕ, suc, zero, ◌+◌, ◌≤◌, List, [], ◌∷◌, ◌++◌, ◌<◌, length, take, drop, refl, ap, sym, ◌∙◌, subst, drop_of_length-le, take-append-drop, append-nil, Result, Ok, Err, Option, Some, None, arith}
 use Rattle.std.specs.Prelude.{OnErr, IsErr}
 use Rattle.std.specs.Io.KnownBytes.{Appends, Keeps}
 use Rattle.std.proofs.KnownBytes.{Appends-nil, Appends-trans, Appends-kept}
 use Rattle.std.proofs.lemmas.List.{take_all, drop_more}
 use Rattle.std.proofs.Math.ListN.{get_or}
 use Rattle.afs_outside.specs.declared.outside.Failed.{Failed}
-use Rattle.afs_outside.specs.Outside.{Rose, HasCause, AppendsFront, Puts}
+use Rattle.afs_outside.specs.Outside.{HasCause, AppendsFront, Puts}
 
 -- a beginning of the first piece is one of both
 front_of_first : (n : ℕ) (x y : List ℕ) → (m : ℕ) × (take m (x ++ y) ≡ take n x)
@@ -107,3 +107,11 @@ puts_passed x a b c f g h u r p q = subst (λ (t : List ℕ). Puts t a c f h r) 
 pub puts_fail : {T U : Type 0} (x : List ℕ) (a b : Option (List ℕ)) (f g : ℕ) (e : Failed) (r : Result U Failed) → IsErr r → Puts {T = T} x a b f g (Err e) → Puts x a b f g r
 puts_fail x a b f g e (Ok v) failed p = cc
 puts_fail x a b f g e (Err d) failed p = record { whole = tt; front = p.front; cause = record { kept = p.cause.kept; cause = p.cause.cause } }
+
+-- a beginning was written, and then the rest
+pub puts_rest : {T : Type 0} (n : ℕ) (bytes rest : List ℕ) (a b c : Option (List ℕ)) (f g h : ℕ) (r : Result T Failed)
+    → Appends a b (take n bytes) → f ≤ g → rest ≡ drop n bytes → Puts rest b c g h r → Puts bytes a c f h r
+puts_rest n bytes rest a b c f g h r first kept is p =
+    let begun : Puts {T = Unit {0}} (take n bytes) a b f g (Ok tt) = record { whole = first; front = tt; cause = record { kept = kept; cause = tt } } in
+    let left = subst (λ (t : List ℕ). Puts t b c g h r) is p in
+    subst (λ (t : List ℕ). Puts t a c f h r) (take-append-drop n bytes) (puts_then (take n bytes) (drop n bytes) a b c f g h tt r begun left)

@@ -109,8 +109,8 @@ pub fn read_all<S: Source>(alloc: Global, source: &mut S, limit: u32) -> Result<
     Err(ReadError::TooLong(Octets::from_vec(bytes)))
 }
 
-/// Writes all of these bytes.
-pub fn put_bytes<K: Sink>(sink: &mut K, bytes: &[u8]) -> Result<(), Failed>
+/// Writes all of these bytes, piece by piece as the sink takes them.
+fn put_rest<K: Sink>(sink: &mut K, bytes: &[u8]) -> Result<(), Failed>
     ensures { Puts bytes.now (K.held sink.old) (K.held sink.new) (K.faults sink.old) (K.faults sink.new) result }
 {
     let mut at = 0;
@@ -118,6 +118,21 @@ pub fn put_bytes<K: Sink>(sink: &mut K, bytes: &[u8]) -> Result<(), Failed>
         at += sink.write(bytes.split_at(at).1)?;
     }
     Ok(())
+}
+
+/// Writes all of these bytes. Most sinks take all of them at once.
+#[inline(always)]
+pub fn put_bytes<K: Sink>(sink: &mut K, bytes: &[u8]) -> Result<(), Failed>
+    ensures { Puts bytes.now (K.held sink.old) (K.held sink.new) (K.faults sink.old) (K.faults sink.new) result }
+{
+    if bytes.is_empty() {
+        return Ok(());
+    }
+    let n = sink.write(bytes)?;
+    if n == bytes.len() {
+        return Ok(());
+    }
+    put_rest(sink, bytes.split_at(n).1)
 }
 
 /// Passes on what was written so far, and writes no more.

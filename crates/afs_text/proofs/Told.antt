@@ -1,12 +1,11 @@
 -- Entries that are told with their parcels, one behind another.
-use Rattle.std.proofs.Common.{◌≡◌, ℕ, ◌+◌, ◌≤◌, ◌<◌, List, [], ◌∷◌, ◌++◌, length, take, drop, drop_of_length-le, length-drop, ap, sym, ◌∙◌, subst, Bool, Option, arith}
+use Rattle.std.proofs.Common.{◌≡◌, ℕ, ◌+◌, ◌≤◌, ◌<◌, List, [], ◌∷◌, ◌++◌, length, take, drop, length-drop, ap, sym, ◌∙◌, Bool, arith}
 use Rattle.std.proofs.lemmas.List.{length-take-le, drop_more}
 use Rattle.std.proofs.Math.ListN.{get_or}
 use Rattle.afs_num.specs.declared.types.Parcel.{Parcel}
 use Rattle.afs_history.specs.declared.lines.Entry as kept
 use Rattle.afs_model.proofs.Texts.{parcels_length}
 use Rattle.afs_rows.specs.Runs.{Entry}
-use Rattle.afs_outside.proofs.Puts.{Completes}
 use Rattle.afs_text.specs.HistoryText.{entry_text, entries_text}
 use Rattle.afs_text.specs.Telling.{messages_of, AreRead, told, sent_by}
 use Rattle.afs_text.proofs.Sent.{read_take}
@@ -23,22 +22,6 @@ entries_next wire number place ps e es read within =
 
 pub sent_next : (es : List kept.Entry) (i : ℕ) (e : kept.Entry) → i < length es → e ≡ get_or es i e → sent_by (drop i es) ≡ e.sent + sent_by (drop (i + 1) es)
 sent_next es i e within is = ap sent_by (drop_more es i e within) ∙ ap (λ (x : kept.Entry). x.sent + sent_by (drop (i + 1) es)) (sym is)
-
--- ---- in a loop
-
-pub entries_left : (wire : Bool) (number place : ℕ) (ps own behind : List Parcel) (whole : List ℕ) (a b : Option (List ℕ)) (f g : ℕ) (es : List kept.Entry) (i : ℕ) (e : kept.Entry) → i < length es → e ≡ get_or es i e
-    → own ≡ take e.sent ps → behind ≡ drop e.sent ps → AreRead ps → e.sent ≤ length ps
-    → Completes (entries_text wire number place (told ps (drop i es))) whole a b f g
-    → Completes (entry_text wire number place (record { actor = e.actor; lines = e.lines; sent = messages_of own; volumes = [] }) ++ entries_text wire (number + 1) (place + e.sent) (told behind (drop (i + 1) es))) whole a b f g
-entries_left wire number place ps own behind whole a b f g es i e within is front back read enough left =
-    let here : drop i es ≡ e ∷ drop (i + 1) es = drop_more es i e within ∙ ap (λ (x : kept.Entry). x ∷ drop (i + 1) es) (sym is) in
-    let left_here = subst (λ (xs : List kept.Entry). Completes (entries_text wire number place (told ps xs)) whole a b f g) here left in
-    rw (front, back) (subst (λ (t : List ℕ). Completes t whole a b f g) (entries_next wire number place ps e (drop (i + 1) es) read enough) left_here)
-
-pub entries_end : (wire : Bool) (number place : ℕ) (ps : List Parcel) (whole : List ℕ) (a b : Option (List ℕ)) (f g : ℕ) (es : List kept.Entry) (i : ℕ) → length es ≤ i
-    → Completes (entries_text wire number place (told ps (drop i es))) whole a b f g → Completes [] whole a b f g
-entries_end wire number place ps whole a b f g es i all left =
-    subst (λ (xs : List kept.Entry). Completes (entries_text wire number place (told ps xs)) whole a b f g) (drop_of_length-le es all) left
 
 -- the first entry's parcels are there
 pub enough_left : (es : List kept.Entry) (i n : ℕ) (e : kept.Entry) → i < length es → e ≡ get_or es i e → sent_by (drop i es) ≡ n → e.sent ≤ n

@@ -1,29 +1,14 @@
-//! What the lines of a history show: acts, bodies and statuses.
+//! What the lines of a history show: bodies and statuses.
 
 ghost use Rattle.afs_outside.specs.Outside.{Puts};
-ghost use Rattle.afs_model.specs.LineText.{act_text, entry_name_text, more_names_text, directory_text, body_text, status_text, read_body_text, source_text, owed_text};
+ghost use Rattle.afs_model.specs.LineText.{entry_name_text, more_names_text, directory_text, body_text, status_text, read_body_text, source_text, owed_text};
 
 use crate::bytes::{Hex, Name};
 use crate::pieces::Print;
 use afs_num::directories;
 use afs_num::histories::{Body, ReadBody, ReadSource, ReadStatus};
-use afs_num::scripts::Act;
 use afs_num::types::Fid;
 use afs_outside::outside::{Failed, Sink};
-
-impl<'a> Print for &'a Act {
-    ghost text = { λ act. act_text act.now };
-
-    #[tactic(auto, unfolding(afs_model::specs::LineText::act_text))]
-    fn print<K: Sink>(&self, sink: &mut K) -> Result<(), Failed> {
-        match *self {
-            Act::Open { fid } => row!("open @", *fid).print(sink),
-            Act::Close { fid, contents } => {
-                row!("close @", *fid, " hex:", Hex(contents.as_slice())).print(sink)
-            }
-        }
-    }
-}
 
 impl<'a> Print for &'a Body {
     ghost text = { λ body. body_text body.now };

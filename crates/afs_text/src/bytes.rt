@@ -2,12 +2,12 @@
 
 ghost use Rattle.std.specs.Prelude.{◌≡◌, ◌<◌, ◌≤◌, true, false, length};
 ghost use Rattle.std.specs.Fmt.{digit_glyph};
+ghost use Rattle.std.specs.List.{list_all};
 ghost use Rattle.afs_outside.specs.Outside.{Puts};
 ghost use Rattle.afs_model.specs.LineText.{hex_byte, hex_text, is_plain, name_byte, name_text};
 
 use crate::pieces::Print;
 use afs_outside::outside::{Failed, Sink, put_bytes};
-use arrayvec::ArrayVec;
 
 /// The hexadecimal digit of a number below 16.
 fn hex_digit(n: u8) -> u8
@@ -34,17 +34,18 @@ fn upper_hex_digit(n: u8) -> u8
 /// How many bytes are spelled at once, on the stack.
 const CHUNK: usize = 256;
 
+/// Spells bytes at the front of a buffer of so many digits.
 #[tactic(auto, unfolding(afs_model::specs::LineText::hex_text))]
 fn put_chunk<K: Sink>(sink: &mut K, bytes: &[u8]) -> Result<(), Failed>
     requires { length bytes.now ≤ 256 }
     ensures { Puts (hex_text bytes.now) (K.held sink.old) (K.held sink.new) (K.faults sink.old) (K.faults sink.new) result }
 {
-    let mut digits: ArrayVec<u8, 512> = ArrayVec::new();
-    for byte in bytes {
-        digits.push(hex_digit(*byte / 16));
-        digits.push(hex_digit(*byte % 16));
+    let mut digits = [0; 2 * CHUNK];
+    for (i, byte) in bytes.iter().enumerate() {
+        digits[2 * i] = hex_digit(*byte / 16);
+        digits[2 * i + 1] = hex_digit(*byte % 16);
     }
-    put_bytes(sink, digits.as_slice())
+    put_bytes(sink, digits.split_at(2 * bytes.len()).0)
 }
 
 /// Bytes as hexadecimal digits.
@@ -85,6 +86,24 @@ fn put_name_byte<K: Sink>(sink: &mut K, b: u8) -> Result<(), Failed>
     }
 }
 
+/// Whether all bytes of a name stand as themselves.
+fn is_all_plain(name: &[u8]) -> bool
+    ensures { result ≡ list_all is_plain name.now }
+{
+    name.iter().all(|b| is_plain(*b))
+}
+
+/// Writes a name byte by byte.
+#[tactic(auto, unfolding(afs_model::specs::LineText::name_text))]
+fn put_escaped<K: Sink>(sink: &mut K, name: &[u8]) -> Result<(), Failed>
+    ensures { Puts (name_text name.now) (K.held sink.old) (K.held sink.new) (K.faults sink.old) (K.faults sink.new) result }
+{
+    for b in name {
+        put_name_byte(sink, *b)?;
+    }
+    Ok(())
+}
+
 /// A name, whose bytes are escaped where they aren't plain.
 #[derive(Drop)]
 pub struct Name<'a>(pub &'a [u8]);
@@ -92,11 +111,11 @@ pub struct Name<'a>(pub &'a [u8]);
 impl<'a> Print for Name<'a> {
     ghost text = { λ name. name_text name.0.now };
 
-    #[tactic(auto, unfolding(afs_model::specs::LineText::name_text))]
     fn print<K: Sink>(&self, sink: &mut K) -> Result<(), Failed> {
-        for b in self.0 {
-            put_name_byte(sink, *b)?;
+        if is_all_plain(self.0) {
+            put_bytes(sink, self.0)
+        } else {
+            put_escaped(sink, self.0)
         }
-        Ok(())
     }
 }

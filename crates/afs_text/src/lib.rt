@@ -10,10 +10,9 @@ macro_rules! row {
 mod acts;
 mod bodies;
 mod bytes;
-mod final_part;
 pub mod histories;
 mod lines;
 pub mod pieces;
-pub mod printing;
+mod printing;
 mod run_lines;
 pub mod volumes;

@@ -1,23 +1,15 @@
-//! The lines of a history.
+//! The lines of a history, but for the one with which an act begins.
 
 ghost use Rattle.afs_outside.specs.Outside.{Puts};
-ghost use Rattle.afs_model.specs.LineText.{answer_text, begin_text, change_text, crash_text, drop_all_text, drop_text, fail_text, fault_text, full_text, given_text, grant_text, line_text, owe_text, quit_text, read_text, restart_text, settle_text, stop_text, tick_text, timeout_text, version_text};
+ghost use Rattle.afs_model.specs.LineText.{answer_text, change_text, crash_text, drop_all_text, drop_text, fail_text, fault_text, full_text, given_text, grant_text, owe_text, quit_text, read_text, restart_text, settle_text, stop_text, tick_text, timeout_text, version_text};
 
 use crate::bodies::Owed;
 use crate::pieces::Print;
-use afs_num::histories::{Line, ReadBody, ReadSource, Version};
-use afs_num::scripts::Act;
+use afs_num::histories::{ReadBody, ReadSource, Version};
 use afs_num::types::{Code, Fid, Key, Node};
 use afs_outside::outside::{Failed, Sink};
 
-// ---- acts, versions, reads and answers
-
-#[tactic(auto, unfolding(afs_model::specs::LineText::begin_text))]
-pub fn put_begin<K: Sink>(sink: &mut K, node: Node, act: &Act) -> Result<(), Failed>
-    ensures { Puts (begin_text node act.now) (K.held sink.old) (K.held sink.new) (K.faults sink.old) (K.faults sink.new) result }
-{
-    row!("begin ", node, " ", act, "\n").print(sink)
-}
+// ---- versions, reads and answers
 
 #[tactic(auto, unfolding(afs_model::specs::LineText::change_text))]
 pub fn put_change<K: Sink>(sink: &mut K, server: Node, key: Key, count: u32) -> Result<(), Failed>
@@ -224,68 +216,4 @@ pub fn put_tick<K: Sink>(sink: &mut K, ticks: u32) -> Result<(), Failed>
     ensures { Puts (tick_text ticks) (K.held sink.old) (K.held sink.new) (K.faults sink.old) (K.faults sink.new) result }
 {
     row!("tick ", ticks, "\n").print(sink)
-}
-
-// ---- lines
-
-impl Print for Line {
-    ghost text = { line_text };
-
-    #[tactic(auto, unfolding(afs_model::specs::LineText::line_text))]
-    fn print<K: Sink>(&self, sink: &mut K) -> Result<(), Failed> {
-        match self {
-            Line::Begin { node, act } => put_begin(sink, *node, act),
-            Line::Given { place } => put_given(sink, *place),
-            Line::Grant {
-                server,
-                client,
-                fid,
-                index,
-                expiry,
-            } => put_grant(sink, *server, *client, *fid, *index, *expiry),
-            Line::Change { server, key, count } => put_change(sink, *server, *key, *count),
-            Line::Version { version } => put_version(sink, version),
-            Line::Read {
-                client,
-                fid,
-                index,
-                source,
-                body,
-            } => put_read(sink, *client, *fid, *index, *source, body),
-            Line::Answer { node, code } => put_answer(sink, *node, *code),
-            Line::Timeout {
-                caller,
-                callee,
-                epoch,
-                number,
-                count,
-            } => put_timeout(sink, *caller, *callee, *epoch, *number, *count),
-            Line::Tick { ticks } => put_tick(sink, *ticks),
-            Line::Stop { node, calls, pick } => put_stop(sink, *node, *calls, *pick),
-            Line::Fail { node, calls } => put_fail(sink, *node, *calls),
-            Line::Crash { node } => put_crash(sink, *node),
-            Line::Fault { node } => put_fault(sink, *node),
-            Line::Restart { node, boot } => put_restart(sink, *node, *boot),
-            Line::Full { node } => put_full(sink, *node),
-            Line::Drop { client, fid } => put_drop(sink, *client, *fid),
-            Line::DropAll { client, server } => put_drop_all(sink, *client, *server),
-            Line::Owe {
-                server,
-                client,
-                fid,
-                number,
-            } => put_owe(sink, *server, *client, *fid, *number),
-            Line::Settle {
-                server,
-                client,
-                number,
-            } => put_settle(sink, *server, *client, *number),
-            Line::Quit {
-                server,
-                client,
-                number,
-            } => put_quit(sink, *server, *client, *number),
-            Line::Void => "void\n".print(sink),
-        }
-    }
 }

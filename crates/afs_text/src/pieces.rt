@@ -34,6 +34,7 @@ fn print_all<T: Print, K: Sink>(sink: &mut K, items: &[T]) -> Result<(), Failed>
 impl<A: Print, B: Print> Print for (A, B) {
     ghost text = { λ p. A.text p.0 ++ B.text p.1 };
 
+    #[inline(always)]
     fn print<K: Sink>(&self, sink: &mut K) -> Result<(), Failed> {
         self.0.print(sink)?;
         self.1.print(sink)
@@ -55,6 +56,7 @@ impl<'a, T: Print> Print for Each<'a, T> {
 impl<'a> Print for &'a str {
     ghost text = { λ s. s.now };
 
+    #[inline(always)]
     fn print<K: Sink>(&self, sink: &mut K) -> Result<(), Failed> {
         put_bytes(sink, self.as_bytes())
     }

@@ -1,17 +1,13 @@
-//! The text of a run: its entries, each with its lines and the messages that it sent, and what stands at the end.
+//! The text of a message that was sent, and of the line that begins an entry.
 
-ghost use Rattle.std.specs.Prelude.{◌≡◌, ◌+◌, ◌<◌, ◌≤◌, ◌^◌, ◌++◌, length};
+ghost use Rattle.std.specs.Prelude.{◌≡◌};
 ghost use Rattle.afs_outside.specs.Outside.{Puts};
-ghost use Rattle.afs_model.specs.LineText.{lines_text};
-ghost use Rattle.afs_model.specs.Text.{half_word, head_text, code_text, tail_text, sent_text, messages_text, actor_text, step_text, entry_text, history_text, final_text};
-ghost use Rattle.afs_model.specs.Telling.{code_at, messages_of, AreRead, told, sent_by};
+ghost use Rattle.afs_model.specs.Text.{half_word, head_text, code_text, tail_text, sent_text, actor_text, step_text};
+ghost use Rattle.afs_model.specs.Telling.{code_at};
 
 use crate::bytes::Hex;
-use crate::final_part::put_final;
-use crate::pieces::{Each, Print};
-use afs_num::histories::{Actor, Entry};
-use afs_num::scripts::Script;
-use afs_num::states::StoredFile;
+use crate::pieces::Print;
+use afs_num::histories::Actor;
 use afs_num::types::{Code, Half, Head, Parcel};
 use afs_outside::outside::{Failed, Sink};
 
@@ -127,23 +123,6 @@ pub(crate) fn put_parcel<K: Sink>(
     .print(sink)
 }
 
-/// Writes the messages of these parcels, the first of which has this place.
-pub(crate) fn put_parcels<K: Sink>(
-    sink: &mut K,
-    first_place: u64,
-    parcels: &[Parcel],
-    wire: bool,
-) -> Result<(), Failed>
-    requires read { AreRead parcels.now }
-    requires places { first_place + length parcels.now ≤ 2 ^ 64 }
-    ensures { Puts (messages_text wire first_place (messages_of parcels.now)) (K.held sink.old) (K.held sink.new) (K.faults sink.old) (K.faults sink.new) result }
-{
-    for (i, parcel) in parcels.iter().enumerate() {
-        put_parcel(sink, first_place + i as u64, parcel, wire)?;
-    }
-    Ok(())
-}
-
 // ---- entries
 
 impl Print for Actor {
@@ -172,78 +151,4 @@ impl Print for Step {
     fn print<K: Sink>(&self, sink: &mut K) -> Result<(), Failed> {
         row!("entry ", self.number, " ", self.actor, "\n").print(sink)
     }
-}
-
-/// The number of an entry, whose it is, and its lines.
-#[tactic(auto, unfolding(afs_model::specs::LineText::lines_text))]
-fn put_lines<K: Sink>(sink: &mut K, number: u64, entry: &Entry) -> Result<(), Failed>
-    ensures { Puts (step_text number entry.now.actor ++ lines_text entry.now.lines) (K.held sink.old) (K.held sink.new) (K.faults sink.old) (K.faults sink.new) result }
-{
-    let step = Step {
-        number,
-        actor: entry.actor,
-    };
-    row!(step, Each(entry.lines.as_slice())).print(sink)
-}
-
-/// Writes an entry of this number, which sent these parcels, from this place on; with the bytes of each message where
-/// `wire` asks for them.
-#[tactic(auto, unfolding(afs_model::specs::Text::entry_text))]
-pub fn print_entry<K: Sink>(
-    sink: &mut K,
-    entry: &Entry,
-    sent: &[Parcel],
-    number: u64,
-    first_place: u64,
-    wire: bool,
-) -> Result<(), Failed>
-    requires read { AreRead sent.now }
-    requires places { first_place + length sent.now ≤ 2 ^ 64 }
-    ensures { Puts (entry_text wire number first_place (record { actor = entry.now.actor; lines = entry.now.lines; sent = messages_of sent.now })) (K.held sink.old) (K.held sink.new) (K.faults sink.old) (K.faults sink.new) result }
-{
-    put_lines(sink, number, entry)?;
-    put_parcels(sink, first_place, sent, wire)
-}
-
-/// Writes the history that these entries tell with these parcels.
-#[tactic(auto, unfolding(afs_model::specs::Text::history_text))]
-fn put_history<K: Sink>(
-    sink: &mut K,
-    parcels: &[Parcel],
-    history: &[Entry],
-    wire: bool,
-) -> Result<(), Failed>
-    requires read { AreRead parcels.now }
-    requires all { sent_by history.now ≡ length parcels.now }
-    requires places { length parcels.now < 2 ^ 63 }
-    ensures { Puts (history_text wire (told parcels.now history.now)) (K.held sink.old) (K.held sink.new) (K.faults sink.old) (K.faults sink.new) result }
-{
-    let mut place = 1u64;
-    let mut left = parcels;
-    for (i, entry) in history.iter().enumerate() {
-        let (sent, behind) = left.split_at(entry.sent);
-        print_entry(sink, entry, sent, i as u64 + 1, place, wire)?;
-        place += entry.sent as u64;
-        left = behind;
-    }
-    Ok(())
-}
-
-/// Writes the whole text of a run of the script: the history that these entries tell with these parcels, and these files
-/// of the server at the end; with the bytes of each message where `wire` asks for them. It takes no memory.
-pub fn print_run<K: Sink>(
-    sink: &mut K,
-    script: &Script,
-    parcels: &[Parcel],
-    history: &[Entry],
-    files: &[StoredFile],
-    wire: bool,
-) -> Result<(), Failed>
-    requires read { AreRead parcels.now }
-    requires all { sent_by history.now ≡ length parcels.now }
-    requires places { length parcels.now < 2 ^ 63 }
-    ensures { Puts (history_text wire (told parcels.now history.now) ++ final_text script.now files.now) (K.held sink.old) (K.held sink.new) (K.faults sink.old) (K.faults sink.new) result }
-{
-    put_history(sink, parcels, history, wire)?;
-    put_final(sink, script, files)
 }

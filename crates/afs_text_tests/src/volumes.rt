@@ -70,7 +70,7 @@ fn put_vnode(sink: &mut MemSink<'static>, vnode: Vnode, body: Body) {
 
 /// The names of a directory, each with its vnode and that one's unique number.
 fn names(alloc: Global, entries: &[(&[u8], u32, u32)]) -> Mem<Body> {
-    let mut names = Names::new(alloc);
+    let mut names = Vec::new(alloc);
     for (name, vnode, unique) in entries {
         names.push(Name {
             name: Octets::from_slice(alloc, name)?,
@@ -78,7 +78,7 @@ fn names(alloc: Global, entries: &[(&[u8], u32, u32)]) -> Mem<Body> {
             unique: *unique,
         })?;
     }
-    Ok(Body::Dir(names))
+    Ok(Body::Dir(Names::from_vec(names)?))
 }
 
 /// A directory.

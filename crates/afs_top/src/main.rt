@@ -8,10 +8,9 @@ mod scripts;
 pub mod statuses;
 
 use afs_disk::HostBank;
-use afs_outside::outside::{HostSink, HostSource};
+use afs_outside::buffered::BufferedSink;
+use afs_outside::outside::{HostSink, HostSource, pass_on};
 use program::run;
-use std::alloc::Global;
-use std::io::{BufWriter, Stdout};
 use std::process::ExitCode;
 use std::{env, io};
 
@@ -23,7 +22,7 @@ fn main(rt: HostRuntime) -> ExitCode {
         Err(_) => Vec::new(alloc),
     };
     let mut source = HostSource::new(rt.reader());
-    let mut sink = HostSink::new(buffered(alloc, rt.stdout()));
+    let mut sink = BufferedSink::new(HostSink::new(rt.stdout()));
     let mut errors = HostSink::new(rt.stderr());
     let mut bank = HostBank::new(&rt, alloc);
     let ended = run(
@@ -34,6 +33,7 @@ fn main(rt: HostRuntime) -> ExitCode {
         &mut errors,
         &mut bank,
     );
+    let _passed = pass_on(&mut sink);
     ExitCode::from(ended.number)
 }
 
@@ -44,17 +44,6 @@ fn words(rt: &HostRuntime) -> io::Result<Vec<String>> {
         words.push(word)?;
     }
     Ok(words)
-}
-
-/// The stream behind a buffer, or without one where there is no memory for it.
-fn buffered(alloc: Global, stream: Stdout) -> BufWriter<Stdout> {
-    if let Ok(writer) = BufWriter::new(alloc, stream) {
-        return writer;
-    }
-    let Ok(writer) = BufWriter::with_capacity(alloc, 0, stream) else {
-        unreachable!()
-    };
-    writer
 }
 
 #[cfg(test)]

@@ -6,6 +6,7 @@ mod FoldsOn
 mod Held
 mod Kept
 mod Laid
+mod Names
 mod Patched
 mod Patches
 mod Readied

@@ -151,7 +151,7 @@ fn changed(alloc: Global, volume: Volume, change: ReadyChange) -> Result<Volume,
     ensures id { IfOk result (λ v. v.head.id ≡ volume.head.id) }
     ensures bad { result ≡ Err Bad → changed_stored change.counter change.unique change.vnodes change.removed (stored_of volume) ≡ None }
 {
-    if can_take(alloc, &volume, change.change())? {
+    if can_take(alloc, &volume, &change)? {
         Ok(taken_in(volume, change)?)
     } else {
         remade(alloc, volume, change.into_change())

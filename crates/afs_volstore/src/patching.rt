@@ -16,14 +16,13 @@ ghost use Rattle.afs_volstore.specs.Changing.{is_in};
 ghost use Rattle.afs_volstore.specs.Patching.{after, before, image_left, is_right, is_unmoved, keeps_place, may_stand, new_among, other_named, others_named, passes, passes_by, reaches, same_others, same_parent, table_left, AreTouched, IsPatch, StaysNamed};
 
 use crate::standing::{
-    gives_held, has_links, has_names, is_directory, is_root, kind_is_right, names_in, names_of,
+    gives_held, has_links, has_names, is_directory, is_root, kind_is_right, names_of,
 };
-use afs_dir::Dir;
 use afs_num::directories::Name;
 use afs_num::types::Mem;
 use afs_num::vnodes::Vnode;
 use afs_num::volumes::Change;
-use afs_volume::Volume;
+use afs_volume::{ReadyChange, Volume};
 use std::alloc::Global;
 
 /// How many vnodes a volume has at most.
@@ -39,7 +38,10 @@ struct Patch<'a> {
     alloc: Global,
     volume: &'a Volume,
     change: &'a Change,
+    // The change with the names that it gives.
+    ready: &'a ReadyChange,
     touched: &'a [u32],
+    ghost same: { ready.now ≡ change.now },
 }
 
 fn is_among(number: u32, numbers: &[u32]) -> bool
@@ -93,6 +95,25 @@ impl<'a> Patch<'a> {
         image_left(number, self.change.vnodes.as_slice(), self.before(number))
     }
 
+    /// The names of a vnode as it is; what is no directory has none.
+    fn names_before(&self, number: u32, x: &Vnode) -> &[Name]
+        requires { get number self.now.volume.now.vnodes.table ≡ Some x.now }
+        ensures { result.now ≡ (seen x.now).names }
+    {
+        self.volume.names_at(number)
+    }
+
+    /// The names of a vnode as the change leaves it; what is no directory has none.
+    fn names_after(&self, number: u32, y: &Vnode) -> &[Name]
+        requires { get number (table_left self.now.volume.now self.now.change.now) ≡ Some y.now }
+        ensures { result.now ≡ (seen y.now).names }
+    {
+        match self.ready.names_given(number) {
+            Some(names) => names,
+            None => self.volume.names_at(number),
+        }
+    }
+
     fn is_touched(&self, number: u32) -> bool
         ensures { result ≡ is_among number self.now.touched.now }
     {
@@ -115,7 +136,7 @@ impl<'a> Patch<'a> {
     fn others_named(&self, names: &[Name]) -> Mem<Vec<u32>>
         ensures { IfOk result (λ out. out.items ≡ others_named self.now.touched.now names.now) }
     {
-        let mut out = Vec::new(self.alloc);
+        let mut out = Vec::with_capacity(self.alloc, names.len())?;
         for name in names {
             self.put_other(&mut out, name)?;
         }
@@ -131,22 +152,23 @@ impl<'a> Patch<'a> {
         Ok(named.as_slice() == other.as_slice())
     }
 
-    /// A vnode has the names of another, but for what is touched.
-    fn keeps_names(&self, x: &Vnode, y: &Vnode) -> Mem<bool>
+    /// A vnode keeps its names, but for what is touched.
+    fn keeps_names(&self, number: u32, x: &Vnode, y: &Vnode) -> Mem<bool>
+        requires there { get number self.now.volume.now.vnodes.table ≡ Some x.now }
+        requires left { get number (table_left self.now.volume.now self.now.change.now) ≡ Some y.now }
         ensures { IfOk result (λ keeps. keeps ≡ same_others self.now.touched.now (seen x.now).names (seen y.now).names) }
     {
-        let names = names_in(self.alloc, x)?;
-        let others = names_in(self.alloc, y)?;
-        self.same_others(names.names(), others.names())
+        self.same_others(self.names_before(number, x), self.names_after(number, y))
     }
 
     /// A vnode may go that only touched vnodes see.
     #[tactic(auto, unfolding(afs_volume::specs::Seen::seen))]
-    fn may_go(&self, x: &Vnode) -> Mem<bool>
+    fn may_go(&self, number: u32, x: &Vnode) -> Mem<bool>
+        requires { get number self.now.volume.now.vnodes.table ≡ Some x.now }
         ensures { IfOk result (λ may. may ≡ (is_among (seen x.now).parent self.now.touched.now && same_others self.now.touched.now (seen x.now).names [])) }
     {
-        let names = names_in(self.alloc, x)?;
-        Ok(self.is_touched(x.parent_vnode) && self.same_others(names.names(), &[])?)
+        let names = self.names_before(number, x);
+        Ok(self.is_touched(x.parent_vnode) && self.same_others(names, &[])?)
     }
 
     /// A vnode stays where it is, as far as a directory that isn't touched can tell.
@@ -226,15 +248,15 @@ impl<'a> Patch<'a> {
 
     /// A vnode has its names in its directory.
     #[tactic(auto, unfolding(afs_volume::specs::Seen::seen))]
-    fn is_named(&self, number: u32, y: &Vnode) -> Mem<bool>
-        ensures { IfOk result (λ named. named ≡ is_named_in (get (seen y.now).parent (after self.now.volume.now self.now.change.now).vnodes) number (seen y.now)) }
+    fn is_named(&self, number: u32, y: &Vnode) -> bool
+        ensures { result ≡ is_named_in (get (seen y.now).parent (after self.now.volume.now self.now.change.now).vnodes) number (seen y.now) }
     {
         match self.after(y.parent_vnode) {
             Some(d) if is_directory(d) && d.unique == y.parent_unique => {
-                let names = names_in(self.alloc, d)?;
-                Ok(has_names(y, names_of(number, y.unique, names.names())))
+                let names = self.names_after(y.parent_vnode, d);
+                has_names(y, names_of(number, y.unique, names))
             }
-            _ => Ok(false),
+            _ => false,
         }
     }
 
@@ -256,56 +278,56 @@ impl<'a> Patch<'a> {
         }
     }
 
-    /// A vnode other than the root has its names. Where it has them as before, its directory isn't read.
-    fn is_placed(&self, number: u32, x: Option<&Vnode>, y: &Vnode) -> Mem<bool>
+    /// A vnode other than the root has its names. Where it has them as before, its directory isn't looked through.
+    fn is_placed(&self, number: u32, x: Option<&Vnode>, y: &Vnode) -> bool
         requires touched { AreTouched self.now.touched.now self.now.change.now }
         requires there { option_map seen (option_copied x) ≡ get number (before self.now.volume.now).vnodes }
-        ensures { IfOk result (λ placed. placed ≡ true → (nat_eq number 1 || is_named_in (get (seen y.now).parent (after self.now.volume.now self.now.change.now).vnodes) number (seen y.now)) ≡ true) }
+        ensures { result ≡ true → (nat_eq number 1 || is_named_in (get (seen y.now).parent (after self.now.volume.now self.now.change.now).vnodes) number (seen y.now)) ≡ true }
     {
         if number == 1 {
-            return Ok(true);
+            return true;
         }
         if self.is_named_as_before(x, y) {
-            return Ok(true);
+            return true;
         }
         self.is_named(number, y)
     }
 
     /// A vnode is all that one of a sound volume is, but for the way up.
     #[tactic(auto, unfolding(afs_volume::specs::Seen::seen))]
-    fn is_right(&self, number: u32, x: Option<&Vnode>, y: &Vnode) -> Mem<bool>
+    fn is_right(&self, number: u32, x: Option<&Vnode>, y: &Vnode) -> bool
         requires touched { AreTouched self.now.touched.now self.now.change.now }
         requires there { option_map seen (option_copied x) ≡ get number (before self.now.volume.now).vnodes }
-        ensures { IfOk result (λ right. right ≡ true → is_right (after self.now.volume.now self.now.change.now) number (seen y.now) ≡ true) }
+        requires left { get number (table_left self.now.volume.now self.now.change.now) ≡ Some y.now }
+        ensures { result ≡ true → is_right (after self.now.volume.now self.now.change.now) number (seen y.now) ≡ true }
     {
-        let names = names_in(self.alloc, y)?;
-        Ok(
-            kind_is_right(number, y)
-                && y.unique < self.change.unique
-                && has_links(y, names.names())
-                && self.gives_all(number, y, names.names())
-                && self.is_placed(number, x, y)?,
-        )
+        let names = self.names_after(number, y);
+        kind_is_right(number, y)
+            && y.unique < self.change.unique
+            && has_links(y, names)
+            && self.gives_all(number, y, names)
+            && self.is_placed(number, x, y)
     }
 
     /// A new vnode.
-    fn may_come(&self, number: u32, y: &Vnode) -> Mem<bool>
+    fn may_come(&self, number: u32, y: &Vnode) -> bool
         requires touched { AreTouched self.now.touched.now self.now.change.now }
         requires new { get number (before self.now.volume.now).vnodes ≡ None }
-        ensures { IfOk result (λ may. may ≡ true → passes_by self.now.touched.now (before self.now.volume.now) (after self.now.volume.now self.now.change.now) number None (Some (seen y.now)) ≡ true) }
+        requires left { get number (table_left self.now.volume.now self.now.change.now) ≡ Some y.now }
+        ensures { result ≡ true → passes_by self.now.touched.now (before self.now.volume.now) (after self.now.volume.now self.now.change.now) number None (Some (seen y.now)) ≡ true }
     {
-        let right = self.is_right(number, None, y)?;
-        Ok(right && self.is_unmoved(y.parent_vnode))
+        self.is_right(number, None, y) && self.is_unmoved(y.parent_vnode)
     }
 
     /// A vnode that becomes another.
     fn may_become(&self, number: u32, x: &Vnode, y: &Vnode) -> Mem<bool>
         requires touched { AreTouched self.now.touched.now self.now.change.now }
-        requires there { get number (before self.now.volume.now).vnodes ≡ Some (seen x.now) }
+        requires there { get number self.now.volume.now.vnodes.table ≡ Some x.now }
+        requires left { get number (table_left self.now.volume.now self.now.change.now) ≡ Some y.now }
         ensures { IfOk result (λ may. may ≡ true → passes_by self.now.touched.now (before self.now.volume.now) (after self.now.volume.now self.now.change.now) number (Some (seen x.now)) (Some (seen y.now)) ≡ true) }
     {
-        let right = self.is_right(number, Some(x), y)?;
-        let keeps = self.keeps_names(x, y)?;
+        let right = self.is_right(number, Some(x), y);
+        let keeps = self.keeps_names(number, x, y)?;
         Ok(right && self.keeps_place(x, y) && keeps && self.may_stand(number, x, y))
     }
 
@@ -316,8 +338,8 @@ impl<'a> Patch<'a> {
     {
         match (self.before(number), self.after(number)) {
             (None, None) => Ok(true),
-            (Some(x), None) => self.may_go(x),
-            (None, Some(y)) => self.may_come(number, y),
+            (Some(x), None) => self.may_go(number, x),
+            (None, Some(y)) => Ok(self.may_come(number, y)),
             (Some(x), Some(y)) => self.may_become(number, x, y),
         }
     }
@@ -411,57 +433,92 @@ impl<'a> Patch<'a> {
     }
 }
 
-/// The vnodes that names name which other names don't, or not the same. What is missed here is found by the test.
-fn add_named(touched: &mut Vec<u32>, names: &Dir, others: &Dir) -> Mem<()> {
-    for name in names.names() {
-        if others.find(name.name.as_slice()) != Some((name.vnode, name.unique)) {
-            touched.push(name.vnode)?;
-        }
+/// Both name the same.
+fn is_same(name: &Name, other: &Name) -> bool {
+    name.vnode == other.vnode
+        && name.unique == other.unique
+        && name.name.as_slice() == other.name.as_slice()
+}
+
+/// The vnodes that these names name.
+fn add_all(touched: &mut Vec<u32>, names: &[Name]) -> Mem<()> {
+    for name in names {
+        touched.push(name.vnode)?;
     }
     Ok(())
 }
 
-/// The vnodes whose names change with a directory's.
-fn add_renamed(alloc: Global, touched: &mut Vec<u32>, x: &Vnode, y: &Vnode) -> Mem<()> {
-    let names = names_in(alloc, x)?;
-    let others = names_in(alloc, y)?;
-    add_named(touched, &names, &others)?;
-    add_named(touched, &others, &names)
+/// How many names are below this one.
+fn count_below(names: &[Name], name: &Name) -> usize
+    ensures { result ≤ length names.now }
+{
+    names
+        .iter()
+        .take_while(|other| other.name.as_slice() < name.name.as_slice())
+        .count()
+}
+
+/// The vnodes that the names below this one name, and what it names, if it isn't among them; the names above it.
+fn add_up_to<'a>(touched: &mut Vec<u32>, names: &'a [Name], name: &Name) -> Mem<&'a [Name]> {
+    let (below, above) = names.split_at(count_below(names, name));
+    add_all(touched, below)?;
+    match above.split_first() {
+        Some((other, rest)) if is_same(name, other) => Ok(rest),
+        _ => {
+            touched.push(name.vnode)?;
+            Ok(above)
+        }
+    }
+}
+
+/// The vnodes that names name and others don't, or not the same, and those that others name and they don't. Both stand in
+/// byte order, so each is gone through once. What is missed here is found by the test.
+fn add_renamed(touched: &mut Vec<u32>, names: &[Name], others: &[Name]) -> Mem<()> {
+    let mut left = others;
+    for name in names {
+        left = match left.split_first() {
+            Some((other, rest)) if is_same(name, other) => rest,
+            _ => add_up_to(touched, left, name)?,
+        };
+    }
+    add_all(touched, left)
 }
 
 /// The vnodes that an image of a change touches.
-fn add_touched(alloc: Global, touched: &mut Vec<u32>, volume: &Volume, y: &Vnode) -> Mem<()> {
+fn add_touched(touched: &mut Vec<u32>, volume: &Volume, ready: &ReadyChange, y: &Vnode) -> Mem<()> {
     touched.push(y.vnode)?;
-    match volume.vnodes().get(y.vnode) {
-        Some(x) => add_renamed(alloc, touched, x, y),
-        None => Ok(()),
+    match (volume.vnodes().get(y.vnode), ready.names_given(y.vnode)) {
+        (Some(_), Some(names)) => add_renamed(touched, volume.names_at(y.vnode), names),
+        _ => Ok(()),
     }
 }
 
 /// The vnodes that a change touches. Nothing is promised of them: `leaves_sound` tests that the change touches no others, and
 /// that these are left sound.
-fn all_touched(alloc: Global, volume: &Volume, change: &Change) -> Mem<Vec<u32>> {
+fn all_touched(alloc: Global, volume: &Volume, ready: &ReadyChange) -> Mem<Vec<u32>> {
+    let change = ready.change();
     let mut touched = Vec::from_slice(alloc, change.removed.as_slice())?;
     for y in change.vnodes.as_slice() {
-        add_touched(alloc, &mut touched, volume, y)?;
+        add_touched(&mut touched, volume, ready, y)?;
     }
     Ok(touched)
 }
 
 /// Whether a change passes the test of what it touches: then the volume can take it in.
-pub(crate) fn can_take(alloc: Global, volume: &Volume, change: &Change) -> Mem<bool>
-    requires read { AllByRecursion IsReadable change.now.vnodes }
-    requires fits { AllByRecursion FitsImage change.now.vnodes }
-    ensures { IfOk result (λ can. can ≡ true → CanTakeIn volume.now change.now) }
+pub(crate) fn can_take(alloc: Global, volume: &Volume, ready: &ReadyChange) -> Mem<bool>
+    requires read { AllByRecursion IsReadable ready.now.vnodes }
+    requires fits { AllByRecursion FitsImage ready.now.vnodes }
+    ensures { IfOk result (λ can. can ≡ true → CanTakeIn volume.now ready.now) }
 {
-    let touched = all_touched(alloc, volume, change)?;
+    let touched = all_touched(alloc, volume, ready)?;
     if touched.len() > MOST_TOUCHED {
         return Ok(false);
     }
     let patch = Patch {
         alloc,
         volume,
-        change,
+        change: ready.change(),
+        ready,
         touched: touched.as_slice(),
     };
     patch.leaves_sound()

@@ -1,18 +1,15 @@
 //! What one vnode has to be in a sound volume.
 
-ghost use Rattle.std.specs.Prelude.{◌≡◌, ◌<◌, ◌^◌, true, Some, IfOk};
+ghost use Rattle.std.specs.Prelude.{◌≡◌, ◌<◌, ◌^◌, true, Some};
 ghost use Rattle.std.specs.Option.{option_copied, option_map};
 ghost use Rattle.afs_ideal.specs.Operations.{is_kind};
 ghost use Rattle.afs_ideal.specs.Soundness.{names_it, names_of, subdirectories};
 ghost use Rattle.afs_ideal.specs.Volumes.{a_directory};
 ghost use Rattle.afs_records.specs.Sound.{gives_held, has_by_kind, has_names, is_held_by, is_root, kind_is_right};
-ghost use Rattle.afs_volume.specs.Seen.{names_spelled, seen};
+ghost use Rattle.afs_volume.specs.Seen.{seen};
 
-use afs_dir::{Dir, DirFault};
 use afs_num::directories::Name;
-use afs_num::types::Mem;
 use afs_num::vnodes::Vnode;
-use std::alloc::{AllocError, Global};
 
 /// The kind of a directory.
 const DIRECTORY: u32 = 2;
@@ -23,30 +20,6 @@ pub(crate) fn is_directory(x: &Vnode) -> bool
     ensures { result ≡ is_kind (seen x.now).kind a_directory }
 {
     x.kind == DIRECTORY
-}
-
-/// The names that bytes spell; bytes that spell no directory have none.
-#[tactic(auto, unfolding(afs_volume::specs::Seen::names_spelled))]
-fn names_spelled(alloc: Global, bytes: &[u8]) -> Mem<Dir>
-    ensures { IfOk result (λ names. names ≡ names_spelled bytes.now) }
-{
-    match Dir::from_bytes(alloc, bytes) {
-        Ok(names) => Ok(names),
-        Err(DirFault::OutOfMemory) => Err(AllocError),
-        Err(_) => Dir::new(alloc),
-    }
-}
-
-/// The names of a vnode. What is no directory has none.
-#[tactic(auto, unfolding(afs_volume::specs::Seen::seen))]
-pub(crate) fn names_in(alloc: Global, x: &Vnode) -> Mem<Dir>
-    ensures { IfOk result (λ names. names ≡ (seen x.now).names) }
-{
-    if is_directory(x) {
-        names_spelled(alloc, x.contents.as_slice())
-    } else {
-        Dir::new(alloc)
-    }
 }
 
 /// How many names are those of directories, which have odd numbers.

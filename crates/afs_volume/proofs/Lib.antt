@@ -21,6 +21,7 @@ pub mod Taken
 pub mod Folded
 pub mod Walked
 pub mod Readable
+pub mod Given
 pub mod AtOnce
 pub mod AtFirst
 pub mod Led

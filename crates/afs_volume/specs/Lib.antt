@@ -10,3 +10,4 @@ pub mod Taking
 pub mod Assembling
 pub mod Filled
 pub mod Listed
+pub mod Given

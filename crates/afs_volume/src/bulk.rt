@@ -12,7 +12,7 @@ use crate::Volume;
 use crate::callers::Caller;
 use crate::checks::check;
 use crate::faults::OpFault;
-use crate::replies::{no_callback, no_sync};
+use crate::replies::{no_callback, no_sync, status_with};
 use afs_num::calls::{AfsFetchStatus, AfsVolSync, CallBacks, FsReply, Statuses};
 use afs_num::types::{Fid, Mem};
 use std::alloc::Global;
@@ -36,8 +36,9 @@ impl Volume {
         ensures refused { IfErr result (IsRefusal (refusal_at (caller_seen caller.now) (volume_of self.now) fid.now)) }
     {
         let x = self.found(fid)?;
-        check(self.may(caller, 8, x)?, 13)?;
-        Ok(self.status(caller, x)?)
+        let rights = self.rights(caller, x)?;
+        check(rights.has(8), 13)?;
+        Ok(status_with(x, rights))
     }
 
     /// The statuses of the fids.

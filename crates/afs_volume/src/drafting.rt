@@ -34,7 +34,7 @@ fn body_of(alloc: Global, x: &Vnode) -> Mem<Body>
     ensures { IfOk result (λ b. b ≡ body_of (seen x.now)) }
 {
     match x.kind {
-        DIRECTORY => Ok(Body::Dir(names_of(alloc, x)?.into_names())),
+        DIRECTORY => Ok(Body::Dir(names_of(alloc, x)?.into_names()?)),
         LINK => Ok(Body::Link(x.contents.copy(alloc)?)),
         _ => Ok(Body::File(x.contents.copy(alloc)?)),
     }

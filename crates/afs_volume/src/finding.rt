@@ -2,21 +2,20 @@
 
 ghost use Rattle.std.specs.Prelude.{◌≡◌, ◌==◌, length, pos, true, ◌<◌, ◌≤◌, ◌^◌, None, Some, IfOk, IfSome, is_ok, is_some};
 ghost use Rattle.std.specs.Option.{option_copied, option_map};
-ghost use Rattle.afs_ideal.specs.AccessLists.{acl_at, rights_of};
+ghost use Rattle.afs_ideal.specs.AccessLists.{acl_at};
 ghost use Rattle.afs_ideal.specs.Directories.{named};
-ghost use Rattle.afs_ideal.specs.Operations.{acl_of, is_below, is_directory, is_kind, is_empty, list_for, may, free_number, links_of, may_link, named_vnode, number_named, rights_by};
+ghost use Rattle.afs_ideal.specs.Operations.{is_directory, is_kind, is_empty, free_number, links_of, may_link, named_vnode, number_named};
 ghost use Rattle.afs_ideal.specs.Tables.{get};
 ghost use Rattle.afs_ideal.specs.VnodeImage.{most_acl, FitsImage};
 ghost use Rattle.afs_ideal.specs.Volumes.{a_directory, a_file, if_unique, vnode_of};
-ghost use Rattle.afs_volume.specs.Giving.{caller_seen, volume_of, Finds};
+ghost use Rattle.afs_volume.specs.Giving.{volume_of, Finds};
+ghost use Rattle.afs_volume.specs.Listed.{names_in};
 ghost use Rattle.afs_volume.specs.Seen.{seen, names_spelled, list_spelled, kind_seen, IsReadable};
 
 use crate::Volume;
-use crate::callers::Caller;
 use crate::faults::OpFault;
-use afs_acl::acl::Acl;
-use afs_acl::faults::AclFault;
 use afs_dir::{Dir, DirFault};
+use afs_num::directories::Name;
 use afs_num::sequences::Octets;
 use afs_num::types::{Code, Fid, Mem};
 use afs_num::vnodes::Vnode;
@@ -51,18 +50,6 @@ pub fn names_of(alloc: Global, d: &Vnode) -> Mem<Dir>
     names_spelled(alloc, d.contents.as_slice())
 }
 
-/// The rights of a user by the access list of this text; a text that is no list gives none.
-#[tactic(auto, unfolding(crate::specs::Seen::list_spelled, afs_ideal::specs::AccessLists::rights_of))]
-pub fn rights_by(alloc: Global, text: &[u8], user: &[u8]) -> Mem<u32>
-    ensures { IfOk result (λ r. r ≡ rights_of user.now (list_spelled text.now)) }
-{
-    match Acl::parse(alloc, text) {
-        Ok(acl) => Ok(acl.rights(user)),
-        Err(AclFault::OutOfMemory) => Err(AllocError),
-        Err(_) => Ok(0),
-    }
-}
-
 /// A vnode is a directory.
 #[tactic(auto, unfolding(crate::specs::Seen::seen))]
 pub fn is_directory(x: &Vnode) -> bool
@@ -87,20 +74,6 @@ pub fn is_directory_there(x: Option<&Vnode>) -> bool
     match x {
         Some(x) => is_directory(x),
         None => false,
-    }
-}
-
-/// The rights of a caller by the list of this directory.
-#[tactic(auto, unfolding(crate::specs::Seen::seen, afs_ideal::specs::AccessLists::rights_of))]
-pub fn rights_in(alloc: Global, caller: &Caller, holder: Option<&Vnode>) -> Mem<u32>
-    ensures { IfOk result (λ r. r ≡ rights_by (caller_seen caller.now) (acl_of (option_map seen (option_copied holder.entry)))) }
-{
-    match (caller, holder) {
-        (Caller::AllRights, _) => Ok(127),
-        (Caller::User(user), Some(x)) if is_directory(x) => {
-            rights_by(alloc, x.acl.as_slice(), user)
-        }
-        _ => Ok(0),
     }
 }
 
@@ -203,6 +176,17 @@ impl Volume {
         }
     }
 
+    /// The names of the vnode of this number: what is no directory has none, nor has what isn't there. It takes no memory, and
+    /// doesn't read a directory's contents.
+    pub fn names_at(&self, number: u32) -> &[Name]
+        ensures { result.now ≡ names_in (get number self.now.vnodes.table) }
+    {
+        match self.dirs.get(number) {
+            Some(names) => names.names(),
+            None => &[],
+        }
+    }
+
     /// The vnode that a name of a directory names.
     pub(crate) fn named(&self, names: &Dir, name: &[u8]) -> Option<&Vnode>
         ensures seen { option_map seen (option_copied result) ≡ named_vnode (volume_of self.now) (named name.now names.now) }
@@ -258,27 +242,6 @@ impl Volume {
             Some(x) if is_directory(x) => self.names(x.vnode, x).is_empty(),
             _ => true,
         }
-    }
-
-    /// The rights of a caller on a vnode: those of a directory by its own access list, others by that of their parent.
-    #[tactic(auto, unfolding(crate::specs::Seen::seen))]
-    pub(crate) fn rights(&self, caller: &Caller, x: &Vnode) -> Mem<u32>
-        ensures { IfOk result (λ r. r ≡ rights_by (caller_seen caller.now) (list_for (seen x.now).kind (seen x.now) (volume_of self.now))) }
-    {
-        let holder = if is_directory(x) {
-            Some(x)
-        } else {
-            self.get(x.parent_vnode)
-        };
-        rights_in(self.alloc, caller, holder)
-    }
-
-    /// Whether a caller has a right on a vnode.
-    pub(crate) fn may(&self, caller: &Caller, right: u32, x: &Vnode) -> Mem<bool>
-        ensures { IfOk result (λ b. b ≡ may (caller_seen caller.now) right (volume_of self.now) (Some (seen x.now))) }
-    {
-        let rights = self.rights(caller, x)?;
-        Ok(rights & right != 0)
     }
 
     /// The volume is a read-write one.

@@ -27,6 +27,7 @@ mod ready;
 mod removing;
 mod renaming;
 mod replies;
+mod rights;
 mod sights;
 mod soundness;
 mod taking;

@@ -13,7 +13,7 @@ use crate::callers::Caller;
 use crate::checks::check;
 use crate::faults::OpFault;
 use crate::finding::is_directory;
-use crate::replies::{bytes_of, no_callback};
+use crate::replies::{bytes_of, no_callback, status_with};
 use afs_num::calls::{FsCall, FsReply};
 use afs_num::sequences::Octets;
 use afs_num::types::Fid;
@@ -76,11 +76,12 @@ impl Volume {
     {
         let x = self.found(fid)?;
         let right = if is_directory(x) { 8 } else { 1 };
-        check(self.may(caller, right, x)?, 13)?;
+        let rights = self.rights(caller, x)?;
+        check(rights.has(right), 13)?;
         check(position == 0 && length == 2_147_483_647, 22)?;
         Ok(FsReply::FetchData {
             contents: bytes_of(x).copy(self.alloc)?,
-            status: self.status(caller, x)?,
+            status: status_with(x, rights),
             callback: no_callback(),
             sync: self.sync(),
         })
@@ -93,10 +94,11 @@ impl Volume {
     {
         let d = self.found(fid)?;
         check(is_directory(d), 20)?;
-        check(self.may(caller, 8, d)?, 13)?;
+        let rights = self.rights(caller, d)?;
+        check(rights.has(8), 13)?;
         Ok(FsReply::FetchAcl {
             acl: list_text(d).copy(self.alloc)?,
-            status: self.status(caller, d)?,
+            status: status_with(d, rights),
             sync: self.sync(),
         })
     }
@@ -107,9 +109,10 @@ impl Volume {
         ensures fits { IfOk result (λ r. FitsReply r) }
     {
         let x = self.found(fid)?;
-        check(self.may(caller, 8, x)?, 13)?;
+        let rights = self.rights(caller, x)?;
+        check(rights.has(8), 13)?;
         Ok(FsReply::FetchStatus {
-            status: self.status(caller, x)?,
+            status: status_with(x, rights),
             callback: no_callback(),
             sync: self.sync(),
         })

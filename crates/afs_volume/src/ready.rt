@@ -2,8 +2,10 @@
 
 ghost use Rattle.std.specs.Prelude.{◌≡◌, false, true, is_ok, map, Err, Some, IfErr, IfOk, OnOk};
 ghost use Rattle.std.specs.List.{list_all, AllByRecursion};
+ghost use Rattle.std.specs.Option.{option_copied};
 ghost use Rattle.afs_ideal.specs.Directories.{directory_bytes, directory_of};
 ghost use Rattle.afs_volume.specs.Assembling.{can_be_read};
+ghost use Rattle.afs_volume.specs.Given.{names_given, names_or_none};
 ghost use Rattle.afs_volume.specs.Listed.{listed_as};
 ghost use Rattle.afs_volume.specs.Seen.{names_spelled, IsReadable};
 ghost use Rattle.afs_volume.specs.declared.faults.AssembleFault.TheVariants.{NotSound, OutOfMemory};
@@ -12,6 +14,7 @@ use crate::faults::AssembleFault;
 use crate::finding::{DIRECTORY, FILE, LINK};
 use crate::operations::is_acl;
 use afs_dir::{Dir, DirFault};
+use afs_num::directories::Name;
 use afs_num::vnodes::Vnode;
 use afs_num::volumes::Change;
 use std::alloc::Global;
@@ -98,6 +101,30 @@ fn read_all(alloc: Global, vnodes: &[Vnode]) -> Result<Vec<Option<Dir>>, Assembl
     Ok(names)
 }
 
+/// The names of a vnode that are ready; what is no directory has none.
+fn names_or_none(names: &Option<Dir>) -> &[Name]
+    ensures { result.now ≡ names_or_none names.now }
+{
+    match names {
+        Some(names) => names.names(),
+        None => &[],
+    }
+}
+
+/// The names of the last of these vnodes that has the number.
+fn names_given<'a>(number: u32, vnodes: &[Vnode], ready: &'a [Option<Dir>]) -> Option<&'a [Name]>
+    requires { ready.now ≡ map listed_as vnodes.now }
+    ensures { option_copied result ≡ names_given number vnodes.now }
+{
+    let mut given = None;
+    for (place, x) in vnodes.iter().enumerate() {
+        if x.vnode == number {
+            given = Some(names_or_none(&ready[place]));
+        }
+    }
+    given
+}
+
 impl ReadyChange {
     /// A change with the names of its directories, each of which is read once. `NotSound` where a vnode that it gives can't be
     /// read, which is none that `apply` gives.
@@ -116,6 +143,14 @@ impl ReadyChange {
         ensures { result.now ≡ self.now }
     {
         &self.change
+    }
+
+    /// The names that the change gives the vnode of this number, where it gives one; what is no directory has none. It takes no
+    /// memory.
+    pub fn names_given(&self, number: u32) -> Option<&[Name]>
+        ensures { option_copied result ≡ names_given number self.now.vnodes }
+    {
+        names_given(number, self.change.vnodes.as_slice(), self.names.as_slice())
     }
 
     /// The change, without the names. It takes no memory.

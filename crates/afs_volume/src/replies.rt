@@ -1,20 +1,17 @@
 //! Statuses, and the words of a volume beside them.
 
-ghost use Rattle.std.specs.Prelude.{◌≡◌, Some, IfOk};
+ghost use Rattle.std.specs.Prelude.{◌≡◌};
 ghost use Rattle.afs_shape.specs.Rows.{no_callback, no_sync};
-ghost use Rattle.afs_ideal.specs.AccessLists.{acl_text, anyuser, rights_of};
-ghost use Rattle.afs_ideal.specs.Operations.{list_for, rights_by, the_user};
-ghost use Rattle.afs_ideal.specs.Replies.{status_of, sync_of};
+ghost use Rattle.afs_ideal.specs.Replies.{sync_of};
 ghost use Rattle.afs_ideal.specs.VnodeImage.{FitsImage};
 ghost use Rattle.afs_ideal.specs.Volumes.{bytes_by};
-ghost use Rattle.afs_volume.specs.Giving.{caller_seen, volume_of, IsStatus};
+ghost use Rattle.afs_volume.specs.Giving.{volume_of, IsStatus};
 ghost use Rattle.afs_volume.specs.Seen.{seen, IsReadable};
 
 use crate::Volume;
-use crate::callers::Caller;
+use crate::rights::Rights;
 use afs_num::calls::{AfsCallBack, AfsFetchStatus, AfsVolSync};
 use afs_num::sequences::Octets;
-use afs_num::types::Mem;
 use afs_num::vnodes::Vnode;
 
 /// No promise; the server fills it in.
@@ -58,12 +55,12 @@ pub fn bytes_of(x: &Vnode) -> &Octets
     &x.contents
 }
 
-/// The status of a vnode, to a caller with these rights.
+/// The status of a vnode on which a caller and everyone have these rights.
 #[tactic(auto, unfolding(crate::specs::Seen::seen))]
-pub fn status_with(x: &Vnode, caller: u32, anonymous: u32) -> AfsFetchStatus
+pub fn status_with(x: &Vnode, rights: Rights) -> AfsFetchStatus
     requires readable { IsReadable x.now }
     requires fits { FitsImage x.now }
-    ensures { IsStatus caller anonymous x.now result }
+    ensures { IsStatus rights.caller rights.anonymous x.now result }
 {
     AfsFetchStatus {
         interface_version: 1,
@@ -73,8 +70,8 @@ pub fn status_with(x: &Vnode, caller: u32, anonymous: u32) -> AfsFetchStatus
         data_version: x.data_version,
         author: 0,
         owner: x.owner,
-        caller_access: caller,
-        anonymous_access: anonymous,
+        caller_access: rights.caller,
+        anonymous_access: rights.anonymous,
         unix_mode_bits: x.mode,
         parent_vnode: x.parent_vnode,
         parent_unique: x.parent_unique,
@@ -91,18 +88,6 @@ pub fn status_with(x: &Vnode, caller: u32, anonymous: u32) -> AfsFetchStatus
 }
 
 impl Volume {
-    /// The status of a vnode for a caller.
-    pub(crate) fn status(&self, caller: &Caller, x: &Vnode) -> Mem<AfsFetchStatus>
-        requires readable { IsReadable x.now }
-        requires fits { FitsImage x.now }
-        ensures { IfOk result (λ s. s ≡ status_of (caller_seen caller.now) (volume_of self.now) x.now.server_time (seen x.now)) }
-    {
-        let anyuser = Caller::User(b"system:anyuser");
-        let rights = self.rights(caller, x)?;
-        let anonymous = self.rights(&anyuser, x)?;
-        Ok(status_with(x, rights, anonymous))
-    }
-
     /// The release is that of a read-only or backup volume; a read-write volume has none.
     pub(crate) fn sync(&self) -> AfsVolSync
         ensures { result ≡ sync_of (volume_of self.now) }

@@ -3,6 +3,7 @@
 ghost use Rattle.std.specs.Prelude.{◌≡◌, ◌==◌, true, Some, find, IfOk, IfSome};
 ghost use Rattle.std.specs.List.{list_any, AllByRecursion};
 ghost use Rattle.std.specs.Option.{option_copied, option_map};
+ghost use Rattle.afs_ideal.specs.AccessLists.{anyuser, rights_of};
 ghost use Rattle.afs_ideal.specs.Operations.{list_for, rights_by};
 ghost use Rattle.afs_ideal.specs.Replies.{change_reply, status_at, status_of, sync_of, vnode_at};
 ghost use Rattle.afs_ideal.specs.Tables.{get};
@@ -16,8 +17,9 @@ ghost use Rattle.afs_volume.specs.Seen.{seen, IsReadable};
 use crate::Volume;
 use crate::callers::Caller;
 use crate::drafting::Draft;
-use crate::finding::{is_directory, rights_in};
+use crate::finding::is_directory;
 use crate::replies::{no_callback, status_with};
+use crate::rights::{Rights, rights_in};
 use afs_num::calls::{AfsFetchStatus, FsCall, FsReply};
 use afs_num::types::{Fid, Mem};
 use afs_num::vnodes::Vnode;
@@ -81,11 +83,12 @@ impl<'a> Sight<'a> {
         }
     }
 
-    /// The rights of a caller on a vnode.
+    /// The rights on a vnode.
     #[tactic(auto, unfolding(crate::specs::Seen::seen))]
-    fn rights(&self, caller: &Caller, x: &Vnode) -> Mem<u32>
+    fn rights(&self, caller: &Caller, x: &Vnode) -> Mem<Rights>
         requires { AllByRecursion (IsLeft self.now.draft.now.time) self.now.draft.now.vnodes }
-        ensures { IfOk result (λ r. r ≡ rights_by (caller_seen caller.now) (list_for (seen x.now).kind (seen x.now) (volume_drafted self.now.draft.now self.now.volume.now))) }
+        ensures caller { IfOk result (λ r. r.caller ≡ rights_by (caller_seen caller.now) (list_for (seen x.now).kind (seen x.now) (volume_drafted self.now.draft.now self.now.volume.now))) }
+        ensures anonymous { IfOk result (λ r. r.anonymous ≡ rights_of anyuser (list_for (seen x.now).kind (seen x.now) (volume_drafted self.now.draft.now self.now.volume.now))) }
     {
         let holder = if is_directory(x) {
             Some(x)
@@ -102,10 +105,8 @@ impl<'a> Sight<'a> {
         requires fits { FitsImage x.now }
         ensures { IfOk result (λ s. s ≡ status_of (caller_seen caller.now) (volume_drafted self.now.draft.now self.now.volume.now) x.now.server_time (seen x.now)) }
     {
-        let anyuser = Caller::User(b"system:anyuser");
         let rights = self.rights(caller, x)?;
-        let anonymous = self.rights(&anyuser, x)?;
-        Ok(status_with(x, rights, anonymous))
+        Ok(status_with(x, rights))
     }
 
     /// The status of the vnode of a number that the change leaves.

@@ -4,7 +4,7 @@ ghost use Rattle.std.specs.Prelude.{◌≡◌, IfOk, IfSome};
 ghost use Rattle.afs_volume_tests.specs.Calls.{IsCall};
 
 use afs_num::calls::{AfsStoreStatus, FsCall};
-use afs_num::sequences::{Octets, Path};
+use afs_num::sequences::{Octets, Sequence};
 use afs_num::types::{Fid, Mem};
 use std::alloc::Global;
 
@@ -61,6 +61,9 @@ pub fn bytes(alloc: Global, count: i32) -> Mem<Octets> {
     }
     Ok(bytes)
 }
+
+/// The names below the root.
+pub type Path = Sequence<Octets>;
 
 pub fn path(alloc: Global, names: &[&[u8]]) -> Mem<Path> {
     let mut path = Path::new(alloc);

@@ -7,11 +7,11 @@ ghost use Rattle.afs_volume.specs.Taking.{CanTakeIn};
 ghost use Rattle.afs_volume_tests.specs.Calls.{IsCall};
 
 use crate::printing::printed;
-use crate::steps::{Place, Step, bytes, call_of, fid, path};
+use crate::steps::{Path, Place, Step, bytes, call_of, fid, path};
 use afs_history::acts::Written;
 use afs_history::scripts::SetupLine;
 use afs_num::calls::{FsCall, FsReply};
-use afs_num::sequences::{Octets, Path};
+use afs_num::sequences::Octets;
 use afs_num::types::{Code, Mem};
 use afs_num::volumes::Change;
 use afs_volume::faults::{AssembleFault, OpFault};

@@ -99,11 +99,7 @@ impl Writer {
     pub fn into_vec(self) -> Result<Vec<u8>, AllocError>
         ensures { IfOk result (λ v. v.items ≡ self) }
     {
-        let Writer { bytes } = self;
-        match bytes.into_vec() {
-            Ok(items) => Ok(items),
-            Err(_) => Err(AllocError),
-        }
+        Vec::from_slice(*self.bytes.allocator(), self.bytes.as_slice())
     }
 }
 

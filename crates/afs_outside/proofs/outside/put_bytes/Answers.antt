@@ -1,11 +1,6 @@
--- A piece that was written goes on behind those before it.
-use Rattle.std.proofs.Common.{rules}
-use Rattle.afs_outside.proofs.Pieces.{appends_more}
+-- What the sink didn't take at once was written behind what it took.
+use Rattle.afs_outside.proofs.Puts.{puts_rest}
 use Rattle.afs_outside.proofs.outside.put_bytes.Goals as goal
 
-pub loop-at-preserved : goal.loop-at-preserved
-loop-at-preserved g c = record {
-  written = appends_more _ _ _ _ _ _ c.loop-at.invariant.written (rw (← c.split_at.ensures.back) c.in_ok-at.ensures.bytes);
-  within = search rules;
-  kept = search rules;
-}
+pub returns : goal.returns
+returns g c = puts_rest c.in_ok-n.n _ _ _ _ _ _ _ _ _ c.in_ok-n.ensures.bytes c.in_ok-n.ensures.cause.kept c.split_at.ensures.back c.put_rest.ensures

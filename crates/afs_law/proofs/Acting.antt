@@ -1,0 +1,479 @@
+-- What the steps of a client tell of its acts, and what it asks for them: the lines tell which act runs, a call is that of the act
+-- that runs, and calls under one pair are one.
+use Rattle.afs_history.specs.declared.acts.Act.{Act}
+use Rattle.afs_history.specs.declared.lines.Line.{Line}
+use Rattle.afs_history.specs.declared.lines.Line.TheVariants as lines
+use Rattle.afs_history.specs.declared.scripts.Script.{Script}
+use Rattle.afs_ideal.specs.Operations.{volume_changed}
+use Rattle.afs_law.proofs.Backing.{all_lines}
+use Rattle.afs_law.proofs.Basics.{Each, IfCall, same_node-refl, same_node-true}
+use Rattle.afs_law.proofs.Calling.{AreReplies, IsAnswer, kept_answer, uncalled_any}
+use Rattle.afs_law.proofs.Seating.{AreSeated, kept_from, seated}
+use Rattle.afs_law.specs.Parts.{EachLine, IsInPlace}
+use Rattle.afs_law.specs.Past.{HasCode, has_begun, has_given, lines_of, onto, running}
+use Rattle.afs_model.specs.Calls as pairs
+use Rattle.afs_model.specs.Calls.{Admitted, admitted}
+use Rattle.afs_num.specs.Nodes.{same_node}
+use Rattle.afs_num.specs.declared.calls.AfsCallBack.{AfsCallBack}
+use Rattle.afs_num.specs.declared.calls.AfsFetchStatus.{AfsFetchStatus}
+use Rattle.afs_num.specs.declared.calls.AfsVolSync.{AfsVolSync}
+use Rattle.afs_num.specs.declared.calls.FsCall.{FsCall}
+use Rattle.afs_num.specs.declared.calls.FsCall.TheVariants as calls
+use Rattle.afs_num.specs.declared.calls.FsReply.{FsReply}
+use Rattle.afs_num.specs.declared.calls.FsReply.TheVariants as replies
+use Rattle.afs_num.specs.declared.histories.Actor.TheVariants as actors
+use Rattle.afs_num.specs.declared.histories.Body.{Body}
+use Rattle.afs_num.specs.declared.histories.ReadBody.{ReadBody}
+use Rattle.afs_num.specs.declared.histories.ReadBody.TheVariants as seen
+use Rattle.afs_num.specs.declared.histories.ReadSource.TheVariants.{Fetched}
+use Rattle.afs_num.specs.declared.histories.ReadStatus.{ReadStatus}
+use Rattle.afs_num.specs.declared.messages.Call.TheVariants as ask
+use Rattle.afs_num.specs.declared.messages.Carried.{Carried}
+use Rattle.afs_num.specs.declared.messages.Carried.TheVariants as carried
+use Rattle.afs_num.specs.declared.messages.Message.{Message}
+use Rattle.afs_num.specs.declared.messages.Received.TheVariants.{Whole}
+use Rattle.afs_num.specs.declared.messages.Reply.TheVariants as tell
+use Rattle.afs_num.specs.declared.types.Code.{Code}
+use Rattle.afs_num.specs.declared.types.Fid.{Fid}
+use Rattle.afs_num.specs.declared.types.Head.{Head}
+use Rattle.afs_num.specs.declared.types.Key.{Key}
+use Rattle.afs_num.specs.declared.types.Node.{Node}
+use Rattle.afs_num.specs.declared.types.Node.TheVariants.{Client}
+use Rattle.afs_rows.specs.ClientRow.{Look, Walked, admits_call, awaits, begin_row, begins_by, behind_batch, body_told, breaks, call_message, call_of, calls_again, calls_step, client_row, counts, dead_code, drop_line, dropped, dropped_after, ends_step, entries_told, entry_told, find_cached, gift_of, given, given_up_in, gives_by, goes_by, hears, ignores, in_order, is_awaited, is_busy_code, is_older, is_spent, is_trusted, look_at, looked, most_busy, most_reads, put_entries, put_entry, read_lines, reborn, refuses, replies_step, runs_carried, shown_by, status_look, status_told, stays, takes, takes_bulk, takes_bytes, takes_data, takes_entries, takes_entry, takes_given, takes_list, takes_plain, takes_rights, takes_set, takes_shown, takes_status, takes_stored, timeout_line, timeout_row, told_step, trusted_in, untrusted_in, used_first, walked, walked_at, walked_by, walked_with, walks_on, whole, with_statuses}
+use Rattle.afs_rows.specs.Going.{ClientState, Going, Need, answers, began, gives_back, next, reads, reads_status, with_read}
+use Rattle.afs_rows.specs.Runs.{Entry, locations}
+use Rattle.afs_rows.specs.ServerRow.{boot_told, key_of, replied}
+use Rattle.afs_rows.specs.States.{CacheEntry, Gift, Location, Seat}
+use Rattle.afs_rows.specs.Steps.{Step}
+use Rattle.std.proofs.Common.{zero, suc, ◌+◌, ◌≡◌, ℕ, ◌⊎◌, inl, inr, Bool, true, false, cond, List, [], ◌∷◌, ◌++◌, map, Option, Some, None, refl, sym, subst, filter, not, ap, ◌∙◌}
+use Rattle.std.specs.List.{list_any}
+use Rattle.std.specs.Prelude.{◌&&◌, nat_lt, ⊤}
+
+-- ---- its lines
+
+-- a line that this client tells
+abbrev pub is_of : ℕ → Line → Bool
+is_of j (lines.Begin n act) = same_node n (Client j)
+is_of j (lines.Given place) = true
+is_of j (lines.Read n f index source body) = same_node n (Client j)
+is_of j (lines.Answer n code) = same_node n (Client j)
+is_of j (lines.Timeout n callee epoch number count) = same_node n (Client j)
+is_of j (lines.Crash n) = same_node n (Client j)
+is_of j (lines.Restart n boot) = same_node n (Client j)
+is_of j (lines.Drop n f) = same_node n (Client j)
+is_of j (lines.DropAll n server) = same_node n (Client j)
+is_of j l = false
+
+one_of : (j : ℕ) (rest : Bool) → rest ≡ true → (same_node (Client j) (Client j) && rest) ≡ true
+one_of j rest h = rw (same_node-refl (Client j), h) refl
+
+-- ---- what of a client its acts and calls show
+
+pub record Who : Type 0 where
+  pub epoch : ℕ
+  pub last : ℕ
+  pub user : List ℕ
+  pub table : List Location
+  pub running : Option Going
+  pub seats : List Seat
+
+abbrev pub who_at : ClientState → Who
+who_at c = record { epoch = c.epoch; last = c.last; user = c.user; table = c.table; running = c.running; seats = c.seats }
+
+-- the key of its last call
+abbrev pub last_key : ℕ → ClientState → Key
+last_key j c = record { node = Client j; epoch = c.epoch; number = c.last }
+
+-- the call is that of the act that runs, under the last pair
+pub record IsTheCall (j : ℕ) (c : ClientState) (head : Head) (user : List ℕ) (call : FsCall) : Type 0 where
+  pub key : key_of head ≡ last_key j c
+  pub act : Going
+  pub runs : c.running ≡ Some act
+  pub user' : user ≡ c.user
+  pub asks : call ≡ call_of c act
+
+-- it has the pair that it had, and goes on with the act that ran or with none; or it asks for an act, under the next pair; or it stopped
+pub record Rests (j : ℕ) (x : Who) (gs : List Gift) (s : Step ClientState) : Type 0 where
+  pub epoch : s.state.epoch ≡ x.epoch
+  pub last : s.state.last ≡ x.last
+  pub act : (s.state.running ≡ None) ⊎ ((s.state.running ≡ x.running) × ((s.state.gifts ≡ gs) × (has_begun (Client j) s.lines ≡ false)))
+  pub sent : Each (IfCall (IsTheCall j s.state)) s.sent
+
+pub record Asks (j : ℕ) (x : Who) (s : Step ClientState) : Type 0 where
+  pub epoch : s.state.epoch ≡ x.epoch
+  pub last : s.state.last ≡ x.last + 1
+  pub act : Going
+  pub runs : s.state.running ≡ Some act
+  pub sent : s.sent ≡ call_message (Client j) s.state act ∷ []
+
+pub record Stops (j : ℕ) (x : Who) (s : Step ClientState) : Type 0 where
+  pub epoch : s.state.epoch ≡ x.epoch + 1
+  pub act : s.state.running ≡ None
+  pub sent : s.sent ≡ []
+
+-- all these lines stand where they may
+abbrev pub AreInPlace : Script → ℕ → List Entry → List Line → List Line → Type 0
+AreInPlace S j past own ls = EachLine (IsInPlace S) (actors.Node (Client j)) past own ls
+
+pub record Acts (j : ℕ) (x : Who) (gs : List Gift) (s : Step ClientState) : Type 0 where
+  pub user : s.state.user ≡ x.user
+  pub table : s.state.table ≡ x.table
+  pub of : all_lines (is_of j) s.lines ≡ true
+  pub runs : (S : Script) → x.table ≡ locations S → (o : List Line) → running S (Client j) o ≡ x.running → running S (Client j) (onto o s.lines) ≡ s.state.running
+  pub goes : Rests j x gs s ⊎ (Asks j x s ⊎ Stops j x s)
+  pub each : (S : Script) (past : List Entry) → x.table ≡ locations S → running S (Client j) (lines_of past) ≡ x.running → AreInPlace S j past [] s.lines
+  pub seats : AreSeated (Client j) x.seats → AreSeated (Client j) s.state.seats
+  pub from : Each (λ m. m.head.from ≡ Client j) s.sent
+
+-- ---- what stands before further lines
+
+-- where the lines come to once these stand before them
+pub record Comes (j : ℕ) (g : Going) (S : Script) (o : List Line) (front : List Line → List Line) : Type 0 where
+  pub to : List Line
+  pub runs : running S (Client j) to ≡ Some g
+  pub on : (ls : List Line) → onto o (front ls) ≡ onto to ls
+
+-- behind them no message is given, and no act begins
+abbrev pub IsTail : ℕ → List Line → Type 0
+IsTail j ls = (has_given ls ≡ false) × (has_begun (Client j) ls ≡ false)
+
+-- the first lines of a step, with which an act comes so far
+pub record Front (j : ℕ) (table : List Location) (before : Option Going) (g : Going) (front : List Line → List Line) : Type 0 where
+  pub of : (ls : List Line) → all_lines (is_of j) ls ≡ true → all_lines (is_of j) (front ls) ≡ true
+  pub comes : (S : Script) → table ≡ locations S → (o : List Line) → running S (Client j) o ≡ before → Comes j g S o front
+  pub each : (S : Script) (past : List Entry) (ls : List Line) → table ≡ locations S → running S (Client j) (lines_of past) ≡ before → IsTail j ls → ((own : List Line) → running S (Client j) (own ++ lines_of past) ≡ Some g → AreInPlace S j past own ls) → AreInPlace S j past [] (front ls)
+
+-- further ones
+pub record More (j : ℕ) (g h : Going) (more : List Line → List Line) : Type 0 where
+  pub of : (ls : List Line) → all_lines (is_of j) ls ≡ true → all_lines (is_of j) (more ls) ≡ true
+  pub comes : (S : Script) (o : List Line) → running S (Client j) o ≡ Some g → Comes j h S o more
+  pub tail : (ls : List Line) → IsTail j ls → IsTail j (more ls)
+  pub each : (S : Script) (past : List Entry) (own ls : List Line) → running S (Client j) (own ++ lines_of past) ≡ Some g → ((own' : List Line) → running S (Client j) (own' ++ lines_of past) ≡ Some h → AreInPlace S j past own' ls) → AreInPlace S j past own (more ls)
+
+-- one behind another
+then_front : (j : ℕ) (table : List Location) (before : Option Going) (g h : Going) (front more : List Line → List Line) → Front j table before g front → More j g h more → Front j table before h (λ ls. front (more ls))
+then_front j table before g h front more f m = record {
+  of = λ ls q. f.of (more ls) (m.of ls q);
+  comes = λ S t o r. let a : Comes j g S o front = f.comes S t o r in let b : Comes j h S a.to more = m.comes S a.to a.runs in
+      record { to = b.to; runs = b.runs; on = λ ls. a.on (more ls) ∙ b.on ls };
+  each = λ S past ls t r tail k. f.each S past (more ls) t r (m.tail ls tail) (λ own q. m.each S past own ls q k);
+}
+
+then_more : (j : ℕ) (f g h : Going) (front more : List Line → List Line) → More j f g front → More j g h more → More j f h (λ ls. front (more ls))
+then_more j f g h front more a b = record {
+  of = λ ls q. a.of (more ls) (b.of ls q);
+  comes = λ S o r. let x : Comes j g S o front = a.comes S o r in let y : Comes j h S x.to more = b.comes S x.to x.runs in
+      record { to = y.to; runs = y.runs; on = λ ls. x.on (more ls) ∙ y.on ls };
+  tail = λ ls q. a.tail (more ls) (b.tail ls q);
+  each = λ S past own ls r k. a.each S past own (more ls) r (λ o q. b.each S past o ls q k);
+}
+
+given_front : (j : ℕ) (table : List Location) (g : Going) (place : ℕ) → Front j table (Some g) g (given place)
+given_front j table g place = record { of = λ ls q. q; comes = λ S t o r. record { to = lines.Given place ∷ o; runs = r; on = λ ls. refl }; each = λ S past ls t r tail k. (refl, k (lines.Given place ∷ []) r) }
+
+begin_front : (j : ℕ) (table : List Location) (act : Act) → Front j table None (began table act) (λ ls. lines.Begin (Client j) act ∷ ls)
+begin_front j table act = record {
+  of = λ ls q. one_of j (all_lines (is_of j) ls) q;
+  comes = λ S t o r. record { to = lines.Begin (Client j) act ∷ o; runs = ap (λ (b : Bool). cond b (Some (began (locations S) act)) (running S (Client j) o)) (same_node-refl (Client j)) ∙ ap (λ (l : List Location). Some (began l act)) (sym t); on = λ ls. refl };
+  each = λ S past ls t r tail k. (refl, k (lines.Begin (Client j) act ∷ []) (ap (λ (b : Bool). cond b (Some (began (locations S) act)) (running S (Client j) (lines_of past))) (same_node-refl (Client j)) ∙ ap (λ (l : List Location). Some (began l act)) (sym t)));
+}
+
+timeout_front : (j : ℕ) (c : ClientState) (table : List Location) (g : Going) (count : ℕ) → Front j table (Some g) g (λ ls. timeout_line (Client j) c count ∷ ls)
+timeout_front j c table g count = record { of = λ ls q. one_of j (all_lines (is_of j) ls) q; comes = λ S t o r. record { to = timeout_line (Client j) c count ∷ o; runs = r; on = λ ls. refl }; each = λ S past ls t r tail k. ((refl, ((refl, refl), tail)), k (timeout_line (Client j) c count ∷ []) r) }
+
+drop_more : (j : ℕ) (g : Going) (f : Fid) → More j g g (λ ls. lines.Drop (Client j) f ∷ ls)
+drop_more j g f = record { of = λ ls q. one_of j (all_lines (is_of j) ls) q; comes = λ S o r. record { to = lines.Drop (Client j) f ∷ o; runs = r; on = λ ls. refl }; tail = λ ls q. q; each = λ S past own ls r k. (refl, k (lines.Drop (Client j) f ∷ own) r) }
+
+none_more : (j : ℕ) (g : Going) → More j g g (λ ls. ls)
+none_more j g = record { of = λ ls q. q; comes = λ S o r. record { to = o; runs = r; on = λ ls. refl }; tail = λ ls q. q; each = λ S past own ls r k. k own r }
+
+dropped_more : (j : ℕ) (g : Going) (es : List CacheEntry) → More j g g (dropped (Client j) es)
+dropped_more j g [] = none_more j g
+dropped_more j g (e ∷ es) = then_more j g g g (λ ls. lines.Drop (Client j) e.fid ∷ ls) (dropped (Client j) es) (drop_more j g e.fid) (dropped_more j g es)
+
+-- reads take an act on
+abbrev pub read_all : List Look → Going → Going
+read_all [] act = act
+read_all (l ∷ looks) act = read_all looks (with_read l.fid l.body act)
+
+look_more : (j : ℕ) (g : Going) (l : Look) → More j g (with_read l.fid l.body g) (λ ls. lines.Read (Client j) l.fid l.index l.source l.body ∷ ls)
+look_more j g l = record {
+  of = λ ls q. one_of j (all_lines (is_of j) ls) q;
+  comes = λ S o r. record { to = lines.Read (Client j) l.fid l.index l.source l.body ∷ o; runs = rw (same_node-refl (Client j), r) refl; on = λ ls. refl };
+  tail = λ ls q. q;
+  each = λ S past own ls r k. ((refl, record { act = g; runs = r }), k (lines.Read (Client j) l.fid l.index l.source l.body ∷ own) (rw (same_node-refl (Client j), r) refl));
+}
+
+looked_more : (j : ℕ) (g : Going) (looks : List Look) → More j g (read_all looks g) (looked (Client j) looks)
+looked_more j g [] = none_more j g
+looked_more j g (l ∷ looks) = then_more j g (with_read l.fid l.body g) (read_all looks (with_read l.fid l.body g)) (λ ls. lines.Read (Client j) l.fid l.index l.source l.body ∷ ls) (looked (Client j) looks) (look_more j g l) (looked_more j (with_read l.fid l.body g) looks)
+
+-- ---- what an act reads from the cache
+
+abbrev ReadsOn : (Going → List CacheEntry → Walked) → Type 0
+ReadsOn more = (act : Going) (cache : List CacheEntry) → read_all (more act cache).looks act ≡ (more act cache).act
+
+with_reads : (more : Going → List CacheEntry → Walked) (act : Going) (cache : List CacheEntry) (e : CacheEntry) (o : Option ReadBody) → ReadsOn more → read_all (walked_with more act cache e o).looks act ≡ (walked_with more act cache e o).act
+with_reads more act cache e None w = refl
+with_reads more act cache e (Some body) w = w (with_read e.fid body act) (used_first e cache)
+
+trusted_reads : (t : Bool) (more : Going → List CacheEntry → Walked) (act : Going) (cache : List CacheEntry) (e : CacheEntry) (o : Option ReadBody) → ReadsOn more → read_all (cond t (walked_with more act cache e o) (stays act cache)).looks act ≡ (cond t (walked_with more act cache e o) (stays act cache)).act
+trusted_reads true more act cache e o w = with_reads more act cache e o w
+trusted_reads false more act cache e o w = refl
+
+at_reads : (more : Going → List CacheEntry → Walked) (clock : ℕ) (act : Going) (cache : List CacheEntry) (need : Need) (o : Option CacheEntry) → ReadsOn more → read_all (walked_at more clock act cache need o).looks act ≡ (walked_at more clock act cache need o).act
+at_reads more clock act cache need None w = refl
+at_reads more clock act cache need (Some e) w = trusted_reads (is_trusted clock e) more act cache e (shown_by need e) w
+
+by_reads : (more : Going → List CacheEntry → Walked) (clock : ℕ) (act : Going) (cache : List CacheEntry) (need : Need) → ReadsOn more → read_all (walked_by more clock act cache need).looks act ≡ (walked_by more clock act cache need).act
+by_reads more clock act cache (reads f) w = at_reads more clock act cache (reads f) (find_cached f cache) w
+by_reads more clock act cache (reads_status f) w = at_reads more clock act cache (reads_status f) (find_cached f cache) w
+by_reads more clock act cache need w = refl
+
+pub walked_reads : (n clock : ℕ) (act : Going) (cache : List CacheEntry) → read_all (walked n clock act cache).looks act ≡ (walked n clock act cache).act
+walked_reads zero clock act cache = refl
+walked_reads (suc n) clock act cache = by_reads (walked n clock) clock act cache (next act) (walked_reads n clock)
+
+status_reads : (es : List CacheEntry) (act : Going) → read_all (map status_look es) act ≡ with_statuses es act
+status_reads [] act = refl
+status_reads (e ∷ es) act = status_reads es (with_read e.fid (seen.Status e.status) act)
+
+-- ---- its ends
+
+told_acts : (j : ℕ) (c : ClientState) (place : ℕ) (ms : List Message) → Each (IfCall (IsTheCall j c)) ms → Each (λ m. m.head.from ≡ Client j) ms → Acts j (who_at c) c.gifts (told_step c place ms)
+told_acts j c place ms h own = record { user = refl; table = refl; of = refl; runs = λ S t o r. r; goes = inl (record { epoch = refl; last = refl; act = inr (refl, (refl, refl)); sent = h }); each = λ S past t r. (refl, tt); seats = λ k. k; from = own }
+
+ignores_acts : (j : ℕ) (c : ClientState) (place : ℕ) → Acts j (who_at c) c.gifts (ignores c place)
+ignores_acts j c place = told_acts j c place [] tt tt
+
+answered : (j : ℕ) (S : Script) (code : Code) (o : List Line) → running S (Client j) (lines.Answer (Client j) code ∷ o) ≡ None
+answered j S code o = rw (same_node-refl (Client j)) refl
+
+ends_acts : (j : ℕ) (gs : List Gift) (c : ClientState) (cache : List CacheEntry) (front : List Line → List Line) (code : Code) (g : Going) → Front j c.table c.running g front → Acts j (who_at c) gs (ends_step (Client j) c cache front code)
+ends_acts j gs c cache front code g f = record {
+  user = refl;
+  table = refl;
+  of = f.of (lines.Answer (Client j) code ∷ []) (one_of j true refl);
+  runs = λ S t o r. let a : Comes j g S o front = f.comes S t o r in ap (running S (Client j)) (a.on (lines.Answer (Client j) code ∷ [])) ∙ answered j S code a.to;
+  goes = inl (record { epoch = refl; last = refl; act = inl refl; sent = tt });
+  each = λ S past t r. f.each S past (lines.Answer (Client j) code ∷ []) t r (refl, refl) (λ own q. ((refl, record { act = g; runs = q }), tt));
+  seats = λ k. k;
+  from = tt;
+}
+
+calls_acts : (j : ℕ) (gs : List Gift) (c : ClientState) (act : Going) (front : List Line → List Line) → Front j c.table c.running act front → Acts j (who_at c) gs (calls_step (Client j) c act front)
+calls_acts j gs c act front f = record {
+  user = refl;
+  table = refl;
+  of = f.of [] refl;
+  runs = λ S t o r. let a : Comes j act S o front = f.comes S t o r in ap (running S (Client j)) (a.on []) ∙ a.runs;
+  goes = inr (inl (record { epoch = refl; last = refl; act = act; runs = refl; sent = refl }));
+  each = λ S past t r. f.each S past [] t r (refl, refl) (λ own q. tt);
+  seats = λ k. k;
+  from = (refl, tt);
+}
+
+goes_acts : (j : ℕ) (gs : List Gift) (c : ClientState) (front : List Line → List Line) (w : Walked) (need : Need) → Front j c.table c.running w.act (λ ls. front (looked (Client j) w.looks ls)) → Acts j (who_at c) gs (goes_by (Client j) c front w need)
+goes_acts j gs c front w (answers n) f = ends_acts j gs c w.cache (λ ls. front (looked (Client j) w.looks ls)) _ w.act f
+goes_acts j gs c front w need f = calls_acts j gs (record c { cache = w.cache }) w.act (λ ls. front (looked (Client j) w.looks ls)) f
+
+walks_acts : (j : ℕ) (gs : List Gift) (c : ClientState) (clock : ℕ) (front : List Line → List Line) (act : Going) (cache : List CacheEntry) → Front j c.table c.running act front → Acts j (who_at c) gs (walks_on (Client j) c clock front act cache)
+walks_acts j gs c clock front act cache f =
+    let w : Walked = walked (most_reads act) clock act cache in
+    goes_acts j gs c front w (next w.act) (subst (λ (g : Going). Front j c.table c.running g (λ ls. front (looked (Client j) w.looks ls))) (walked_reads (most_reads act) clock act cache) (then_front j c.table c.running act (read_all w.looks act) front (looked (Client j) w.looks) f (looked_more j act w.looks)))
+
+gives_acts : (j : ℕ) (gs : List Gift) (c : ClientState) (front : List Line → List Line) (act : Going) (more : List Gift) → Front j c.table c.running act front → Acts j (who_at c) gs (gives_by (Client j) c front act more)
+gives_acts j gs c front act [] f = ends_acts j gs c c.cache front _ act f
+gives_acts j gs c front act (g ∷ more) f = calls_acts j gs (record c { gifts = g ∷ more }) act front f
+
+-- the lines of a break's drops leave the act that runs
+pub record Quiet (j : ℕ) (ls : List Line) : Type 0 where
+  pub of : all_lines (is_of j) ls ≡ true
+  pub runs : (S : Script) (o : List Line) → running S (Client j) (onto o ls) ≡ running S (Client j) o
+  pub begins : has_begun (Client j) ls ≡ false
+  pub each : (S : Script) (past : List Entry) (own : List Line) → AreInPlace S j past own ls
+
+drops_quiet : (j : ℕ) (fs : List Fid) → Quiet j (map (drop_line (Client j)) fs)
+drops_quiet j [] = record { of = refl; runs = λ S o. refl; begins = refl; each = λ S past own. tt }
+drops_quiet j (f ∷ fs) = let q : Quiet j (map (drop_line (Client j)) fs) = drops_quiet j fs in record { of = one_of j _ q.of; runs = λ S o. q.runs S (lines.Drop (Client j) f ∷ o); begins = q.begins; each = λ S past own. (refl, q.each S past (lines.Drop (Client j) f ∷ own)) }
+
+replies_acts : (j : ℕ) (x : Who) (gs : List Gift) (c : ClientState) (place : ℕ) (head : Head) (ls : List Line) (y : Carried) → who_at c ≡ x → c.gifts ≡ gs → Quiet j ls → IfCall (IsTheCall j (replies_step c place head ls y).state) (replied c.epoch head y) → head.to ≡ Client j → HasCode y → Acts j x gs (replies_step c place head ls y)
+replies_acts j x gs c place head ls y same gifts q h to code = record {
+  user = ap (λ (w : Who). w.user) same;
+  table = ap (λ (w : Who). w.table) same;
+  of = q.of;
+  runs = λ S t o r. q.runs S (lines.Given place ∷ o) ∙ (r ∙ sym (ap (λ (w : Who). w.running) same));
+  goes = inl (record { epoch = ap (λ (w : Who). w.epoch) same; last = ap (λ (w : Who). w.last) same; act = inr (ap (λ (w : Who). w.running) same, (gifts, q.begins)); sent = (h, tt) });
+  each = λ S past t r. (refl, q.each S past (lines.Given place ∷ []));
+  seats = λ k. seated (Client j) c.epoch head y c.seats to code (subst (AreSeated (Client j)) (sym (ap (λ (w : Who). w.seats) same)) k);
+  from = (to, tt);
+}
+
+either_acts : (t : Bool) (j : ℕ) (x : Who) (gs : List Gift) (a b : Step ClientState) → Acts j x gs a → Acts j x gs b → Acts j x gs (cond t a b)
+either_acts true j x gs a b h k = h
+either_acts false j x gs a b h k = k
+
+-- ---- replies to its calls. `r` tells which act runs
+
+on_given : (j : ℕ) (c : ClientState) (place : ℕ) (act : Going) → c.running ≡ Some act → Front j c.table c.running act (given place)
+on_given j c place act r = subst (λ (o : Option Going). Front j c.table o act (given place)) (sym r) (given_front j c.table act place)
+
+again_acts : (j : ℕ) (gs : List Gift) (c : ClientState) (place : ℕ) (act : Going) → c.running ≡ Some act → Acts j (who_at c) gs (calls_again (Client j) c place act)
+again_acts j gs c place act r = calls_acts j gs c act (given place) (on_given j c place act r)
+
+plain_acts : (j : ℕ) (gs : List Gift) (c : ClientState) (place : ℕ) (act : Going) (call : FsCall) → c.running ≡ Some act → Acts j (who_at c) gs (takes_plain (Client j) c place call)
+plain_acts j gs c place act call r = ends_acts j gs c _ (λ ls. given place (dropped (Client j) (dropped_after call c.cache) ls)) _ act (then_front j c.table c.running act act (given place) (dropped (Client j) (dropped_after call c.cache)) (on_given j c place act r) (dropped_more j act (dropped_after call c.cache)))
+
+-- a read behind the message
+on_read : (j : ℕ) (c : ClientState) (place : ℕ) (act : Going) (l : Look) → c.running ≡ Some act → Front j c.table c.running (with_read l.fid l.body act) (read_lines (Client j) place l)
+on_read j c place act l r = then_front j c.table c.running act (with_read l.fid l.body act) (given place) (λ ls. lines.Read (Client j) l.fid l.index l.source l.body ∷ ls) (on_given j c place act r) (look_more j act l)
+
+entry_acts : (j : ℕ) (gs : List Gift) (c : ClientState) (clock place : ℕ) (act : Going) (e : CacheEntry) (body : ReadBody) → c.running ≡ Some act → Acts j (who_at c) gs (takes_entry (Client j) c clock place act e body)
+entry_acts j gs c clock place act e body r =
+    either_acts (is_trusted clock e) j (who_at c) gs _ _
+    (walks_acts j gs c clock (read_lines (Client j) place (look_at Fetched e body)) (with_read e.fid body act) (put_entry c.capacity e c.cache) (on_read j c place act (look_at Fetched e body) r)) (again_acts j gs c place act r)
+
+entries_acts : (j : ℕ) (gs : List Gift) (c : ClientState) (clock place : ℕ) (act : Going) (es : List CacheEntry) → c.running ≡ Some act → Acts j (who_at c) gs (takes_entries (Client j) c clock place act es)
+entries_acts j gs c clock place act es r =
+    either_acts (list_any (λ e. not (is_trusted clock e)) es) j (who_at c) gs _ _ (again_acts j gs c place act r)
+    (walks_acts j gs c clock (λ ls. given place (looked (Client j) (map status_look es) ls)) (with_statuses es act) (put_entries c.capacity es c.cache)
+    (subst (λ (g : Going). Front j c.table c.running g (λ ls. given place (looked (Client j) (map status_look es) ls))) (status_reads es act) (then_front j c.table c.running act (read_all (map status_look es) act) (given place) (looked (Client j) (map status_look es)) (on_given j c place act r) (looked_more j act (map status_look es)))))
+
+rights_acts : (j : ℕ) (gs : List Gift) (c : ClientState) (clock place : ℕ) (act : Going) (f : Fid) (index release : ℕ) (text : List ℕ) → c.running ≡ Some act → Acts j (who_at c) gs (takes_rights (Client j) c clock place act f index release text)
+rights_acts j gs c clock place act f index release text r =
+    let look : Look = record { fid = f; index = index; source = Fetched; body = seen.AccessList text } in
+    let g : Going = with_read f (seen.AccessList text) act in
+    walks_acts j gs c clock (λ ls. read_lines (Client j) place look (dropped (Client j) (filter (is_older f index release) c.cache) ls)) g (filter (λ e. not (is_older f index release e)) c.cache)
+    (then_front j c.table c.running g g (read_lines (Client j) place look) (dropped (Client j) (filter (is_older f index release) c.cache)) (on_read j c place act look r) (dropped_more j g (filter (is_older f index release) c.cache)))
+
+stored_acts : (j : ℕ) (gs : List Gift) (c : ClientState) (clock place : ℕ) (act : Going) (f : Fid) (index : ℕ) (status : ReadStatus) (made : Option Body → Option Body) → c.running ≡ Some act → Acts j (who_at c) gs (takes_stored (Client j) c clock place f index status made)
+stored_acts j gs c clock place act f index status made r = ends_acts j gs c _ (given place) _ act (on_given j c place act r)
+
+bytes_acts : (j : ℕ) (gs : List Gift) (c : ClientState) (clock place : ℕ) (act : Going) (f : Fid) (status : AfsFetchStatus) (contents : List ℕ) (call : FsCall) → c.running ≡ Some act → Acts j (who_at c) gs (takes_bytes (Client j) c clock place f status contents call)
+bytes_acts j gs c clock place act f status contents call r = either_acts c.spoiled j (who_at c) gs _ _ (plain_acts j gs c place act call r) (stored_acts j gs c clock place act f _ _ _ r)
+
+status_acts : (j : ℕ) (gs : List Gift) (c : ClientState) (clock place : ℕ) (act : Going) (f : Fid) (status : AfsFetchStatus) (call : FsCall) → c.running ≡ Some act → Acts j (who_at c) gs (takes_status (Client j) c clock place f status call)
+status_acts j gs c clock place act f status call r = either_acts _ j (who_at c) gs _ _ (stored_acts j gs c clock place act f _ _ _ r) (plain_acts j gs c place act call r)
+
+data_acts : (j : ℕ) (gs : List Gift) (c : ClientState) (clock place : ℕ) (act : Going) (contents : List ℕ) (status : AfsFetchStatus) (callback : AfsCallBack) (sync : AfsVolSync) (call : FsCall) → c.running ≡ Some act → Acts j (who_at c) gs (takes_data (Client j) c clock place act contents status callback sync call)
+data_acts j gs c clock place act contents status callback sync (calls.FetchData f position wanted) r =
+    entry_acts j gs c clock place act (entry_told c.callee f status callback sync (Some (body_told status.file_type contents))) (seen.Contents (body_told status.file_type contents)) r
+data_acts j gs c clock place act contents status callback sync call r = plain_acts j gs c place act call r
+
+shown_acts : (j : ℕ) (gs : List Gift) (c : ClientState) (clock place : ℕ) (act : Going) (status : AfsFetchStatus) (callback : AfsCallBack) (sync : AfsVolSync) (call : FsCall) → c.running ≡ Some act → Acts j (who_at c) gs (takes_shown (Client j) c clock place act status callback sync call)
+shown_acts j gs c clock place act status callback sync (calls.FetchStatus f) r = entry_acts j gs c clock place act (entry_told c.callee f status callback sync None) (seen.Status (status_told status)) r
+shown_acts j gs c clock place act status callback sync call r = plain_acts j gs c place act call r
+
+list_acts : (j : ℕ) (gs : List Gift) (c : ClientState) (clock place : ℕ) (act : Going) (text : List ℕ) (status : AfsFetchStatus) (sync : AfsVolSync) (call : FsCall) → c.running ≡ Some act → Acts j (who_at c) gs (takes_list (Client j) c clock place act text status sync call)
+list_acts j gs c clock place act text status sync (calls.FetchAcl f) r = rights_acts j gs c clock place act f _ _ text r
+list_acts j gs c clock place act text status sync call r = plain_acts j gs c place act call r
+
+set_acts : (j : ℕ) (gs : List Gift) (c : ClientState) (clock place : ℕ) (act : Going) (status : AfsFetchStatus) (call : FsCall) → c.running ≡ Some act → Acts j (who_at c) gs (takes_set (Client j) c clock place status call)
+set_acts j gs c clock place act status (calls.StoreData f set position wanted file_length contents) r = bytes_acts j gs c clock place act f status contents (calls.StoreData f set position wanted file_length contents) r
+set_acts j gs c clock place act status (calls.StoreAcl f acl) r = status_acts j gs c clock place act f status (calls.StoreAcl f acl) r
+set_acts j gs c clock place act status (calls.StoreStatus f set) r = status_acts j gs c clock place act f status (calls.StoreStatus f set) r
+set_acts j gs c clock place act status call r = plain_acts j gs c place act call r
+
+bulk_acts : (j : ℕ) (gs : List Gift) (c : ClientState) (clock place : ℕ) (act : Going) (statuses : List AfsFetchStatus) (callbacks : List AfsCallBack) (sync : AfsVolSync) (call : FsCall) → c.running ≡ Some act → Acts j (who_at c) gs (takes_bulk (Client j) c clock place act statuses callbacks sync call)
+bulk_acts j gs c clock place act statuses callbacks sync (calls.BulkStatus fids) r = entries_acts j gs c clock place act (entries_told c.callee sync fids statuses callbacks) r
+bulk_acts j gs c clock place act statuses callbacks sync call r = plain_acts j gs c place act call r
+
+given_back_acts : (j : ℕ) (gs : List Gift) (c : ClientState) (place : ℕ) (act : Going) (call : FsCall) → c.running ≡ Some act → Acts j (who_at c) gs (takes_given (Client j) c place act call)
+given_back_acts j gs c place act (calls.GiveUpCallBacks fids callbacks) r = gives_acts j gs c (given place) act (behind_batch c.gifts) (on_given j c place act r)
+given_back_acts j gs c place act call r = plain_acts j gs c place act call r
+
+takes_acts : (j : ℕ) (gs : List Gift) (c : ClientState) (clock place : ℕ) (act : Going) (call : FsCall) (reply : FsReply) → c.running ≡ Some act → Acts j (who_at c) gs (takes (Client j) c clock place act call reply)
+takes_acts j gs c clock place act call (replies.FetchData contents status callback sync) r = data_acts j gs c clock place act contents status callback sync call r
+takes_acts j gs c clock place act call (replies.FetchAcl text status sync) r = list_acts j gs c clock place act text status sync call r
+takes_acts j gs c clock place act call (replies.FetchStatus status callback sync) r = shown_acts j gs c clock place act status callback sync call r
+takes_acts j gs c clock place act call (replies.StoreData status sync) r = set_acts j gs c clock place act status call r
+takes_acts j gs c clock place act call (replies.StoreAcl status sync) r = set_acts j gs c clock place act status call r
+takes_acts j gs c clock place act call (replies.StoreStatus status sync) r = set_acts j gs c clock place act status call r
+takes_acts j gs c clock place act call (replies.BulkStatus statuses callbacks sync) r = bulk_acts j gs c clock place act statuses callbacks sync call r
+takes_acts j gs c clock place act call replies.GiveUpCallBacks r = given_back_acts j gs c place act call r
+takes_acts j gs c clock place act call reply r = plain_acts j gs c place act call r
+
+refuses_acts : (j : ℕ) (gs : List Gift) (c : ClientState) (place : ℕ) (act : Going) (code : Code) → c.running ≡ Some act → Acts j (who_at c) gs (refuses (Client j) c place act code)
+refuses_acts j gs c place act code r =
+    either_acts (is_busy_code code && nat_lt c.busy most_busy) j (who_at c) gs _ _ (again_acts j gs (record c { busy = c.busy + 1 }) place act r) (ends_acts j gs c c.cache (given place) code act (on_given j c place act r))
+
+counts_acts : (j : ℕ) (c : ClientState) (clock place : ℕ) (act : Going) (head : Head) (x : Carried) → c.running ≡ Some act → Acts j (who_at c) c.gifts (counts (Client j) c clock place act head x)
+counts_acts j c clock place act head (carried.Call user call) r = ignores_acts j c place
+counts_acts j c clock place act head (carried.Refusal code) r = either_acts (is_spent c act) j (who_at c) c.gifts _ _ (again_acts j c.gifts c place act r) (refuses_acts j c.gifts c place act code r)
+counts_acts j c clock place act head (carried.Reply (tell.File reply)) r = either_acts (is_spent c act) j (who_at c) c.gifts _ _ (again_acts j c.gifts c place act r) (takes_acts j c.gifts c clock place act _ reply r)
+counts_acts j c clock place act head (carried.Reply reply) r = ignores_acts j c place
+counts_acts j c clock place act head carried.Notice r = record { user = refl; table = refl; of = refl; runs = λ S t o q. q; goes = inl (record { epoch = refl; last = refl; act = inr (refl, (refl, refl)); sent = (record { key = refl; act = act; runs = r; user' = refl; asks = refl }, tt) }); each = λ S past t q. (refl, tt); seats = λ k. k; from = (refl, tt) }
+
+awaited_acts : (t : Bool) (j : ℕ) (c : ClientState) (clock place : ℕ) (act : Going) (head : Head) (x : Carried) → c.running ≡ Some act → Acts j (who_at c) c.gifts (cond t (counts (Client j) c clock place act head x) (ignores c place))
+awaited_acts true j c clock place act head x r = counts_acts j c clock place act head x r
+awaited_acts false j c clock place act head x r = ignores_acts j c place
+
+awaits_acts : (j : ℕ) (c : ClientState) (clock place : ℕ) (head : Head) (x : Carried) (o : Option Going) → c.running ≡ o → Acts j (who_at c) c.gifts (awaits (Client j) c clock place head x o)
+awaits_acts j c clock place head x None r = ignores_acts j c place
+awaits_acts j c clock place head x (Some act) r = awaited_acts (is_awaited c act head) j c clock place act head x r
+
+-- ---- calls to it
+
+no_lines : (j : ℕ) → Quiet j []
+no_lines j = record { of = refl; runs = λ S o. refl; begins = refl; each = λ S past own. tt }
+
+all_line : (j : ℕ) (server : Node) → Quiet j (lines.DropAll (Client j) server ∷ [])
+all_line j server = record { of = one_of j true refl; runs = λ S o. refl; begins = refl; each = λ S past own. (refl, tt) }
+
+breaks_acts : (j : ℕ) (c : ClientState) (place : ℕ) (head : Head) (call : FsCall) → head.to ≡ Client j → Acts j (who_at c) c.gifts (breaks (Client j) c place head call)
+breaks_acts j c place head (calls.CallBack fs callbacks) to = replies_acts j (who_at c) c.gifts _ place head _ _ refl refl (drops_quiet j fs) tt to tt
+breaks_acts j c place head calls.InitCallBackState to = replies_acts j (who_at c) c.gifts _ place head _ _ refl refl (all_line j head.from) tt to tt
+breaks_acts j c place head calls.Probe to = replies_acts j (who_at c) c.gifts c place head [] _ refl refl (no_lines j) tt to tt
+breaks_acts j c place head call to = replies_acts j (who_at c) c.gifts c place head [] _ refl refl (no_lines j) tt to tt
+
+carried_acts : (j : ℕ) (c : ClientState) (place : ℕ) (head : Head) (x : Carried) → head.to ≡ Client j → Acts j (who_at c) c.gifts (runs_carried (Client j) c place head x)
+carried_acts j c place head (carried.Call user (ask.File call)) to = breaks_acts j c place head call to
+carried_acts j c place head (carried.Call user call) to = replies_acts j (who_at c) c.gifts c place head [] _ refl refl (no_lines j) tt to tt
+carried_acts j c place head x to = ignores_acts j c place
+
+admits_acts : (K L : Head → Type 0) (j : ℕ) (c : ClientState) (place : ℕ) (head : Head) (x : Carried) (o : Admitted Message) → AreReplies K L c.seats → AreSeated (Client j) c.seats → head.to ≡ Client j → admitted c.epoch c.seats head ≡ o → Acts j (who_at c) c.gifts (admits_call (Client j) c place head (whole head x) o)
+admits_acts K L j c place head x pairs.runs k q to e = carried_acts j c place head x to
+admits_acts K L j c place head x (pairs.kept reply) k q to e =
+    let a : IsAnswer K L reply = kept_answer K L c.epoch c.seats head reply k e in
+    told_acts j c place (reply ∷ []) (uncalled_any (IsTheCall j c) reply a.0, tt) (kept_from (Client j) c.epoch c.seats head reply q e, tt)
+admits_acts K L j c place head x pairs.in_progress k q to e = ignores_acts j c place
+admits_acts K L j c place head x pairs.older k q to e = ignores_acts j c place
+admits_acts K L j c place head x (pairs.wrong_boot boot) k q to e = told_acts j c place (boot_told c.epoch head ∷ []) (tt, tt) (to, tt)
+
+hears_acts : (K L : Head → Type 0) (j : ℕ) (c : ClientState) (clock place : ℕ) (head : Head) (x : Carried) → AreReplies K L c.seats → AreSeated (Client j) c.seats → head.to ≡ Client j → Acts j (who_at c) c.gifts (hears (Client j) c clock place head x)
+hears_acts K L j c clock place head (carried.Call user call) k q to = admits_acts K L j c place head (carried.Call user call) (admitted c.epoch c.seats head) k q to refl
+hears_acts K L j c clock place head x k q to = awaits_acts j c clock place head x c.running refl
+
+-- ---- its steps
+
+-- a message that is for it
+if_acts : (t : Bool) (j : ℕ) (x : Who) (gs : List Gift) (a b : Step ClientState) (head : Head) → same_node head.to (Client j) ≡ t → (head.to ≡ Client j → Acts j x gs a) → Acts j x gs b → Acts j x gs (cond t a b)
+if_acts true j x gs a b head e h k = h (same_node-true head.to (Client j) e)
+if_acts false j x gs a b head e h k = k
+
+pub given_acts : (K L : Head → Type 0) (j : ℕ) (c : ClientState) (clock place : ℕ) (m : Message) → AreReplies K L c.seats → AreSeated (Client j) c.seats → Acts j (who_at c) c.gifts (client_row (Client j) c clock place (Whole m))
+unfolding client_row
+given_acts K L j c clock place m k q = if_acts (same_node m.head.to (Client j)) j (who_at c) c.gifts _ _ m.head refl (λ to. hears_acts K L j c clock place m.head m.carried k q to) (ignores_acts j c place)
+
+first_acts : (j : ℕ) (gs : List Gift) (c : ClientState) (clock : ℕ) (front : List Line → List Line) (act : Going) (need : Need) → Front j c.table c.running act front → Acts j (who_at c) gs (begins_by (Client j) c clock front act need)
+first_acts j gs c clock front act gives_back f =
+    gives_acts j gs (record c { cache = untrusted_in clock c.cache }) (λ ls. front (dropped (Client j) (trusted_in clock c.cache) ls)) act (in_order (map gift_of (trusted_in clock c.cache)))
+    (then_front j c.table c.running act act front (dropped (Client j) (trusted_in clock c.cache)) f (dropped_more j act (trusted_in clock c.cache)))
+first_acts j gs c clock front act need f = walks_acts j gs c clock front act c.cache f
+
+pub begins_acts : (j : ℕ) (c : ClientState) (clock : ℕ) (act : Act) → c.running ≡ None → Acts j (who_at c) c.gifts (begin_row (Client j) c clock act)
+unfolding begin_row
+begins_acts j c clock act r = first_acts j c.gifts (record c { busy = 0 }) clock (λ ls. lines.Begin (Client j) act ∷ ls) (began c.table act) (next (began c.table act)) (subst (λ (o : Option Going). Front j c.table o (began c.table act) (λ ls. lines.Begin (Client j) act ∷ ls)) (sym r) (begin_front j c.table act))
+
+pub waits_acts : (j : ℕ) (c : ClientState) (act : Going) → c.running ≡ Some act → Acts j (who_at c) c.gifts (timeout_row (Client j) c act)
+waits_acts j c act r = either_acts (nat_lt c.tries 2) j (who_at c) c.gifts _ _
+    (record { user = refl; table = refl; of = one_of j true refl; runs = λ S t o q. q; goes = inl (record { epoch = refl; last = refl; act = inr (refl, (refl, refl)); sent = (record { key = refl; act = act; runs = r; user' = refl; asks = refl }, tt) }); each = λ S past t q. ((refl, ((refl, refl), (refl, refl))), tt); seats = λ k. k; from = (refl, tt) })
+    (ends_acts j c.gifts c _ (λ ls. timeout_line (Client j) c 3 ∷ dropped (Client j) (given_up_in (volume_changed (call_of c act)) c.cache) ls) dead_code act
+    (subst (λ (o : Option Going). Front j c.table o act (λ ls. timeout_line (Client j) c 3 ∷ dropped (Client j) (given_up_in (volume_changed (call_of c act)) c.cache) ls)) (sym r)
+    (then_front j c.table (Some act) act act (λ ls. timeout_line (Client j) c 3 ∷ ls) (dropped (Client j) (given_up_in (volume_changed (call_of c act)) c.cache)) (timeout_front j c c.table act 3) (dropped_more j act (given_up_in (volume_changed (call_of c act)) c.cache)))))
+
+pub falls_acts : (j : ℕ) (c : ClientState) → Acts j (who_at c) c.gifts (record { state = reborn c; lines = lines.Crash (Client j) ∷ []; sent = [] })
+falls_acts j c = record { user = refl; table = refl; of = one_of j true refl; runs = λ S t o r. rw (same_node-refl (Client j)) refl; goes = inr (inr (record { epoch = refl; act = refl; sent = refl })); each = λ S past t r. (refl, tt); seats = λ k n seat m e. absurd cc; from = tt }
+
+pub rises_acts : (j : ℕ) (c : ClientState) → Acts j (who_at c) c.gifts (record { state = c; lines = lines.Restart (Client j) c.epoch ∷ []; sent = [] })
+rises_acts j c = record { user = refl; table = refl; of = one_of j true refl; runs = λ S t o r. r; goes = inl (record { epoch = refl; last = refl; act = inr (refl, (refl, refl)); sent = tt }); each = λ S past t r. ((refl, tt), tt); seats = λ k. k; from = tt }

@@ -1,0 +1,93 @@
+-- What is known of every run, however many servers its cell has: of keys, and of what servers heard. And what no server sends.
+use Rattle.afs_history.specs.declared.scripts.Script.{Script}
+use Rattle.afs_law.proofs.Basics.{Each, IfCall, each_at, each_map, if_call, some_of}
+use Rattle.afs_law.proofs.Calling.{IsAnswer, IsUncalled, answer_over, any_call}
+use Rattle.afs_law.proofs.Hearing.{HearsIn, first_hears, moved_hears}
+use Rattle.afs_law.proofs.Hosting.{IsCutBy, IsSound, decides_due, disk_begins, memory_of, serves_step, starts_step, times_step, wakes_step}
+use Rattle.afs_law.proofs.KeysOnce.{EachChange, HasCut, HasRun, IsCutOf, IsKnown, StandsIn, any_told, by_key, first_stands, moved_keeps, sound_over}
+use Rattle.afs_law.proofs.Law.{first_passed}
+use Rattle.afs_law.proofs.Moving.{IsKept}
+use Rattle.afs_law.specs.Ideal.{set_up}
+use Rattle.afs_law.specs.Once.{AreOnce}
+use Rattle.afs_law.specs.Past.{lines_of}
+use Rattle.afs_num.specs.declared.messages.Message.{Message}
+use Rattle.afs_num.specs.declared.messages.Received.TheVariants.{Whole}
+use Rattle.afs_num.specs.declared.types.Key.{Key}
+use Rattle.afs_num.specs.declared.types.Node.{Node}
+use Rattle.afs_num.specs.declared.types.Node.TheVariants.{Server}
+use Rattle.afs_rows.specs.Callbacks.{replies_of}
+use Rattle.afs_rows.specs.Runs.{Cell, Entry, Fall, at_rest, begun_by_disk, in_boot, in_step, message_at, start}
+use Rattle.afs_rows.specs.ServerRow.{key_of}
+use Rattle.afs_rows.specs.ServerSteps.{back_timeout_row, server_row, start_row, wake_row}
+use Rattle.afs_rows.specs.States.{BackCall, ServerState}
+use Rattle.std.proofs.Common.{◌≡◌, ℕ, Bool, List, [], ◌∷◌, Option, Some, None, subst}
+use Rattle.std.specs.Prelude.{⊤}
+
+pub record Known (c : Cell) (past : List Entry) : Type 0 where
+  pub keys : StandsIn c (lines_of past)
+  pub hears : HearsIn c past
+
+pub known_kept : IsKept Known
+known_kept c past x K = record { keys = moved_keeps c (lines_of past) x K.keys; hears = moved_hears c past x K.hears }
+
+pub known_first : (s : Script) → Known (start s) (set_up s ∷ [])
+known_first s =
+    let S : StandsIn (start s) [] = first_stands s in
+    record {
+      keys = record {
+        callees = S.callees;
+        own = S.own;
+        calls = S.calls;
+        answers = S.answers;
+        replies = S.replies;
+        sound = S.sound;
+        held = S.held;
+        falls = S.falls;
+        ran = first_passed (EachChange (HasRun S.callees (start s).clients (start s).hosts)) (λ v o h. (tt, h)) s.volumes [] tt;
+        once = first_passed AreOnce (λ v o h. h) s.volumes [] tt;
+        stored = λ i n seat e. absurd cc;
+      };
+      hears = first_hears s;
+    }
+
+-- ---- a server sends no call of a client
+
+any_sound : (c : Cell) (past : List Entry) (i : ℕ) → Known c past → IsSound any_told any_told (memory_of (c.hosts i).state)
+any_sound c past i K = sound_over (by_key (IsKnown K.keys.callees c.clients)) any_told (λ h x. tt) (memory_of (c.hosts i).state) (K.keys.sound i)
+
+any_held : (c : Cell) (past : List Entry) (i : ℕ) → Known c past → Each (IsAnswer any_told any_told) (replies_of (c.hosts i).state.backs.held)
+any_held c past i K = each_map _ _ (answer_over (by_key (IsKnown K.keys.callees c.clients)) any_told any_told any_told (λ h x. tt) (λ h x. x)) (replies_of (c.hosts i).state.backs.held) (K.keys.held i)
+
+uncalled : (ms : List Message) → Each (IsAnswer any_told any_told) ms → Each IsUncalled ms
+uncalled ms h = each_map (IsAnswer any_told any_told) IsUncalled (λ m a. a.0) ms h
+
+any_given : (c : Cell) (past : List Entry) (place : ℕ) (m : Message) → Known c past → message_at c.sent place ≡ Some m → IfCall (λ h user call. any_told h) m
+any_given c past place m K at = if_call (λ h user call. IsKnown K.keys.callees c.clients h.to (key_of h)) (λ h user call. any_told h) (λ h user call x. tt) m (each_at _ c.sent place m at K.keys.calls)
+
+pub served_uncalled : (c : Cell) (past : List Entry) (i place : ℕ) (m : Message) → Known c past → message_at c.sent place ≡ Some m → Each IsUncalled (server_row (Server i) (c.hosts i).state c.clock place (Whole m)).sent
+served_uncalled c past i place m K at =
+    let x : ServerState = (c.hosts i).state in
+    let sound : IsSound any_told any_told (memory_of x) = any_sound c past i K in
+    uncalled _ (serves_step any_told any_told i x c.clock place m sound (any_held c past i K) (decides_due any_told any_told (Server i) x c.clock m sound.seats (any_call any_told x.lasting.boot x.seats m.head m.carried (any_given c past place m K at)) (λ to. tt))).sent
+
+pub timed_uncalled : (c : Cell) (past : List Entry) (i : ℕ) (n : Node) (b : BackCall) → Known c past → Each IsUncalled (back_timeout_row (Server i) (c.hosts i).state c.clock n b).sent
+timed_uncalled c past i n b K = uncalled _ (times_step any_told any_told i (c.hosts i).state c.clock n b (any_sound c past i K) (any_held c past i K)).sent
+
+pub woken_uncalled : (c : Cell) (past : List Entry) (i : ℕ) → Known c past → Each IsUncalled (wake_row (Server i) (c.hosts i).state c.clock).sent
+woken_uncalled c past i K = uncalled _ (wakes_step any_told any_told i (c.hosts i).state c.clock (any_sound c past i K) (any_held c past i K)).sent
+
+-- the message of an interrupted step
+cut_any : (K : Node → Key → Type 0) (x : ServerState) (fall : Fall) → IsCutOf K fall → IsCutBy any_told x.lasting.boot x.seats fall
+cut_any K x (in_step m clock) h = any_call any_told x.lasting.boot x.seats m.head m.carried (if_call (λ h user call. K h.to (key_of h)) (λ h user call. any_told h) (λ h user call z. tt) m h)
+cut_any K x at_rest h = tt
+cut_any K x in_boot h = tt
+
+has_cut : (K : Node → Key → Type 0) (o : Option Fall) (fall : Fall) → o ≡ Some fall → HasCut K o → IsCutOf K fall
+has_cut K None fall e h = absurd cc
+has_cut K (Some f) fall e h = subst (IsCutOf K) (some_of f fall e) h
+
+pub started_uncalled : (c : Cell) (past : List Entry) (i : ℕ) (after : Bool) (fall : Fall) → Known c past → (c.hosts i).down ≡ Some fall → Each IsUncalled (start_row (Server i) c.clock c.count (begun_by_disk (Server i) (c.hosts i).state after fall)).sent
+started_uncalled c past i after fall K down =
+    let x : ServerState = (c.hosts i).state in
+    uncalled _ (starts_step any_told any_told i x c.clock c.count (begun_by_disk (Server i) x after fall)
+    (disk_begins any_told any_told (Server i) x after fall (any_sound c past i K) (any_held c past i K) (cut_any (IsKnown K.keys.callees c.clients) x fall (has_cut (IsKnown K.keys.callees c.clients) (c.hosts i).down fall down (K.keys.falls i))) (λ h to. tt))).sent

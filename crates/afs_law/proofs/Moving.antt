@@ -1,0 +1,150 @@
+-- A walk over the runs of a cell, however many servers it has: a fact that every kind of step keeps holds after every entry.
+use Rattle.afs_law.specs.Once.{past_of}
+use Rattle.afs_history.specs.declared.acts.Act.{Act}
+use Rattle.afs_history.specs.declared.lines.Line.TheVariants as lines
+use Rattle.afs_num.specs.declared.messages.Message.{Message}
+use Rattle.afs_num.specs.declared.messages.Received.TheVariants.{Whole}
+use Rattle.afs_num.specs.declared.types.Node.{Node}
+use Rattle.afs_num.specs.declared.types.Node.TheVariants.{Admin, Client, Loc, Server}
+use Rattle.afs_rows.specs.ClientRow.{begin_row, client_row, timeout_row}
+use Rattle.afs_rows.specs.Going.{Going}
+use Rattle.afs_rows.specs.Runs.{Armed, Blow, Cell, Entry, Fall, Input, Leads, Luck, Moved, Outcome, at_rest, back_timed, begins, begun_by, begun_by_disk, blow_line, client_falls, client_moves, client_rises, client_starts, client_stops, comes_up, decided_at, fails_early, fails_midway, given_at, given_to, gives, has_host, in_boot, in_step, is_away, is_full, message_at, moved, nothing, server_armed, server_ends, server_falls, server_given, server_moves, server_restarted, server_rises, server_served, server_set, server_stays, server_stopped, server_timed, server_waits, server_wakes, sets_fail, sets_stop, settled, starts_again, stops, struck, ticked, ticks, voided, waited_by, waits, wakes}
+use Rattle.afs_rows.specs.ServerRow.{device_calls}
+use Rattle.afs_rows.specs.ServerSteps.{back_timeout_row, server_row, wake_row}
+use Rattle.afs_rows.specs.States.{BackCall}
+use Rattle.std.proofs.Common.{zero, suc, ◌≡◌, ℕ, Bool, true, false, cond, List, [], ◌∷◌, ◌++◌, Option, Some, None, refl, sym, subst}
+
+-- ---- every kind of step
+
+-- where Q holds before a step, M holds of it
+pub record EachMove (Q : Cell → List Entry → Type 0) (M : Cell → List Entry → Moved → Type 0) : Type 0 where
+  pub void : (c : Cell) (past : List Entry) → Q c past → M c past (voided c)
+  pub ticked : (c : Cell) (past : List Entry) (n : ℕ) → Q c past → M c past (ticked c (suc n))
+  -- of a client: an act begins, a message is given, a call is timed out, it stops, it begins again
+  pub begun : (c : Cell) (past : List Entry) (n : ℕ) (act : Act) → Q c past → (c.clients n).running ≡ None → M c past (client_moves c n (begin_row (Client n) (c.clients n) c.clock act))
+  pub told : (c : Cell) (past : List Entry) (n place : ℕ) (m : Message) → Q c past → message_at c.sent place ≡ Some m → m.head.to ≡ Client n → M c past (client_moves c n (client_row (Client n) (c.clients n) c.clock place (Whole m)))
+  pub waited : (c : Cell) (past : List Entry) (n : ℕ) (act : Going) → Q c past → (c.clients n).running ≡ Some act → M c past (client_moves c n (timeout_row (Client n) (c.clients n) act))
+  pub fallen : (c : Cell) (past : List Entry) (n : ℕ) → Q c past → M c past (client_falls c n)
+  pub risen : (c : Cell) (past : List Entry) (n : ℕ) → Q c past → M c past (client_rises c n)
+  -- of a server that is up: it serves a message or is cut short in that, it stops, its disk is set, a call of its own is timed out, time passes
+  pub served : (c : Cell) (past : List Entry) (i place : ℕ) (m : Message) (armed : Armed) → Q c past → (c.hosts i).down ≡ None → message_at c.sent place ≡ Some m → m.head.to ≡ Server i → M c past (server_moves c i armed (server_row (Server i) (c.hosts i).state c.clock place (Whole m)))
+  pub cut : (c : Cell) (past : List Entry) (i place : ℕ) (m : Message) (t : Bool) → Q c past → (c.hosts i).down ≡ None → message_at c.sent place ≡ Some m → m.head.to ≡ Server i → M c past (server_falls c i (lines.Given place ∷ blow_line i t ∷ []) (in_step m c.clock))
+  pub stopped : (c : Cell) (past : List Entry) (i : ℕ) → Q c past → (c.hosts i).down ≡ None → M c past (server_falls c i (lines.Crash (Server i) ∷ []) at_rest)
+  pub stop_set : (c : Cell) (past : List Entry) (i calls pick : ℕ) (armed : Armed) → Q c past → (c.hosts i).down ≡ None → M c past (server_set c i (lines.Stop (Server i) calls pick) armed)
+  pub fail_set : (c : Cell) (past : List Entry) (i call : ℕ) (armed : Armed) → Q c past → (c.hosts i).down ≡ None → M c past (server_set c i (lines.Fail (Server i) call) armed)
+  pub timed : (c : Cell) (past : List Entry) (i : ℕ) (n : Node) (b : BackCall) (armed : Armed) → Q c past → (c.hosts i).down ≡ None → (c.hosts i).state.backs.calls n ≡ Some b → M c past (server_moves c i armed (back_timeout_row (Server i) (c.hosts i).state c.clock n b))
+  pub woken : (c : Cell) (past : List Entry) (i : ℕ) (armed : Armed) → Q c past → (c.hosts i).down ≡ None → M c past (server_moves c i armed (wake_row (Server i) (c.hosts i).state c.clock))
+  -- of one that is down: it comes up, its disk fails before or while its boot record is written, or that doesn't fit
+  pub started : (c : Cell) (past : List Entry) (i : ℕ) (after : Bool) (fall : Fall) → Q c past → (c.hosts i).down ≡ Some fall → M c past (server_rises c i (begun_by_disk (Server i) (c.hosts i).state after fall))
+  pub early : (c : Cell) (past : List Entry) (i : ℕ) (fall : Fall) → Q c past → (c.hosts i).down ≡ Some fall → M c past (server_falls c i (lines.Fault (Server i) ∷ []) fall)
+  pub midway : (c : Cell) (past : List Entry) (i : ℕ) (after : Bool) (fall : Fall) → Q c past → (c.hosts i).down ≡ Some fall → M c past (server_stays c i (begun_by_disk (Server i) (c.hosts i).state after fall) (lines.Fault (Server i)) in_boot)
+  pub full : (c : Cell) (past : List Entry) (i : ℕ) (after : Bool) (fall : Fall) → Q c past → (c.hosts i).down ≡ Some fall → M c past (server_stays c i (begun_by_disk (Server i) (c.hosts i).state after fall) (lines.Full (Server i)) at_rest)
+
+-- ---- every input
+
+either : (Q : Cell → List Entry → Type 0) (M : Cell → List Entry → Moved → Type 0) (c : Cell) (past : List Entry) (t : Bool) (m k : Moved) → M c past m → M c past k → M c past (cond t m k)
+either Q M c past true m k a b = a
+either Q M c past false m k a b = b
+
+served_by : (Q : Cell → List Entry → Type 0) (M : Cell → List Entry → Moved → Type 0) (E : EachMove Q M) (c : Cell) (past : List Entry) (i place : ℕ) (m : Message) (b : Option Blow) → Q c past → (c.hosts i).down ≡ None → message_at c.sent place ≡ Some m → m.head.to ≡ Server i → M c past (server_served c i place m b)
+served_by Q M E c past i place m None h up at to = E.served c past i place m _ h up at to
+served_by Q M E c past i place m (Some b) h up at to = E.cut c past i place m b.stops h up at to
+
+received_by : (Q : Cell → List Entry → Type 0) (M : Cell → List Entry → Moved → Type 0) (E : EachMove Q M) (c : Cell) (past : List Entry) (i place : ℕ) (luck : Luck) (m : Message) (d : Option Fall) → Q c past → (c.hosts i).down ≡ d → message_at c.sent place ≡ Some m → m.head.to ≡ Server i → M c past (server_given c i place luck m d)
+received_by Q M E c past i place luck m None h up at to = served_by Q M E c past i place m (struck (c.hosts i).armed luck (device_calls (decided_at c i m))) h up at to
+received_by Q M E c past i place luck m (Some fall) h up at to = E.void c past h
+
+to_by : (Q : Cell → List Entry → Type 0) (M : Cell → List Entry → Moved → Type 0) (E : EachMove Q M) (c : Cell) (past : List Entry) (place : ℕ) (luck : Luck) (m : Message) (to : Node) → Q c past → message_at c.sent place ≡ Some m → m.head.to ≡ to → M c past (given_to c place luck m to)
+to_by Q M E c past place luck m (Server i) h at to = either Q M c past (has_host c i) _ _ (received_by Q M E c past i place luck m (c.hosts i).down h refl at to) (E.void c past h)
+to_by Q M E c past place luck m (Client n) h at to = either Q M c past (is_away c n) _ _ (E.void c past h) (E.told c past n place m h at to)
+to_by Q M E c past place luck m Loc h at to = E.void c past h
+to_by Q M E c past place luck m (Admin n) h at to = E.void c past h
+
+at_by : (Q : Cell → List Entry → Type 0) (M : Cell → List Entry → Moved → Type 0) (E : EachMove Q M) (c : Cell) (past : List Entry) (place : ℕ) (luck : Luck) (m : Option Message) → Q c past → message_at c.sent place ≡ m → M c past (given_at c place luck m)
+at_by Q M E c past place luck None h at = E.void c past h
+at_by Q M E c past place luck (Some m) h at = to_by Q M E c past place luck m m.head.to h at refl
+
+begun_by' : (Q : Cell → List Entry → Type 0) (M : Cell → List Entry → Moved → Type 0) (E : EachMove Q M) (c : Cell) (past : List Entry) (n : ℕ) (act : Act) (g : Option Going) → Q c past → (c.clients n).running ≡ g → M c past (begun_by c n act g)
+begun_by' Q M E c past n act None h e = E.begun c past n act h e
+begun_by' Q M E c past n act (Some g) h e = E.void c past h
+
+waited_by' : (Q : Cell → List Entry → Type 0) (M : Cell → List Entry → Moved → Type 0) (E : EachMove Q M) (c : Cell) (past : List Entry) (n : ℕ) (g : Option Going) → Q c past → (c.clients n).running ≡ g → M c past (waited_by c n g)
+waited_by' Q M E c past n None h e = E.void c past h
+waited_by' Q M E c past n (Some act) h e = E.waited c past n act h e
+
+stopped_by : (Q : Cell → List Entry → Type 0) (M : Cell → List Entry → Moved → Type 0) (E : EachMove Q M) (c : Cell) (past : List Entry) (i : ℕ) (d : Option Fall) → Q c past → (c.hosts i).down ≡ d → M c past (server_stopped c i d)
+stopped_by Q M E c past i None h e = E.stopped c past i h e
+stopped_by Q M E c past i (Some fall) h e = E.void c past h
+
+ends_by : (Q : Cell → List Entry → Type 0) (M : Cell → List Entry → Moved → Type 0) (E : EachMove Q M) (c : Cell) (past : List Entry) (i : ℕ) (after : Bool) (fall : Fall) (out : Outcome) → Q c past → (c.hosts i).down ≡ Some fall → M c past (server_ends c i (begun_by_disk (Server i) (c.hosts i).state after fall) fall out)
+ends_by Q M E c past i after fall comes_up h e = E.started c past i after fall h e
+ends_by Q M E c past i after fall fails_early h e = E.early c past i fall h e
+ends_by Q M E c past i after fall fails_midway h e = E.midway c past i after fall h e
+ends_by Q M E c past i after fall is_full h e = E.full c past i after fall h e
+
+restarted_by : (Q : Cell → List Entry → Type 0) (M : Cell → List Entry → Moved → Type 0) (E : EachMove Q M) (c : Cell) (past : List Entry) (i : ℕ) (after : Bool) (out : Outcome) (d : Option Fall) → Q c past → (c.hosts i).down ≡ d → M c past (server_restarted c i after out d)
+restarted_by Q M E c past i after out None h e = E.void c past h
+restarted_by Q M E c past i after out (Some fall) h e = ends_by Q M E c past i after fall (settled (begun_by_disk (Server i) (c.hosts i).state after fall).state out) h e
+
+stop_by : (Q : Cell → List Entry → Type 0) (M : Cell → List Entry → Moved → Type 0) (E : EachMove Q M) (c : Cell) (past : List Entry) (i calls pick : ℕ) (armed : Armed) (d : Option Fall) → Q c past → (c.hosts i).down ≡ d → M c past (server_armed c i (lines.Stop (Server i) calls pick) armed d)
+stop_by Q M E c past i calls pick armed None h e = E.stop_set c past i calls pick armed h e
+stop_by Q M E c past i calls pick armed (Some fall) h e = E.void c past h
+
+fail_by : (Q : Cell → List Entry → Type 0) (M : Cell → List Entry → Moved → Type 0) (E : EachMove Q M) (c : Cell) (past : List Entry) (i call : ℕ) (armed : Armed) (d : Option Fall) → Q c past → (c.hosts i).down ≡ d → M c past (server_armed c i (lines.Fail (Server i) call) armed d)
+fail_by Q M E c past i call armed None h e = E.fail_set c past i call armed h e
+fail_by Q M E c past i call armed (Some fall) h e = E.void c past h
+
+back_by : (Q : Cell → List Entry → Type 0) (M : Cell → List Entry → Moved → Type 0) (E : EachMove Q M) (c : Cell) (past : List Entry) (i : ℕ) (n : Node) (b : Option BackCall) → Q c past → (c.hosts i).down ≡ None → (c.hosts i).state.backs.calls n ≡ b → M c past (back_timed c i n b)
+back_by Q M E c past i n None h up at = E.void c past h
+back_by Q M E c past i n (Some b) h up at = E.timed c past i n b _ h up at
+
+timed_by : (Q : Cell → List Entry → Type 0) (M : Cell → List Entry → Moved → Type 0) (E : EachMove Q M) (c : Cell) (past : List Entry) (i : ℕ) (n : Node) (d : Option Fall) → Q c past → (c.hosts i).down ≡ d → M c past (server_timed c i n d)
+timed_by Q M E c past i n None h up = back_by Q M E c past i n ((c.hosts i).state.backs.calls n) h up refl
+timed_by Q M E c past i n (Some fall) h up = E.void c past h
+
+woken_by : (Q : Cell → List Entry → Type 0) (M : Cell → List Entry → Moved → Type 0) (E : EachMove Q M) (c : Cell) (past : List Entry) (i : ℕ) (d : Option Fall) → Q c past → (c.hosts i).down ≡ d → M c past (server_wakes c i d)
+woken_by Q M E c past i None h up = E.woken c past i _ h up
+woken_by Q M E c past i (Some fall) h up = E.void c past h
+
+pub each_moved : (Q : Cell → List Entry → Type 0) (M : Cell → List Entry → Moved → Type 0) (E : EachMove Q M) (c : Cell) (past : List Entry) (x : Input) → Q c past → M c past (moved c x)
+unfolding moved
+each_moved Q M E c past (begins n act) h = either Q M c past (is_away c n) _ _ (E.void c past h) (begun_by' Q M E c past n act (c.clients n).running h refl)
+each_moved Q M E c past (gives place luck) h = at_by Q M E c past place luck (message_at c.sent place) h refl
+each_moved Q M E c past (waits n) h = either Q M c past (is_away c n) _ _ (E.void c past h) (waited_by' Q M E c past n (c.clients n).running h refl)
+each_moved Q M E c past (ticks zero) h = E.void c past h
+each_moved Q M E c past (ticks (suc n)) h = E.ticked c past n h
+each_moved Q M E c past (client_stops n) h = either Q M c past (is_away c n) _ _ (E.void c past h) (E.fallen c past n h)
+each_moved Q M E c past (client_starts n) h = either Q M c past (c.away n) _ _ (E.risen c past n h) (E.void c past h)
+each_moved Q M E c past (stops i) h = either Q M c past (has_host c i) _ _ (stopped_by Q M E c past i (c.hosts i).down h refl) (E.void c past h)
+each_moved Q M E c past (starts_again i after out) h = either Q M c past (has_host c i) _ _ (restarted_by Q M E c past i after out (c.hosts i).down h refl) (E.void c past h)
+each_moved Q M E c past (sets_stop i calls pick) h = either Q M c past (has_host c i) _ _ (stop_by Q M E c past i calls pick _ (c.hosts i).down h refl) (E.void c past h)
+each_moved Q M E c past (sets_fail i call) h = either Q M c past (has_host c i) _ _ (fail_by Q M E c past i call _ (c.hosts i).down h refl) (E.void c past h)
+each_moved Q M E c past (server_waits i n) h = either Q M c past (has_host c i) _ _ (timed_by Q M E c past i n (c.hosts i).down h refl) (E.void c past h)
+each_moved Q M E c past (wakes i) h = either Q M c past (has_host c i) _ _ (woken_by Q M E c past i (c.hosts i).down h refl) (E.void c past h)
+each_moved Q M E c past nothing h = E.void c past h
+
+-- ---- a run
+
+-- it holds behind the step
+abbrev pub Behind : (Cell → List Entry → Type 0) → Cell → List Entry → Moved → Type 0
+Behind P c past m = P m.cell (m.entry ∷ past)
+
+-- every step keeps it
+abbrev pub IsKept : (Cell → List Entry → Type 0) → Type 0
+IsKept P = (c : Cell) (past : List Entry) (x : Input) → P c past → Behind P c past (moved c x)
+
+pub run_keeps : (P : Cell → List Entry → Type 0) → IsKept P → (xs : List Input) (c : Cell) (past es : List Entry) (end : Cell) → P c past → Leads c xs es end → P end (past_of past es)
+run_keeps P w [] c past [] end h r = subst (λ (x : Cell). P x past) (sym r) h
+run_keeps P w [] c past (e ∷ es) end h r = absurd r
+run_keeps P w (x ∷ xs) c past [] end h r = absurd r
+run_keeps P w (x ∷ xs) c past (e ∷ es) end h r =
+    subst (λ (y : Entry). P end (past_of (y ∷ past) es)) (sym r.0) (run_keeps P w xs (moved c x).cell ((moved c x).entry ∷ past) es end (w c past x h) r.1)
+
+-- and of each of its entries what every step gives
+pub run_gives : (P : Cell → List Entry → Type 0) (G : List Entry → Entry → Type 0) → IsKept P → ((c : Cell) (past : List Entry) (x : Input) → P c past → G past (moved c x).entry) → (xs : List Input) (c : Cell) (past before : List Entry) (e : Entry) (after : List Entry) (end : Cell) → P c past → Leads c xs (before ++ (e ∷ after)) end
+    → G (past_of past before) e
+run_gives P G w g [] c past [] e after end h r = absurd r
+run_gives P G w g [] c past (b ∷ before) e after end h r = absurd r
+run_gives P G w g (x ∷ xs) c past [] e after end h r = subst (G past) (sym r.0) (g c past x h)
+run_gives P G w g (x ∷ xs) c past (b ∷ before) e after end h r =
+    subst (λ (y : Entry). G (past_of (y ∷ past) before) e) (sym r.0) (run_gives P G w g xs (moved c x).cell ((moved c x).entry ∷ past) before e after end (w c past x h) r.1)

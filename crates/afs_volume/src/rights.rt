@@ -1,0 +1,117 @@
+//! Rights on vnodes. An access list is read once, for a caller and for everyone.
+
+ghost use Rattle.std.specs.Prelude.{◌≡◌, IfOk};
+ghost use Rattle.std.specs.Option.{option_copied, option_map};
+ghost use Rattle.afs_ideal.specs.AccessLists.{anyuser, no_acl, rights_of};
+ghost use Rattle.afs_ideal.specs.Operations.{acl_of, list_for, may, rights_by};
+ghost use Rattle.afs_ideal.specs.Volumes.{has_bit};
+ghost use Rattle.afs_volume.specs.Giving.{caller_seen, volume_of};
+ghost use Rattle.afs_volume.specs.Seen.{seen, list_spelled};
+
+use crate::Volume;
+use crate::callers::Caller;
+use crate::finding::is_directory;
+use afs_acl::acl::Acl;
+use afs_acl::faults::AclFault;
+use afs_num::types::Mem;
+use afs_num::vnodes::Vnode;
+use std::alloc::{AllocError, Global};
+
+/// The rights that a caller has, and those that everyone has.
+#[derive(Clone, Copy)]
+pub struct Rights {
+    pub caller: u32,
+    pub anonymous: u32,
+}
+
+impl Rights {
+    /// The caller has this right.
+    pub fn has(&self, right: u32) -> bool
+        ensures { result ≡ has_bit right self.now.caller }
+    {
+        self.caller & right != 0
+    }
+}
+
+/// The rights by an access list.
+fn rights_by(caller: &Caller, acl: &Acl) -> Rights
+    ensures caller { result.caller ≡ rights_by (caller_seen caller.now) acl.now }
+    ensures anonymous { result.anonymous ≡ rights_of anyuser acl.now }
+{
+    let anonymous = acl.rights(b"system:anyuser");
+    match caller {
+        Caller::AllRights => Rights {
+            caller: 127,
+            anonymous,
+        },
+        Caller::User(user) => Rights {
+            caller: acl.rights(user),
+            anonymous,
+        },
+    }
+}
+
+/// The rights where there is no access list: none, but for those of a caller with all rights.
+#[tactic(auto, unfolding(afs_ideal::specs::AccessLists::rights_of))]
+fn rights_without(caller: &Caller) -> Rights
+    ensures caller { result.caller ≡ rights_by (caller_seen caller.now) no_acl }
+    ensures anonymous { result.anonymous ≡ rights_of anyuser no_acl }
+{
+    let caller = match caller {
+        Caller::AllRights => 127,
+        Caller::User(_) => 0,
+    };
+    Rights {
+        caller,
+        anonymous: 0,
+    }
+}
+
+/// The rights by the access list of this text; a text that is no list gives none.
+#[tactic(auto, unfolding(crate::specs::Seen::list_spelled))]
+fn rights_spelled(alloc: Global, caller: &Caller, text: &[u8]) -> Mem<Rights>
+    ensures caller { IfOk result (λ r. r.caller ≡ rights_by (caller_seen caller.now) (list_spelled text.now)) }
+    ensures anonymous { IfOk result (λ r. r.anonymous ≡ rights_of anyuser (list_spelled text.now)) }
+{
+    match Acl::parse(alloc, text) {
+        Ok(acl) => Ok(rights_by(caller, &acl)),
+        Err(AclFault::OutOfMemory) => Err(AllocError),
+        Err(_) => Ok(rights_without(caller)),
+    }
+}
+
+/// The rights by the list of this directory.
+#[tactic(auto, unfolding(crate::specs::Seen::seen))]
+pub fn rights_in(alloc: Global, caller: &Caller, holder: Option<&Vnode>) -> Mem<Rights>
+    ensures caller { IfOk result (λ r. r.caller ≡ rights_by (caller_seen caller.now) (acl_of (option_map seen (option_copied holder.entry)))) }
+    ensures anonymous { IfOk result (λ r. r.anonymous ≡ rights_of anyuser (acl_of (option_map seen (option_copied holder.entry)))) }
+{
+    match holder {
+        Some(x) if is_directory(x) => rights_spelled(alloc, caller, x.acl.as_slice()),
+        _ => Ok(rights_without(caller)),
+    }
+}
+
+impl Volume {
+    /// The rights on a vnode: those on a directory by its own access list, on others by that of their parent.
+    #[tactic(auto, unfolding(crate::specs::Seen::seen))]
+    pub(crate) fn rights(&self, caller: &Caller, x: &Vnode) -> Mem<Rights>
+        ensures caller { IfOk result (λ r. r.caller ≡ rights_by (caller_seen caller.now) (list_for (seen x.now).kind (seen x.now) (volume_of self.now))) }
+        ensures anonymous { IfOk result (λ r. r.anonymous ≡ rights_of anyuser (list_for (seen x.now).kind (seen x.now) (volume_of self.now))) }
+    {
+        let holder = if is_directory(x) {
+            Some(x)
+        } else {
+            self.get(x.parent_vnode)
+        };
+        rights_in(self.alloc, caller, holder)
+    }
+
+    /// Whether a caller has a right on a vnode.
+    pub(crate) fn may(&self, caller: &Caller, right: u32, x: &Vnode) -> Mem<bool>
+        ensures { IfOk result (λ b. b ≡ may (caller_seen caller.now) right (volume_of self.now) (Some (seen x.now))) }
+    {
+        let rights = self.rights(caller, x)?;
+        Ok(rights.has(right))
+    }
+}
