@@ -53,13 +53,23 @@ fn attach(
     VolStore::attach(alloc, disk, Node::Server(1), told).ok()
 }
 
+/// A server of two clients begins over a store.
+fn rise(alloc: Global, store: &mut VolStore<Fuse<MemDisk>>) -> Option<(FileServer, Outs)>
+    requires up { store.old.closed ≡ false }
+    requires drawn { store.old.drawn ≡ 0 }
+    requires node { IsNode store.old.node }
+    ensures { IfSome result (λ r. GoesOn r.0 store.new 0) }
+{
+    store.boot().ok()?;
+    FileServer::restart(alloc, store, 2, 0).ok()
+}
+
 /// A server of two clients begins over a disk of which this mark was told.
 pub(crate) fn begun(alloc: Global, disk: MemDisk, told: Mark) -> Option<Running>
     ensures { IfSome result (λ r. GoesOn r.server r.store r.steps) }
 {
     let (mut store, _) = attach(alloc, Fuse::new(disk), told)?;
-    store.boot().ok()?;
-    let (server, outs) = FileServer::restart(alloc, &mut store, 2, 0).ok()?;
+    let (server, outs) = rise(alloc, &mut store)?;
     Some(Running {
         server,
         store,
@@ -82,34 +92,23 @@ fn hears(
     server.handle(store, bytes, 0)
 }
 
-/// The server goes on behind a message.
-fn handled(running: Running, bytes: &[u8]) -> Option<Running>
-    requires { GoesOn running.server running.store running.steps }
-    ensures { IfSome result (λ r. GoesOn r.server r.store r.steps) }
+/// The server is given this message.
+pub(crate) fn give(alloc: Global, running: &mut Running, message: Message) -> Option<()>
+    requires { GoesOn running.old.server running.old.store running.old.steps }
+    ensures { IfSome result (λ _. GoesOn running.new.server running.new.store running.new.steps) }
 {
     if running.steps >= MOST_STEPS {
         return None;
     }
-    let Running {
-        mut server,
-        mut store,
-        outs: _,
-        steps,
-    } = running;
-    let outs = hears(&mut server, &mut store, bytes, steps).ok()?;
-    Some(Running {
-        server,
-        store,
-        outs,
-        steps: steps + 1,
-    })
-}
-
-/// The server is given this message.
-pub(crate) fn give(alloc: Global, running: Running, message: Message) -> Option<Running>
-    requires { GoesOn running.server running.store running.steps }
-    ensures { IfSome result (λ r. GoesOn r.server r.store r.steps) }
-{
     let bytes = bytes_of(alloc, message).ok()?;
-    handled(running, bytes.as_slice())
+    let steps = running.steps;
+    running.outs = hears(
+        &mut running.server,
+        &mut running.store,
+        bytes.as_slice(),
+        steps,
+    )
+    .ok()?;
+    running.steps = steps + 1;
+    Some(())
 }

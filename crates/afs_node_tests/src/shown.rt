@@ -1,6 +1,6 @@
 //! What a server that is played tells and sends, as text.
 
-ghost use Rattle.std.specs.Prelude.{IfOk, IfSome};
+ghost use Rattle.std.specs.Prelude.{IfSome};
 ghost use Rattle.afs_node_tests.specs.Playing.{GoesOn};
 
 use crate::playing::{Running, begun, give, medium};
@@ -49,50 +49,49 @@ fn put_step(out: &mut String, running: &Running) -> Mem<()> {
     Ok(())
 }
 
-fn put_played(out: &mut String, played: &Option<Running>) -> Mem<()> {
-    match played {
-        Some(running) => put_step(out, running),
-        None => out.push_str("failed\n"),
-    }
-}
-
 /// A server begins over the disk at set-up.
-fn started(alloc: Global) -> Mem<Option<Running>>
-    ensures { IfOk result (λ o. IfSome o (λ r. GoesOn r.server r.store r.steps)) }
+fn started(alloc: Global) -> Option<Running>
+    ensures { IfSome result (λ r. GoesOn r.server r.store r.steps) }
 {
-    let bytes = disk(alloc)?;
+    let bytes = disk(alloc).ok()?;
     let told = Mark {
         generation: 0,
         records: 1,
     };
-    match medium(alloc, bytes.as_slice(), ROOM) {
-        Some(disk) => Ok(begun(alloc, disk, told)),
-        None => Ok(None),
-    }
+    let disk = medium(alloc, bytes.as_slice(), ROOM)?;
+    begun(alloc, disk, told)
 }
 
-fn next(alloc: Global, played: Option<Running>, message: Message) -> Option<Running>
-    requires { IfSome played (λ r. GoesOn r.server r.store r.steps) }
-    ensures { IfSome result (λ r. GoesOn r.server r.store r.steps) }
+/// The server is given this message, and what it does is told.
+fn put_given(alloc: Global, out: &mut String, running: &mut Running, message: Message) -> Option<()>
+    requires { GoesOn running.old.server running.old.store running.old.steps }
+    ensures { IfSome result (λ _. GoesOn running.new.server running.new.store running.new.steps) }
 {
-    give(alloc, played?, message)
+    give(alloc, running, message)?;
+    put_step(out, running).ok()
 }
 
-/// Both clients answer that all promises are broken.
-fn settled(alloc: Global) -> Mem<Option<Running>>
-    ensures { IfOk result (λ o. IfSome o (λ r. GoesOn r.server r.store r.steps)) }
+/// Both clients answer that all promises are broken; then the server is given this message, and client 1's good call.
+fn put_calls(alloc: Global, out: &mut String, running: &mut Running, message: Message) -> Option<()>
+    requires { GoesOn running.old.server running.old.store running.old.steps }
 {
-    let begun = started(alloc)?;
-    let once = next(alloc, begun, Message::SettledByOne);
-    Ok(next(alloc, once, Message::SettledByTwo))
+    give(alloc, running, Message::SettledByOne)?;
+    give(alloc, running, Message::SettledByTwo)?;
+    put_given(alloc, out, running, message)?;
+    put_given(alloc, out, running, Message::Fetch)
+}
+
+fn put_told(alloc: Global, out: &mut String, message: Message) -> Option<()> {
+    let mut running = started(alloc)?;
+    put_calls(alloc, out, &mut running, message)
 }
 
 /// What a server does with this message, and with client 1's good call behind it.
 pub(crate) fn told_behind(alloc: Global, message: Message) -> Mem<String> {
     let mut out = String::new(alloc);
-    let heard = next(alloc, settled(alloc)?, message);
-    put_played(&mut out, &heard)?;
-    let called = next(alloc, heard, Message::Fetch);
-    put_played(&mut out, &called)?;
+    match put_told(alloc, &mut out, message) {
+        Some(()) => (),
+        None => out.push_str("failed\n")?,
+    }
     Ok(out)
 }
