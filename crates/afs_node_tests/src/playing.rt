@@ -1,0 +1,114 @@
+//! A file server that is played over a disk in memory.
+
+ghost use Rattle.std.specs.Prelude.{◌≡◌, ◌<◌, ◌+◌, false, IfOk, IfSome};
+ghost use Rattle.afs_num.specs.Nodes.{IsNode};
+ghost use Rattle.afs_node_tests.specs.Playing.{GoesOn};
+
+use crate::vectors::{Message, bytes_of};
+use afs_disk::{Disk, Fuse, MemDisk};
+use afs_history::lines::{Lines, Outs};
+use afs_num::records::Mark;
+use afs_num::sequences::Octets;
+use afs_num::types::Node;
+use afs_server::FileServer;
+use afs_server::faults::NodeFault;
+use afs_volstore::VolStore;
+use std::alloc::Global;
+
+/// So many messages are given at most.
+const MOST_STEPS: u32 = 1000;
+
+/// A server that is up, with what it told and sent in its last step, and how many steps it has made since it began.
+#[derive(Drop)]
+pub(crate) struct Running {
+    pub(crate) server: FileServer,
+    pub(crate) store: VolStore<Fuse<MemDisk>>,
+    pub(crate) outs: Outs,
+    pub(crate) steps: u32,
+}
+
+/// A disk in memory of this capacity, with these bytes.
+pub(crate) fn medium(alloc: Global, bytes: &[u8], capacity: u64) -> Option<MemDisk> {
+    let mut disk = MemDisk::new(alloc, capacity, Octets::new(alloc));
+    let length = bytes.len() as u64;
+    disk.room(length, length).ok()?;
+    disk.write_at(0, bytes).ok()?;
+    disk.sync().ok()?;
+    Some(disk)
+}
+
+/// A store over a disk, of which this mark was told, and the lines that its last record tells.
+fn attach(
+    alloc: Global,
+    disk: Fuse<MemDisk>,
+    told: Mark,
+) -> Option<(VolStore<Fuse<MemDisk>>, Lines)>
+    ensures up { IfSome result (λ r. r.0.closed ≡ false) }
+    ensures drawn { IfSome result (λ r. r.0.drawn ≡ 0) }
+    ensures node { IfSome result (λ r. IsNode r.0.node) }
+{
+    if disk.capacity() > 268_435_456 {
+        return None;
+    }
+    VolStore::attach(alloc, disk, Node::Server(1), told).ok()
+}
+
+/// A server of two clients begins over a store.
+fn rise(alloc: Global, store: &mut VolStore<Fuse<MemDisk>>) -> Option<(FileServer, Outs)>
+    requires up { store.old.closed ≡ false }
+    requires drawn { store.old.drawn ≡ 0 }
+    requires node { IsNode store.old.node }
+    ensures { IfSome result (λ r. GoesOn r.0 store.new 0) }
+{
+    store.boot().ok()?;
+    FileServer::restart(alloc, store, 2, 0).ok()
+}
+
+/// A server of two clients begins over a disk of which this mark was told.
+pub(crate) fn begun(alloc: Global, disk: MemDisk, told: Mark) -> Option<Running>
+    ensures { IfSome result (λ r. GoesOn r.server r.store r.steps) }
+{
+    let (mut store, _) = attach(alloc, Fuse::new(disk), told)?;
+    let (server, outs) = rise(alloc, &mut store)?;
+    Some(Running {
+        server,
+        store,
+        outs,
+        steps: 0,
+    })
+}
+
+/// What the server does with a message, after so many steps.
+fn hears(
+    server: &mut FileServer,
+    store: &mut VolStore<Fuse<MemDisk>>,
+    bytes: &[u8],
+    steps: u32,
+) -> Result<Outs, NodeFault>
+    requires on { GoesOn server.old store.old steps }
+    requires few { steps < 1000 }
+    ensures { IfOk result (λ _. GoesOn server.new store.new (steps + 1)) }
+{
+    server.handle(store, bytes, 0)
+}
+
+/// The server is given this message.
+pub(crate) fn give(alloc: Global, running: &mut Running, message: Message) -> Option<()>
+    requires { GoesOn running.old.server running.old.store running.old.steps }
+    ensures { IfSome result (λ _. GoesOn running.new.server running.new.store running.new.steps) }
+{
+    if running.steps >= MOST_STEPS {
+        return None;
+    }
+    let bytes = bytes_of(alloc, message).ok()?;
+    let steps = running.steps;
+    running.outs = hears(
+        &mut running.server,
+        &mut running.store,
+        bytes.as_slice(),
+        steps,
+    )
+    .ok()?;
+    running.steps = steps + 1;
+    Some(())
+}
