@@ -1,8 +1,8 @@
 use Rattle.afs_cell.proofs.NextSince.{all_since, fits_since, full_since, goes_since, kept_since, one_since, settled_since, ticks_since, unplayed_since, wants_since}
-use Rattle.afs_cell.proofs.playing.World.play_next.Goals as goal
+use Rattle.afs_cell.proofs.world.World.play_next.Goals as goal
 
-pub returns-in_default-schedule-clause-goes : goal.returns-in_default-schedule-clause-goes
-returns-in_default-schedule-clause-goes g c =
+pub returns-in_default-clause-goes : goal.returns-in_default-clause-goes
+returns-in_default-clause-goes g c =
     unplayed_since g.D.Disk.seen g.D.Disk.may_leave g.D.Disk.faults g.D.Disk.limit c.args.self.now c.args.schedule.now c.next.new.self c.sent.result c.sent.ensures.sent
 
 pub returns-in_default-next-clause-goes : goal.returns-in_default-next-clause-goes
