@@ -188,4 +188,5 @@ lets_go {D} places parts w same long measured sent counted es none old new gone 
           ∙ (ap₂ (λ (a b : ℕ). record parts { wire = left; history = []; gone = record { entries = entries; sent = a; messages = b } }) counted (go.gone ∙ ap (λ (n : ℕ). n + go.count) gone)
           ∙ ap (λ (n : ℕ). record parts { wire = left; history = []; gone = record { entries = parts.gone.entries + n; sent = parts.gone.messages + length parts.wire; messages = parts.gone.messages + go.count } }) measured));
       none_behind = one_behind places old.gone new.gone parts.gone.messages gone go.none_behind;
+      few_left = go.few_left;
     })
