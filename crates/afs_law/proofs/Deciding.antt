@@ -22,7 +22,7 @@ use Rattle.afs_law.proofs.Owing.{BackedIn, IsNumberIn, DoneIn, is_held, WaitedBy
 use Rattle.afs_law.proofs.Passing.{no_change, ran_over, kept_over, replies_over, waiting_over}
 use Rattle.afs_law.proofs.Pumping.{no_news, pumped_news, starts_held, news_break}
 use Rattle.afs_law.proofs.Resting.{fall_backed, Rests, fault_rests, full_rests, alone, rests, still, voids, unheard_still, fallen_still, server_crash_rests, cut_entry, cut_rests}
-use Rattle.afs_law.proofs.Saving.{changed_later, versions_lines, versioned_front, saves_clock, Way, rises_to, faults, fills, saved_lines, saved_sent, saved_entry, given_on, Change', change_at, stock_after, NewEntry, saves_change_good, saves_holds, versions_good, saves_boot, saves_goes, top_number, reply_saved}
+use Rattle.afs_law.proofs.Saving.{top_stopped, changed_later, versions_lines, versioned_front, saves_clock, Way, rises_to, faults, fills, saved_lines, saved_sent, saved_entry, given_on, Change', change_at, stock_after, NewEntry, saves_change_good, saves_holds, versions_good, saves_boot, saves_goes, top_number, reply_saved}
 use Rattle.afs_law.proofs.Serving.{shows_goes, answered_goes, noticed_goes, nothing_done, quiet, acts_alone, still_loads, given_plain, Loads, up_backed, seats_of, Gives, noted, Dull, at_told, client_head, Now, call_at, taken, seats_after, views_after, ran_now, served_cell, unheard_later, refuses_goes, server_adds, server_does, IsRead, answer_in, AllSeen, IsSeen, IsLook}
 use Rattle.afs_law.proofs.Turning.{Pumps, pumps, put_call, break_good, reply_key}
 use Rattle.afs_law.specs.Breaks.{HasStopped, last_number, AllOwes}
@@ -701,7 +701,7 @@ rises_as s c past fall h e =
     record {
       replies = pump.good;
       volumes = refl;
-      good = ((refl, rises_owed s c h), alls_good s (c.clock + promise_ticks) 0 c.count past _ (le_of_eq (down_number s c past fall h e)) (inl refl) (owed_few s c past h));
+      good = ((refl, rises_owed s c h), alls_good s (c.clock + promise_ticks) 0 c.count past _ (le_of_eq (down_number s c past fall h e)) (λ z. z) (inl refl) (owed_few s c past h));
       holds = revives s (Some b) _ (x ∷ past) (pumped the_server b t).backs (noted s (Some b) c past c.armed (Some at_rest) x c.server.backs h (sk.boot _ ∙ rises_at s c past fall b h e) (risen_rests s b t.lines (pumped the_server b t).sent past sk) (sk.clock _)
           (unheard_still (Some at_rest) c x past (sk.given (sent_of past)) (λ k i l. unheard_later c.down c.server.seats c.server.lasting.boot past h.unheard k i l)) tt (rising_gives _ b _ _ c c.server.backs.held) (λ z. absurd cc)) (λ fl z. nothing_held b c _ _) (λ z. pump.backed);
     }
@@ -795,7 +795,7 @@ saved_up s c past fall n h user call time id st es shown H e w q is_cut =
     record {
       replies = pump.good;
       volumes = refl;
-      good = after_good s c past n h user call id st.volume es shown (lines.Restart the_server x ∷ t.lines) H w q e refl is_cut (inl refl) ((refl, rises_owed s c H), alls_good s (c.clock + promise_ticks) 0 c.count past _ (le_of_eq (top_number vs (lines.Change the_server key (length vs) ∷ []) (lines_of past) ∙ down_number s c past fall H e)) (inl refl) (owed_few s c past H));
+      good = after_good s c past n h user call id st.volume es shown (lines.Restart the_server x ∷ t.lines) H w q e refl is_cut (inl refl) ((refl, rises_owed s c H), alls_good s (c.clock + promise_ticks) 0 c.count past _ (le_of_eq (top_number vs (lines.Change the_server key (length vs) ∷ []) (lines_of past) ∙ down_number s c past fall H e)) (λ z. top_stopped vs (lines.Change the_server key (length vs) ∷ []) z) (inl refl) (owed_few s c past H));
       holds = revives s (Some x) _ _ (pumped the_server x t).backs (after_holds y s (Some x) c past c.server.backs at_rest n h user call time id st es shown H w q is_cut given (λ u z b. tt) (saves_boot y key vs r past ∙ (sk.boot _ ∙ rises_at s c past fall x H e)) (λ own. rising_gives _ x _ _ c c.server.backs.held) (λ z. absurd cc)) (λ fl z. nothing_held x c _ _) (λ z. pump.backed);
     }
 

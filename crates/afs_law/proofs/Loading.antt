@@ -1,5 +1,5 @@
 -- What each step of the server makes of promises, breaks, calls and replies that wait.
-use Rattle.afs_law.specs.Grants.{IsWithdrawn}
+use Rattle.afs_law.specs.Grants.{IsChangedByOther}
 use Rattle.afs_law.proofs.Edits.{touches}
 use Rattle.afs_breaks.specs.declared.types.Promise.{Promise}
 use Rattle.afs_breaks.specs.Promises.{is_promise, with_promise, is_hit, owes_from, has_break, without_break}
@@ -264,16 +264,16 @@ ends_backed b boot seats cs clock sent e past n c p h at gone =
     (λ j seat m x y. seated_over None None b now boot clock clock e past s j m (h.seated j seat m x y)))
 
 -- the lines are good
-settles_by_good : (t : Bool) (s : Script) (n : Node) (o : Owed) (past : List Entry) (own : List Line) (xs : List Owed) → DroppedOwe n (lines_of past) o → ((own : List Line) → AreGood s (actors.Node the_server) past own (map (settle_line the_server n) xs)) → AreGood s (actors.Node the_server) past own (map (settle_line the_server n) (cond t (o ∷ xs) xs))
-settles_by_good true s n o past own xs d w = ((refl, record { what = o.what; owe = d.owe; dropped = d.dropped }), w (settle_line the_server n o ∷ own))
-settles_by_good false s n o past own xs d w = w own
+settles_by_good : (t : Bool) (s : Script) (n : Node) (o : Owed) (past : List Entry) (own : List Line) (xs : List Owed) → DroppedOwe n (lines_of past) o → (HasStopped the_server own → ⊥) → ((own : List Line) → (HasStopped the_server own → ⊥) → AreGood s (actors.Node the_server) past own (map (settle_line the_server n) xs)) → AreGood s (actors.Node the_server) past own (map (settle_line the_server n) (cond t (o ∷ xs) xs))
+settles_by_good true s n o past own xs d up w = ((refl, record { going = up; what = o.what; owe = d.owe; dropped = d.dropped }), w (settle_line the_server n o ∷ own) up)
+settles_by_good false s n o past own xs d up w = w own up
 
-settles_all : (s : Script) (n : Node) (past : List Entry) (os owed : List Owed) (own : List Line) → AllOf (DroppedOwe n (lines_of past)) os → AreGood s (actors.Node the_server) past own (map (settle_line the_server n) (filter (λ (o : Owed). has_break o.number owed) os))
-settles_all s n past [] owed own h = tt
-settles_all s n past (o ∷ os) owed own h = settles_by_good (has_break o.number owed) s n o past own (filter (λ (x : Owed). has_break x.number owed) os) h.0 (λ x. settles_all s n past os owed x h.1)
+settles_all : (s : Script) (n : Node) (past : List Entry) (os owed : List Owed) (own : List Line) → AllOf (DroppedOwe n (lines_of past)) os → (HasStopped the_server own → ⊥) → AreGood s (actors.Node the_server) past own (map (settle_line the_server n) (filter (λ (o : Owed). has_break o.number owed) os))
+settles_all s n past [] owed own h up = tt
+settles_all s n past (o ∷ os) owed own h up = settles_by_good (has_break o.number owed) s n o past own (filter (λ (x : Owed). has_break x.number owed) os) h.0 up (λ x still. settles_all s n past os owed x h.1 still)
 
-pub settles_good : (s : Script) (n : Node) (c : BackCall) (b : Backs) (past : List Entry) (own : List Line) → AllOf (DroppedOwe n (lines_of past)) c.breaks → AreGood s (actors.Node the_server) past own (map (settle_line the_server n) (still_owed c b))
-settles_good s n c b past own h = settles_all s n past c.breaks b.lists.owed own h
+pub settles_good : (s : Script) (n : Node) (c : BackCall) (b : Backs) (past : List Entry) (own : List Line) → AllOf (DroppedOwe n (lines_of past)) c.breaks → (HasStopped the_server own → ⊥) → AreGood s (actors.Node the_server) past own (map (settle_line the_server n) (still_owed c b))
+settles_good s n c b past own h up = settles_all s n past c.breaks b.lists.owed own h up
 
 -- a break that is given up
 record MayQuit (n : Node) (past : List Entry) (boot number most : ℕ) (call : FsCall) (o : Owed) : Type 0 where
@@ -284,8 +284,9 @@ pub two_all : {A : Type 0} → (P Q R : A → Type 0) → ((x : A) → P x → Q
 two_all P Q R w [] h k = tt
 two_all P Q R w (x ∷ xs) h k = (w x h.0 k.0, two_all P Q R w xs h.1 k.1)
 
-quit_good : (n : Node) (boot : ℕ) (c : BackCall) (o : Owed) (past : List Entry) (own : List Line) (last : ℕ) → CallOut n c last boot past → 2 ≤ c.tries → HasTimeout the_server n boot c.number 3 own → MayQuit n past boot c.number c.tries (breaks_call c.breaks) o → GoodQuit the_server n o.number past own
-quit_good n boot c o past own last out le third m = record {
+quit_good : (n : Node) (boot : ℕ) (c : BackCall) (o : Owed) (past : List Entry) (own : List Line) (last : ℕ) → CallOut n c last boot past → 2 ≤ c.tries → HasTimeout the_server n boot c.number 3 own → (HasStopped the_server own → ⊥) → MayQuit n past boot c.number c.tries (breaks_call c.breaks) o → GoodQuit the_server n o.number past own
+quit_good n boot c o past own last out le third up m = record {
+  going = up;
   what = o.what;
   owe = m.owe.owe;
   epoch = boot;
@@ -299,17 +300,17 @@ quit_good n boot c o past own last out le third m = record {
   carries = m.carries;
 }
 
-quits_by_good : (t : Bool) (s : Script) (n : Node) (boot last : ℕ) (c : BackCall) (o : Owed) (past : List Entry) (own : List Line) (xs : List Owed) → CallOut n c last boot past → 2 ≤ c.tries → HasTimeout the_server n boot c.number 3 own → MayQuit n past boot c.number c.tries (breaks_call c.breaks) o
-    → ((own : List Line) → HasTimeout the_server n boot c.number 3 own → AreGood s (actors.Node the_server) past own (map (quit_line the_server n) xs)) → AreGood s (actors.Node the_server) past own (map (quit_line the_server n) (cond t (o ∷ xs) xs))
-quits_by_good true s n boot last c o past own xs out le third m w = ((refl, quit_good n boot c o past own last out le third m), w (quit_line the_server n o ∷ own) third)
-quits_by_good false s n boot last c o past own xs out le third m w = w own third
+quits_by_good : (t : Bool) (s : Script) (n : Node) (boot last : ℕ) (c : BackCall) (o : Owed) (past : List Entry) (own : List Line) (xs : List Owed) → CallOut n c last boot past → 2 ≤ c.tries → HasTimeout the_server n boot c.number 3 own → (HasStopped the_server own → ⊥) → MayQuit n past boot c.number c.tries (breaks_call c.breaks) o
+    → ((own : List Line) → HasTimeout the_server n boot c.number 3 own → (HasStopped the_server own → ⊥) → AreGood s (actors.Node the_server) past own (map (quit_line the_server n) xs)) → AreGood s (actors.Node the_server) past own (map (quit_line the_server n) (cond t (o ∷ xs) xs))
+quits_by_good true s n boot last c o past own xs out le third up m w = ((refl, quit_good n boot c o past own last out le third up m), w (quit_line the_server n o ∷ own) third up)
+quits_by_good false s n boot last c o past own xs out le third up m w = w own third up
 
-quits_all : (s : Script) (n : Node) (boot last : ℕ) (c : BackCall) (past : List Entry) (os owed : List Owed) (own : List Line) → CallOut n c last boot past → 2 ≤ c.tries → HasTimeout the_server n boot c.number 3 own → AllOf (MayQuit n past boot c.number c.tries (breaks_call c.breaks)) os → AreGood s (actors.Node the_server) past own (map (quit_line the_server n) (filter (λ (o : Owed). has_break o.number owed) os))
-quits_all s n boot last c past [] owed own out le third h = tt
-quits_all s n boot last c past (o ∷ os) owed own out le third h = quits_by_good (has_break o.number owed) s n boot last c o past own (filter (λ (x : Owed). has_break x.number owed) os) out le third h.0 (λ x y. quits_all s n boot last c past os owed x out le y h.1)
+quits_all : (s : Script) (n : Node) (boot last : ℕ) (c : BackCall) (past : List Entry) (os owed : List Owed) (own : List Line) → CallOut n c last boot past → 2 ≤ c.tries → HasTimeout the_server n boot c.number 3 own → (HasStopped the_server own → ⊥) → AllOf (MayQuit n past boot c.number c.tries (breaks_call c.breaks)) os → AreGood s (actors.Node the_server) past own (map (quit_line the_server n) (filter (λ (o : Owed). has_break o.number owed) os))
+quits_all s n boot last c past [] owed own out le third up h = tt
+quits_all s n boot last c past (o ∷ os) owed own out le third up h = quits_by_good (has_break o.number owed) s n boot last c o past own (filter (λ (x : Owed). has_break x.number owed) os) out le third up h.0 (λ x y still. quits_all s n boot last c past os owed x out le y still h.1)
 
 pub quits_good : (s : Script) (n : Node) (boot last : ℕ) (c : BackCall) (b : Backs) (past : List Entry) → CallOut n c last boot past → nat_lt c.tries 2 ≡ false → AreGood s (actors.Node the_server) past (lines.Timeout the_server n boot c.number 3 ∷ []) (map (quit_line the_server n) (still_owed c b))
-quits_good s n boot last c b past out e = quits_all s n boot last c past c.breaks b.lists.owed _ out (ltb-false _ _ e) (inl (refl, (refl, (refl, (refl, refl)))))
+quits_good s n boot last c b past out e = quits_all s n boot last c past c.breaks b.lists.owed _ out (ltb-false _ _ e) (inl (refl, (refl, (refl, (refl, refl))))) (λ z. z)
     (two_all (CarriedOwe n c.number c.tries boot (lines_of past)) (λ (o : Owed). CarriesBreak (breaks_call c.breaks) o.what) (MayQuit n past boot c.number c.tries (breaks_call c.breaks)) (λ o x y. record { owe = x; carries = y }) c.breaks out.owes out.carries)
 
 pub settles_backed : (b : Backs) (boot : ℕ) (seats : List Seat) (cs : ℕ → Option Seat) (clock : ℕ) (sent : List Message) (e : Entry) (past : List Entry) (n : Node) (p : ℕ) (c : BackCall) → b.calls n ≡ Some c → e.lines ≡ lines.Given p ∷ map (settle_line the_server n) (still_owed c b) → BackedIn None b boot seats cs clock sent past → BackedIn None (loaded (settles the_server n c b)) boot seats cs clock sent (e ∷ past)
@@ -930,9 +931,9 @@ change_loaded who b ps more boot seats now cs clock sent e past pre os hd m h gr
     (λ j seat k x y. seated_over None None b after boot clock clock e past s j k (h.seated j seat k x y)))
 
 -- numbers of new breaks
-pub numbers_good : (s : Script) (k : ℕ) (ps : List Promise) (past : List Entry) (own : List Line) → last_number the_server (own ++ lines_of past) ≤ k → AllOf (λ (p : Promise). IsWithdrawn the_server p.client p.fid own) ps → AllOf (λ (p : Promise). (x : ℕ) × (last_grant the_server p.client p.fid (own ++ lines_of past) ≡ Some x)) ps → AreGood s (actors.Node the_server) past own (map (owe_line the_server) (owes_from k ps))
-numbers_good s k [] past own h w g = tt
-numbers_good s k (p ∷ ps) past own h w g = ((refl, (omega arith, (w.0, g.0))), numbers_good s (k + 1) ps past (lines.Owe the_server p.client (Some p.fid) (k + 1) ∷ own) (le_refl _) w.1 g.1)
+pub numbers_good : (s : Script) (k : ℕ) (ps : List Promise) (past : List Entry) (own : List Line) → last_number the_server (own ++ lines_of past) ≤ k → (HasStopped the_server own → ⊥) → AllOf (λ (p : Promise). IsChangedByOther the_server p.client p.fid own) ps → AllOf (λ (p : Promise). (x : ℕ) × (last_grant the_server p.client p.fid (own ++ lines_of past) ≡ Some x)) ps → AreGood s (actors.Node the_server) past own (map (owe_line the_server) (owes_from k ps))
+numbers_good s k [] past own h up w g = tt
+numbers_good s k (p ∷ ps) past own h up w g = ((refl, record { going = up; number = omega arith; cause = (w.0, g.0) }), numbers_good s (k + 1) ps past (lines.Owe the_server p.client (Some p.fid) (k + 1) ∷ own) (le_refl _) up w.1 g.1)
 
 pub numbers_rise : (k : ℕ) (ps : List Promise) (base : List Line) → last_number the_server base ≤ k → last_number the_server (onto base (map (owe_line the_server) (owes_from k ps))) ≤ k + length (owes_from k ps)
 numbers_rise k [] base h = omega arith
@@ -946,9 +947,9 @@ alls_rising : (x k m : ℕ) (base : List Line) → last_number the_server base �
 alls_rising x k zero base le h = h
 alls_rising x k (suc m) base le h = alls_rising x (k + 1) m (lines.Owe the_server (Client (k + 1)) None (k + 1) ∷ base) (le_refl _) (λ e. omega arith, h)
 
-pub alls_good : (s : Script) (x k m : ℕ) (past : List Entry) (own : List Line) → last_number the_server (own ++ lines_of past) ≤ k → HasRisen the_server own → k + m ≤ s.clients → AreGood s (actors.Node the_server) past own (map (owe_line the_server) (owes_all x k m))
-alls_good s x k zero past own h w few = tt
-alls_good s x k (suc m) past own h w few = ((refl, (omega arith, (w, (omega arith, omega arith)))), alls_good s x (k + 1) m past (lines.Owe the_server (Client (k + 1)) None (k + 1) ∷ own) (le_refl _) w (omega arith))
+pub alls_good : (s : Script) (x k m : ℕ) (past : List Entry) (own : List Line) → last_number the_server (own ++ lines_of past) ≤ k → (HasStopped the_server own → ⊥) → HasRisen the_server own → k + m ≤ s.clients → AreGood s (actors.Node the_server) past own (map (owe_line the_server) (owes_all x k m))
+alls_good s x k zero past own h up w few = tt
+alls_good s x k (suc m) past own h up w few = ((refl, record { going = up; number = omega arith; cause = (w, (omega arith, omega arith)) }), alls_good s x (k + 1) m past (lines.Owe the_server (Client (k + 1)) None (k + 1) ∷ own) (le_refl _) up w (omega arith))
 
 pub alls_rise : (x k m : ℕ) (base : List Line) → last_number the_server base ≤ k → last_number the_server (onto base (map (owe_line the_server) (owes_all x k m))) ≤ k + m
 alls_rise x k zero base h = omega arith

@@ -29,7 +29,7 @@ use Rattle.afs_law.specs.Breaks.{last_grant, HasStopped, live_grant, HasOwe, las
 use Rattle.afs_rows.specs.Callbacks.{Turn, pumped, expired, numbers, alls}
 use Rattle.afs_rows.specs.ClientRow.{status_told}
 use Rattle.afs_rows.specs.Going.{Going, next}
-use Rattle.afs_law.specs.Grants.{IsWithdrawn, has_fetched, fetch_reply, since, change_below, IsByOther, IsDropped}
+use Rattle.afs_law.specs.Grants.{IsWithdrawn, IsChangedByOther, has_fetched, fetch_reply, since, change_below, IsByOther, IsDropped}
 use Rattle.afs_law.specs.Ideal.{versions_in, Reach, raised, IsLast, clock_of, last_version, HasVersion, Accepts, reach, volume_after, change_key, call_under, reach_over, applied, applied_by, HasBeen, TellsIn, TellsOf, shown_status}
 use Rattle.afs_law.specs.Legal.{IsPromisedBy, HasChangeBy, IsLater, RanBefore, RunsHere, code_given, AreGood, IsNew, HasChange, GoodChange, versions_first, IsTold, answer_at, IsUnderChange, IsChanged, op_on, as_asked}
 use Rattle.afs_history.specs.declared.lines.Line.{Line}
@@ -143,6 +143,28 @@ breaks_by false s c f v vs o t by e h = h e
 pub on_breaks : (s c : Node) (f : Fid) (vs : List Version) (o : List Line) → IsByOther s c (change_below o) → touches f vs ≡ true → IsWithdrawn s c f (on_top vs o)
 on_breaks s c f [] o by e = absurd cc
 on_breaks s c f (v ∷ vs) o by e = breaks_by (same_fid v.fid f) s c f v vs o refl by e (λ t. on_breaks s c f vs (lines.Version v ∷ o) by t)
+
+-- the same of what the entry itself changed
+on_more : (s c : Node) (f : Fid) (vs : List Version) (o : List Line) → IsChangedByOther s c f o → IsChangedByOther s c f (on_top vs o)
+on_more s c f [] o h = h
+on_more s c f (v ∷ vs) o h = on_more s c f vs (lines.Version v ∷ o) (inr h)
+
+others_by : (t : Bool) (s c : Node) (f : Fid) (v : Version) (vs : List Version) (o : List Line) → same_fid v.fid f ≡ t → IsByOther s c (change_below o) → cond t true (touches f vs) ≡ true → (touches f vs ≡ true → IsChangedByOther s c f (on_top vs (lines.Version v ∷ o))) → IsChangedByOther s c f (on_top vs (lines.Version v ∷ o))
+others_by true s c f v vs o t by e h = on_more s c f vs (lines.Version v ∷ o) (inl (same_fid-true v.fid f t, by))
+others_by false s c f v vs o t by e h = h e
+
+on_others : (s c : Node) (f : Fid) (vs : List Version) (o : List Line) → IsByOther s c (change_below o) → touches f vs ≡ true → IsChangedByOther s c f (on_top vs o)
+on_others s c f [] o by e = absurd cc
+on_others s c f (v ∷ vs) o by e = others_by (same_fid v.fid f) s c f v vs o refl by e (λ t. on_others s c f vs (lines.Version v ∷ o) by t)
+
+-- grants behind that change nothing of it
+granted_others : (s c q d : Node) (f : Fid) (x : ℕ) (fs : List Found) (o : List Line) → IsChangedByOther s c f o → IsChangedByOther s c f (onto o (granted q d x fs []))
+granted_others s c q d f x [] o h = h
+granted_others s c q d f x (g ∷ fs) o h = granted_others s c q d f x fs (lines.Grant q d g.fid g.vnode.index x ∷ o) h
+
+granted_stopped : (s q d : Node) (x : ℕ) (fs : List Found) (o : List Line) → (HasStopped s o → ⊥) → HasStopped s (onto o (granted q d x fs [])) → ⊥
+granted_stopped s q d x [] o h z = h z
+granted_stopped s q d x (g ∷ fs) o h z = granted_stopped s q d x fs (lines.Grant q d g.fid g.vnode.index x ∷ o) h z
 
 pub on_running : (s : Script) (n : Node) (vs : List Version) (o : List Line) → running s n (on_top vs o) ≡ running s n o
 on_running s n [] o = refl
@@ -978,7 +1000,7 @@ top_clock : (vs : List Version) (own o : List Line) → clock_of (on_top vs own 
 top_clock [] own o = refl
 top_clock (v ∷ vs) own o = top_clock vs (lines.Version v ∷ own) o
 
-top_stopped : (vs : List Version) (own : List Line) → HasStopped the_server (on_top vs own) → HasStopped the_server own
+pub top_stopped : (vs : List Version) (own : List Line) → HasStopped the_server (on_top vs own) → HasStopped the_server own
 top_stopped [] own h = h
 top_stopped (v ∷ vs) own h = top_stopped vs (lines.Version v ∷ own) h
 
@@ -1086,8 +1108,9 @@ saves_by_turn s c past armed p n h user call id st es shown H up at w q =
               })
               (numbers_good s b0.lists.last_owed (hits (Client n) vs b0.lists.promises) past (onto (on_top vs (lines.Change the_server k (length vs) ∷ lines.Given p ∷ [])) (granted the_server (Client n) x fs []))
               (subst (λ (i : ℕ). i ≤ b0.lists.last_owed) (sym (granted_top n x fs (on_top vs (lines.Change the_server k (length vs) ∷ lines.Given p ∷ [])) (lines_of past) ∙ top_number vs (lines.Change the_server k (length vs) ∷ lines.Given p ∷ []) (lines_of past))) B.numbered)
-              (all_map (IsHit (Client n) vs) (λ (o : Promise). IsWithdrawn the_server o.client o.fid (onto (on_top vs (lines.Change the_server k (length vs) ∷ lines.Given p ∷ [])) (granted the_server (Client n) x fs [])))
-              (λ o z. (skips (granted the_server (Client n) x fs []) (granted_notes (Client n) x fs [] tt)).withdrawn the_server o.client o.fid (on_top vs (lines.Change the_server k (length vs) ∷ lines.Given p ∷ [])) (on_breaks the_server o.client o.fid vs (lines.Change the_server k (length vs) ∷ lines.Given p ∷ []) (refl, λ q. z.1 (sym q)) z.0))
+              (granted_stopped the_server the_server (Client n) x fs (on_top vs (lines.Change the_server k (length vs) ∷ lines.Given p ∷ [])) (λ z. top_stopped vs (lines.Change the_server k (length vs) ∷ lines.Given p ∷ []) z))
+              (all_map (IsHit (Client n) vs) (λ (o : Promise). IsChangedByOther the_server o.client o.fid (onto (on_top vs (lines.Change the_server k (length vs) ∷ lines.Given p ∷ [])) (granted the_server (Client n) x fs [])))
+              (λ o z. granted_others the_server o.client the_server (Client n) o.fid x fs (on_top vs (lines.Change the_server k (length vs) ∷ lines.Given p ∷ [])) (on_others the_server o.client o.fid vs (lines.Change the_server k (length vs) ∷ lines.Given p ∷ []) (refl, λ q. z.1 (sym q)) z.0))
               (hits (Client n) vs b0.lists.promises) (hits_hit (Client n) vs b0.lists.promises))
               (two_all (IsOfOther (Client n)) (IsGranted (lines_of past)) (λ (o : Promise). (i : ℕ) × (last_grant the_server o.client o.fid (onto (on_top vs (lines.Change the_server k (length vs) ∷ lines.Given p ∷ [])) (granted the_server (Client n) x fs []) ++ lines_of past) ≡ Some i))
               (λ o other was. (o.expiry, granted_grant o.client o.fid n x fs (on_top vs (lines.Change the_server k (length vs) ∷ lines.Given p ∷ [])) (lines_of past) (λ q. other (sym q)) ∙ (top_grant o.client o.fid vs (lines.Change the_server k (length vs) ∷ lines.Given p ∷ []) (lines_of past) ∙ was)))

@@ -233,7 +233,7 @@ settled_goes s c past armed p n m k false H up at j is done e = nothing_done s c
 settled_goes s c past armed p n m k true H up at j is done e =
     let q = both _ _ e in
     let dropped : AllOf (DroppedOwe n (lines_of past)) k.breaks = done.dropped k up (eqb-true _ _ q.0) is (eqb-true _ _ (both _ _ q.1).0) in
-    quiet s c past armed p m (settles the_server n k (expired c.clock c.server.backs)) H up at j (settle_notes n _) (settles_good s n k (expired c.clock c.server.backs) past (lines.Given p ∷ []) dropped)
+    quiet s c past armed p m (settles the_server n k (expired c.clock c.server.backs)) H up at j (settle_notes n _) (settles_good s n k (expired c.clock c.server.backs) past (lines.Given p ∷ []) dropped (λ z. z))
     (λ x over held. record { notes = settle_notes n _; sent = no_news _ _ _; outs = tt; held = held })
     (λ x z. record { backed = settles_backed (expired c.clock c.server.backs) c.server.lasting.boot c.server.seats (seats_of c) c.clock c.sent x past n p k is (ap (λ (y : Entry). y.lines) z) (up_backed s c past H up); sends = record { good = tt; calls = tt; dones = tt } })
 

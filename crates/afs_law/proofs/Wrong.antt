@@ -811,7 +811,7 @@ owes_two e = record e { lines = e.lines ++ lines.Owe (Server 1) (Client 2) None 
 
 owed_to_a_stranger : Legal (alters 1 owes_two (entries (start (script 1)) (stops ∷ starts_again false comes_up ∷ []))) (script 1) → ⊥
 unfolding moved begin_row client_row server_row back_timeout_row wake_row start_row record_bytes head_form volume_form spelled opaque pad word laid_at led name_ok directory_bytes name_bytes rights_of image acl_text digits entry_text directory_of names_at opaque_at word_at counted_at whole_at count_at name_at spelled_at bytes_below
-owed_to_a_stranger h = let e : 2 ≤ 1 = h.1.0.0.0.1.1.0.1.1.1.1 in absurd (omega arith)
+owed_to_a_stranger h = let e : 2 ≤ 1 = h.1.0.0.0.1.1.0.1.cause.1.1 in absurd (omega arith)
 
 -- ---- what is given back is gone from the step on that answers it, and a call answers nothing
 
@@ -870,5 +870,32 @@ owes_one e = record e { lines = e.lines ++ lines.Owe (Server 1) (Client 1) (Some
 owed_unpromised : Legal (alters 1 owes_one (entries (start (script 2)) (begins 2 (acts.Close (operands.Fid file) (Hex (codes "def"))) ∷ gives 1 steady ∷ []))) (script 2) → ⊥
 unfolding moved begin_row client_row server_row back_timeout_row wake_row start_row record_bytes head_form volume_form spelled opaque pad word laid_at led name_ok directory_bytes name_bytes rights_of image acl_text digits entry_text directory_of names_at opaque_at word_at counted_at whole_at count_at name_at spelled_at bytes_below
 owed_unpromised h =
-    let g = h.1.0.0.0.1.1.1.0.1.1.1 in
+    let g = h.1.0.0.0.1.1.1.0.1.cause.1 in
     let e : None ≡ Some g.0 = g.1 in absurd cc
+
+-- a stop of the server is no reason for it
+owed_behind_a_crash : Legal (alters 2 owes_one (entries (start (script 1)) (begins 1 (acts.Open (operands.Fid file)) ∷ gives 1 steady ∷ stops ∷ []))) (script 1) → ⊥
+unfolding moved begin_row client_row server_row back_timeout_row wake_row start_row record_bytes head_form volume_form spelled opaque pad word laid_at led name_ok directory_bytes name_bytes rights_of image acl_text digits entry_text directory_of names_at opaque_at word_at counted_at whole_at count_at name_at spelled_at bytes_below
+owed_behind_a_crash h = h.1.1.0.0.0.1.0.1.cause.0
+
+-- nor does a server that stopped owe it, settle it or give it up, whatever it changed before
+abbrev stops_and_owes : Entry → Entry
+stops_and_owes e = record e { lines = e.lines ++ lines.Crash (Server 1) ∷ lines.Owe (Server 1) (Client 1) (Some file) 1 ∷ []; sent = [] }
+
+abbrev changes_file : List Input
+changes_file = begins 1 (acts.Open (operands.Fid file)) ∷ gives 1 steady ∷ begins 2 (acts.Close (operands.Fid file) (Hex (codes "def"))) ∷ gives 3 steady ∷ []
+
+owed_by_a_stopped_server : Legal (alters 3 stops_and_owes (entries (start (script 2)) changes_file)) (script 2) → ⊥
+unfolding moved begin_row client_row server_row back_timeout_row wake_row start_row record_bytes head_form volume_form spelled opaque pad word laid_at led name_ok directory_bytes name_bytes rights_of image acl_text digits entry_text directory_of names_at opaque_at word_at counted_at whole_at count_at name_at spelled_at bytes_below
+owed_by_a_stopped_server h = h.1.1.1.0.0.0.1.1.1.1.1.0.1.going (inl refl)
+
+abbrev stops_first : Entry → Entry
+stops_first e = record e { lines = lines.Crash (Server 1) ∷ e.lines; sent = [] }
+
+settled_by_a_stopped_server : Legal (alters 5 stops_first (entries (start (script 2)) (changes_file ++ gives 4 steady ∷ gives 5 steady ∷ []))) (script 2) → ⊥
+unfolding moved begin_row client_row server_row back_timeout_row wake_row start_row record_bytes head_form volume_form spelled opaque pad word laid_at led name_ok directory_bytes name_bytes rights_of image acl_text digits entry_text directory_of names_at opaque_at word_at counted_at whole_at count_at name_at spelled_at bytes_below
+settled_by_a_stopped_server h = h.1.1.1.1.1.0.0.0.1.1.0.1.going (inl refl)
+
+quit_by_a_stopped_server : Legal (alters 6 stops_first (entries (start (script 2)) (changes_file ++ server_waits (Client 1) ∷ server_waits (Client 1) ∷ server_waits (Client 1) ∷ []))) (script 2) → ⊥
+unfolding moved begin_row client_row server_row back_timeout_row wake_row start_row record_bytes head_form volume_form spelled opaque pad word laid_at led name_ok directory_bytes name_bytes rights_of image acl_text digits entry_text directory_of names_at opaque_at word_at counted_at whole_at count_at name_at spelled_at bytes_below
+quit_by_a_stopped_server h = h.1.1.1.1.1.1.0.0.0.1.1.0.1.going (inl refl)

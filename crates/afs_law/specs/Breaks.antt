@@ -193,8 +193,9 @@ pub record OweAt (s c : Node) (what : Option Fid) (n : ℕ) (ls : List Line) : T
   pub split : ls ≡ newer ++ (lines.Owe s c what n ∷ base)
   pub up : HasStopped s newer → ⊥
 
--- the client gave up what the break is on
+-- the client gave up what the break is on; the server hasn't stopped in this entry
 pub record GoodSettle (s c : Node) (n : ℕ) (past : List Entry) (own : List Line) : Type 0 where
+  pub going : HasStopped s own → ⊥
   pub what : Option Fid
   pub owe : OweAt s c what n (lines_of past)
   pub dropped : HasDrop s c what owe.newer
@@ -212,8 +213,10 @@ CarriesBreak (calls.CallBack fs callbacks) what = NamesIn what fs
 CarriesBreak calls.InitCallBackState what = what ≡ None
 CarriesBreak call what = ⊥
 
--- a call to the client that carries the break was timed out for the third time in this entry, and twice since the break became owed
+-- a call to the client that carries the break was timed out for the third time in this entry, in which the server hasn't stopped, and
+-- twice since the break became owed
 pub record GoodQuit (s c : Node) (n : ℕ) (past : List Entry) (own : List Line) : Type 0 where
+  pub going : HasStopped s own → ⊥
   pub what : Option Fid
   pub owe : OweAt s c what n (lines_of past)
   pub epoch : ℕ

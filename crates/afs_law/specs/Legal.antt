@@ -17,7 +17,7 @@ use Rattle.afs_ideal.specs.Operations.{Caller, the_user, Result, refused, change
 use Rattle.afs_ideal.specs.Volumes.{Volume, Edit, versions_by}
 use Rattle.afs_law.specs.Breaks.{last_grant, IsNamedIn, AllOwes, HasStopped, HasTimeout, EndedOf, EndedAll, GoodSettle, GoodQuit, live_grant, lines_at, HasOwe, last_number}
 use Rattle.afs_rows.specs.Going.{Going, Need, answers, asks_for, next, asked, gives_back, reads_rights}
-use Rattle.afs_law.specs.Grants.{is_promised, read_reply, GrantOf, since, until, IsWithdrawn, IsDropped}
+use Rattle.afs_law.specs.Grants.{is_promised, read_reply, GrantOf, since, until, IsWithdrawn, IsChangedByOther, IsDropped}
 use Rattle.afs_law.specs.Ideal.{last_version, Unless, set_up, IsLast, WasLast, HasBeen, HasVersion, Accepts, clock_of, user_of, seen, change_in, change_key, call_under, volume_after}
 use Rattle.afs_history.specs.declared.lines.Line.{Line}
 use Rattle.afs_law.specs.Past.{WasSent, last_boot, is_late, called_key, IsToCome, is_of_act, lines_of, sent_of, given_message, answered_key, code_told, IsReply, running, has_begun, has_given, Called, CalledSince, IsCallUnder, Ran, server_boot}
@@ -236,10 +236,17 @@ abbrev pub IsClientOf : Script → Node → Type 0
 IsClientOf s (Client j) = (1 ≤ j) × (j ≤ s.clients)
 IsClientOf s n = ⊥
 
--- a break becomes owed where a fid changes that the client was promised, or, to each client of the script, where the server began again
-abbrev pub GoodOwe : Script → Node → Node → Option Fid → List Entry → List Line → Type 0
-GoodOwe s server c None past own = HasRisen server own × IsClientOf s c
-GoodOwe s server c (Some f) past own = IsWithdrawn server c f own × ((expiry : ℕ) × (last_grant server c f (own ++ lines_of past) ≡ Some expiry))
+-- why a break becomes owed: the server began again, and each client of the script is owed one on all; or another node's call changed a
+-- fid in this entry that the client was promised
+abbrev pub IsOwedFor : Script → Node → Node → Option Fid → List Entry → List Line → Type 0
+IsOwedFor s server c None past own = HasRisen server own × IsClientOf s c
+IsOwedFor s server c (Some f) past own = IsChangedByOther server c f own × ((expiry : ℕ) × (last_grant server c f (own ++ lines_of past) ≡ Some expiry))
+
+-- a break becomes owed at a server that hasn't stopped in this entry, under a number above those of its boot
+pub record GoodOwe (s : Script) (server c : Node) (what : Option Fid) (n : ℕ) (past : List Entry) (own : List Line) : Type 0 where
+  pub going : HasStopped server own → ⊥
+  pub number : last_number server (own ++ lines_of past) < n
+  pub cause : IsOwedFor s server c what past own
 
 -- a version stands under its change; that these are not too many is said of the change
 abbrev pub IsUnderChange : List Line → Type 0
@@ -515,7 +522,7 @@ IsGood s who (lines.Restart n boot) past own next = (who ≡ actors.Node n) × G
 IsGood s who (lines.Full n) past own next = IsOfServer who n
 IsGood s who (lines.Drop c f) past own next = IsOfClient who c
 IsGood s who (lines.DropAll c server) past own next = IsOfClient who c
-IsGood s who (lines.Owe server c what n) past own next = IsOfServer who server × ((last_number server (own ++ lines_of past) < n) × GoodOwe s server c what past own)
+IsGood s who (lines.Owe server c what n) past own next = IsOfServer who server × GoodOwe s server c what n past own
 IsGood s who (lines.Settle server c n) past own next = IsOfServer who server × GoodSettle server c n past own
 IsGood s who (lines.Quit server c n) past own next = IsOfServer who server × GoodQuit server c n past own
 IsGood s who lines.Void past own next = who ≡ actors.Nobody
