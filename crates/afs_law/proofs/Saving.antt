@@ -1093,7 +1093,7 @@ saves_by_turn s c past armed p n h user call id st es shown H up at w q =
                 (λ j f z ne d l u. owe_behind (Client j) (Some f) vs tl (owe_granted (Client j) (Some f) n x fs t.lines (has_owe (Client j) f z b0.lists.last_owed (hits (Client n) vs b0.lists.promises) (touched_hit (Client n) (Client j) f z vs b0.lists.promises ne d (B.promised (Client j) f z l (subst (λ (i : ℕ). i < z) H.clock u)).1)))),
           ),
           versions_good s past _ tl vs tt (granted_then s past (on_top vs (lines.Change the_server k (length vs) ∷ lines.Given p ∷ [])) (Client n) x fs t.lines
-              (λ f yes. let made = newly id (the_user user) call st.volume es shown f q.of_volume q.result yes in record {
+              (λ f yes. let made = newly id (the_user user) call st.volume es shown past f q.of_volume q.result (sym (H.ideal id) ∙ q.at) (H.fine id st.volume q.at).ascends yes in record {
                 key = k;
                 node = refl;
                 ran = let r0 = runs_here s c past p n h user call H up at w in top_runs k past vs (lines.Change the_server k (length vs) ∷ lines.Given p ∷ []) (record { boot = r0.boot; up = r0.up; given = r0.given; first = r0.first });
@@ -1102,8 +1102,8 @@ saves_by_turn s c past armed p n h user call id st es shown H up at w q =
                 call = call;
                 carries = ap (option_map (λ (m : Message). m.carried)) (top_given vs (lines.Change the_server k (length vs) ∷ lines.Given p ∷ []) (sent_of past) ∙ at_told s c past p (call_at n h user call) H at);
                 code = ap code_given answer;
-                promises = subst (IsPromisedBy f.fid call) (sym answer) made.asked;
-                newest = ap (option_map (λ (v : Version). v.index)) (top_last f.fid vs (lines.Change the_server k (length vs) ∷ lines.Given p ∷ []) (lines_of past) ∙ made_last id st.volume es shown call f (lines.Change the_server k (length vs) ∷ lines.Given p ∷ lines_of past) made (told_at y s c past user call id st.volume es shown k H q).sound);
+                promises = subst (λ (o : Option Result). IsPromisedBy f.fid call o past) (sym answer) made.asked;
+                newest = ap (option_map (λ (v : Version). v.index)) (top_last f.fid vs (lines.Change the_server k (length vs) ∷ lines.Given p ∷ []) (lines_of past) ∙ made_last id st.volume es shown call past f (lines.Change the_server k (length vs) ∷ lines.Given p ∷ lines_of past) made (told_at y s c past user call id st.volume es shown k H q).sound);
                 lasts = ap (λ (i : ℕ). i + promise_ticks) (sym (top_clock vs (lines.Change the_server k (length vs) ∷ lines.Given p ∷ []) (lines_of past) ∙ H.clock));
               })
               (numbers_good s b0.lists.last_owed (hits (Client n) vs b0.lists.promises) past (onto (on_top vs (lines.Change the_server k (length vs) ∷ lines.Given p ∷ [])) (granted the_server (Client n) x fs []))

@@ -852,15 +852,15 @@ all_shown c (g ∷ fids) (x ∷ xs) f h (inl e) = let y = seen_shown c g x.store
 all_shown c (g ∷ fids) (x ∷ xs) f h (inr z) = let y = all_shown c fids xs f h.1 z in (inr y.0, y.1)
 
 -- it is promised what it asked for
-read_shown : (c : Cell) (call : FsCall) (r : Reading) (o : Option Result) (f : Found) → IsRead c call r → IsAmong f r.granted → IsPromisedBy f.fid call o × IsShown c f
-read_shown c (calls.FetchData g p w) r o f x z = look_shown c g x.stored x.found f x.seen (subst (λ (y : Reading). IsAmong f y.granted) x.is z)
-read_shown c (calls.FetchAcl g) r o f x z = absurd (subst (λ (y : Reading). IsAmong f y.granted) x.look.is z)
-read_shown c (calls.FetchStatus g) r o f x z = look_shown c g x.stored x.found f x.seen (subst (λ (y : Reading). IsAmong f y.granted) x.is z)
-read_shown c (calls.GetVolumeStatus k) r o f x z = absurd (subst (λ (y : Reading). IsAmong f y.granted) x.is z)
-read_shown c (calls.GiveUpCallBacks fids callbacks) r o f x z = absurd (subst (λ (y : Reading). IsAmong f y.granted) x z)
-read_shown c calls.GetTime r o f x z = absurd (subst (λ (y : Reading). IsAmong f y.granted) x.is z)
-read_shown c (calls.BulkStatus fids) r o f x z = all_shown c fids x.sights f x.seen (subst (λ (y : Reading). IsAmong f y.granted) x.is z)
-read_shown c call r o f x z = absurd x
+read_shown : (c : Cell) (call : FsCall) (r : Reading) (o : Option Result) (past : List Entry) (f : Found) → IsRead c call r → IsAmong f r.granted → IsPromisedBy f.fid call o past × IsShown c f
+read_shown c (calls.FetchData g p w) r o past f x z = look_shown c g x.stored x.found f x.seen (subst (λ (y : Reading). IsAmong f y.granted) x.is z)
+read_shown c (calls.FetchAcl g) r o past f x z = absurd (subst (λ (y : Reading). IsAmong f y.granted) x.look.is z)
+read_shown c (calls.FetchStatus g) r o past f x z = look_shown c g x.stored x.found f x.seen (subst (λ (y : Reading). IsAmong f y.granted) x.is z)
+read_shown c (calls.GetVolumeStatus k) r o past f x z = absurd (subst (λ (y : Reading). IsAmong f y.granted) x.is z)
+read_shown c (calls.GiveUpCallBacks fids callbacks) r o past f x z = absurd (subst (λ (y : Reading). IsAmong f y.granted) x z)
+read_shown c calls.GetTime r o past f x z = absurd (subst (λ (y : Reading). IsAmong f y.granted) x.is z)
+read_shown c (calls.BulkStatus fids) r o past f x z = all_shown c fids x.sights f x.seen (subst (λ (y : Reading). IsAmong f y.granted) x.is z)
+read_shown c call r o past f x z = absurd x
 
 -- the index of what stands under a fid
 abbrev index_of : Option Vnode → ℕ
@@ -1072,7 +1072,7 @@ shows_by s c past armed p n h user call r H up at w is code done =
     record {
       good = (
         refl,
-        granted_then s past (lines.Given p ∷ []) (Client n) t fs [] (λ f yes. let q = read_shown c call r (answer_at user call past) f is yes in record {
+        granted_then s past (lines.Given p ∷ []) (Client n) t fs [] (λ f yes. let q = read_shown c call r (answer_at user call past) past f is yes in record {
           key = called_key (client_head n h);
           node = refl;
           ran = runs_here s c past p n h user call H up at w;

@@ -307,7 +307,7 @@ nought l = l
 
 owed_nought : Legal (six_by 3 (by_lines nought)) (script 2) → ⊥
 unfolding moved begin_row client_row server_row back_timeout_row wake_row start_row record_bytes head_form volume_form spelled opaque pad word laid_at led name_ok directory_bytes name_bytes rights_of image acl_text digits entry_text
-owed_nought h = let e : 0 < 0 = h.1.1.1.0.0.0.1.1.1.0.1.0 in absurd (omega arith)
+owed_nought h = let e : 0 < 0 = h.1.1.1.0.0.0.1.1.1.0.1.number in absurd (omega arith)
 
 -- an entry that brings a volume
 abbrev brings : Entry → Entry

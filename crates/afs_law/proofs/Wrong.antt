@@ -777,7 +777,7 @@ granted_unasked : Legal (alters 1 (grants root 1) (entries (start (script 1)) (b
 unfolding moved begin_row client_row server_row back_timeout_row wake_row start_row record_bytes head_form volume_form spelled opaque pad word laid_at led name_ok directory_bytes name_bytes rights_of image acl_text digits entry_text directory_of names_at opaque_at word_at counted_at whole_at count_at name_at spelled_at bytes_below
 granted_unasked h =
     let g = h.1.0.0.0.1.0.1 in
-    file_apart (subst (λ (k : FsCall). IsPromisedBy root k (answer_at g.user g.call asked_past)) (sym (one_call _ _ _ _ (some_of _ _ g.carries))) g.promises)
+    file_apart (subst (λ (k : FsCall). IsPromisedBy root k (answer_at g.user g.call asked_past) asked_past) (sym (one_call _ _ _ _ (some_of _ _ g.carries))) g.promises)
 
 -- the promise tells an index that no version has
 granted_ahead : Legal (alters 1 (grants file 2) (entries (start (script 1)) (begins 1 (acts.Open (operands.Fid file)) ∷ gives 1 steady ∷ []))) (script 1) → ⊥

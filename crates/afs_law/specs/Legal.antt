@@ -385,23 +385,23 @@ pub record GoodCode (s : Script) (c : Node) (code : Code) (past : List Entry) (o
 
 -- ---- grants
 
--- a new vnode of this number in this volume is what the ideal operation shows
-abbrev pub IsNewIn : ℕ → Fid → Option Result → Type 0
-IsNewIn id f (Some (changes es shown)) = (f.volume ≡ id) × (f.vnode ≡ shown)
-IsNewIn id f r = ⊥
+-- the fid of a new vnode: the number is what the ideal operation shows, and the unique what the volume before gives next
+abbrev pub IsNewIn : ℕ → Fid → Option Result → Option Volume → Type 0
+IsNewIn id f (Some (changes es shown)) (Some v) = f ≡ record { volume = id; vnode = shown; unique = v.next }
+IsNewIn id f r o = ⊥
 
--- the reply to this call, of which the ideal operation makes this, promises the fid: the one that the call reads or names, or the
--- new one that it makes
-abbrev pub IsPromisedBy : Fid → FsCall → Option Result → Type 0
-IsPromisedBy f (calls.FetchData g position wanted) r = g ≡ f
-IsPromisedBy f (calls.FetchStatus g) r = g ≡ f
-IsPromisedBy f (calls.BulkStatus fids) r = IsNamedIn f fids
-IsPromisedBy f (calls.CreateFile d name status) r = IsNewIn d.volume f r
-IsPromisedBy f (calls.MakeDir d name status) r = IsNewIn d.volume f r
-IsPromisedBy f call r = ⊥
+-- the reply to this call promises the fid, where this is what the ideal operation makes of the call: the one that the call reads or
+-- names, or the new one that it makes
+abbrev pub IsPromisedBy : Fid → FsCall → Option Result → List Entry → Type 0
+IsPromisedBy f (calls.FetchData g position wanted) r past = g ≡ f
+IsPromisedBy f (calls.FetchStatus g) r past = g ≡ f
+IsPromisedBy f (calls.BulkStatus fids) r past = IsNamedIn f fids
+IsPromisedBy f (calls.CreateFile d name status) r past = IsNewIn d.volume f r (volume_after d.volume past)
+IsPromisedBy f (calls.MakeDir d name status) r past = IsNewIn d.volume f r (volume_after d.volume past)
+IsPromisedBy f call r past = ⊥
 
--- The server grants in the entry that runs a call of the client, and so long. The call's reply promises the fid, and the ideal
--- operation gives it code 0. The index that the grant tells is the fid's last one
+-- A server makes a promise in the entry in which it runs a call of the client, for 7200 ticks. The call's reply promises the fid, and
+-- the ideal operation gives it code 0. The index that the grant tells is the fid's last one
 pub record GoodGrant (server c : Node) (f : Fid) (index expiry : ℕ) (past : List Entry) (own : List Line) : Type 0 where
   pub key : Key
   pub node : key.node ≡ c
@@ -411,7 +411,7 @@ pub record GoodGrant (server c : Node) (f : Fid) (index expiry : ℕ) (past : Li
   pub call : FsCall
   pub carries : option_map (λ (m : Message). m.carried) (given_message own (sent_of past)) ≡ Some (carried.Call user (ask.File call))
   pub code : code_given (answer_at user call past) ≡ pos 0
-  pub promises : IsPromisedBy f call (answer_at user call past)
+  pub promises : IsPromisedBy f call (answer_at user call past) past
   pub newest : IsLast f index (own ++ lines_of past)
   pub lasts : expiry ≡ clock_of (own ++ lines_of past) + promise_ticks
 
