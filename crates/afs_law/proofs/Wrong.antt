@@ -19,14 +19,14 @@ use Rattle.afs_law.specs.Grants.{GrantOf, until}
 use Rattle.afs_num.specs.declared.histories.Actor.{Actor}
 use Rattle.afs_num.specs.declared.types.Node.{Node}
 use Rattle.afs_law.proofs.OneCell.{Cell, stops, the_server, server_waits, Input, begins, gives, moved, nothing, sets_stop, start, starts_again, waits}
-use Rattle.afs_law.proofs.Worked.{by_lines, stores, alters, answer, begun, entries, file, root, script, six_front}
+use Rattle.afs_law.proofs.Worked.{apart_numbers, home, by_lines, stores, alters, answer, begun, entries, file, root, script, six_front}
 use Rattle.afs_law.specs.Breaks.{HasTimeout, HasStopped}
 use Rattle.afs_law.specs.Legal.{IsPromisedBy, Cause, EndsAct, IsResult, Legal, answer_at, code_given}
 use Rattle.afs_model.specs.Messages.{spelled}
 use Rattle.afs_num.specs.Names.{name_ok}
 use Rattle.afs_num.specs.declared.types.Fid.{Fid}
 use Rattle.afs_rows.specs.ClientRow.{begin_row, client_row}
-use Rattle.afs_rows.specs.Going.{Going, answers, asked, asks_for, gives_back, next, reads, stored_whole}
+use Rattle.afs_rows.specs.Going.{Going, nothing_set, answers, asked, asks_for, gives_back, next, reads, stored_whole}
 use Rattle.afs_rows.specs.Runs.{Entry, comes_up, steady}
 use Rattle.afs_xdr.specs.Words.{opaque, pad, word, opaque_at, word_at, counted_at}
 use Rattle.afs_law.specs.Ideal.{set_up}
@@ -803,6 +803,29 @@ granted_with_a_refusal h =
     let g = h.1.0.0.0.1.0.1 in
     let same : carried.Call (codes "guest") (ask.File in_part) ≡ carried.Call g.user (ask.File g.call) = some_of _ _ g.carries in
     refused_not (subst (λ (u : List ℕ). code_given (answer_at u in_part part_past) ≡ pos 0) (sym (one_user _ _ _ _ same)) (subst (λ (k : FsCall). code_given (answer_at g.user k part_past) ≡ pos 0) (sym (one_call _ _ _ _ same)) g.code))
+
+-- a file is made where one was removed: it is promised under the fid of the old one, whose last version tells that it is gone
+abbrev made_anew : List Input
+made_anew = begins 1 (acts.Remove (record { volume = codes "proj"; names = codes "a" ∷ [] })) ∷ gives 1 steady ∷ gives 2 steady ∷ gives 3 steady ∷ gives 4 steady ∷ begins 1 (acts.Make (record { volume = codes "proj"; names = codes "b" ∷ [] })) ∷ gives 5 steady ∷ gives 6 steady ∷ []
+
+abbrev grants_old : Line → Line
+grants_old (lines.Grant s c f i x) = lines.Grant s c file 2 x
+grants_old l = l
+
+abbrev made_past : List Entry
+made_past = past_of (set_up (script 1) ∷ []) (entries (start (script 1)) made_anew)
+
+abbrev makes_b : FsCall
+makes_b = calls.CreateFile root (codes "b") nothing_set
+
+granted_on_the_old_unique : Legal (alters 8 (by_lines grants_old) (entries (start (script 1)) (made_anew ++ gives 7 steady ∷ []))) (script 1) → ⊥
+unfolding moved begin_row client_row server_row back_timeout_row wake_row start_row record_bytes head_form volume_form spelled opaque pad word laid_at led name_ok directory_bytes name_bytes rights_of image acl_text digits entry_text directory_of names_at opaque_at word_at counted_at whole_at count_at name_at spelled_at bytes_below
+granted_on_the_old_unique h =
+    let g = h.1.1.1.1.1.1.1.1.0.0.0.1.1.1.1.0.1 in
+    let same : carried.Call (codes "guest") (ask.File makes_b) ≡ carried.Call g.user (ask.File g.call) = some_of _ _ g.carries in
+    let old : file ≡ record { volume = home; vnode = 2; unique = 3 } =
+    subst (λ (u : List ℕ). IsPromisedBy file makes_b (answer_at u makes_b made_past) made_past) (sym (one_user _ _ _ _ same)) (subst (λ (k : FsCall). IsPromisedBy file k (answer_at g.user k made_past) made_past) (sym (one_call _ _ _ _ same)) g.promises) in
+    apart_numbers 2 3 refl (ap (λ (f : Fid). f.unique) old)
 
 -- ---- a restart owes the clients of the script, and nobody else
 

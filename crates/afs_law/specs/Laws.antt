@@ -33,13 +33,14 @@ use Rattle.afs_law.specs.Once.{past_of, ChangesOnce}
 use Rattle.afs_law.specs.OneServer.{IsOneServer}
 use Rattle.afs_law.specs.Past.{AreWithin, IsUpTo, CalledSince, HasCode, IsCall, lines_of, onto, running, IsUnheard, called_key, answered_key, Ran}
 use Rattle.afs_rows.specs.Runs.{Fall, begun_by_disk, message_at, Leads, start, Input, Entry, Cell, RunsTo, Host, first_lasting, first_stored, volumes_at}
-use Rattle.afs_rows.specs.ServerRow.{Change, is_client, lasting_after, lasting_started, record_of, serves, runs, refuses, not_served, whole, is_client, no_room, key_of, made, versioned}
+use Rattle.afs_rows.specs.ServerRow.{Begun, Change, is_client, lasting_after, lasting_started, record_of, serves, runs, refuses, not_served, whole, is_client, no_room, key_of, made, versioned}
 use Rattle.afs_rows.specs.States.{CacheEntry, Seat, Lasting, durable_of, volume_in, ServerState, BackCall}
 use Rattle.afs_model.specs.FsRows.{call_number}
 use Rattle.afs_num.specs.declared.messages.Carried.TheVariants as carried
 use Rattle.afs_num.specs.declared.messages.Call.TheVariants as ask
 use Rattle.afs_model.specs.Calls as pairs
 use Rattle.afs_history.specs.declared.lines.Line.TheVariants as lines
+use Rattle.afs_num.specs.declared.histories.Actor.TheVariants as actors
 use Rattle.afs_history.specs.declared.acts.Act.{Act}
 use Rattle.afs_history.specs.declared.acts.Act.TheVariants as acts
 use Rattle.afs_num.specs.declared.types.Code.{Code}
@@ -161,11 +162,24 @@ pub record IsKept (v : Version) (volumes : Table Stored) (told : List Line) : Ty
   pub at : volume_in v.fid.volume volumes ≡ Some volume
   pub held : live (Some last) ≡ option_map (version_at v.fid.volume v.fid.vnode) (vnode_of v.fid volume)
 
--- It is so of what the server keeps. While the server is down, it is also so of what the step that was interrupted may have left,
--- with what the restart then tells of that
-pub record Survives (v : Version) (host : Host) (past : List Entry) : Type 0 where
+-- What a restart of the server finds, where the record of the interrupted step is on its disk; and the entry that this restart makes,
+-- by what it tells of that step
+abbrev pub found_by_restart : Host → Fall → Begun
+found_by_restart host fall = begun_by_disk (Server 1) host.state true fall
+
+abbrev pub told_by_restart : Host → Fall → Entry
+told_by_restart host fall = record { actor = actors.Node (Server 1); lines = (found_by_restart host fall).before []; sent = []; volumes = [] }
+
+-- The server keeps of each volume just the ideal one: all that the changes which were told have made of it, with each mode, owner, link
+-- count and access list. While the server is down, it is also so of what the step that was interrupted may have left
+pub record Survives (host : Host) (past : List Entry) : Type 0 where
+  pub kept : (id : ℕ) → volume_in id host.state.lasting.volumes ≡ volume_after id past
+  pub after : (fall : Fall) → host.down ≡ Some fall → (id : ℕ) → volume_in id (found_by_restart host fall).state.lasting.volumes ≡ volume_after id (told_by_restart host fall ∷ past)
+
+-- read by one version: these volumes hold it or a later one, and so does what the interrupted step may have left
+pub record IsHeldStill (v : Version) (host : Host) (past : List Entry) : Type 0 where
   pub kept : IsKept v host.state.lasting.volumes (lines_of past)
-  pub behind : (fall : Fall) → host.down ≡ Some fall → IsKept v (begun_by_disk (Server 1) host.state true fall).state.lasting.volumes (onto (lines_of past) ((begun_by_disk (Server 1) host.state true fall).before []))
+  pub after : (fall : Fall) → host.down ≡ Some fall → IsKept v (found_by_restart host fall).state.lasting.volumes (lines_of (told_by_restart host fall ∷ past))
 
 -- the version gives a file the bytes that a close stores
 pub record IsClosed (act : Going) (contents : Written) (key : Key) (ls : List Line) : Type 0 where
@@ -174,16 +188,17 @@ pub record IsClosed (act : Going) (contents : Written) (key : Key) (ls : List Li
   pub asked_for : asked act ≡ stored_whole version.fid (bytes_in contents)
   pub body : version.body ≡ bodies.File (bytes_in contents)
 
--- one key of the act has a change line; where the act is a close, a version under that gives the file the bytes of the close; and each
--- version under it survives
+-- One key of the act has a change line; where the act is a close, a version under that gives the file the bytes of the close. All changes
+-- that were told, and so this one, survive: in each volume, and by each version under this key
 pub record AreMadeAndKept (c : Node) (act : Going) (past : List Entry) (own : List Line) (host : Host) (later : List Entry) : Type 0 where
   pub made : IsMade c past own
   pub closed : (o : Operand) (contents : Written) → act.act ≡ acts.Close o contents → IsClosed act contents made.key (own ++ lines_of past)
-  pub survive : (v : Version) → HasMade made.key v (own ++ lines_of past) → Survives v host later
+  pub survive : Survives host later
+  pub versions : (v : Version) → HasMade made.key v (own ++ lines_of past) → IsHeldStill v host later
 
--- What is acknowledged survives every crash. In every run, where an act that changes something was answered 0, what it changed, or
--- something later, is from then on what its server's disk holds, wherever the server stops, and however often. Before the answer
--- stand the entries `before`, and in its own entry the lines `first`; `end` is any moment behind it
+-- What is acknowledged survives every crash. In every run of a script for one server, where an act that changes something was answered
+-- 0, its change was told, and from then on the server keeps of each volume what all changes that were told have made of it. Before the
+-- answer stand the entries `before`, and in its own entry the lines `first`; `end` is any moment behind it
 abbrev pub AcknowledgedAreKept : Type 0
 AcknowledgedAreKept =
     (s : Script) (history before after : List Entry) (e : Entry) (first rest : List Line) (c : Node) (code : Code) (act : Going) (end : Cell) → IsOneServer s → RunsTo history s end → history ≡ before ++ (e ∷ after) → e.lines ≡ first ++ lines.Answer c code ∷ rest
