@@ -20,8 +20,8 @@ use Rattle.afs_law.proofs.Saving.{first_on, later_by}
 use Rattle.afs_law.proofs.Standing.{runs_admitted}
 use Rattle.afs_law.specs.Breaks.{HasStopped}
 use Rattle.afs_law.specs.Ideal.{change_key, set_up, user_of}
-use Rattle.afs_law.specs.Legal.{EndsBoot, HasChangeBy, IsNew, as_asked, versions_first}
-use Rattle.afs_law.specs.Parts.{ChangesAreIdeal, EachEntry, EachLine, IdealChange, IsIdeal}
+use Rattle.afs_law.specs.Legal.{EndsBoot, HasChangeBy, IdealChange, IsNew, as_asked, versions_first}
+use Rattle.afs_law.specs.Parts.{ChangesAreIdeal, EachEntry, EachLine, IsIdeal}
 use Rattle.afs_law.specs.Past.{Called, IsCall, IsCallUnder, IsToCome, given_message, lines_of, onto, sent_of}
 use Rattle.afs_model.specs.Calls.{call_seat}
 use Rattle.afs_num.specs.declared.calls.FsCall.{FsCall}

@@ -15,8 +15,8 @@ use Rattle.afs_law.proofs.Origins.{KnownAsked, asked_first, asked_kept}
 use Rattle.afs_law.proofs.Promising.{owes_all, risen_is}
 use Rattle.afs_law.specs.Breaks.{HasOwe}
 use Rattle.afs_law.specs.Ideal.{set_up}
-use Rattle.afs_law.specs.Legal.{GoodRestart, IsOfServer, IsUnderChange}
-use Rattle.afs_law.specs.Parts.{EachLine, IsInPlace, LinesAreInPlace}
+use Rattle.afs_law.specs.Legal.{GoodRestart, IsInPlace, IsOfServer, IsUnderChange}
+use Rattle.afs_law.specs.Parts.{EachLine, LinesAreInPlace}
 use Rattle.afs_law.specs.Past.{has_begun, has_given}
 use Rattle.afs_model.specs.Calls.{call_seat}
 use Rattle.afs_num.specs.Nodes.{same_node}

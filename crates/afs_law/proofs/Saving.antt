@@ -838,31 +838,33 @@ pub saves_change_good : (s : Script) (c : Cell) (past : List Entry) (own tail : 
     → RunsHere the_server (called_key (client_head n h)) past own ⊎ RanBefore the_server (called_key (client_head n h)) past own (versioned (versions_by id es v) tail) → IsNew (called_key (client_head n h)) (own ++ lines_of past) → ((l : Key) → HasChangeBy the_server l (own ++ lines_of past) → l.node ≡ Client n → IsLater (called_key (client_head n h)) l) → (HasStopped the_server own → ⊥) → change_key own ≡ None → Accepts s id the_server (own ++ lines_of past) → versions_first tail ≡ [] → ((j : ℕ) (f : Fid) (x : ℕ) → (Client j ≡ Client n → ⊥) → IsChanged f (versions_by id es v) → live_grant the_server (Client j) f (own ++ lines_at the_server past) ≡ Some x → clock_of (own ++ lines_of past) < x → HasOwe the_server (Client j) (Some f) (versioned (versions_by id es v) tail))
     → GoodChange s the_server (called_key (client_head n h)) (length (versions_by id es v)) past own (versioned (versions_by id es v) tail)
 saves_change_good s c past own tail n h user call id v es shown H w q place new latest going only home none owed = record {
-  fresh = new;
-  latest = latest;
+  ideal = record {
+    fresh = new;
+    latest = latest;
+    place = place;
+    going = going;
+    only = only;
+    user = user;
+    call = call;
+    act = w.origin.act;
+    called = w.origin.called;
+    one = w.one;
+    own_user = w.origin.own_user;
+    own_call = sym (served_as call id q.of_volume) ∙ w.origin.own_call;
+    id = id;
+    of_volume = q.of_volume;
+    before = v;
+    at = sym (H.ideal id) ∙ q.at;
+    edits = es;
+    shown = shown;
+    result = q.result;
+    versions = first_on (versions_by id es v) tail none;
+    number = ap length (sym (first_on (versions_by id es v) tail none));
+    home = home;
+  };
   once = λ a runs l has of_act. changed_once s c past n h user call H w a l runs has of_act;
   alone = changed_alone s c past n h user call H w (changes_is id (the_user user) call v es shown q.of_volume q.result);
-  place = place;
-  going = going;
-  only = only;
-  user = user;
-  call = call;
-  act = w.origin.act;
-  called = w.origin.called;
-  one = w.one;
-  own_user = w.origin.own_user;
-  own_call = sym (served_as call id q.of_volume) ∙ w.origin.own_call;
-  id = id;
-  of_volume = q.of_volume;
-  before = v;
-  at = sym (H.ideal id) ∙ q.at;
-  edits = es;
-  shown = shown;
-  result = q.result;
-  versions = first_on (versions_by id es v) tail none;
-  number = ap length (sym (first_on (versions_by id es v) tail none));
   owed = λ j f x ne c l t. owed j f x ne (subst (IsChanged f) (first_on (versions_by id es v) tail none) c) l t;
-  home = home;
 }
 
 -- the ideal operation where the call ran

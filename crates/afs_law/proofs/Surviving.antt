@@ -329,7 +329,7 @@ carried_behind k x past (y ∷ es) e = carried_behind k x (y ∷ past) es (more_
 
 closed_by : (s : Script) (act : Going) (contents : Written) (k : Key) (f : Fid) (user : List ℕ) (call : FsCall) (sent : List Message) (ls : List Line) → IsFound s k sent ls → call_under k sent ≡ Some (user, call) → call ≡ stored_whole f (bytes_in contents) → asked act ≡ stored_whole f (bytes_in contents) → IsClosed act contents k ls
 closed_by s act contents k f user call sent ls found at is asks =
-    let g = found.good in
+    let g = found.good.ideal in
     let bytes : List ℕ = bytes_in contents in
     let same : g.call ≡ stored_whole f bytes = one_call (g.user, g.call) (user, call) (sym (found.carried (g.user, g.call) g.one) ∙ at) ∙ is in
     let of : f.volume ≡ g.id = some_of f.volume g.id (sym (ap volume_called same) ∙ g.of_volume) in

@@ -168,7 +168,7 @@ parted (e ∷ f ∷ es) = e ∷ parted (f ∷ es)
 
 changed_an_entry_late : Legal (parted (entries (start (script 2)) six_front)) (script 2) → ⊥
 unfolding moved begin_row client_row server_row back_timeout_row wake_row start_row record_bytes head_form volume_form spelled opaque pad word laid_at led name_ok directory_bytes name_bytes rights_of image acl_text digits entry_text directory_of names_at opaque_at word_at counted_at whole_at count_at name_at spelled_at bytes_below
-changed_an_entry_late h = let g = h.1.1.1.1.0.0.0.0.1 in elim g.place [ inl x ↦ x.given | inr y ↦ y.boots ]
+changed_an_entry_late h = let g = h.1.1.1.1.0.0.0.0.1 in elim g.ideal.place [ inl x ↦ x.given | inr y ↦ y.boots ]
 
 -- a break becomes owed an entry before the change that it is for: that change then owes nobody
 abbrev owes_ahead : List Entry → List Entry
@@ -252,7 +252,7 @@ run_when_down : Legal (after_a_stop (entries (start (script 1)) store_front)) (s
 unfolding moved begin_row client_row server_row back_timeout_row wake_row start_row record_bytes head_form volume_form spelled opaque pad word laid_at led name_ok directory_bytes name_bytes rights_of image acl_text digits entry_text directory_of names_at opaque_at word_at counted_at whole_at count_at name_at spelled_at bytes_below
 run_when_down h =
     let g = h.1.1.0.0.0.1.0.1 in
-    elim g.place [
+    elim g.ideal.place [
       | inl x ↦ let e : None ≡ Some x.boot = x.up in absurd cc
       | inr y ↦ y.boots
     ]
@@ -271,7 +271,7 @@ changed_behind_a_later_one : Legal (alters 1 to_boot_two (alters 9 (instead (lin
 unfolding moved begin_row client_row server_row back_timeout_row wake_row start_row record_bytes head_form volume_form spelled opaque pad word laid_at led name_ok directory_bytes name_bytes rights_of image acl_text digits entry_text directory_of names_at opaque_at word_at counted_at whole_at count_at name_at spelled_at bytes_below
 changed_behind_a_later_one h =
     let g = h.1.1.1.1.1.1.1.1.1.0.0.0.1.0.1 in
-    elim (g.latest (key_of_one 2) (inl (refl, refl)) refl) [
+    elim (g.ideal.latest (key_of_one 2) (inl (refl, refl)) refl) [
       | inl x ↦ let e : 1 < 1 = x in absurd (omega arith)
       | inr x ↦ let e : 2 < 1 = x.1 in absurd (omega arith)
     ]
@@ -281,7 +281,7 @@ run_in_another_boot : Legal (alters 0 to_boot_two (entries (start (script 1)) (b
 unfolding moved begin_row client_row server_row back_timeout_row wake_row start_row record_bytes head_form volume_form spelled opaque pad word laid_at led name_ok directory_bytes name_bytes rights_of image acl_text digits entry_text directory_of names_at opaque_at word_at counted_at whole_at count_at name_at spelled_at bytes_below
 run_in_another_boot h =
     let g = h.1.0.0.0.1.0.1 in
-    elim g.place [
+    elim g.ideal.place [
       | inl x ↦ let e : 2 ≡ 1 = x.given.1.1 ∙ sym (some_of 1 x.boot x.up) in absurd cc
       | inr y ↦ y.boots
     ]

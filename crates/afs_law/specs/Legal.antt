@@ -192,17 +192,13 @@ pub record RanBefore (server : Node) (k : Key) (past : List Entry) (own next : L
   pub stopped : HasStopped server at.lines
   pub since : AreFailed server newer
 
--- A change runs a key for the first time, at a server that accepts stores of the volume, and is the only one of its entry. What
--- the server changed before for the same node it did under keys of earlier calls, and while an act runs there, under none of
--- that act. No server did under another key of this key's act, were that long over: an act changes things once. The entry ran the
--- key's call, or is the restart behind the one that was interrupted in that. The key's call was sent by its node, for its user, and
--- is that of the act that ran there, with the act's own bytes. The versions that follow are just those of the ideal operation on the
--- ideal volume. Each other client's last grant on one of their fids that lasts has a break behind the change
-pub record GoodChange (s : Script) (server : Node) (k : Key) (count : ℕ) (past : List Entry) (own next : List Line) : Type 0 where
+-- A change runs a key for the first time, at a server that accepts stores of the volume, is the only one of its entry, and is later than
+-- what the server changed before for the same node. Its entry ran the key's call, or is the restart behind the one that was interrupted
+-- in that. The call was sent by its node, for its user, and is that of the act that ran there, with the act's own bytes. The versions
+-- that follow are just those of the ideal operation on the ideal volume
+pub record IdealChange (s : Script) (server : Node) (k : Key) (count : ℕ) (past : List Entry) (own next : List Line) : Type 0 where
   pub fresh : IsNew k (own ++ lines_of past)
   pub latest : (l : Key) → HasChangeBy server l (own ++ lines_of past) → l.node ≡ k.node → IsLater k l
-  pub once : (a : Going) → running s k.node (lines_of past) ≡ Some a → (l : Key) → HasChangeBy server l (lines_of past) → is_of_act k.node l past ≡ true → ⊥
-  pub alone : (newer older : List Entry) → past ≡ newer ++ older → is_of_act k.node k older ≡ true → (l : Key) → HasChange l (lines_of past) → is_of_act k.node l older ≡ true → ⊥
   pub place : RunsHere server k past own ⊎ RanBefore server k past own next
   pub going : HasStopped server own → ⊥
   pub only : change_key own ≡ None
@@ -222,8 +218,16 @@ pub record GoodChange (s : Script) (server : Node) (k : Key) (count : ℕ) (past
   pub result : op id (the_user user) call before ≡ changes edits shown
   pub versions : versions_first next ≡ versions_by id edits before
   pub number : count ≡ length (versions_first next)
-  pub owed : (j : ℕ) (f : Fid) (x : ℕ) → (Client j ≡ k.node → ⊥) → IsChanged f (versions_first next) → live_grant server (Client j) f (own ++ lines_at server past) ≡ Some x → clock_of (own ++ lines_of past) < x → HasOwe server (Client j) (Some f) next
   pub home : Accepts s id server (own ++ lines_of past)
+
+-- While an act runs at the key's node, the server has changed nothing under a key of that act; and no server has under another key of
+-- this key's act, were that long over: an act changes things once. Each other client's last grant on one of the fids that change, if it
+-- lasts, has a break behind the change
+pub record GoodChange (s : Script) (server : Node) (k : Key) (count : ℕ) (past : List Entry) (own next : List Line) : Type 0 where
+  pub ideal : IdealChange s server k count past own next
+  pub once : (a : Going) → running s k.node (lines_of past) ≡ Some a → (l : Key) → HasChangeBy server l (lines_of past) → is_of_act k.node l past ≡ true → ⊥
+  pub alone : (newer older : List Entry) → past ≡ newer ++ older → is_of_act k.node k older ≡ true → (l : Key) → HasChange l (lines_of past) → is_of_act k.node l older ≡ true → ⊥
+  pub owed : (j : ℕ) (f : Fid) (x : ℕ) → (Client j ≡ k.node → ⊥) → IsChanged f (versions_first next) → live_grant server (Client j) f (own ++ lines_at server past) ≡ Some x → clock_of (own ++ lines_of past) < x → HasOwe server (Client j) (Some f) next
 
 -- the server began again in this entry
 abbrev pub HasRisen : Node → List Line → Type 0
@@ -502,30 +506,43 @@ IsOfServer who n = ⊥
 abbrev pub IsTimed : Node → List Line → List Line → Type 0
 IsTimed c own next = ((has_given own ≡ false) × (has_begun c own ≡ false)) × ((has_given next ≡ false) × (has_begun c next ≡ false))
 
--- An entry is given one message at most, and each line stands in an entry of its own node: a begin, a read, an answer, a drop in one
--- of its client, a change, a grant, a break in one of its server, a tick in the clock's, and that nothing happened in nobody's
+-- Each line stands in an entry of its own node: a begin, a read, an answer, a drop in one of its client, a change, a grant, a break in
+-- one of its server, a tick in the clock's, and that nothing happened in nobody's. An entry is given one message at most; a version
+-- stands under its change; an act runs where a client reads or answers; a timeout stands in an entry that is given no message and in
+-- which its node begins no act; and a server that begins again owes each client of the script a break on all
+abbrev pub IsInPlace : Script → Actor → Line → List Entry → List Line → List Line → Type 0
+IsInPlace s who (lines.Begin c act) past own next = IsOfClient who c
+IsInPlace s who (lines.Given place) past own next = has_given own ≡ false
+IsInPlace s who (lines.Grant server c f index expiry) past own next = IsOfServer who server
+IsInPlace s who (lines.Change server k count) past own next = IsOfServer who server
+IsInPlace s who (lines.Version v) past own next = IsUnderChange own
+IsInPlace s who (lines.Read c f index source body) past own next = IsOfClient who c × HasAct s c past own
+IsInPlace s who (lines.Answer c code) past own next = IsOfClient who c × HasAct s c past own
+IsInPlace s who (lines.Timeout c callee epoch number count) past own next = (who ≡ actors.Node c) × IsTimed c own next
+IsInPlace s who (lines.Tick n) past own next = who ≡ actors.Clock
+IsInPlace s who (lines.Stop n calls pick) past own next = IsOfServer who n
+IsInPlace s who (lines.Fail n call) past own next = IsOfServer who n
+IsInPlace s who (lines.Crash n) past own next = who ≡ actors.Node n
+IsInPlace s who (lines.Fault n) past own next = IsOfServer who n
+IsInPlace s who (lines.Restart n boot) past own next = (who ≡ actors.Node n) × GoodRestart s n next
+IsInPlace s who (lines.Full n) past own next = IsOfServer who n
+IsInPlace s who (lines.Drop c f) past own next = IsOfClient who c
+IsInPlace s who (lines.DropAll c server) past own next = IsOfClient who c
+IsInPlace s who (lines.Owe server c what n) past own next = IsOfServer who server
+IsInPlace s who (lines.Settle server c n) past own next = IsOfServer who server
+IsInPlace s who (lines.Quit server c n) past own next = IsOfServer who server
+IsInPlace s who lines.Void past own next = who ≡ actors.Nobody
+
+-- a line is in its place; and what it grants, changes, reads, answers, owes, settles or gives up is good
 abbrev pub IsGood : Script → Actor → Line → List Entry → List Line → List Line → Type 0
-IsGood s who (lines.Begin c act) past own next = IsOfClient who c
-IsGood s who (lines.Given place) past own next = has_given own ≡ false
-IsGood s who (lines.Grant server c f index expiry) past own next = IsOfServer who server × GoodGrant server c f index expiry past own
-IsGood s who (lines.Change server k count) past own next = IsOfServer who server × GoodChange s server k count past own next
-IsGood s who (lines.Version v) past own next = IsUnderChange own
-IsGood s who (lines.Read c f index source body) past own next = (IsOfClient who c × HasAct s c past own) × GoodReadBy s (is_promised body) c f index source body past own
-IsGood s who (lines.Answer c code) past own next = IsOfClient who c × GoodCode s c code past own
-IsGood s who (lines.Timeout c callee epoch number count) past own next = (who ≡ actors.Node c) × IsTimed c own next
-IsGood s who (lines.Tick n) past own next = who ≡ actors.Clock
-IsGood s who (lines.Stop n calls pick) past own next = IsOfServer who n
-IsGood s who (lines.Fail n call) past own next = IsOfServer who n
-IsGood s who (lines.Crash n) past own next = who ≡ actors.Node n
-IsGood s who (lines.Fault n) past own next = IsOfServer who n
-IsGood s who (lines.Restart n boot) past own next = (who ≡ actors.Node n) × GoodRestart s n next
-IsGood s who (lines.Full n) past own next = IsOfServer who n
-IsGood s who (lines.Drop c f) past own next = IsOfClient who c
-IsGood s who (lines.DropAll c server) past own next = IsOfClient who c
-IsGood s who (lines.Owe server c what n) past own next = IsOfServer who server × GoodOwe s server c what n past own
-IsGood s who (lines.Settle server c n) past own next = IsOfServer who server × GoodSettle server c n past own
-IsGood s who (lines.Quit server c n) past own next = IsOfServer who server × GoodQuit server c n past own
-IsGood s who lines.Void past own next = who ≡ actors.Nobody
+IsGood s who (lines.Grant server c f index expiry) past own next = IsInPlace s who (lines.Grant server c f index expiry) past own next × GoodGrant server c f index expiry past own
+IsGood s who (lines.Change server k count) past own next = IsInPlace s who (lines.Change server k count) past own next × GoodChange s server k count past own next
+IsGood s who (lines.Read c f index source body) past own next = IsInPlace s who (lines.Read c f index source body) past own next × GoodReadBy s (is_promised body) c f index source body past own
+IsGood s who (lines.Answer c code) past own next = IsInPlace s who (lines.Answer c code) past own next × GoodCode s c code past own
+IsGood s who (lines.Owe server c what n) past own next = IsInPlace s who (lines.Owe server c what n) past own next × GoodOwe s server c what n past own
+IsGood s who (lines.Settle server c n) past own next = IsInPlace s who (lines.Settle server c n) past own next × GoodSettle server c n past own
+IsGood s who (lines.Quit server c n) past own next = IsInPlace s who (lines.Quit server c n) past own next × GoodQuit server c n past own
+IsGood s who l past own next = IsInPlace s who l past own next
 
 abbrev pub AreGood : Script → Actor → List Entry → List Line → List Line → Type 0
 AreGood s who past own [] = ⊤

@@ -1,4 +1,5 @@
--- What makes runs legal, part by part, for scripts with any number of servers.
+-- Parts of what a legal history is, each proved of the runs of every script, with any number of servers. Reads, answers, promises and
+-- breaks are not among them.
 use Rattle.std.specs.Prelude.{◌≡◌, ℕ, List, [], ◌∷◌, ◌++◌, Some, None, false, length, true, ⊤, ◌⊎◌}
 use Rattle.afs_history.specs.declared.lines.Line.{Line}
 use Rattle.afs_history.specs.declared.lines.Line.TheVariants as lines
@@ -7,7 +8,7 @@ use Rattle.afs_ideal.specs.Operations.{changes, op, the_user, volume_called}
 use Rattle.afs_ideal.specs.Volumes.{Edit, Volume, versions_by}
 use Rattle.afs_law.specs.Breaks.{HasStopped}
 use Rattle.afs_law.specs.Ideal.{Accepts, call_under, change_key, set_up, user_of, volume_after}
-use Rattle.afs_law.specs.Legal.{AreRan, IsEntryOf, GoodCall, IsBy, GoodRestart, HasAct, HasChangeBy, IsLater, IsNew, IsOfClient, IsOfServer, IsTimed, IsUnderChange, RanBefore, RunsHere, as_asked, versions_first}
+use Rattle.afs_law.specs.Legal.{AreRan, GoodCall, IdealChange, IsBy, IsEntryOf, IsInPlace, IsOfServer, as_asked}
 use Rattle.afs_law.specs.Once.{past_of}
 use Rattle.afs_law.specs.Past.{Called, CalledSince, called_key, has_given, is_late, lines_of, running, sent_of}
 use Rattle.afs_num.specs.declared.calls.FsCall.{FsCall}
@@ -81,32 +82,7 @@ EntriesAreSound = (s : Script) (history : List Entry) (end : Cell) → RunsTo hi
 
 -- ---- where lines stand
 
--- Each line stands in an entry of its node. A message is given first, and a version stands under its change; an act runs where a
--- client reads or answers; a timeout is alone; and a server that begins again owes every client a break on all
-abbrev pub IsInPlace : Script → LineRule
-IsInPlace s who (lines.Begin c act) past own next = IsOfClient who c
-IsInPlace s who (lines.Given place) past own next = has_given own ≡ false
-IsInPlace s who (lines.Grant server c f index expiry) past own next = IsOfServer who server
-IsInPlace s who (lines.Change server k count) past own next = IsOfServer who server
-IsInPlace s who (lines.Version v) past own next = IsUnderChange own
-IsInPlace s who (lines.Read c f index source body) past own next = IsOfClient who c × HasAct s c past own
-IsInPlace s who (lines.Answer c code) past own next = IsOfClient who c × HasAct s c past own
-IsInPlace s who (lines.Timeout c callee epoch number count) past own next = (who ≡ actors.Node c) × IsTimed c own next
-IsInPlace s who (lines.Tick n) past own next = who ≡ actors.Clock
-IsInPlace s who (lines.Stop n calls pick) past own next = IsOfServer who n
-IsInPlace s who (lines.Fail n call) past own next = IsOfServer who n
-IsInPlace s who (lines.Crash n) past own next = who ≡ actors.Node n
-IsInPlace s who (lines.Fault n) past own next = IsOfServer who n
-IsInPlace s who (lines.Restart n boot) past own next = (who ≡ actors.Node n) × GoodRestart s n next
-IsInPlace s who (lines.Full n) past own next = IsOfServer who n
-IsInPlace s who (lines.Drop c f) past own next = IsOfClient who c
-IsInPlace s who (lines.DropAll c server) past own next = IsOfClient who c
-IsInPlace s who (lines.Owe server c what n) past own next = IsOfServer who server
-IsInPlace s who (lines.Settle server c n) past own next = IsOfServer who server
-IsInPlace s who (lines.Quit server c n) past own next = IsOfServer who server
-IsInPlace s who lines.Void past own next = who ≡ actors.Nobody
-
--- so do all lines of a run
+-- each line of a run is in its place: a history is legal of which, besides, grants, changes, reads, answers and breaks are good
 abbrev pub LinesAreInPlace : Type 0
 LinesAreInPlace = (s : Script) (history : List Entry) (end : Cell) → RunsTo history s end → AllLines (IsInPlace s) s history
 
@@ -126,34 +102,6 @@ abbrev pub MessagesAreOwn : Type 0
 MessagesAreOwn = (s : Script) (history : List Entry) (end : Cell) → RunsTo history s end → EachEntry (λ past e. EachSent IsOwn (e ∷ past) e.sent) (set_up s ∷ []) history
 
 -- ---- changes
-
--- A change runs a new key at a server that accepts stores of the volume, is the only one of its entry, and is later than what the
--- server changed before for the same node. Its entry ran the key's call, or is the restart behind the one that was interrupted in
--- that. The call is that of the act which ran at its node, for its user, and the versions that follow are just those of the ideal
--- operation on the ideal volume
-pub record IdealChange (s : Script) (server : Node) (k : Key) (count : ℕ) (past : List Entry) (own next : List Line) : Type 0 where
-  pub fresh : IsNew k (own ++ lines_of past)
-  pub latest : (l : Key) → HasChangeBy server l (own ++ lines_of past) → l.node ≡ k.node → IsLater k l
-  pub place : RunsHere server k past own ⊎ RanBefore server k past own next
-  pub going : HasStopped server own → ⊥
-  pub only : change_key own ≡ None
-  pub user : List ℕ
-  pub call : FsCall
-  pub act : Going
-  pub called : Called s k user call act past
-  pub one : call_under k (sent_of past) ≡ Some (user, call)
-  pub own_user : user ≡ user_of s k.node
-  pub own_call : call ≡ asked act
-  pub id : ℕ
-  pub of_volume : volume_called call ≡ Some id
-  pub before : Volume
-  pub at : volume_after id past ≡ Some before
-  pub edits : List Edit
-  pub shown : ℕ
-  pub result : op id (the_user user) call before ≡ changes edits shown
-  pub versions : versions_first next ≡ versions_by id edits before
-  pub number : count ≡ length (versions_first next)
-  pub home : Accepts s id server (own ++ lines_of past)
 
 abbrev pub IsIdeal : Script → LineRule
 IsIdeal s who (lines.Change server k count) past own next = IsOfServer who server × IdealChange s server k count past own next
