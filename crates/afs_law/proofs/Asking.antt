@@ -380,7 +380,7 @@ pub own_call : {s : Script} → (fl : ℕ → Ghost) (c : Cell) (past : List Ent
 own_call {s} fl c past n floor x act ls le kind runs at one dropped late =
     let to : x.callee ≡ the_server = kind.callee act runs in
     record {
-      good = (record { sender = refl; reply = call_good _ (call_head (Client n) x act) x.user (call_of x act); gift = own_gift act x.gifts (call_head (Client n) x act) x.user (onto (lines_of past) ls) dropped; key = late }, tt);
+      good = (record { sender = refl; half = λ z. refl; reply = call_good _ (call_head (Client n) x act) x.user (call_of x act); gift = own_gift act x.gifts (call_head (Client n) x act) x.user (onto (lines_of past) ls) dropped; key = late }, tt);
       calls = (tt, tt);
       dones = (tt, tt);
       news = record {

@@ -20,7 +20,7 @@ use Rattle.afs_rows.specs.Going.{Going, Need, answers, asks_for, next, asked, gi
 use Rattle.afs_law.specs.Grants.{is_promised, read_reply, GrantOf, since, until, IsWithdrawn, IsChangedByOther, IsDropped}
 use Rattle.afs_law.specs.Ideal.{last_version, Unless, set_up, IsLast, WasLast, HasBeen, HasVersion, Accepts, clock_of, user_of, seen, change_in, change_key, call_under, volume_after}
 use Rattle.afs_history.specs.declared.lines.Line.{Line}
-use Rattle.afs_law.specs.Past.{WasSent, last_boot, is_late, called_key, IsToCome, is_of_act, lines_of, sent_of, given_message, answered_key, code_told, IsReply, running, has_begun, has_given, Called, CalledSince, IsCallUnder, Ran, server_boot}
+use Rattle.afs_law.specs.Past.{WasSent, last_boot, is_late, called_key, IsCall, IsToCome, is_of_act, lines_of, sent_of, given_message, answered_key, code_told, IsReply, running, has_begun, has_given, Called, CalledSince, IsCallUnder, Ran, server_boot}
 use Rattle.afs_rows.specs.Runs.{Entry}
 use Rattle.afs_history.specs.declared.scripts.Script.{Script}
 use Rattle.afs_num.specs.declared.histories.Actor.{Actor}
@@ -33,6 +33,7 @@ use Rattle.afs_num.specs.declared.histories.ReadSource.{ReadSource}
 use Rattle.afs_num.specs.declared.histories.ReadSource.TheVariants.{Fetched}
 use Rattle.afs_num.specs.declared.histories.Version.{Version}
 use Rattle.afs_num.specs.declared.messages.Carried.TheVariants as carried
+use Rattle.afs_num.specs.declared.types.Half.TheVariants as halves
 use Rattle.afs_num.specs.declared.messages.Call.TheVariants as ask
 use Rattle.afs_history.specs.declared.lines.Line.TheVariants as lines
 
@@ -458,10 +459,16 @@ abbrev pub GoodCall : Head → Carried → List Entry → Type 0
 GoodCall head (carried.Call user call) past = HasOwnKey head.from (called_key head) past
 GoodCall head c past = ⊤
 
--- A message is sent by the node that it names, in the entry with which `past` begins. A reply of a server waits for its breaks, what
--- a call gives back was dropped, and a client's call has a key of its own act
+-- what carries a call is one by its header too
+abbrev pub HasOwnHalf : Message → Type 0
+HasOwnHalf m = IsCall m.carried → m.head.half ≡ halves.Call
+
+-- A message is sent by the node that its header names as sender, in the entry with which `past` begins, and a call is one by its header.
+-- A reply of a server waits for its breaks, what a call gives back was dropped, and a client's call has a key that no call had which was
+-- sent before its act began
 pub record GoodMessage (past : List Entry) (m : Message) : Type 0 where
   pub sender : IsBy m.head.from past
+  pub half : HasOwnHalf m
   pub reply : GoodReply past m
   pub gift : GoodGift m.head m.carried (lines_of past)
   pub key : GoodCall m.head m.carried past
