@@ -1,3 +1,4 @@
+-- Laws about the runs of a script.
 use Rattle.afs_history.specs.Written.{bytes_in}
 use Rattle.afs_history.specs.declared.acts.Written.{Written}
 use Rattle.afs_history.specs.declared.acts.Operand.{Operand}
@@ -12,7 +13,6 @@ use Rattle.afs_law.specs.Breaks.{AllOwes, EndedBy, HasTimeout, Owes, GoodSettle,
 use Rattle.afs_model.specs.Calls.{admitted, call_seat}
 use Rattle.afs_rows.specs.Going.{stored_whole, ClientState, asked, Going}
 use Rattle.afs_ideal.specs.Operations.{Caller, the_user, Result, refused, reads, changes, no_operation, op, volume_called, volume_changed}
--- Laws about the runs of a script.
 use Rattle.afs_num.specs.declared.histories.ReadSource.TheVariants.{Cached}
 use Rattle.afs_rows.specs.ClientRow.{find_cached}
 use Rattle.afs_num.specs.declared.messages.Message.{Message}
@@ -31,7 +31,7 @@ use Rattle.afs_law.specs.Legal.{IsCaused, HasChangeBy, GoodRead, HasChange, Lega
 use Rattle.afs_history.specs.declared.lines.Line.{Line}
 use Rattle.afs_law.specs.Once.{past_of, ChangesOnce}
 use Rattle.afs_law.specs.OneServer.{IsOneServer}
-use Rattle.afs_law.specs.Past.{AreWithin, IsUpTo, CalledSince, HasCode, IsCall, lines_of, onto, running, IsUnheard, called_key, answered_key, Ran}
+use Rattle.afs_law.specs.Past.{IsReply, AreWithin, IsUpTo, CalledSince, HasCode, IsCall, lines_of, onto, running, IsUnheard, called_key, answered_key, Ran}
 use Rattle.afs_rows.specs.Runs.{Fall, begun_by_disk, message_at, Leads, start, Input, Entry, Cell, RunsTo, Host, first_lasting, first_stored, volumes_at}
 use Rattle.afs_rows.specs.ServerRow.{Begun, Change, is_client, lasting_after, lasting_started, record_of, serves, runs, refuses, not_served, whole, is_client, no_room, key_of, made, versioned}
 use Rattle.afs_rows.specs.States.{CacheEntry, Seat, Lasting, durable_of, volume_in, ServerState, BackCall}
@@ -75,12 +75,12 @@ pub record IsHeld (id : ℕ) (volumes : Table Stored) (past : List Entry) : Type
   pub ideal : volume_in id volumes ≡ volume_after id past
   pub told : (v : Volume) → volume_after id past ≡ Some v → Agrees id v (versions_in (lines_of past))
 
--- so are all of which a server accepts stores, and it holds no others
+-- each volume whose stores the server accepts is held so, and it holds no other
 pub record AreHeld (s : Script) (i : ℕ) (volumes : Table Stored) (past : List Entry) : Type 0 where
   pub held : (id : ℕ) → Accepts s id (Server i) (lines_of past) → IsHeld id volumes past
   pub alone : (id : ℕ) (v : Volume) → volume_in id volumes ≡ Some v → Accepts s id (Server i) (lines_of past)
 
--- and of which no server does, that volume isn't there
+-- it is so of every server, and a volume whose stores no server accepts isn't there
 pub record AreTold (s : Script) (end : Cell) (past : List Entry) : Type 0 where
   pub servers : (i : ℕ) → AreHeld s i (end.hosts i).state.lasting.volumes past
   pub nowhere : (id : ℕ) → ((server : Node) → Accepts s id server (lines_of past) → ⊥) → volume_after id past ≡ None
@@ -141,11 +141,12 @@ AcknowledgedAreMade =
     (s : Script) (history before after : List Entry) (e : Entry) (first rest : List Line) (c : Node) (code : Code) (act : Going) → Legal history s → history ≡ before ++ (e ∷ after) → e.lines ≡ first ++ lines.Answer c code ∷ rest
     → running s c (onto [] first ++ lines_of (past_of (set_up s ∷ []) before)) ≡ Some act → IsChangingAct act.act → code.0 ≡ pos 0 → IsMade c (past_of (set_up s ∷ []) before) (onto [] first)
 
--- the version stands under a change of this key
+-- the change has this key
 abbrev pub IsOfKey : Key → Option (Node × Key) → Type 0
 IsOfKey k None = ⊥
 IsOfKey k (Some change) = change.1 ≡ k
 
+-- the version stands, by these lines, under a change of this key
 abbrev pub HasMade : Key → Version → List Line → Type 0
 HasMade k v [] = ⊥
 HasMade k v (lines.Version w ∷ older) = ((w ≡ v) × IsOfKey k (change_below older)) ⊎ HasMade k v older
@@ -282,18 +283,18 @@ RepliesAreCaused =
     → (end.clients j).running ≡ Some act → m.head.epoch ≡ (end.clients j).epoch → m.head.number ≡ (end.clients j).last → (code : ℤ) × ((cause : Cause m code (asked act) (past_of (set_up s ∷ []) history) []) × (cause.user ≡ user_of s (Client j)))
 
 -- each reply of a server to a client, once sent, is that of the entry that ran its call in the boot that it carries
-abbrev pub RepliesAreRan : Type 0
-RepliesAreRan =
+abbrev pub RepliesWereRun : Type 0
+RepliesWereRun =
     (s : Script) (history : List Entry) (end : Cell) → RunsTo history s end → (i j place : ℕ) (m : Message) → message_at end.sent place ≡ Some m → HasCode m.carried → m.head.from ≡ Server i → m.head.to ≡ Client j → Ran m.head (past_of (set_up s ∷ []) history)
 
 abbrev pub seat_key : Node → Seat → Key
 seat_key n seat = record { node = n; epoch = seat.epoch; number = seat.number }
 
--- And so is each that a server keeps for a client: it is its own, and answers the call whose pair the seat has
-abbrev pub KeptAreRan : Type 0
-KeptAreRan =
+-- And so is each that a server keeps for a client: it is its own reply, and answers the call whose pair the seat has
+abbrev pub KeptWereRun : Type 0
+KeptWereRun =
     (s : Script) (history : List Entry) (end : Cell) → RunsTo history s end → (i j : ℕ) (seat : Seat) (m : Message) → call_seat (Client j) (end.hosts i).state.seats ≡ Some seat → seat.reply ≡ Some m
-    → Ran m.head (past_of (set_up s ∷ []) history) × ((answered_key m.head ≡ seat_key (Client j) seat) × (m.head.from ≡ Server i))
+    → IsReply m × (Ran m.head (past_of (set_up s ∷ []) history) × ((answered_key m.head ≡ seat_key (Client j) seat) × (m.head.from ≡ Server i)))
 
 -- its reply is kept
 abbrev pub HasReply : Node → Seat → Type 0

@@ -20,7 +20,7 @@ use Rattle.afs_rows.specs.Going.{Going, Need, answers, asks_for, next, asked, gi
 use Rattle.afs_law.specs.Grants.{is_promised, read_reply, GrantOf, since, until, IsWithdrawn, IsChangedByOther, IsDropped}
 use Rattle.afs_law.specs.Ideal.{last_version, Unless, set_up, IsLast, WasLast, HasBeen, HasVersion, Accepts, clock_of, user_of, seen, change_in, change_key, call_under, volume_after}
 use Rattle.afs_history.specs.declared.lines.Line.{Line}
-use Rattle.afs_law.specs.Past.{WasSent, last_boot, is_late, called_key, IsCall, IsToCome, is_of_act, lines_of, sent_of, given_message, answered_key, code_told, IsReply, running, has_begun, has_given, Called, CalledSince, IsCallUnder, Ran, server_boot}
+use Rattle.afs_law.specs.Past.{WasSent, last_boot, is_new_to_act, called_key, IsCall, IsToCome, is_of_act, lines_of, sent_of, given_message, answered_key, code_told, IsReply, running, has_begun, has_given, Called, CalledSince, IsCallUnder, Ran, server_boot}
 use Rattle.afs_rows.specs.Runs.{Entry}
 use Rattle.afs_history.specs.declared.scripts.Script.{Script}
 use Rattle.afs_num.specs.declared.histories.Actor.{Actor}
@@ -452,7 +452,7 @@ IsBy n (e ∷ past) = e.actor ≡ actors.Node n
 
 -- a client gives its call a key that no act before the one that it began last used
 abbrev pub HasOwnKey : Node → Key → List Entry → Type 0
-HasOwnKey (Client j) k past = is_late (Client j) k past ≡ true
+HasOwnKey (Client j) k past = is_new_to_act (Client j) k past ≡ true
 HasOwnKey n k past = ⊤
 
 abbrev pub GoodCall : Head → Carried → List Entry → Type 0
@@ -478,9 +478,9 @@ AreGoodSent past [] = ⊤
 AreGoodSent past (m ∷ ms) = GoodMessage past m × AreGoodSent past ms
 
 -- what is sent as a server's reply to a client is that of the entry which ran its call: one before, or the one that sends it
-abbrev pub AreRan : List Entry → List Message → Type 0
-AreRan past [] = ⊤
-AreRan past (m ∷ ms) = ((i j : ℕ) → IsReply m → m.head.from ≡ Server i → m.head.to ≡ Client j → Ran m.head past) × AreRan past ms
+abbrev pub WereRun : List Entry → List Message → Type 0
+WereRun past [] = ⊤
+WereRun past (m ∷ ms) = ((i j : ℕ) → IsReply m → m.head.from ≡ Server i → m.head.to ≡ Client j → Ran m.head past) × WereRun past ms
 
 -- ---- restarts
 
@@ -516,7 +516,8 @@ IsTimed c own next = ((has_given own ≡ false) × (has_begun c own ≡ false)) 
 -- Each line stands in an entry of its own node: a begin, a read, an answer, a drop in one of its client, a change, a grant, a break in
 -- one of its server, a tick in the clock's, and that nothing happened in nobody's. An entry is given one message at most; a version
 -- stands under its change; an act runs where a client reads or answers; a timeout stands in an entry that is given no message and in
--- which its node begins no act; and a server that begins again owes each client of the script a break on all
+-- which its node begins no act; and a server that begins again owes each client of the script a break on all. A crash is of any node, a
+-- fault of a server alone, for clients have no disk
 abbrev pub IsInPlace : Script → Actor → Line → List Entry → List Line → List Line → Type 0
 IsInPlace s who (lines.Begin c act) past own next = IsOfClient who c
 IsInPlace s who (lines.Given place) past own next = has_given own ≡ false
@@ -563,14 +564,14 @@ IsOfScript s (actors.Node n) = ⊥
 IsOfScript s actors.Clock = ⊤
 IsOfScript s actors.Nobody = ⊤
 
--- an entry lays no volumes, for the set-up alone does; it is of a node of the script; and a server that begins again was down, and
--- begins no boot twice
+-- an entry lays no volumes, for the set-up alone does; it is of a node of the script; and a server that begins again was down, and is
+-- then in a boot above the last one that it began
 abbrev pub IsEntryOf : Script → List Entry → Entry → Type 0
 IsEntryOf s past e = ((e.volumes ≡ []) × IsOfScript s e.actor) × AreRising (lines_of past) e.lines
 
 abbrev pub LegalAfter : Script → List Entry → List Entry → Type 0
 LegalAfter s past [] = ⊤
-LegalAfter s past (e ∷ es) = ((AreGood s e.actor past [] e.lines × AreGoodSent (e ∷ past) e.sent) × (IsEntryOf s past e × AreRan (e ∷ past) e.sent)) × LegalAfter s (e ∷ past) es
+LegalAfter s past (e ∷ es) = ((AreGood s e.actor past [] e.lines × AreGoodSent (e ∷ past) e.sent) × (IsEntryOf s past e × WereRun (e ∷ past) e.sent)) × LegalAfter s (e ∷ past) es
 
 abbrev pub Legal : List Entry → Script → Type 0
 Legal history s = LegalAfter s (set_up s ∷ []) history

@@ -8,9 +8,9 @@ use Rattle.afs_ideal.specs.Operations.{changes, op, the_user, volume_called}
 use Rattle.afs_ideal.specs.Volumes.{Edit, Volume, versions_by}
 use Rattle.afs_law.specs.Breaks.{HasStopped}
 use Rattle.afs_law.specs.Ideal.{Accepts, call_under, change_key, set_up, user_of, volume_after}
-use Rattle.afs_law.specs.Legal.{AreRan, GoodCall, IdealChange, IsBy, IsEntryOf, IsInPlace, IsOfServer, as_asked}
+use Rattle.afs_law.specs.Legal.{WereRun, GoodCall, IdealChange, IsBy, IsEntryOf, IsInPlace, IsOfServer, as_asked}
 use Rattle.afs_law.specs.Once.{past_of}
-use Rattle.afs_law.specs.Past.{Called, CalledSince, called_key, has_given, is_late, lines_of, running, sent_of}
+use Rattle.afs_law.specs.Past.{Called, CalledSince, called_key, has_given, is_new_to_act, lines_of, running, sent_of}
 use Rattle.afs_num.specs.declared.calls.FsCall.{FsCall}
 use Rattle.afs_num.specs.declared.histories.Actor.{Actor}
 use Rattle.afs_num.specs.declared.histories.Actor.TheVariants as actors
@@ -31,7 +31,7 @@ use Rattle.afs_rows.specs.Runs.{Cell, Entry, RunsTo, message_at}
 abbrev pub ActsAreTold : Type 0
 ActsAreTold = (s : Script) (history : List Entry) (end : Cell) → RunsTo history s end → (j : ℕ) → running s (Client j) (lines_of (past_of (set_up s ∷ []) history)) ≡ (end.clients j).running
 
--- a call is the one under its key, and was sent by its client, for its user, while the act ran that asks for it
+-- a file call is the one under its key, and was sent by its client, for its user, while the act ran that asks for it
 pub record IsAsked (s : Script) (sent : List Message) (past : List Entry) (head : Head) (user : List ℕ) (call : FsCall) : Type 0 where
   pub one : call_under (called_key head) sent ≡ Some (user, call)
   pub act : Going
@@ -43,16 +43,16 @@ pub record IsAsked (s : Script) (sent : List Message) (past : List Entry) (head 
 abbrev pub waited_key : ℕ → ClientState → Key
 waited_key j c = record { node = Client j; epoch = c.epoch; number = c.last }
 
--- the call that the act waits for was sent since it began, under a key that no act before used
+-- the call that the act waits for was sent since it began, under a key that no call had which was sent before the act's entry
 pub record IsWaiting (s : Script) (j : ℕ) (c : ClientState) (act : Going) (past : List Entry) : Type 0 where
   pub called : CalledSince (waited_key j c) (user_of s (Client j)) (call_of c act) past
-  pub late : is_late (Client j) (waited_key j c) past ≡ true
+  pub late : is_new_to_act (Client j) (waited_key j c) past ≡ true
 
 pub record AreAsked (s : Script) (end : Cell) (past : List Entry) : Type 0 where
   pub calls : (j place : ℕ) (head : Head) (user : List ℕ) (call : FsCall) → message_at end.sent place ≡ Some (record { head = head; carried = carried.Call user (ask.File call) }) → head.from ≡ Client j → IsAsked s end.sent past head user call
   pub waits : (j : ℕ) (act : Going) → (end.clients j).running ≡ Some act → IsWaiting s j (end.clients j) act past
 
--- each call of a client is one that the act asked which ran there
+-- each file call of a client is one that the act asked which ran there
 abbrev pub CallsAreAsked : Type 0
 CallsAreAsked = (s : Script) (history : List Entry) (end : Cell) → RunsTo history s end → AreAsked s end (past_of (set_up s ∷ []) history)
 
@@ -75,10 +75,10 @@ AllLines G s history = EachEntry (λ past e. EachLine G e.actor past [] e.lines)
 
 -- ---- entries
 
--- each entry of a run is of a node of the script, lays no volume and begins no boot twice; and what it sends as a server's reply to a
--- client is that of the entry which ran its call
+-- each entry of a run is of a node of the script and lays no volume; a server that begins again in it was down, and is then in a boot
+-- above the last one that it began; and what it sends as a server's reply to a client is that of the entry which ran its call
 abbrev pub EntriesAreSound : Type 0
-EntriesAreSound = (s : Script) (history : List Entry) (end : Cell) → RunsTo history s end → EachEntry (λ past e. IsEntryOf s past e × AreRan (e ∷ past) e.sent) (set_up s ∷ []) history
+EntriesAreSound = (s : Script) (history : List Entry) (end : Cell) → RunsTo history s end → EachEntry (λ past e. IsEntryOf s past e × WereRun (e ∷ past) e.sent) (set_up s ∷ []) history
 
 -- ---- where lines stand
 
@@ -93,7 +93,8 @@ abbrev pub EachSent : (List Entry → Message → Type 0) → List Entry → Lis
 EachSent G past [] = ⊤
 EachSent G past (m ∷ ms) = G past m × EachSent G past ms
 
--- it is sent by the node that it names, and a call of a client under a key of its own act
+-- it is sent by the node that its header names as sender, and a call of a client under a key that no call had which was sent before its
+-- act began
 abbrev pub IsOwn : List Entry → Message → Type 0
 IsOwn past m = IsBy m.head.from past × GoodCall m.head m.carried past
 
