@@ -56,7 +56,7 @@ use Rattle.afs_num.specs.Nodes.{same_node}
 use Rattle.afs_breaks.specs.declared.types.Promise.{Promise}
 use Rattle.afs_law.proofs.Promising.{Owed, without_promises, shows_turn, shows_turn_is}
 use Rattle.afs_law.specs.Grants.{has_fetched, IsDropped}
-use Rattle.afs_law.specs.Breaks.{IsNamedIn, is_in, is_call_from, is_to_come, returned_in, returned_by, is_call, lines_at, fids_given_up, has_answer, drops_of, is_told}
+use Rattle.afs_law.specs.Breaks.{IsNamedIn, is_in, is_call_from, is_to_come, returned_in, returned_by, is_call, lines_at, fids_given_up, has_answer, drops_of, is_reply_of_0}
 use Rattle.afs_rows.specs.ServerSteps.{stepped, done}
 use Rattle.afs_law.proofs.Keeping.{at_placed}
 use Rattle.afs_records.specs.Durable.{Stored}
@@ -995,7 +995,7 @@ told_still k o ls h = tt
 
 more_answers : (k : Key) (ms ns : List Message) → has_answer k ms ≡ true → has_answer k (ms ++ ns) ≡ true
 more_answers k [] ns h = absurd cc
-more_answers k (m ∷ ms) ns h = answers_by (same_key (answered_key m.head) k && is_told m.head.half m.carried) k ms ns h (more_answers k ms ns)
+more_answers k (m ∷ ms) ns h = answers_by (same_key (answered_key m.head) k && is_reply_of_0 m.head.half m.carried) k ms ns h (more_answers k ms ns)
 
 by_answer : (boot : ℕ) (k : Key) (t : Started) (o : Owed) (x : Option BackCall) → has_answer k t.sent ≡ true → has_answer k (starts_by the_server boot t o x).sent ≡ true
 by_answer boot k t o None h = more_answers k t.sent _ h

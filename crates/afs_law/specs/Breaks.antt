@@ -81,14 +81,14 @@ abbrev pub fids_given_up : FsCall → List Fid
 fids_given_up (calls.GiveUpCallBacks fids callbacks) = fids
 fids_given_up call = []
 
--- a reply with code 0
-abbrev pub is_told : Half → Carried → Bool
-is_told halves.Reply (carried.Reply reply) = true
-is_told half c = false
+-- whether a message of this half that carries this is a reply with code 0
+abbrev pub is_reply_of_0 : Half → Carried → Bool
+is_reply_of_0 halves.Reply (carried.Reply reply) = true
+is_reply_of_0 half c = false
 
 abbrev pub has_answer : Key → List Message → Bool
 has_answer k [] = false
-has_answer k (m ∷ ms) = if (same_key (answered_key m.head) k && is_told m.head.half m.carried) then true else has_answer k ms
+has_answer k (m ∷ ms) = if (same_key (answered_key m.head) k && is_reply_of_0 m.head.half m.carried) then true else has_answer k ms
 
 abbrev pub drops_of : Node → List Fid → List Line
 drops_of c [] = []
