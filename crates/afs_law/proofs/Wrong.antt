@@ -761,6 +761,18 @@ quit_for_another_client h =
     let none_ : NeverTo (Client 1) quit_past = ((λ e c. two_clients e, tt), ((λ e c. two_clients e, tt), ((λ e c. two_clients e, tt), ((λ e c. no_client e, tt), ((λ e c. c, tt), ((λ e c. no_client e, tt), (tt, tt))))))) in
     never_to (Client 1) (record { node = Server 1; epoch = g.epoch; number = g.number }) g.user g.call quit_past none_ g.called
 
+-- ---- a call is one by its header too
+
+abbrev as_a_reply : Entry → Entry
+as_a_reply e = record e { sent = map (λ (m : Message). record m { head = record m.head { half = halves.Reply } }) e.sent }
+
+reply_not : halves.Reply ≡ halves.Call → ⊥
+reply_not e = absurd cc
+
+called_by_a_reply : Legal (alters 0 as_a_reply (entries (start (script 1)) (begins 1 (acts.Open (operands.Fid file)) ∷ []))) (script 1) → ⊥
+unfolding moved begin_row client_row server_row back_timeout_row wake_row start_row record_bytes head_form volume_form spelled opaque pad word laid_at led name_ok directory_bytes name_bytes rights_of image acl_text digits entry_text directory_of names_at opaque_at word_at counted_at whole_at count_at name_at spelled_at bytes_below
+called_by_a_reply h = reply_not (h.0.0.1.0.half tt)
+
 -- ---- a promise is what the reply to a call of the client carries
 
 abbrev grants : Fid → ℕ → Entry → Entry
