@@ -492,7 +492,7 @@ does_goes s c past armed p m drops i H up at to j = turned_goes s c past armed p
 does_goes s c past armed p m (tells_boot head) i H up at to j =
     subst (λ (x : Message). Goes s past (server_does c armed p x (tells_boot head))) (sym j.0.is)
     (quiet s c past armed p (called_at m.head j.0.user j.0.call) (turn_for the_server c.server c.clock (expired c.clock c.server.backs) (tells_boot head)) H up (at ∙ ap Some j.0.is) (subst (λ (x : Message). Dull c.server.seats c.server.lasting.boot x) j.0.is j.0.idle) tt tt
-    (λ e over held. record { notes = tt; sent = record { calls = (tt, tt); replies = (tt, tt); notices = (client_any head.from _ (le_refl _), tt); origins = (tt, tt); acts = (tt, tt); lasts = (tt, tt); ones = (tt, tt); to_clients = (tt, tt) }; outs = tt; held = held }) (λ e q. still_loads s c past e (boot_told c.server.lasting.boot head ∷ []) H up (given_plain p e _ q) (record { good = (record { sender = subst (λ (n : Node). IsBy n (e ∷ past)) (sym j.1) (ap (λ (y : Entry). y.actor) q); reply = λ is nought k from. absurd is.1; gift = tt; key = tt }, tt); calls = (tt, tt); dones = (tt, tt) })))
+    (λ e over held. record { notes = tt; sent = record { calls = (tt, tt); replies = (tt, tt); notices = (client_any head.from _ (le_refl _), tt); origins = (tt, tt); acts = (tt, tt); lasts = (tt, tt); ones = (tt, tt); to_clients = (tt, tt) }; outs = tt; held = held }) (λ e q. still_loads s c past e (boot_told c.server.lasting.boot head ∷ []) H up (given_plain p e _ q) (record { good = (record { sender = subst (λ (n : Node). IsBy n (e ∷ past)) (sym j.1) (ap (λ (y : Entry). y.actor) q); half = λ z. absurd z; reply = λ is nought k from. absurd is.1; gift = tt; key = tt }, tt); calls = (tt, tt); dones = (tt, tt) })))
 does_goes s c past armed p m (repeats reply) i H up at to j =
     subst (λ (x : Message). Goes s past (server_does c armed p x (repeats reply))) (sym j.call.is)
     (repeats_goes s c past armed p (called_at m.head j.call.user j.call.call) reply (held_under (key_answered reply) (expired c.clock c.server.backs).held) (is_seat_of reply (call_seat reply.head.to c.server.lasting.kept)) H up (at ∙ ap Some j.call.is) (subst (λ (x : Message). Dull c.server.seats c.server.lasting.boot x) j.call.is j.call.idle) j.kept refl refl)

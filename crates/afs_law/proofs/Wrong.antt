@@ -178,7 +178,7 @@ owes_ahead (e ∷ f ∷ es) = e ∷ owes_ahead (f ∷ es)
 
 owed_ahead : Legal (owes_ahead (entries (start (script 2)) six_front)) (script 2) → ⊥
 unfolding moved begin_row client_row server_row back_timeout_row wake_row start_row record_bytes head_form volume_form spelled opaque pad word laid_at led name_ok directory_bytes name_bytes rights_of image acl_text digits entry_text directory_of names_at opaque_at word_at counted_at whole_at count_at name_at spelled_at bytes_below
-owed_ahead h = h.1.1.1.0.0.0.0.1.1.0
+owed_ahead h = h.1.1.1.0.0.0.0.1.cause.0
 
 -- a break is given up by timeouts of before it became owed
 abbrev timeouts_first : List Entry → List Entry
