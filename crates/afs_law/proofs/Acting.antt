@@ -48,7 +48,7 @@ use Rattle.afs_rows.specs.States.{CacheEntry, Gift, Location, Seat}
 use Rattle.afs_rows.specs.Steps.{Step}
 use Rattle.std.proofs.Common.{zero, suc, ◌+◌, ◌≡◌, ℕ, ◌⊎◌, inl, inr, Bool, true, false, cond, List, [], ◌∷◌, ◌++◌, map, Option, Some, None, refl, sym, subst, filter, not, ap, ◌∙◌}
 use Rattle.std.specs.List.{list_any}
-use Rattle.std.specs.Prelude.{◌&&◌, nat_lt, ⊤}
+use Rattle.std.specs.Prelude.{◌&&◌, nat_lt}
 
 -- ---- its lines
 

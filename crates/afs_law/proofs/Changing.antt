@@ -36,10 +36,9 @@ use Rattle.afs_num.specs.declared.types.Node.{Node}
 use Rattle.afs_num.specs.declared.types.Node.TheVariants.{Server}
 use Rattle.afs_records.specs.Durable.{Stored}
 use Rattle.afs_rows.specs.Runs.{Cell, Entry, Fall, Input, Leads, Moved, begun_by_disk, blow_line, message_at, moved, start}
-use Rattle.afs_rows.specs.ServerRow.{Begun, Change, key_of, made, versioned}
+use Rattle.afs_rows.specs.ServerRow.{Begun, key_of, made, versioned}
 use Rattle.afs_rows.specs.States.{ServerState}
 use Rattle.std.proofs.Common.{◌≡◌, ℕ, ◌⊎◌, inl, inr, Bool, true, length, List, [], ◌∷◌, ◌++◌, Some, None, refl, sym, ap, subst, ◌∙◌}
-use Rattle.std.specs.Prelude.{⊤}
 
 -- ---- lines without a change
 

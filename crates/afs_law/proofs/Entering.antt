@@ -11,8 +11,8 @@ use Rattle.afs_law.specs.Legal.{WereRun, IsEntryOf}
 use Rattle.afs_law.specs.Parts.{EachEntry, EntriesAreSound}
 use Rattle.afs_law.specs.Past.{sent_of}
 use Rattle.afs_num.specs.declared.messages.Message.{Message}
-use Rattle.afs_rows.specs.Runs.{Cell, Entry, Input, Moved, RunsTo, moved, start}
-use Rattle.std.proofs.Common.{◌≡◌, ℕ, List, [], ◌∷◌, ◌++◌, refl, sym, subst}
+use Rattle.afs_rows.specs.Runs.{Cell, Entry, Input, Moved, moved, start}
+use Rattle.std.proofs.Common.{◌≡◌, List, [], ◌∷◌, refl, sym, subst}
 
 -- no step lays volumes
 

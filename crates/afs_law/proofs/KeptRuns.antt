@@ -4,7 +4,6 @@ use Rattle.afs_history.specs.declared.acts.Act.{Act}
 use Rattle.afs_history.specs.declared.acts.Act.TheVariants as acts
 use Rattle.afs_history.specs.declared.acts.Operand.TheVariants as operands
 use Rattle.afs_history.specs.declared.acts.Written.TheVariants.{Hex}
-use Rattle.afs_history.specs.declared.lines.Line.{Line}
 use Rattle.afs_history.specs.declared.lines.Line.TheVariants as lines
 use Rattle.afs_ideal.specs.AccessLists.{acl_text, entry_text, rights_of}
 use Rattle.afs_ideal.specs.Directories.{bytes_below, count_at, directory_bytes, directory_of, name_at, name_bytes, names_at, spelled_at, whole_at}
@@ -18,7 +17,6 @@ use Rattle.afs_law.specs.Ideal.{set_up}
 use Rattle.afs_law.specs.Laws.{AreMadeAndKept, Survives, found_by_restart}
 use Rattle.afs_law.specs.Once.{past_of}
 use Rattle.afs_law.specs.OneServer.{IsOneServer}
-use Rattle.afs_law.specs.Past.{lines_of, running}
 use Rattle.afs_model.specs.Messages.{spelled}
 use Rattle.afs_num.specs.Names.{name_ok}
 use Rattle.afs_num.specs.declared.messages.Message.{Message}
@@ -26,12 +24,12 @@ use Rattle.afs_num.specs.declared.types.Node.TheVariants.{Client}
 use Rattle.afs_records.specs.Durable.{Stored}
 use Rattle.afs_records.specs.Records.{head_form, record_bytes, volume_form}
 use Rattle.afs_rows.specs.ClientRow.{begin_row, client_row}
-use Rattle.afs_rows.specs.Going.{Going, began}
+use Rattle.afs_rows.specs.Going.{began}
 use Rattle.afs_rows.specs.Runs.{Cell, Entry, Fall, Host, Input, Leads, RunsTo, at_rest, begins, first_host, gives, in_step, locations, moved, sets_stop, start, steady}
 use Rattle.afs_rows.specs.ServerSteps.{back_timeout_row, server_row, start_row, wake_row}
 use Rattle.afs_rows.specs.States.{volume_in}
 use Rattle.afs_xdr.specs.Words.{counted_at, opaque, opaque_at, pad, word, word_at}
-use Rattle.std.proofs.Common.{◌≡◌, ℕ, List, [], ◌∷◌, ◌++◌, Option, Some, None, pos, refl, sym, ap, ◌∙◌}
+use Rattle.std.proofs.Common.{◌≡◌, ℕ, List, [], ◌∷◌, ◌++◌, Option, Some, None, pos, refl, ap}
 use Rattle.std.specs.Fmt.{digits}
 use Rattle.std.specs.Option.{option_map}
 use Rattle.std.specs.Prelude.{codes, map}

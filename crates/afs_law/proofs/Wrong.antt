@@ -908,7 +908,7 @@ owed_unpromised h =
     let g = h.1.0.0.0.1.1.1.0.1.cause.1 in
     let e : None ≡ Some g.0 = g.1 in absurd cc
 
--- a stop of the server is no reason for it
+-- a stop of the server is no reason for it, even if a server that stopped might owe something
 owed_behind_a_crash : Legal (alters 2 owes_one (entries (start (script 1)) (begins 1 (acts.Open (operands.Fid file)) ∷ gives 1 steady ∷ stops ∷ []))) (script 1) → ⊥
 unfolding moved begin_row client_row server_row back_timeout_row wake_row start_row record_bytes head_form volume_form spelled opaque pad word laid_at led name_ok directory_bytes name_bytes rights_of image acl_text digits entry_text directory_of names_at opaque_at word_at counted_at whole_at count_at name_at spelled_at bytes_below
 owed_behind_a_crash h = h.1.1.0.0.0.1.0.1.cause.0

@@ -1,25 +1,20 @@
 -- Parts of what a legal history is, each proved of the runs of every script, with any number of servers. Reads, answers, promises and
 -- breaks are not among them.
-use Rattle.std.specs.Prelude.{◌≡◌, ℕ, List, [], ◌∷◌, ◌++◌, Some, None, false, length, true, ⊤, ◌⊎◌}
+use Rattle.std.specs.Prelude.{◌≡◌, ℕ, List, [], ◌∷◌, Some, true, ⊤}
 use Rattle.afs_history.specs.declared.lines.Line.{Line}
 use Rattle.afs_history.specs.declared.lines.Line.TheVariants as lines
 use Rattle.afs_history.specs.declared.scripts.Script.{Script}
-use Rattle.afs_ideal.specs.Operations.{changes, op, the_user, volume_called}
-use Rattle.afs_ideal.specs.Volumes.{Edit, Volume, versions_by}
-use Rattle.afs_law.specs.Breaks.{HasStopped}
-use Rattle.afs_law.specs.Ideal.{Accepts, call_under, change_key, set_up, user_of, volume_after}
+use Rattle.afs_law.specs.Ideal.{call_under, set_up, user_of}
 use Rattle.afs_law.specs.Legal.{WereRun, GoodCall, IdealChange, IsBy, IsEntryOf, IsInPlace, IsOfServer, as_asked}
 use Rattle.afs_law.specs.Once.{past_of}
-use Rattle.afs_law.specs.Past.{Called, CalledSince, called_key, has_given, is_new_to_act, lines_of, running, sent_of}
+use Rattle.afs_law.specs.Past.{Called, CalledSince, called_key, is_new_to_act, lines_of, running}
 use Rattle.afs_num.specs.declared.calls.FsCall.{FsCall}
 use Rattle.afs_num.specs.declared.histories.Actor.{Actor}
-use Rattle.afs_num.specs.declared.histories.Actor.TheVariants as actors
 use Rattle.afs_num.specs.declared.messages.Call.TheVariants as ask
 use Rattle.afs_num.specs.declared.messages.Carried.TheVariants as carried
 use Rattle.afs_num.specs.declared.messages.Message.{Message}
 use Rattle.afs_num.specs.declared.types.Head.{Head}
 use Rattle.afs_num.specs.declared.types.Key.{Key}
-use Rattle.afs_num.specs.declared.types.Node.{Node}
 use Rattle.afs_num.specs.declared.types.Node.TheVariants.{Client}
 use Rattle.afs_rows.specs.ClientRow.{call_of}
 use Rattle.afs_rows.specs.Going.{ClientState, Going, asked}
