@@ -443,7 +443,7 @@ repeat_loads s c past e p reply ws H up k is own all =
     let B = up_backed s c past H up in
     let q : Plain e.lines = given_plain p e e.sent is in
     record {
-      backed = run_loaded (expired c.clock c.server.backs) (expired c.clock c.server.backs).lists.promises c.server.lasting.boot c.server.seats c.server.seats (seats_of c) c.clock c.sent e past (again_held reply ws) B q.up q.oweless q.unchanging (granted_over e past (expired c.clock c.server.backs).lists.promises q.still (B.granted refl)) (B.clients refl).promised (promised_over None (expired c.clock c.server.backs).lists.promises c.clock c.clock e past q.still (le_refl _) B.promised) (λ m y z w. w)
+      backed = run_loaded (expired c.clock c.server.backs) (expired c.clock c.server.backs).lists.promises c.server.lasting.boot c.server.seats c.server.seats (seats_of c) c.clock c.sent e past (again_held reply ws) B q.up q.oweless q.unchanging (granted_over e past (expired c.clock c.server.backs).lists.promises q.still q.up q.oweless (B.granted refl)) (B.clients refl).promised (promised_over None (expired c.clock c.server.backs).lists.promises c.clock c.clock e past q.still (le_refl _) B.promised) (λ m y z w. w)
           (record { client = k.client; to = d.0.to; from = d.0.from; is_reply = d.0.is_reply; under = kept_under c reply k.client k.seat k.at d.0 }) own all;
       sends = record { good = tt; calls = tt; dones = tt };
     }

@@ -16,7 +16,7 @@ use Rattle.afs_law.proofs.Basics.{same_key-true, same_key-refl, UpTo, Below, bel
 use Rattle.afs_law.proofs.Edits.{agrees_of, last_of, ones, Ones, index_in, fid_at, Sound, SoundIn, sound_same, Tops, on_top, Grow, Told, edits_told, counted_sound, rises, tops, touches, untouched, touched_volume, not_touched, there, none_has, live, live_is}
 use Rattle.afs_law.proofs.Facts.{FitsList, Leaves, HeldIn, Ghost, HoldsAt, up_boot, LastStored, IsStored, IsUntrusted, view, Spot, spot, ReplyFact, HasFallen, Reached, Stands, IsCurrent, Fits, Answers, IsReply, AreUnheard, stored_index, Holds, Goes, FitsReply, FitsData, FitsSet, FitsPlain, WasChanged, AreIdeal, AreSound, WasStored, FitsShown}
 use Rattle.afs_law.proofs.Keeping.{volume_put, own_placed}
-use Rattle.afs_law.proofs.Loading.{two_all, IsOfOther, hits_hit, IsHit, hits_other, granted_all, onto_granted, left_granted, all_hits, change_loaded, owes_unchanging, all_new, number_front, number_second, left_promised, has_owe, touched_hit, numbers_good, numbers_rise, granted_to_client, owes_to_clients, owes_rising, all_left}
+use Rattle.afs_law.proofs.Loading.{filtered, two_all, IsOfOther, hits_hit, IsHit, hits_other, granted_all, onto_granted, left_granted, all_hits, change_loaded, owes_unchanging, all_new, number_front, number_second, left_promised, has_owe, touched_hit, numbers_good, numbers_rise, granted_to_client, owes_to_clients, owes_rising, all_left}
 use Rattle.afs_law.proofs.Naming.{fine_after}
 use Rattle.afs_law.proofs.Notes.{granted_notes, AreNotes, Skips, skips, owe_notes, no_versions}
 use Rattle.afs_law.proofs.Ops.{stored_kind, stored_fid, amend_of, in_scope, changes_is, Storing, storing, stored_vnode}
@@ -31,7 +31,7 @@ use Rattle.afs_rows.specs.ClientRow.{status_told}
 use Rattle.afs_rows.specs.Going.{Going, next}
 use Rattle.afs_law.specs.Grants.{IsWithdrawn, IsChangedByOther, has_fetched, fetch_reply, since, change_below, IsByOther, IsDropped}
 use Rattle.afs_law.specs.Ideal.{versions_in, Reach, raised, IsLast, clock_of, last_version, HasVersion, Accepts, reach, volume_after, change_key, call_under, reach_over, applied, applied_by, HasBeen, TellsIn, TellsOf, shown_status}
-use Rattle.afs_law.specs.Legal.{IsPromisedBy, HasChangeBy, IsLater, RanBefore, RunsHere, code_given, AreGood, IsNew, HasChange, GoodChange, versions_first, IsTold, answer_at, IsUnderChange, IsChanged, op_on, as_asked}
+use Rattle.afs_law.specs.Legal.{IsUnbroken, IsPromisedBy, HasChangeBy, IsLater, RanBefore, RunsHere, code_given, AreGood, IsNew, HasChange, GoodChange, versions_first, IsTold, answer_at, IsUnderChange, IsChanged, op_on, as_asked}
 use Rattle.afs_history.specs.declared.lines.Line.{Line}
 use Rattle.afs_law.specs.Past.{same_key, risen, server_boot, code_told, onto, lines_of, sent_of, given_message, called_key, HasCode, is_of_act, running, has_begun}
 use Rattle.afs_rows.specs.Runs.{Entry, message_at, Armed, Fall}
@@ -43,7 +43,7 @@ use Rattle.afs_records.specs.Changes.{stored_after}
 use Rattle.afs_records.specs.Durable.{Stored, time_in, place_length}
 use Rattle.afs_model.specs.Calls.{CallSeat, pair_below, call_seat}
 use Rattle.afs_num.specs.declared.calls.AfsStoreStatus.{AfsStoreStatus}
-use Rattle.std.proofs.Common.{◌≡◌, ℕ, ◌+◌, ◌<◌, ◌≤◌, ◌⊎◌, inl, inr, Bool, true, false, cond, length, List, [], ◌∷◌, ◌++◌, Option, Some, None, pos, refl, sym, ap, subst, ◌∙◌, arith, eq-eqb, eqb-true, eqb}
+use Rattle.std.proofs.Common.{◌≡◌, ℕ, ◌+◌, ◌<◌, ◌≤◌, ◌⊎◌, inl, inr, Bool, true, false, cond, length, List, [], ◌∷◌, ◌++◌, Option, Some, None, pos, refl, sym, ap, subst, ◌∙◌, arith, eq-eqb, eqb-true, eqb, ltb-true, nat_lt}
 use Rattle.std.specs.Prelude.{◌&&◌, not, is_some}
 use Rattle.std.specs.Option.{option_map}
 use Rattle.afs_num.specs.Fids.{same_fid}
@@ -1059,7 +1059,7 @@ saves_by_turn s c past armed p n h user call id st es shown H up at w q =
     let hd : Held = record { reply = r; waits = numbers os ++ alls b0.lists.owed; again = false } in
     let loads : BackedIn None (loaded t) c.server.lasting.boot (seats_after c n h r) (seats_of c) c.clock c.sent (e ∷ past) =
     change_loaded (Client n) b0 t.backs.lists.promises t.backs.lists.last_owed c.server.lasting.boot c.server.seats (seats_after c n h r) (seats_of c) c.clock c.sent e past pre os hd (call_at n h user call) B
-    (left_granted (Client n) b0.lists.last_owed x vs b0.lists.promises fs e past front fronted (versions_lines is_still vs [] (λ z. refl) refl) (B.granted refl))
+    (left_granted (Client n) b0.lists.last_owed x vs b0.lists.promises fs e past front fronted (versions_lines is_still vs [] (λ z. refl) refl) (versions_lines is_up vs [] (λ z. refl) refl) (versions_lines is_oweless vs [] (λ z. refl) refl) (B.granted refl))
     (left_promised (Client n) b0.lists.last_owed x c.clock vs b0.lists.promises fs e past front fronted (versions_lines is_still vs [] (λ z. refl) refl) (promised_given None b0.lists.promises c.clock e past B.promised))
     (subst (λ (ls : List Line). last_number the_server ls ≤ t.backs.lists.last_owed) (sym (saved_on y k vs (lines_of past) ∙ onto_granted (Client n) x fs t.lines base0))
     (numbers_rise b0.lists.last_owed (hits (Client n) vs b0.lists.promises) (onto base0 (granted the_server (Client n) x fs [])) (subst (λ (i : ℕ). i ≤ b0.lists.last_owed) (sym (granted_number n x fs base0 ∙ on_number vs (base y k (length vs) (lines_of past)))) B.numbered)))
@@ -1114,9 +1114,9 @@ saves_by_turn s c past armed p n h user call id st es shown H up at w q =
               (all_map (IsHit (Client n) vs) (λ (o : Promise). IsChangedByOther the_server o.client o.fid (onto (on_top vs (lines.Change the_server k (length vs) ∷ lines.Given p ∷ [])) (granted the_server (Client n) x fs [])))
               (λ o z. granted_others the_server o.client the_server (Client n) o.fid x fs (on_top vs (lines.Change the_server k (length vs) ∷ lines.Given p ∷ [])) (on_others the_server o.client o.fid vs (lines.Change the_server k (length vs) ∷ lines.Given p ∷ []) (refl, λ q. z.1 (sym q)) z.0))
               (hits (Client n) vs b0.lists.promises) (hits_hit (Client n) vs b0.lists.promises))
-              (two_all (IsOfOther (Client n)) (IsGranted (lines_of past)) (λ (o : Promise). (i : ℕ) × (last_grant the_server o.client o.fid (onto (on_top vs (lines.Change the_server k (length vs) ∷ lines.Given p ∷ [])) (granted the_server (Client n) x fs []) ++ lines_of past) ≡ Some i))
-              (λ o other was. (o.expiry, granted_grant o.client o.fid n x fs (on_top vs (lines.Change the_server k (length vs) ∷ lines.Given p ∷ [])) (lines_of past) (λ q. other (sym q)) ∙ (top_grant o.client o.fid vs (lines.Change the_server k (length vs) ∷ lines.Given p ∷ []) (lines_of past) ∙ was)))
-              (hits (Client n) vs b0.lists.promises) (hits_other (Client n) vs b0.lists.promises) (all_hits (IsGranted (lines_of past)) (Client n) vs b0.lists.promises (B.granted refl))))),
+              (two_all (IsGranted (lines_of past)) (λ (o : Promise). c.clock < o.expiry) (λ (o : Promise). IsUnbroken the_server o.client o.fid past) (λ o was lasts. (o.expiry, (was, subst (λ (i : ℕ). i < o.expiry) (sym H.clock) lasts)))
+              (hits (Client n) vs b0.lists.promises) (all_hits (IsGranted (lines_of past)) (Client n) vs b0.lists.promises (B.granted refl))
+              (all_hits (λ (o : Promise). c.clock < o.expiry) (Client n) vs b0.lists.promises (all_map (λ (o : Promise). nat_lt c.clock o.expiry ≡ true) (λ (o : Promise). c.clock < o.expiry) (λ o lasts. ltb-true _ _ lasts) b0.lists.promises (filtered (λ o. nat_lt c.clock o.expiry) c.server.backs.lists.promises)))))),
         ),
       );
       holds = saves_holds y s (Some c.server.lasting.boot) c past (pumped the_server c.server.lasting.boot t).backs armed None n h user call c.clock id st es shown H w q (has_run s c past p n h user call e H up at w refl refl) (saves_boot y k vs r past ∙ (sk.boot _ ∙ up_boots s c past H up)) (unheard_after s c past p n h user call r e H up at w refl) tt

@@ -18,7 +18,7 @@ use Rattle.afs_law.proofs.Homes.{accepts_first}
 use Rattle.afs_law.specs.Grants.{GrantOf, until}
 use Rattle.afs_num.specs.declared.histories.Actor.{Actor}
 use Rattle.afs_num.specs.declared.types.Node.{Node}
-use Rattle.afs_law.proofs.OneCell.{Cell, stops, the_server, server_waits, Input, begins, gives, moved, nothing, sets_stop, start, starts_again, waits}
+use Rattle.afs_law.proofs.OneCell.{ticks, Cell, stops, the_server, server_waits, Input, begins, gives, moved, nothing, sets_stop, start, starts_again, waits}
 use Rattle.afs_law.proofs.Worked.{apart_numbers, home, by_lines, stores, alters, answer, begun, entries, file, root, script, six_front}
 use Rattle.afs_law.specs.Breaks.{HasTimeout, HasStopped}
 use Rattle.afs_law.specs.Legal.{IsPromisedBy, Cause, EndsAct, IsResult, Legal, answer_at, code_given}
@@ -906,7 +906,7 @@ owed_unpromised : Legal (alters 1 owes_one (entries (start (script 2)) (begins 2
 unfolding moved begin_row client_row server_row back_timeout_row wake_row start_row record_bytes head_form volume_form spelled opaque pad word laid_at led name_ok directory_bytes name_bytes rights_of image acl_text digits entry_text directory_of names_at opaque_at word_at counted_at whole_at count_at name_at spelled_at bytes_below
 owed_unpromised h =
     let g = h.1.0.0.0.1.1.1.0.1.cause.1 in
-    let e : None ≡ Some g.0 = g.1 in absurd cc
+    let e : None ≡ Some g.0 = g.1.0 in absurd cc
 
 -- a stop of the server is no reason for it, even if a server that stopped might owe something
 owed_behind_a_crash : Legal (alters 2 owes_one (entries (start (script 1)) (begins 1 (acts.Open (operands.Fid file)) ∷ gives 1 steady ∷ stops ∷ []))) (script 1) → ⊥
@@ -923,6 +923,37 @@ changes_file = begins 1 (acts.Open (operands.Fid file)) ∷ gives 1 steady ∷ b
 owed_by_a_stopped_server : Legal (alters 3 stops_and_owes (entries (start (script 2)) changes_file)) (script 2) → ⊥
 unfolding moved begin_row client_row server_row back_timeout_row wake_row start_row record_bytes head_form volume_form spelled opaque pad word laid_at led name_ok directory_bytes name_bytes rights_of image acl_text digits entry_text directory_of names_at opaque_at word_at counted_at whole_at count_at name_at spelled_at bytes_below
 owed_by_a_stopped_server h = h.1.1.1.0.0.0.1.1.1.1.1.0.1.going (inl refl)
+
+-- nor is it owed for a promise that a break ended before, for one of an older boot, or for one whose time has come
+abbrev owes_number : ℕ → Entry → Entry
+owes_number n e = record e { lines = e.lines ++ lines.Owe (Server 1) (Client 1) (Some file) n ∷ [] }
+
+abbrev stored_again : List Input
+stored_again = changes_file ++ gives 4 steady ∷ gives 5 steady ∷ gives 6 steady ∷ begins 2 (acts.Close (operands.Fid file) (Hex (codes "xyz"))) ∷ gives 7 steady ∷ []
+
+owed_again : Legal (alters 8 (owes_number 2) (entries (start (script 2)) stored_again)) (script 2) → ⊥
+unfolding moved begin_row client_row server_row back_timeout_row wake_row start_row record_bytes head_form volume_form spelled opaque pad word laid_at led name_ok directory_bytes name_bytes rights_of image acl_text digits entry_text directory_of names_at opaque_at word_at counted_at whole_at count_at name_at spelled_at bytes_below
+owed_again h =
+    let g = h.1.1.1.1.1.1.1.1.0.0.0.1.1.1.0.1.cause.1 in
+    let e : None ≡ Some g.0 = g.1.0 in absurd cc
+
+abbrev stored_in_boot_two : List Input
+stored_in_boot_two = begins 1 (acts.Open (operands.Fid file)) ∷ gives 1 steady ∷ stops ∷ starts_again false comes_up ∷ begins 2 (acts.Close (operands.Fid file) (Hex (codes "def"))) ∷ gives 5 steady ∷ gives 6 steady ∷ gives 7 steady ∷ []
+
+owed_in_a_later_boot : Legal (alters 7 (owes_number 3) (entries (start (script 2)) stored_in_boot_two)) (script 2) → ⊥
+unfolding moved begin_row client_row server_row back_timeout_row wake_row start_row record_bytes head_form volume_form spelled opaque pad word laid_at led name_ok directory_bytes name_bytes rights_of image acl_text digits entry_text directory_of names_at opaque_at word_at counted_at whole_at count_at name_at spelled_at bytes_below
+owed_in_a_later_boot h =
+    let g = h.1.1.1.1.1.1.1.0.0.0.1.1.1.0.1.cause.1 in
+    let e : None ≡ Some g.0 = g.1.0 in absurd cc
+
+abbrev stored_too_late : List Input
+stored_too_late = begins 1 (acts.Open (operands.Fid file)) ∷ gives 1 steady ∷ ticks 7200 ∷ begins 2 (acts.Close (operands.Fid file) (Hex (codes "def"))) ∷ gives 3 steady ∷ []
+
+owed_when_ended : Legal (alters 4 (owes_number 1) (entries (start (script 2)) stored_too_late)) (script 2) → ⊥
+unfolding moved begin_row client_row server_row back_timeout_row wake_row start_row record_bytes head_form volume_form spelled opaque pad word laid_at led name_ok directory_bytes name_bytes rights_of image acl_text digits entry_text directory_of names_at opaque_at word_at counted_at whole_at count_at name_at spelled_at bytes_below
+owed_when_ended h =
+    let g = h.1.1.1.1.0.0.0.1.1.1.0.1.cause.1 in
+    let e : 7200 < 7200 = subst (λ (x : ℕ). 7200 < x) (some_of g.0 7200 (sym g.1.0)) g.1.1 in absurd (omega arith)
 
 abbrev stops_first : Entry → Entry
 stops_first e = record e { lines = lines.Crash (Server 1) ∷ e.lines; sent = [] }

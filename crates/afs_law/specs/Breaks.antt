@@ -75,6 +75,16 @@ live_grant s c f (lines.DropAll m q ∷ older) = cond (same_node m c && same_nod
 live_grant s c f (lines.Owe q d w n ∷ older) = cond (same_node q s && (same_node d c && is_on f w)) None (live_grant s c f older)
 live_grant s c f (l ∷ older) = live_grant s c f older
 
+-- When the server's last grant on f to the client ends, unless since then the server stopped or that break became owed. That the client
+-- dropped it is nothing that a server has to know
+abbrev pub unbroken_grant : Node → Node → Fid → List Line → Option ℕ
+unbroken_grant s c f [] = None
+unbroken_grant s c f (lines.Grant q d g index expiry ∷ older) = cond (same_node q s && (same_node d c && same_fid g f)) (Some expiry) (unbroken_grant s c f older)
+unbroken_grant s c f (lines.Crash n ∷ older) = cond (same_node n s) None (unbroken_grant s c f older)
+unbroken_grant s c f (lines.Fault n ∷ older) = cond (same_node n s) None (unbroken_grant s c f older)
+unbroken_grant s c f (lines.Owe q d w n ∷ older) = cond (same_node q s && (same_node d c && is_on f w)) None (unbroken_grant s c f older)
+unbroken_grant s c f (l ∷ older) = unbroken_grant s c f older
+
 -- ---- the lines before, as a server knows them: what a client gave back by a call is dropped where the server runs the call
 
 abbrev pub fids_given_up : FsCall → List Fid

@@ -15,7 +15,7 @@ use Rattle.afs_num.specs.declared.messages.Carried.{Carried}
 use Rattle.afs_num.specs.declared.messages.Message.{Message}
 use Rattle.afs_ideal.specs.Operations.{Caller, the_user, Result, refused, changes, no_operation, op, code_of, volume_called}
 use Rattle.afs_ideal.specs.Volumes.{Volume, Edit, versions_by}
-use Rattle.afs_law.specs.Breaks.{last_grant, IsNamedIn, AllOwes, HasStopped, HasTimeout, EndedOf, EndedAll, GoodSettle, GoodQuit, live_grant, lines_at, HasOwe, last_number}
+use Rattle.afs_law.specs.Breaks.{unbroken_grant, IsNamedIn, AllOwes, HasStopped, HasTimeout, EndedOf, EndedAll, GoodSettle, GoodQuit, live_grant, lines_at, HasOwe, last_number}
 use Rattle.afs_rows.specs.Going.{Going, Need, answers, asks_for, next, asked, gives_back, reads_rights}
 use Rattle.afs_law.specs.Grants.{is_promised, read_reply, GrantOf, since, until, IsWithdrawn, IsChangedByOther, IsDropped}
 use Rattle.afs_law.specs.Ideal.{last_version, Unless, set_up, IsLast, WasLast, HasBeen, HasVersion, Accepts, clock_of, user_of, seen, change_in, change_key, call_under, volume_after}
@@ -241,11 +241,15 @@ abbrev pub IsClientOf : Script → Node → Type 0
 IsClientOf s (Client j) = (1 ≤ j) × (j ≤ s.clients)
 IsClientOf s n = ⊥
 
+-- a promise of the server to the client on f, made in an entry before, lasts, and was not broken
+abbrev pub IsUnbroken : Node → Node → Fid → List Entry → Type 0
+IsUnbroken server c f past = (expiry : ℕ) × ((unbroken_grant server c f (lines_of past) ≡ Some expiry) × (clock_of (lines_of past) < expiry))
+
 -- why a break becomes owed: the server began again, and each client of the script is owed one on all; or another node's call changed a
--- fid in this entry that the client was promised
+-- fid in this entry that the client is promised
 abbrev pub IsOwedFor : Script → Node → Node → Option Fid → List Entry → List Line → Type 0
 IsOwedFor s server c None past own = HasRisen server own × IsClientOf s c
-IsOwedFor s server c (Some f) past own = IsChangedByOther server c f own × ((expiry : ℕ) × (last_grant server c f (own ++ lines_of past) ≡ Some expiry))
+IsOwedFor s server c (Some f) past own = IsChangedByOther server c f own × IsUnbroken server c f past
 
 -- a break becomes owed at a server that hasn't stopped in this entry, under a number above those of its boot
 pub record GoodOwe (s : Script) (server c : Node) (what : Option Fid) (n : ℕ) (past : List Entry) (own : List Line) : Type 0 where
