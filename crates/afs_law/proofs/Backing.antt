@@ -111,14 +111,6 @@ pub stopped_back : (ls o : List Line) → all_lines is_up ls ≡ true → HasSto
 stopped_back [] o h x = x
 stopped_back (l ∷ ls) o h x = let q = both (is_up l) (all_lines is_up ls) h in stopped_before l o q.0 (stopped_back ls (l ∷ o) q.1 x)
 
-grant_before : (c : Node) (f : Fid) (l : Line) (o : List Line) → is_still l ≡ true → last_grant the_server c f (l ∷ o) ≡ last_grant the_server c f o
-grant_before c f (lines.Grant s d g index expiry) o h = absurd cc
-grant_before c f l o h = refl
-
-pub grant_back : (c : Node) (f : Fid) (ls o : List Line) → all_lines is_still ls ≡ true → last_grant the_server c f (onto o ls) ≡ last_grant the_server c f o
-grant_back c f [] o h = refl
-grant_back c f (l ∷ ls) o h = let q = both (is_still l) (all_lines is_still ls) h in grant_back c f ls (l ∷ o) q.1 ∙ grant_before c f l o q.0
-
 none_but : (t : Bool) (o : Option ℕ) → not t ≡ true → cond t None o ≡ o
 none_but true o h = absurd cc
 none_but false o h = refl
@@ -166,7 +158,7 @@ granted_other true b s x o h = absurd cc
 granted_other false b true x o h = refl
 granted_other false b false x o h = refl
 
-pub grant_before_to : (c : Node) (f : Fid) (l : Line) (o : List Line) → is_still_to c l ≡ true → last_grant the_server c f (l ∷ o) ≡ last_grant the_server c f o
+grant_before_to : (c : Node) (f : Fid) (l : Line) (o : List Line) → is_still_to c l ≡ true → last_grant the_server c f (l ∷ o) ≡ last_grant the_server c f o
 grant_before_to c f (lines.Grant s d g index expiry) o h = granted_other (same_node d c) (same_fid g f) (same_node s the_server) expiry (last_grant the_server c f o) h
 grant_before_to c f l o h = refl
 

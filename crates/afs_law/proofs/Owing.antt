@@ -11,7 +11,7 @@ use Rattle.afs_num.specs.declared.types.Node.TheVariants.{Client}
 use Rattle.afs_num.specs.declared.calls.FsCall.{FsCall}
 use Rattle.afs_num.specs.declared.messages.Message.{Message}
 use Rattle.afs_law.proofs.Basics.{Above, Each, IfBack, IfDone, OfReply}
-use Rattle.afs_law.specs.Breaks.{HasDrop, HasTimeout, unbroken_grant, last_grant, expiry_of, Owes, AllOwes, EndedBy, OweAt, CarriesBreak, live_grant, last_number, lines_at}
+use Rattle.afs_law.specs.Breaks.{HasDrop, HasTimeout, unbroken_grant, expiry_of, Owes, AllOwes, EndedBy, OweAt, CarriesBreak, live_grant, last_number, lines_at}
 use Rattle.afs_rows.specs.Callbacks.{key_answered, breaks_call, is_reply_to}
 use Rattle.afs_law.specs.Legal.{HasChange}
 use Rattle.afs_history.specs.declared.lines.Line.{Line}

@@ -11,12 +11,12 @@ use Rattle.afs_ideal.specs.Replies.{vnode_or_none, change_reply, status_at, stat
 use Rattle.afs_ideal.specs.Tables.{Table, get, set}
 use Rattle.afs_ideal.specs.Told.{AreNext}
 use Rattle.afs_ideal.specs.Volumes.{or_old, with_status, Amend, Volume, Vnode, Kind, a_file, a_directory, a_link, body_by, body_of, version_at, Edit, versions_by, edited_all, counted, amended, vnode_of, if_unique}
-use Rattle.afs_law.proofs.Backing.{grant_before_to, is_still_to, all_lines, is_up, is_still, is_oweless, is_unchanging, change_back, promised_given, rising_back}
+use Rattle.afs_law.proofs.Backing.{is_still_to, all_lines, is_up, is_still, is_oweless, is_unchanging, change_back, promised_given, rising_back}
 use Rattle.afs_law.proofs.Basics.{same_key-true, same_key-refl, UpTo, Below, below-true, below-false, up_to_below, node_apart, Above, up_to_by, same_fid-true, same_node-true, client_number, below_not, up_to_same, raised_up_to, some_of, yes_no}
 use Rattle.afs_law.proofs.Edits.{agrees_of, last_of, ones, Ones, index_in, fid_at, Sound, SoundIn, sound_same, Tops, on_top, Grow, Told, edits_told, counted_sound, rises, tops, touches, untouched, touched_volume, not_touched, there, none_has, live, live_is}
 use Rattle.afs_law.proofs.Facts.{FitsList, Leaves, HeldIn, Ghost, HoldsAt, up_boot, LastStored, IsStored, IsUntrusted, view, Spot, spot, ReplyFact, HasFallen, Reached, Stands, IsCurrent, Fits, Answers, IsReply, AreUnheard, stored_index, Holds, Goes, FitsReply, FitsData, FitsSet, FitsPlain, WasChanged, AreIdeal, AreSound, WasStored, FitsShown}
 use Rattle.afs_law.proofs.Keeping.{volume_put, own_placed}
-use Rattle.afs_law.proofs.Loading.{filtered, two_all, IsOfOther, hits_hit, IsHit, hits_other, granted_all, onto_granted, left_granted, all_hits, change_loaded, owes_unchanging, all_new, number_front, number_second, left_promised, has_owe, touched_hit, numbers_good, numbers_rise, granted_to_client, owes_to_clients, owes_rising, all_left}
+use Rattle.afs_law.proofs.Loading.{filtered, two_all, hits_hit, IsHit, hits_other, granted_all, onto_granted, left_granted, all_hits, change_loaded, owes_unchanging, all_new, number_front, number_second, left_promised, has_owe, touched_hit, numbers_good, numbers_rise, granted_to_client, owes_to_clients, owes_rising, all_left}
 use Rattle.afs_law.proofs.Naming.{fine_after}
 use Rattle.afs_law.proofs.Notes.{granted_notes, AreNotes, Skips, skips, owe_notes, no_versions}
 use Rattle.afs_law.proofs.Ops.{stored_kind, stored_fid, amend_of, in_scope, changes_is, Storing, storing, stored_vnode}
@@ -25,7 +25,7 @@ use Rattle.afs_law.proofs.Passing.{act_last, lone_at, changed_before, no_change,
 use Rattle.afs_law.proofs.Pumping.{no_news, pumped_news}
 use Rattle.afs_law.proofs.Serving.{granted_then, runs_here, up_backed, seats_of, Gives, taken_not, up_boots, reached_at, at_told, client_head, Now, call_at, taken, seats_after, Stock, server_after, caller_view, views_after, durable_before, above_before, not_ran, unheard_after, HasRun, cause_now, running_act, stale_none, served_cell, serves, last_has, has_run, server_does, answer_in}
 use Rattle.afs_law.proofs.Turning.{loaded, Pumps, pumps}
-use Rattle.afs_law.specs.Breaks.{last_grant, HasStopped, live_grant, HasOwe, last_number, lines_at}
+use Rattle.afs_law.specs.Breaks.{HasStopped, live_grant, HasOwe, last_number, lines_at}
 use Rattle.afs_rows.specs.Callbacks.{Turn, pumped, expired, numbers, alls}
 use Rattle.afs_rows.specs.ClientRow.{status_told}
 use Rattle.afs_rows.specs.Going.{Going, next}
@@ -1009,17 +1009,6 @@ top_stopped (v ∷ vs) own h = top_stopped vs (lines.Version v ∷ own) h
 top_runs : (k : Key) (past : List Entry) (vs : List Version) (own : List Line) → RunsHere the_server k past own → RunsHere the_server k past (on_top vs own)
 top_runs k past [] own r = r
 top_runs k past (v ∷ vs) own r = top_runs k past vs (lines.Version v ∷ own) (record { boot = r.boot; up = r.up; given = r.given; first = r.first })
-
-top_grant : (c : Node) (f : Fid) (vs : List Version) (own o : List Line) → last_grant the_server c f (on_top vs own ++ o) ≡ last_grant the_server c f (own ++ o)
-top_grant c f [] own o = refl
-top_grant c f (v ∷ vs) own o = top_grant c f vs (lines.Version v ∷ own) o
-
--- grants to one client are none to another
-granted_grant : (c : Node) (f : Fid) (n x : ℕ) (fs : List Found) (own o : List Line) → (Client n ≡ c → ⊥) → last_grant the_server c f (onto own (granted the_server (Client n) x fs []) ++ o) ≡ last_grant the_server c f (own ++ o)
-granted_grant c f n x [] own o ne = refl
-granted_grant c f n x (g ∷ fs) own o ne =
-    let l : Line = lines.Grant the_server (Client n) g.fid g.vnode.index x in
-    granted_grant c f n x fs (l ∷ own) o ne ∙ grant_before_to c f l (own ++ o) (ap not (node_apart (Client n) c ne))
 
 top_given : (vs : List Version) (own : List Line) (sent : List Message) → given_message (on_top vs own) sent ≡ given_message own sent
 top_given [] own sent = refl
