@@ -172,3 +172,6 @@ set_in n i xs y e =
 pub none_found : {A : Type 0} (xs : List A) (n len : ℕ) (o : Option ℕ) → len ≡ length xs → IfNone o ((n ≡ 0) ⊎ (len < n)) → IfNone o (at_place xs n ≡ None)
 none_found xs n len None same past = none_at xs n (subst (λ (k : ℕ). (n ≡ 0) ⊎ (k < n)) same past)
 none_found xs n len (Some i) same past = tt
+
+pub at_found : {A : Type 0} (xs : List A) (n next : ℕ) (x : A) → next ≡ n → Some x ≡ at_place xs next → at_place xs n ≡ Some x
+at_found xs n next x e found = ap (at_place xs) (sym e) ∙ sym found

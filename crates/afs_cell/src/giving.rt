@@ -5,7 +5,7 @@ ghost use Rattle.afs_num.specs.declared.types.Node.TheVariants.{Server};
 ghost use Rattle.afs_history.specs.declared.lines.Line.TheVariants as lines;
 ghost use Rattle.afs_grammar.specs.CellScripts.{IsCellScript};
 ghost use Rattle.afs_cell.specs.Happening.{ClientHears, ClientsHappened, ClientTakes, HasHeard, HasStep, IsDue, IsFallen, IsVoidClient, IsVoidServer, ServersHappened};
-ghost use Rattle.afs_cell.specs.Hearing.{IsUpAt, OneFalls};
+ghost use Rattle.afs_cell.specs.Hearing.{OneFalls, IsUpAt};
 ghost use Rattle.afs_cell.specs.Picks.{OneLeavesPick};
 ghost use Rattle.afs_cell.specs.Ready.{AllCanStep, AllReady};
 
@@ -20,7 +20,7 @@ use std::alloc::Global;
 
 /// The disk of this server ended its step, and it goes down.
 fn fall<D: Disk>(alloc: Global, servers: &mut Places<ServerSeat<D>>, server: u8) -> Happened
-    requires up { IsUpAt server servers.old.items }
+    requires { IsUpAt server servers.old.items }
     ensures { OneFalls D.seen D.left_by D.may_leave D.faults D.limit server servers.old.items servers.new.items result }
 {
     let Some(seat) = servers.lift(server) else {

@@ -7,11 +7,12 @@ use Rattle.afs_cell.proofs.places.Places.at.Goals as goal
 
 pub returns : goal.returns
 returns g c =
-    let inside : c.args.i < length c.self.inside.items.items = subst (λ (old : Room g.row.T.Denot). c.args.i < length old.items) (sym c.self.view_is) c.requires in
-    (
-      (refl, λ w.
-          rw (← c.self.view_is, ← set_in (c.args.i + 1) c.args.i c.self.inside.items.items w refl, length-set)
-          refl),
+    let inside : c.args.i < length c.self.inside.items.items = subst (λ (old : Room g.row.T.Denot). c.args.i < length old.items) (sym c.self.view_is) c.requires in (
+      (
+        refl,
+        λ w.
+            rw (← c.self.view_is, ← set_in (c.args.i + 1) c.args.i c.self.inside.items.items w refl, length-set),
+      ),
       record {
         writes_back = tt;
         value = subst (λ (old : Room g.row.T.Denot). Some c.index_mut.result.now ≡ at_place old.items (c.args.i + 1)) c.self.view_is (sym (found_at (c.args.i + 1) c.args.i c.self.inside.items.items c.index_mut.result.now refl inside c.index_mut.ensures.value));
