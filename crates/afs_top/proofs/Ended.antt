@@ -111,7 +111,7 @@ reading_fails {D} seen may_leave faults limit s w fs wire o is found failed writ
     let more = found_failed seen faults limit 1 (lent_from 1 w.servers) fs found failed in
     record {
       rose = rose_by 1 _ o.disk_faults back.counts (one_grown 0 _ _ less more (inl (omega (arith))));
-      written = (w.wire, (w.history, written));
+      written = (w.wire, w.history, written);
       told = λ p. failed_behind seen may_leave faults limit is.law s w wire o is.one is.world.safe.entries p.1 (rose_by _ _ o.disk_faults back.counts (one_grown _ _ _ less more (counts_lent faults _ 1 w.servers p.1.runs.counts)))
           (written_told seen may_leave faults limit s w wire o is.world p.1.runs.read written);
     }
@@ -142,7 +142,7 @@ ended {D} seen may_leave faults limit s w fs wire o statuses.WriteFault taken is
       told = λ p. replays seen may_leave faults limit s w fs wire (AppendsFront o.sink.before o.sink.after) (RoseBy 1 o.bank_faults) o is found tells.0 tells.1.0 back (excused o.bank_faults.before o.bank_faults.after back.never_falls back.gives) p;
     }
 ended {D} seen may_leave faults limit s w fs wire o statuses.BankFault taken is found tells all cause back = inr (inr (inl (reading_fails seen may_leave faults limit s w fs wire o is found tells.0 tells.1 back)))
-ended {D} seen may_leave faults limit s w fs wire o statuses.OutOfMemory taken is found tells all cause back = inr (record { written = (w.wire, (w.history, tells)); told = λ p. reading_wants seen may_leave faults limit s w fs wire o is found tells back p })
+ended {D} seen may_leave faults limit s w fs wire o statuses.OutOfMemory taken is found tells all cause back = inr (record { written = (w.wire, w.history, tells); told = λ p. reading_wants seen may_leave faults limit s w fs wire o is found tells back p })
 ended {D} seen may_leave faults limit s w fs wire o statuses.Usage taken is found tells all cause back = absurd tells
 ended {D} seen may_leave faults limit s w fs wire o (statuses.Script line reason) taken is found tells all cause back = absurd tells
 ended {D} seen may_leave faults limit s w fs wire o statuses.ReadFault taken is found tells all cause back = absurd tells
@@ -253,7 +253,7 @@ writes_since o earlier since t w =
     subst (λ (x : Span (Option (List ℕ))). WritesText x earlier.sink_faults t) (sym since.sink) (subst (λ (x : Span ℕ). WritesText o.sink x t) (sym since.sink_faults) w)
 
 entries_since : (wire : Bool) (o earlier : Outside) → Since o earlier → WritesEntries wire o → WritesEntries wire earlier
-entries_since wire o earlier since w = (w.0, (w.1.0, writes_since o earlier since (kept_history_text wire w.0 w.1.0) w.1.1))
+entries_since wire o earlier since w = (w.0, w.1, writes_since o earlier since (kept_history_text wire w.0 w.1) w.2)
 
 first_since : (s : Script) (wire : Bool) (a b : Type 0) (o earlier : Outside) → Since o earlier → (a → b) → ReplaysFirst s wire a o → ReplaysFirst s wire b earlier
 first_since s wire a b o earlier since f r = record {

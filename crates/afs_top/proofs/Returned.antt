@@ -109,7 +109,7 @@ module _ {D : Type 0} (seen : D → Option (List ℕ)) (may_leave : D → List �
     gone_back = subst (λ (ls : List (Lent D)). GoesBack seen faults ls o) over.are (record { gives = gives; some = some; counts = counts; never_falls = never_falls })
 
     entries : WritesEntries wire o
-    entries = (gone.wire ++ w.wire, (gone.history ++ w.history, writes))
+    entries = (gone.wire ++ w.wire, gone.history ++ w.history, writes)
 
     -- its history was full before its end
     pub cut_of : w.is_lost ≡ false → result ≡ statuses.Limit → EndsRun w.script wire (AllTell seen w.servers × HasPlayedFirst seen may_leave faults limit w.script (whole gone w)) ⊥ ⊥ o result
