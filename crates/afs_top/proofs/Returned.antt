@@ -23,7 +23,7 @@ use Rattle.afs_lending.specs.Lending.{faults_of, kept_disks, with_faults, GivesB
 use Rattle.afs_top.specs.Outside.{Outside, Writes}
 use Rattle.afs_top.specs.Parts.{returned, TellsLeft}
 use Rattle.afs_top.specs.Playing.{world_text, IsWritten}
-use Rattle.afs_top.specs.Top.{EndsRun}
+use Rattle.afs_top.specs.Top.{EndsRun, WritesEntries}
 use Rattle.afs_top.specs.declared.statuses.Status.{Status}
 use Rattle.afs_top.specs.declared.statuses.Status.TheVariants as statuses
 use Rattle.afs_top.proofs.Ended.{all_wanted, ended, wanted, was_cut, GoesBack, HasEnded}
@@ -108,6 +108,9 @@ module _ {D : Type 0} (seen : D → Option (List ℕ)) (may_leave : D → List �
     gone_back : GoesBack seen faults (lent_from 1 w.servers) o
     gone_back = subst (λ (ls : List (Lent D)). GoesBack seen faults ls o) over.are (record { gives = gives; some = some; counts = counts; never_falls = never_falls })
 
+    entries : WritesEntries wire o
+    entries = (gone.wire ++ w.wire, gone.history ++ w.history, writes)
+
     -- its history was full before its end
     pub cut_of : w.is_lost ≡ false → result ≡ statuses.Limit → EndsRun w.script wire (AllTell seen w.servers × HasPlayedFirst seen may_leave faults limit w.script (whole gone w)) ⊥ ⊥ o result
     cut_of going are =
@@ -118,10 +121,10 @@ module _ {D : Type 0} (seen : D → Option (List ℕ)) (may_leave : D → List �
     pub wanted_of : result ≡ statuses.OutOfMemory → EndsRun w.script wire (AllTell seen w.servers × HasPlayedSome seen may_leave faults limit w.script (whole gone w)) ⊥ ⊥ o result
     wanted_of are =
         subst (λ (x : Status). EndsRun w.script wire (AllTell seen w.servers × HasPlayedSome seen may_leave faults limit w.script (whole gone w)) ⊥ ⊥ o x) (sym are)
-        (inr (λ p. wanted seen may_leave faults limit w.script (whole gone w) wire o (record { law = law; one = one; world = told.world }) writes gone_back p))
+        (inr (record { written = entries; told = λ p. wanted seen may_leave faults limit w.script (whole gone w) wire o (record { law = law; one = one; world = told.world }) writes gone_back p }))
 
     -- so it was for its disks
     pub unread_of : result ≡ statuses.OutOfMemory → EndsRun w.script wire (AllTell seen w.servers × HasPlayedAll seen may_leave faults limit w.script (whole gone w)) ⊥ ⊥ o result
     unread_of are =
         subst (λ (x : Status). EndsRun w.script wire (AllTell seen w.servers × HasPlayedAll seen may_leave faults limit w.script (whole gone w)) ⊥ ⊥ o x) (sym are)
-        (inr (λ p. wanted seen may_leave faults limit w.script (whole gone w) wire o (record { law = law; one = one; world = told.world }) writes gone_back (all_wanted seen may_leave faults limit w.script (whole gone w) p)))
+        (inr (record { written = entries; told = λ p. wanted seen may_leave faults limit w.script (whole gone w) wire o (record { law = law; one = one; world = told.world }) writes gone_back (all_wanted seen may_leave faults limit w.script (whole gone w) p) }))
