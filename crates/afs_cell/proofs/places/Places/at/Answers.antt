@@ -9,7 +9,7 @@ pub returns : goal.returns
 returns g c =
     let inside : c.args.i < length c.self.inside.items.items = subst (λ (old : Room g.row.T.Denot). c.args.i < length old.items) (sym c.self.view_is) c.requires in (
       (
-        refl {a = c.index_mut.result.ghost_name},
+        refl,
         λ w.
             rw (← c.self.view_is, ← set_in (c.args.i + 1) c.args.i c.self.inside.items.items w refl, length-set),
       ),
