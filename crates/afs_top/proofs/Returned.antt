@@ -1,22 +1,20 @@
 -- Where a world that was played ends, by what its parts promise.
-use Rattle.std.specs.Prelude.{◌≡◌, ◌≤◌, ◌<◌, ◌⊎◌, ℕ, zero, suc, ◌+◌, List, [], ◌∷◌, ◌++◌, length, map, Bool, false, Option, Some, None, Result, Ok, Err, OnOk, OnErr}
-use Rattle.std.proofs.Common.{refl, ap, sym, subst, ◌∙◌, inl, inr, arith}
+use Rattle.std.specs.Prelude.{◌≡◌, ◌≤◌, ◌⊎◌, ℕ, zero, suc, ◌+◌, List, [], ◌∷◌, ◌++◌, length, map, Bool, false, Option, Result, Ok, Err, OnOk, OnErr}
+use Rattle.std.proofs.Common.{refl, ap, sym, subst, inl, inr, arith}
 use Rattle.afs_num.specs.Nodes.{IsNode}
 use Rattle.afs_num.specs.declared.devices.Failed as bank
 use Rattle.afs_num.specs.declared.types.Node.TheVariants.{Server}
 use Rattle.afs_history.specs.declared.scripts.Script.{Script}
 use Rattle.afs_disk.specs.Disk.{Rose}
 use Rattle.afs_disk.specs.declared.disks.Lent.{Lent}
-use Rattle.afs_grammar.specs.CellScripts.{IsCellScript}
 use Rattle.afs_law.specs.Laws.{RunsAreLegal}
 use Rattle.afs_law.specs.OneServer.{IsOneServer}
 use Rattle.afs_outside.specs.declared.outside.Failed.{Failed}
-use Rattle.afs_rows.specs.Runs.{Cell}
 use Rattle.afs_text.specs.FinalText.{final_text}
 use Rattle.afs_volstore.specs.Stores.{Store}
 use Rattle.afs_cell.specs.Since.{whole, StandsSince}
 use Rattle.afs_cell.specs.Steps.{lent_from, AreLent, AreStanding, HasPlayedAll, HasPlayedFirst, HasPlayedSome}
-use Rattle.afs_cell.specs.Worlds.{AllTell, HistoryTold, IsCell, IsWorld, ServerSeat, WorldState}
+use Rattle.afs_cell.specs.Worlds.{AllTell, HistoryTold, IsWorld, ServerSeat, WorldState}
 use Rattle.afs_final.specs.Reading.{fault_in, part, AreFound, AreReadable}
 use Rattle.afs_final.specs.declared.reading.Left.{Left}
 use Rattle.afs_lending.specs.Lending.{faults_of, kept_disks, with_faults, GivesBackAll, GivesBackSome}
