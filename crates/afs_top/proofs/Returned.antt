@@ -24,7 +24,7 @@ use Rattle.afs_top.specs.Playing.{world_text, IsWritten}
 use Rattle.afs_top.specs.Top.{EndsRun, WritesEntries}
 use Rattle.afs_top.specs.declared.statuses.Status.{Status}
 use Rattle.afs_top.specs.declared.statuses.Status.TheVariants as statuses
-use Rattle.afs_top.proofs.Ended.{all_wanted, ended, wanted, was_cut, GoesBack, HasEnded}
+use Rattle.afs_top.proofs.Ended.{all_wanted, ended, entries_of, wanted, was_cut, GoesBack, HasEnded}
 
 -- ---- the disks can be read
 
@@ -107,7 +107,7 @@ module _ {D : Type 0} (seen : D → Option (List ℕ)) (may_leave : D → List �
     gone_back = subst (λ (ls : List (Lent D)). GoesBack seen faults ls o) over.are (record { gives = gives; some = some; counts = counts; never_falls = never_falls })
 
     entries : WritesEntries wire o
-    entries = (gone.wire ++ w.wire, gone.history ++ w.history, writes)
+    entries = entries_of seen may_leave faults limit w.script (whole gone w) wire o told.world writes
 
     -- its history was full before its end
     pub cut_of : w.is_lost ≡ false → result ≡ statuses.Limit → EndsRun w.script wire (AllTell seen w.servers × HasPlayedFirst seen may_leave faults limit w.script (whole gone w)) ⊥ ⊥ o result
