@@ -1,6 +1,6 @@
 -- What the program promises: what it writes is the text of a legal history of the script that it read, and the disks that it
 -- gives back stand for what that history leaves.
-use Rattle.std.specs.Prelude.{◌≡◌, ◌≤◌, ◌<◌, ◌⊎◌, ℕ, ◌+◌, List, [], ◌∷◌, ◌++◌, length, Bool, Option, Some, None, Result, Ok, Err, map}
+use Rattle.std.specs.Prelude.{◌≡◌, ◌≤◌, ◌<◌, ◌⊎◌, ℕ, ◌+◌, List, [], ◌∷◌, ◌++◌, length, Bool, Option, Some, None, Ok, Err}
 use Rattle.std.specs.Option.{option_map}
 use Rattle.std.specs.Io.KnownBytes.{Appends, IsAtEnd}
 use Rattle.afs_num.specs.declared.scripts.Reason.{Reason}
@@ -18,6 +18,7 @@ use Rattle.afs_records.specs.Stands.{Stands}
 use Rattle.afs_rows.specs.Runs.{start, Cell, Entry, Input, Leads}
 use Rattle.afs_text.specs.HistoryText.{history_text, text}
 use Rattle.afs_text.specs.KeptText.{kept_history_text}
+use Rattle.afs_text.specs.Telling.{sent_by}
 use Rattle.afs_schedule.specs.Schedules.{events_of, first_turn, AreFirst, AreInputs, IsHistoryOf, IsHistoryOfFirst}
 use Rattle.afs_cell.specs.Ends.{AreLeft}
 use Rattle.afs_cell.specs.Steps.{MayBeRead}
@@ -127,10 +128,14 @@ pub record ReplaysSome (s : Script) (wire : Bool) (o : Outside) : Type 0 where
   pub played : IsPlayedSome s o.disk_faults history
   pub written : Writes o (history_text wire history)
 
--- Whatever the disks tell: the text of some entries was written, with the messages that they sent, or where the sink failed, a beginning
--- of it. Nothing of the final part stands there.
-abbrev pub WritesEntries : Bool → Outside → Type 0
-WritesEntries wire o = (sent : List Parcel) × (entries : List kept.Entry) × Writes o (kept_history_text wire sent entries)
+-- Whatever the disks tell: the text of some entries was written, with all messages that they sent, or where the sink failed, a beginning
+-- of it. There are no more of them than a history may have. Nothing of the final part stands there.
+pub record WritesEntries (wire : Bool) (o : Outside) : Type 0 where
+  pub sent : List Parcel
+  pub entries : List kept.Entry
+  pub all : sent_by entries ≡ length sent
+  pub few : length entries ≤ most_entries
+  pub written : Writes o (kept_history_text wire sent entries)
 
 -- The script was played to its end, and disks failed by themselves in its history less often than is counted in the call. The text of the
 -- history was written, without the final part, or where the sink failed, a beginning of it.

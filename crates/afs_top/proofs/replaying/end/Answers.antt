@@ -1,4 +1,4 @@
-use Rattle.std.proofs.Common.{◌++◌, List, ℕ, map, subst, arith}
+use Rattle.std.proofs.Common.{ℕ, arith}
 use Rattle.afs_cell.specs.Since.{whole}
 use Rattle.afs_top.proofs.Returned.{end_of, few_left, readable, unread_of}
 use Rattle.afs_top.proofs.Written.{written_by}

@@ -1,5 +1,5 @@
-use Rattle.std.proofs.Common.{refl, ◌∙◌}
-use Rattle.afs_top.proofs.Ended.{played_on, refused_of}
+use Rattle.std.proofs.Common.{refl}
+use Rattle.afs_top.proofs.Ended.{refused_of}
 use Rattle.afs_top.proofs.Played.{all_ends, first_ends, going_all, going_first, since_of, some_ends, written_of}
 use Rattle.afs_top.proofs.replaying.replay_over.Goals as goal
 
