@@ -2,7 +2,8 @@
 # Plays a script whose history is as long as one may be, 4,194,304 entries, with an event left: the program ends with status 8, has
 # written that many entries, and no final part. One act less, and it ends with status 0. The client walks along a path of 500
 # directories with a cache of one entry, so that each act has a call and a reply for each of them.
-# It takes some minutes and 3 GiB, so it is no part of the gate. AFSCELL names another program to test.
+# Its last events are delivers of a place to which nothing is sent; a script with a deliver keeps all its messages, so no letting go
+# is tried here. It takes some minutes and 3 GiB, so it is no part of the gate. AFSCELL names another program to test.
 set -eu
 
 cd "$(dirname "$0")/.."

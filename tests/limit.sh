@@ -1,6 +1,7 @@
 #!/bin/sh
 # Steps a cell to the longest history that one may have: 4,194,304 entries, of events of which nothing comes. The event behind
-# them is answered Limit, and so is the next, and the history stays. tests/limit.play is a program that does so. It is tried and
+# them is answered Limit, and so is the next, and the history stays. Nothing is let go meanwhile, so the entries that the cell
+# keeps are all of them. tests/limit.play is a program that does so. It is tried and
 # not proved, so it is no crate of the repository, and the script no part of the gate: it tells how long it takes, which a proof
 # doesn't. All is done in a copy.
 set -eu
