@@ -60,8 +60,8 @@ StepsSince {D} seen may_leave faults limit is w new result =
 
 -- ---- more is let go
 
--- The entries were let go, and some of the first messages, none of them behind this place. No message is kept then, or at most one half of
--- those that are kept stand up to that place; but no run has so many places as 2 ^ 62.
+-- The entries were let go, and some of the first messages, none of them behind this place. Either no message is kept then, or at most half
+-- of those that are kept stand at that place or before it, and so could have gone. (From 2 ^ 62 on none need go: no run sends so many.)
 pub record LetsGo {D : Type 0} (settled : ℕ) (old new : WorldState D) : Type 0 where
   pub count : ℕ
   pub within : count ≤ length old.wire

@@ -64,7 +64,8 @@ abbrev pub is_on : Fid → Option Fid → Bool
 is_on f None = true
 is_on f (Some g) = same_fid g f
 
--- when the last grant on f to the client ends, unless since then the server stopped, that break became owed, or the client dropped it
+-- when the last grant on f to the client ends, unless since then the server stopped, a break of it became owed to the client, or the client
+-- dropped it
 abbrev pub live_grant : Node → Node → Fid → List Line → Option ℕ
 live_grant s c f [] = None
 live_grant s c f (lines.Grant q d g index expiry ∷ older) = cond (same_node q s && (same_node d c && same_fid g f)) (Some expiry) (live_grant s c f older)
@@ -75,8 +76,8 @@ live_grant s c f (lines.DropAll m q ∷ older) = cond (same_node m c && same_nod
 live_grant s c f (lines.Owe q d w n ∷ older) = cond (same_node q s && (same_node d c && is_on f w)) None (live_grant s c f older)
 live_grant s c f (l ∷ older) = live_grant s c f older
 
--- When the server's last grant on f to the client ends, unless since then the server stopped or that break became owed. That the client
--- dropped it is nothing that a server has to know
+-- When the server's last grant on f to the client ends, unless since then the server stopped or a break of it became owed to the client.
+-- That the client dropped it is nothing that a server has to know
 abbrev pub unbroken_grant : Node → Node → Fid → List Line → Option ℕ
 unbroken_grant s c f [] = None
 unbroken_grant s c f (lines.Grant q d g index expiry ∷ older) = cond (same_node q s && (same_node d c && same_fid g f)) (Some expiry) (unbroken_grant s c f older)
@@ -223,8 +224,8 @@ CarriesBreak (calls.CallBack fs callbacks) what = NamesIn what fs
 CarriesBreak calls.InitCallBackState what = what ≡ None
 CarriesBreak call what = ⊥
 
--- a call to the client that carries the break was timed out for the third time in this entry, in which the server hasn't stopped, and
--- twice since the break became owed
+-- A call to the client that names what the break is on was timed out for the third time in this entry, in which the server hasn't stopped,
+-- and twice before that since the break became owed. The call itself may be older than the break
 pub record GoodQuit (s c : Node) (n : ℕ) (past : List Entry) (own : List Line) : Type 0 where
   pub going : HasStopped s own → ⊥
   pub what : Option Fid

@@ -85,7 +85,7 @@ IsWithdrawn s c f (lines.Crash n ∷ newer) = (n ≡ s) ⊎ IsWithdrawn s c f ne
 IsWithdrawn s c f (lines.Fault n ∷ newer) = (n ≡ s) ⊎ IsWithdrawn s c f newer
 IsWithdrawn s c f (l ∷ newer) = IsWithdrawn s c f newer
 
--- in its entry's own lines, the newest first, the server changed f under the key of another node
+-- by the lines of an entry, the newest first, the server changed f under the key of another node
 abbrev pub IsChangedByOther : Node → Node → Fid → List Line → Type 0
 IsChangedByOther s c f [] = ⊥
 IsChangedByOther s c f (lines.Version v ∷ own) = ((v.fid ≡ f) × IsByOther s c (change_below own)) ⊎ IsChangedByOther s c f own

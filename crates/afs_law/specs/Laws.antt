@@ -177,7 +177,7 @@ pub record Survives (host : Host) (past : List Entry) : Type 0 where
   pub kept : (id : ℕ) → volume_in id host.state.lasting.volumes ≡ volume_after id past
   pub after : (fall : Fall) → host.down ≡ Some fall → (id : ℕ) → volume_in id (found_by_restart host fall).state.lasting.volumes ≡ volume_after id (told_by_restart host fall ∷ past)
 
--- read by one version: these volumes hold it or a later one, and so does what the interrupted step may have left
+-- of one version: these volumes hold it or a later one, and so does what the interrupted step may have left
 pub record IsHeldStill (v : Version) (host : Host) (past : List Entry) : Type 0 where
   pub kept : IsKept v host.state.lasting.volumes (lines_of past)
   pub after : (fall : Fall) → host.down ≡ Some fall → IsKept v (found_by_restart host fall).state.lasting.volumes (lines_of (told_by_restart host fall ∷ past))

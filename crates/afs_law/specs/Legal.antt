@@ -241,12 +241,13 @@ abbrev pub IsClientOf : Script → Node → Type 0
 IsClientOf s (Client j) = (1 ≤ j) × (j ≤ s.clients)
 IsClientOf s n = ⊥
 
--- a promise of the server to the client on f, made in an entry before, lasts, and was not broken
+-- a promise of the server to the client on f, made in an entry before, lasts; and since then no break of it became owed, nor did the server
+-- stop. What this entry owes already isn't looked at
 abbrev pub IsUnbroken : Node → Node → Fid → List Entry → Type 0
 IsUnbroken server c f past = (expiry : ℕ) × ((unbroken_grant server c f (lines_of past) ≡ Some expiry) × (clock_of (lines_of past) < expiry))
 
 -- why a break becomes owed: the server began again, and each client of the script is owed one on all; or another node's call changed a
--- fid in this entry that the client is promised
+-- fid in this entry that the client is promised. No line fences or moves a volume yet, which would be a cause too
 abbrev pub IsOwedFor : Script → Node → Node → Option Fid → List Entry → List Line → Type 0
 IsOwedFor s server c None past own = HasRisen server own × IsClientOf s c
 IsOwedFor s server c (Some f) past own = IsChangedByOther server c f own × IsUnbroken server c f past
@@ -454,7 +455,7 @@ abbrev pub IsBy : Node → List Entry → Type 0
 IsBy n [] = ⊥
 IsBy n (e ∷ past) = e.actor ≡ actors.Node n
 
--- a client gives its call a key that no act before the one that it began last used
+-- a client gives its call a key that no file call had which was sent before the act that it began last
 abbrev pub HasOwnKey : Node → Key → List Entry → Type 0
 HasOwnKey (Client j) k past = is_new_to_act (Client j) k past ≡ true
 HasOwnKey n k past = ⊤
@@ -468,8 +469,8 @@ abbrev pub HasOwnHalf : Message → Type 0
 HasOwnHalf m = IsCall m.carried → m.head.half ≡ halves.Call
 
 -- A message is sent by the node that its header names as sender, in the entry with which `past` begins, and a call is one by its header.
--- A reply of a server waits for its breaks, what a call gives back was dropped, and a client's call has a key that no call had which was
--- sent before its act began
+-- A reply of a server waits for its breaks, what a call gives back was dropped, and a client's call has a key that no file call had
+-- which was sent before the act that it began last
 pub record GoodMessage (past : List Entry) (m : Message) : Type 0 where
   pub sender : IsBy m.head.from past
   pub half : HasOwnHalf m

@@ -38,7 +38,7 @@ pub record IsAsked (s : Script) (sent : List Message) (past : List Entry) (head 
 abbrev pub waited_key : ℕ → ClientState → Key
 waited_key j c = record { node = Client j; epoch = c.epoch; number = c.last }
 
--- the call that the act waits for was sent since it began, under a key that no call had which was sent before the act's entry
+-- the call that the act waits for was sent since it began, under a key that no file call had which was sent before the act's entry
 pub record IsWaiting (s : Script) (j : ℕ) (c : ClientState) (act : Going) (past : List Entry) : Type 0 where
   pub called : CalledSince (waited_key j c) (user_of s (Client j)) (call_of c act) past
   pub late : is_new_to_act (Client j) (waited_key j c) past ≡ true
@@ -77,7 +77,8 @@ EntriesAreSound = (s : Script) (history : List Entry) (end : Cell) → RunsTo hi
 
 -- ---- where lines stand
 
--- each line of a run is in its place: a history is legal of which, besides, grants, changes, reads, answers and breaks are good
+-- each line of a run is in its place; besides this a legal history has good grants, changes, reads, answers, breaks and messages, and
+-- sound entries
 abbrev pub LinesAreInPlace : Type 0
 LinesAreInPlace = (s : Script) (history : List Entry) (end : Cell) → RunsTo history s end → AllLines (IsInPlace s) s history
 
@@ -88,8 +89,8 @@ abbrev pub EachSent : (List Entry → Message → Type 0) → List Entry → Lis
 EachSent G past [] = ⊤
 EachSent G past (m ∷ ms) = G past m × EachSent G past ms
 
--- it is sent by the node that its header names as sender, and a call of a client under a key that no call had which was sent before its
--- act began
+-- it is sent by the node that its header names as sender, and a call of a client under a key that no file call had which was sent before
+-- the act that it began last
 abbrev pub IsOwn : List Entry → Message → Type 0
 IsOwn past m = IsBy m.head.from past × GoodCall m.head m.carried past
 

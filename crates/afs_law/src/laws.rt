@@ -156,8 +156,8 @@ pub fn lines_are_in_place()
     ensures { LinesAreInPlace }
 {}
 
-/// Each message is sent by the node that its header names as sender, and each call of a client under a key that no call had which was
-/// sent before its act began.
+/// Each message is sent by the node that its header names as sender, and each call of a client under a key that no file call had
+/// which was sent before the act that it began last.
 pub fn messages_are_own()
     ensures { MessagesAreOwn }
 {}

@@ -14,7 +14,7 @@ use Rattle.afs_top.specs.declared.playing.Ended.{Ended}
 use Rattle.afs_top.specs.declared.playing.Ended.TheVariants as ended
 use Rattle.afs_top.specs.declared.playing.Told.{Told}
 
--- the text of the whole world's history, with the bytes of each message or without
+-- the text of a world's history, with the bytes of each message or without
 abbrev pub world_text : {D : Type 0} → Bool → WorldState D → List ℕ
 world_text {D} wire w = kept_history_text wire w.wire w.history
 

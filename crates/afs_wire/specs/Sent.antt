@@ -8,8 +8,8 @@ pub record Sent : Type 0 where
   pub messages : List Parcel
   pub room : ℕ
 
--- Some of the first were let go, none of them behind this place. No message is kept then, or at most one half of those that are kept
--- stand up to that place; but no run has so many places as 2 ^ 62.
+-- Some of the first were let go, none of them behind this place. Either none is kept then, or at most half of those that are kept stand
+-- at that place or before it, and so could have gone. (From 2 ^ 62 on nothing need go: no run sends so many.)
 pub record LetsGo (places : ℕ) (old new : Sent) : Type 0 where
   pub count : ℕ
   pub within : count ≤ length old.messages

@@ -98,7 +98,7 @@ impl Wire {
     }
 
     /// Messages of the first places are let go, so that they can't be had any more: all of them, or none yet where they are less than
-    /// half of those that are kept. It takes no memory.
+    /// half of those that are kept, rounded down. It takes no memory.
     pub fn let_go(&mut self, places: u64)
         ensures { LetsGo places self.old self.new }
     {
