@@ -11,7 +11,7 @@ ghost use Rattle.afs_shape.specs.Tables.{is_field, kinds_of, AreOf, AreInRange, 
 ghost use Rattle.afs_shape.specs.declared.faults.ShapeFault.TheVariants.{NoRow, OutOfMemory};
 
 use crate::faults::ShapeFault;
-use crate::fields::{read_field, size_of, write_part};
+use crate::fields::{read_next, size_of, write_part};
 use crate::kinds::{Field, Fields, Kind, Part};
 use afs_num::types::Mem;
 use afs_xdr::reading::Reader;
@@ -76,11 +76,8 @@ fn read_kinds(alloc: Global, kinds: &[Kind], r: &mut Reader) -> Result<Fields, S
     let mut fields = room_for(alloc, kinds.len())?;
     let mut place = 1;
     for kind in kinds {
-        match read_field(alloc, *kind, r) {
-            Ok(field) => match fields.push(field) {
-                Ok(()) => {}
-                Err(_) => return Err(ShapeFault::OutOfMemory),
-            },
+        match read_next(alloc, *kind, r, &mut fields) {
+            Ok(()) => {}
             Err(fault) => return Err(fault.at(place)),
         }
         place += 1;
@@ -151,7 +148,7 @@ impl<const N: usize> Shape<N> {
 
     /// Reads the fields. Their places are counted from 1, since a call's user or a reply's code stands before them. A
     /// refusal, and want of memory, leave the reader as it was.
-    pub fn read_fields(&self, alloc: Global, r: &mut Reader) -> Result<Fields, ShapeFault>
+    pub fn read_nexts(&self, alloc: Global, r: &mut Reader) -> Result<Fields, ShapeFault>
         requires { N < 2 ^ 31 }
         ensures value { ReadsShape (fields_at 1 (kinds_of self.now.kinds)) (λ fs. fs) r.old r.new result }
         ensures few { IfOk result (λ fs. length fs ≤ N) }
