@@ -148,7 +148,7 @@ impl<const N: usize> Shape<N> {
 
     /// Reads the fields. Their places are counted from 1, since a call's user or a reply's code stands before them. A
     /// refusal, and want of memory, leave the reader as it was.
-    pub fn read_nexts(&self, alloc: Global, r: &mut Reader) -> Result<Fields, ShapeFault>
+    pub fn read_fields(&self, alloc: Global, r: &mut Reader) -> Result<Fields, ShapeFault>
         requires { N < 2 ^ 31 }
         ensures value { ReadsShape (fields_at 1 (kinds_of self.now.kinds)) (λ fs. fs) r.old r.new result }
         ensures few { IfOk result (λ fs. length fs ≤ N) }
