@@ -17,9 +17,6 @@ use afs_xdr::writing::Writer;
 use std::alloc::Global;
 use std::marker::Model;
 
-/// The bytes that a name and its two numbers take, but for a long name.
-const USUAL_NAME: usize = 32;
-
 /// A directory: its names in byte order, each with the vnode that it names.
 #[derive(Drop)]
 pub struct Dir {
@@ -159,7 +156,7 @@ impl Dir {
         ensures read { IfOk result (λ bytes. directory_of bytes ≡ Ok self.now) }
         ensures short { IfOk result (λ bytes. length bytes ≤ 276484) }
     {
-        let mut bytes = Writer::with_capacity(self.alloc, 4 + USUAL_NAME * self.names.len())?;
+        let mut bytes = Writer::new(self.alloc);
         bytes.word(self.names.len() as u32)?;
         write_names(&self.names, &mut bytes)?;
         Ok(Octets::from_vec(bytes.into_vec()?))
