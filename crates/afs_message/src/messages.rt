@@ -96,8 +96,7 @@ pub fn read_message(alloc: Global, served: &[u32], bytes: &[u8]) -> Mem<Received
     // A message that stands in the bytes is found, unless it is a call that isn't served.
     ensures found { FindsMessages served.now bytes.now }
 {
-    let received = receive(alloc, served, bytes)?;
-    Ok(received)
+    receive(alloc, served, bytes)
 }
 
 /// A boot notice: its header alone.

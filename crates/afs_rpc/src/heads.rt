@@ -64,14 +64,16 @@ pub fn head_of(r: &mut Reader) -> Result<Head, XdrFault>
     ensures value { Reads head_at (λ x. x) r.old r.new result }
     ensures end { KeepsEnd r.old r.new }
 {
-    let half = read_half(r)?;
-    let from = read_node(r)?;
-    let to = read_node(r)?;
-    let epoch = r.word()?;
-    let number = r.word()?;
-    let boot = r.word()?;
-    let stamp = r.word()?;
-    let opcode = r.word()?;
+    let mut ahead = r.fork();
+    let half = read_half(&mut ahead)?;
+    let from = read_node(&mut ahead)?;
+    let to = read_node(&mut ahead)?;
+    let epoch = ahead.word()?;
+    let number = ahead.word()?;
+    let boot = ahead.word()?;
+    let stamp = ahead.word()?;
+    let opcode = ahead.word()?;
+    *r = ahead;
     Ok(Head {
         half,
         from,

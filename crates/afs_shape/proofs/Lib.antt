@@ -7,3 +7,4 @@ pub mod RowLaws
 pub mod BodyLaws
 pub mod MadeLaws
 pub mod InterfaceLaws
+pub mod Nexts

@@ -99,27 +99,29 @@ impl Item for AfsFetchStatus {
 
     #[tactic(auto, unfolding(crate::specs::Items::status_at))]
     fn read(r: &mut Reader) -> Result<AfsFetchStatus, XdrFault> {
-        let interface_version = r.word()?;
-        let file_type = r.word()?;
-        let link_count = r.word()?;
-        let length = r.word()?;
-        let data_version = r.word()?;
-        let author = r.word()?;
-        let owner = r.word()?;
-        let caller_access = r.word()?;
-        let anonymous_access = r.word()?;
-        let unix_mode_bits = r.word()?;
-        let parent_vnode = r.word()?;
-        let parent_unique = r.word()?;
-        let seg_size = r.word()?;
-        let client_mod_time = r.word()?;
-        let server_mod_time = r.word()?;
-        let group = r.word()?;
-        let sync_counter = r.word()?;
-        let spare1 = r.word()?;
-        let spare2 = r.word()?;
-        let spare3 = r.word()?;
-        let spare4 = r.word()?;
+        let mut ahead = r.fork();
+        let interface_version = ahead.word()?;
+        let file_type = ahead.word()?;
+        let link_count = ahead.word()?;
+        let length = ahead.word()?;
+        let data_version = ahead.word()?;
+        let author = ahead.word()?;
+        let owner = ahead.word()?;
+        let caller_access = ahead.word()?;
+        let anonymous_access = ahead.word()?;
+        let unix_mode_bits = ahead.word()?;
+        let parent_vnode = ahead.word()?;
+        let parent_unique = ahead.word()?;
+        let seg_size = ahead.word()?;
+        let client_mod_time = ahead.word()?;
+        let server_mod_time = ahead.word()?;
+        let group = ahead.word()?;
+        let sync_counter = ahead.word()?;
+        let spare1 = ahead.word()?;
+        let spare2 = ahead.word()?;
+        let spare3 = ahead.word()?;
+        let spare4 = ahead.word()?;
+        *r = ahead;
         Ok(AfsFetchStatus {
             interface_version,
             file_type,

@@ -39,6 +39,30 @@ macro_rules! table_of {
     };
 }
 
+/// The shape of this opcode's row, without the table around it.
+#[macro_export]
+macro_rules! shape_of {
+    (
+        ($opcode:ident)
+        [$($number:literal $name:ident { $($field:ident: $kind:ident $([$most:expr])?),* }),*]
+    ) => {
+        match $opcode {
+            $($number => Ok($crate::first_kinds!(
+                $($crate::kinds::Kind::$kind $(($most))?,)*
+                $crate::kinds::Kind::Nothing,
+                $crate::kinds::Kind::Nothing,
+                $crate::kinds::Kind::Nothing,
+                $crate::kinds::Kind::Nothing,
+                $crate::kinds::Kind::Nothing,
+                $crate::kinds::Kind::Nothing,
+                $crate::kinds::Kind::Nothing,
+                $crate::kinds::Kind::Nothing
+            )),)*
+            _ => Err($crate::faults::ShapeFault::NoRow($opcode)),
+        }
+    };
+}
+
 /// A part, by a reference to its value.
 #[macro_export]
 macro_rules! part_of {

@@ -1,6 +1,6 @@
 //! Shapes, and tables of them by opcode.
 
-ghost use Rattle.std.specs.Prelude.{◌≡◌, ◌++◌, ◌<◌, ◌≤◌, ◌^◌, ◌+◌, length, All, List, OnOk, OnErr, IfOk, IfErr, Some, None, option_map};
+ghost use Rattle.std.specs.Prelude.{◌≡◌, ◌++◌, ◌<◌, ◌≤◌, ◌^◌, ◌+◌, [], length, All, List, OnOk, OnErr, IfOk, IfErr, Some, None, option_map};
 ghost use Rattle.std.specs.Option.{option_copied};
 ghost use Rattle.std.specs.List.{prefix_len, sum_by};
 ghost use Rattle.afs_xdr.specs.Reading.{KeepsEnd};
@@ -8,10 +8,10 @@ ghost use Rattle.afs_shape.specs.Spelling.{fields_spelled, Extends, IsSpellable}
 ghost use Rattle.afs_shape.specs.Parts.{field_of, fields_of, field_size};
 ghost use Rattle.afs_shape.specs.Reading.{ReadsShape, fields_at};
 ghost use Rattle.afs_shape.specs.Tables.{is_field, kinds_of, AreOf, AreInRange, find_row, rows_of, kinds_in};
-ghost use Rattle.afs_shape.specs.declared.faults.ShapeFault.TheVariants.{NoRow};
+ghost use Rattle.afs_shape.specs.declared.faults.ShapeFault.TheVariants.{NoRow, OutOfMemory};
 
 use crate::faults::ShapeFault;
-use crate::fields::{read_field, size_of, write_part};
+use crate::fields::{read_next, size_of, write_part};
 use crate::kinds::{Field, Fields, Kind, Part};
 use afs_num::types::Mem;
 use afs_xdr::reading::Reader;
@@ -54,6 +54,17 @@ fn before_nothing(kinds: &[Kind]) -> &[Kind]
     kinds.split_at(count).0
 }
 
+/// No fields yet, with room for so many.
+fn room_for(alloc: Global, count: usize) -> Result<Fields, ShapeFault>
+    ensures ok { IfOk result (λ fs. fs ≡ []) }
+    ensures err { IfErr result (λ e. e ≡ OutOfMemory) }
+{
+    match Vec::with_capacity(alloc, count) {
+        Ok(fields) => Ok(Fields::from_vec(fields)),
+        Err(_) => Err(ShapeFault::OutOfMemory),
+    }
+}
+
 /// The fields of these kinds, one after the other; the first is in place 1 of the message.
 #[tactic(auto, unfolding(crate::specs::Reading::fields_at))]
 fn read_kinds(alloc: Global, kinds: &[Kind], r: &mut Reader) -> Result<Fields, ShapeFault>
@@ -62,14 +73,11 @@ fn read_kinds(alloc: Global, kinds: &[Kind], r: &mut Reader) -> Result<Fields, S
     ensures count { IfOk result (λ fs. length fs ≡ length kinds.now) }
     ensures end { KeepsEnd r.old r.new }
 {
-    let mut fields = Fields::new(alloc);
+    let mut fields = room_for(alloc, kinds.len())?;
     let mut place = 1;
     for kind in kinds {
-        match read_field(alloc, *kind, r) {
-            Ok(field) => match fields.push(field) {
-                Ok(()) => {}
-                Err(_) => return Err(ShapeFault::OutOfMemory),
-            },
+        match read_next(alloc, *kind, r, &mut fields) {
+            Ok(()) => {}
             Err(fault) => return Err(fault.at(place)),
         }
         place += 1;

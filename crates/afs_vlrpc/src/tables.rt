@@ -10,7 +10,7 @@ use afs_shape::kinds::Part;
 use afs_shape::messages::Messages;
 use afs_shape::tables::{Shape, Table};
 use afs_shape::taking::Taking;
-use afs_shape::{message_from, parts_of, table_of};
+use afs_shape::{message_from, parts_of, shape_of, table_of};
 use std::alloc::Global;
 
 /// The name of a volume, in bytes.
@@ -71,9 +71,7 @@ impl Messages for LocCalls {
     ghost is_sound = { calls_sound };
 
     fn shape(opcode: u32) -> Result<Shape<8>, ShapeFault> {
-        let table = CALLS;
-        let shape = table.shape(opcode)?;
-        Ok(Shape { kinds: shape.kinds })
+        with_calls!(shape_of(opcode))
     }
 
     fn from_fields(opcode: u32, fields: Taking) -> Option<LocCall> {
@@ -96,9 +94,7 @@ impl Messages for LocReplies {
     ghost is_sound = { replies_sound };
 
     fn shape(opcode: u32) -> Result<Shape<8>, ShapeFault> {
-        let table = REPLIES;
-        let shape = table.shape(opcode)?;
-        Ok(Shape { kinds: shape.kinds })
+        with_replies!(shape_of(opcode))
     }
 
     fn from_fields(opcode: u32, fields: Taking) -> Option<LocReply> {

@@ -1,8 +1,8 @@
-ghost use Rattle.std.specs.Prelude.{◌≡◌, ◌<◌, ◌≤◌, ◌*◌, ◌==◌, ◌^◌, [], ◌++◌, length, take, replicate, IfOk, OnOk, OnErr};
+ghost use Rattle.std.specs.Prelude.{◌≡◌, ◌+◌, ◌<◌, ◌≤◌, ◌*◌, ◌==◌, ◌^◌, [], ◌++◌, length, take, replicate, IfOk, OnOk, OnErr};
 ghost use Rattle.afs_xdr.specs.Words.{word, words, opaque, AreWords};
 
 use crate::reading::pad_of;
-use bytes::{BufMut, BytesMut};
+use bytes::BytesMut;
 use std::alloc::{AllocError, Global};
 use std::marker::Model;
 
@@ -40,13 +40,14 @@ impl Writer {
     }
 
     /// Appends a word.
-    #[tactic(auto, unfolding(crate::specs::Words::word))]
     pub fn word(&mut self, n: u32) -> Result<(), AllocError>
         ensures ok { OnOk result (self.new ≡ self.old ++ word n) }
         ensures fits { n < 2 ^ 32 }
         ensures err { OnErr result (self.new ≡ self.old) }
     {
-        self.bytes.put_u32(n)
+        self.bytes.reserve(4)?;
+        put_word(&mut self.bytes, n);
+        Ok(())
     }
 
     /// Appends words.
@@ -56,7 +57,8 @@ impl Writer {
         ensures err { OnErr result (self.new ≡ self.old) }
     {
         self.bytes.reserve(4 * ns.len())?;
-        put_words(&mut self.bytes, ns)
+        put_words(&mut self.bytes, ns);
+        Ok(())
     }
 
     /// How many bytes there are.
@@ -81,7 +83,7 @@ impl Writer {
     }
 
     /// Appends an opaque.
-    #[tactic(auto, unfolding(crate::specs::Words::opaque, crate::specs::Words::word, crate::specs::Words::pad))]
+    #[tactic(auto, unfolding(crate::specs::Words::opaque, crate::specs::Words::pad))]
     pub fn opaque(&mut self, bytes: &[u8]) -> Result<(), AllocError>
         requires { length bytes.now < 2 ^ 32 }
         ensures ok { OnOk result (self.new ≡ self.old ++ opaque bytes.now) }
@@ -89,42 +91,57 @@ impl Writer {
     {
         let pad = pad_of(bytes.len());
         self.bytes.reserve(4 + bytes.len() + pad)?;
-        self.bytes.put_u32(bytes.len() as u32)?;
-        self.bytes.put_slice(bytes)?;
-        self.bytes.put_slice(zeros(pad))?;
+        put_word(&mut self.bytes, bytes.len() as u32);
+        self.bytes.extend_reserved(bytes);
+        put_zeros(&mut self.bytes, pad);
         Ok(())
     }
 
-    /// The bytes.
+    /// The bytes. They are copied only where the room taken for them is larger.
     pub fn into_vec(self) -> Result<Vec<u8>, AllocError>
         ensures { IfOk result (λ v. v.items ≡ self) }
     {
-        Vec::from_slice(*self.bytes.allocator(), self.bytes.as_slice())
+        let Writer { bytes } = self;
+        if bytes.len() < bytes.capacity() {
+            return Vec::from_slice(*bytes.allocator(), bytes.as_slice());
+        }
+        match bytes.into_vec() {
+            Ok(vec) => Ok(vec),
+            Err(_) => Err(AllocError),
+        }
     }
+}
+
+/// Appends a word where there is room for it.
+#[tactic(auto, unfolding(crate::specs::Words::word))]
+fn put_word(out: &mut BytesMut, n: u32)
+    requires { 4 ≤ out.old.spare }
+    ensures items { out.new.items ≡ out.old.items ++ word n }
+    ensures spare { out.new.spare + 4 ≡ out.old.spare }
+{
+    out.extend_reserved(&n.to_be_bytes());
 }
 
 /// Appends words where there is room for them.
-#[tactic(auto, unfolding(crate::specs::Words::word))]
-fn put_words(out: &mut BytesMut, ns: &[u32]) -> Result<(), AllocError>
+fn put_words(out: &mut BytesMut, ns: &[u32])
     requires { 4 * length ns.now ≤ out.old.spare }
-    ensures ok { OnOk result (out.new.items ≡ out.old.items ++ words ns.now) }
-    ensures err { OnErr result (out.new.items ≡ out.old.items) }
+    ensures { out.new.items ≡ out.old.items ++ words ns.now }
 {
     for n in ns {
-        out.put_u32(*n)?;
+        put_word(out, *n);
     }
-    Ok(())
 }
 
-/// So many zero bytes, at most three.
-fn zeros(count: usize) -> &'static [u8]
-    requires { count < 4 }
-    ensures { result.now ≡ replicate count 0 }
+/// Appends so many zero bytes, at most three, where there is room for them.
+fn put_zeros(out: &mut BytesMut, count: usize)
+    requires few { count < 4 }
+    requires room { count ≤ out.old.spare }
+    ensures { out.new.items ≡ out.old.items ++ replicate count 0 }
 {
     match count {
-        0 => &[],
-        1 => &[0],
-        2 => &[0, 0],
-        _ => &[0, 0, 0],
+        0 => {}
+        1 => out.extend_reserved(&[0]),
+        2 => out.extend_reserved(&[0, 0]),
+        _ => out.extend_reserved(&[0, 0, 0]),
     }
 }
