@@ -103,7 +103,7 @@ fn send_or_hold(
 
 /// Sends those of the replies that wait no more; the others are held.
 #[tactic(auto, using(crate::proofs::Parted::sent_next, crate::proofs::Parted::held_next))]
-pub fn send_ready(
+pub(crate) fn part_ready(
     sent: &mut Sequence<SpelledMessage>,
     held: &mut Sequence<HeldReply>,
     replies: Sequence<HeldReply>,
@@ -119,7 +119,7 @@ pub fn send_ready(
 }
 
 /// Holds these replies besides.
-pub fn hold_all(held: &mut Sequence<HeldReply>, replies: Sequence<HeldReply>) -> Mem<()>
+pub(crate) fn hold_all(held: &mut Sequence<HeldReply>, replies: Sequence<HeldReply>) -> Mem<()>
     ensures { OnOk result (held.new ≡ held.old ++ replies) }
 {
     for one in replies.into_vec() {

@@ -12,7 +12,7 @@ ghost use Rattle.afs_server_parts.specs.Turning.{started_with, turn_with, IsBrea
 
 use crate::callees::{BackCall, is_waiting, known, set_call};
 use crate::calling::{carried, spell_call};
-use crate::held::{hold_all, send_ready};
+use crate::held::{hold_all, part_ready};
 use crate::turns::{Calls, Turn};
 use afs_breaks::types::OwedBreak;
 use afs_num::sequences::Sequence;
@@ -112,8 +112,8 @@ impl Turn {
         let outs = replace(&mut self.outs, Sequence::new(alloc));
         let held = replace(&mut self.held, Sequence::new(alloc));
         let mut later = Sequence::new(alloc);
-        send_ready(&mut self.calls.sent, &mut later, outs, &self.owed)?;
-        send_ready(&mut self.calls.sent, &mut self.held, held, &self.owed)?;
+        part_ready(&mut self.calls.sent, &mut later, outs, &self.owed)?;
+        part_ready(&mut self.calls.sent, &mut self.held, held, &self.owed)?;
         hold_all(&mut self.held, later)?;
         Ok(())
     }

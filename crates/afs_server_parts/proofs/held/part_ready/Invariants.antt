@@ -3,7 +3,7 @@ use Rattle.std.specs.Prelude.{filter}
 use Rattle.std.specs.Vec.Iter.{into_iter_items}
 use Rattle.afs_rows.specs.Callbacks.{is_ready, replies_of}
 use Rattle.afs_rows.specs.States.{Held}
-use Rattle.afs_server_parts.proofs.held.send_ready.Given as goal
+use Rattle.afs_server_parts.proofs.held.part_ready.Given as goal
 
 abbrev pub invariant-loop-one : goal.invariant-loop-one
 invariant-loop-one l = record {
