@@ -175,15 +175,7 @@ impl Dir {
         let Err(place) = search(&self.names, name) else {
             unreachable!()
         };
-        let spelled = spelled_with(
-            self.alloc,
-            &self.names,
-            bytes,
-            place,
-            name,
-            vnode,
-            unique,
-        )?;
+        let spelled = spelled_with(self.alloc, &self.names, bytes, place, name, vnode, unique)?;
         Ok(spelled)
     }
 

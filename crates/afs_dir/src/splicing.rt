@@ -135,12 +135,7 @@ pub fn spelled_with(
 }
 
 /// The spelling of these names without the one in this place; `bytes` spell all of them.
-pub fn spelled_without(
-    alloc: Global,
-    names: &[Name],
-    bytes: &[u8],
-    place: usize,
-) -> Mem<Octets>
+pub fn spelled_without(alloc: Global, names: &[Name], bytes: &[u8], place: usize) -> Mem<Octets>
     requires directory { IsDirectory names.now }
     requires spelled { directory_bytes names.now ≡ bytes.now }
     requires within { place < length names.now }

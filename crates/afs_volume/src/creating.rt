@@ -44,7 +44,14 @@ impl Volume {
         let number = self.free_number(&made);
         let names = self.names(fid.vnode, d);
         let bytes = d.contents.as_slice();
-        let names = spelled_with(names, bytes, name, number, self.head.unique, is_mask(status))?;
+        let names = spelled_with(
+            names,
+            bytes,
+            name,
+            number,
+            self.head.unique,
+            is_mask(status),
+        )?;
         let mut made = made;
         set_status(&mut made, status);
         let mut edits = Edits::new(self.alloc);

@@ -165,7 +165,6 @@ impl Volume {
     }
 
     /// The names of a directory. It takes no memory, and doesn't read the directory's contents.
-    #[tactic(auto, using(crate::proofs::Spelled::contents_read))]
     pub(crate) fn names(&self, number: u32, d: &Vnode) -> &Dir
         requires there { get number self.now.vnodes.table ≡ Some d.now }
         requires directory { is_kind (seen d.now).kind a_directory ≡ true }
