@@ -1,9 +1,8 @@
 -- A directory with one name more or less has a spelling, and is read from it.
-use Rattle.std.proofs.Common.{◌≡◌, ◌≤◌, ◌<◌, ℕ, Bool, true, false, not, zero, suc, List, [], ◌∷◌, length, Option, Some, None, Ok, is_some, if◌then◌else◌, filter, nat_lt, refl, sym, ap, ◌∙◌, arith, slice_get}
-use Rattle.std.specs.List.{AllByRecursion}
+use Rattle.std.proofs.Common.{◌≡◌, ◌≤◌, ◌<◌, ℕ, Bool, true, false, not, zero, suc, List, [], ◌∷◌, length, Option, Some, None, Ok, is_some, if◌then◌else◌, nat_lt, refl, sym, ◌∙◌, arith, slice_get}
 use Rattle.afs_num.specs.Names.{name_ok}
 use Rattle.afs_num.specs.declared.directories.Name.{Name}
-use Rattle.afs_ideal.specs.Directories.{add_refused, bytes_below, directory_bytes, directory_of, is_named, most_names, named, with_name, without_name, FitNames, FitsName, IsDirectory}
+use Rattle.afs_ideal.specs.Directories.{add_refused, bytes_below, directory_bytes, directory_of, is_named, most_names, named, with_name, without_name, FitNames, FitsName}
 use Rattle.afs_ideal.proofs.Directories.{added_is_directory, good_is_short, removed_is_directory}
 use Rattle.afs_ideal.proofs.DirectoryBytes.{read_is_spelled, spelled_is_read}
 use Rattle.afs_shape.proofs.Codecs.{IsBytes}
