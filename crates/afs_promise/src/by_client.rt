@@ -28,12 +28,7 @@ fn from_place(from: u64, grant: Grant) -> Option<Grant>
 }
 
 /// What the client holds on the fid, unless it is `except`.
-fn hit_of(
-    latest: &IndexMap<Holding, Grant>,
-    except: Node,
-    fid: Fid,
-    client: Node,
-) -> Option<Grant>
+fn hit_of(latest: &IndexMap<Holding, Grant>, except: Node, fid: Fid, client: Node) -> Option<Grant>
     ensures { result ≡ hit_of (get same_holding latest.now) except fid client }
 {
     if client.is(&except) {
