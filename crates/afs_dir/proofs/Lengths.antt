@@ -11,17 +11,20 @@ use Rattle.afs_xdr.specs.Words.{word, words, opaque, pad, pad_length}
 use Rattle.afs_ideal.specs.Directories.{bytes_below, directory_bytes, follow, name_bytes, IsDirectory}
 use Rattle.afs_ideal.proofs.Basics.{both}
 
-words_long : (m n : ℕ) → length (words (m ∷ n ∷ [])) ≡ 8
+pub words_long : (m n : ℕ) → length (words (m ∷ n ∷ [])) ≡ 8
 unfolding word
 words_long m n = refl
 
-word_long : (n : ℕ) → length (word n) ≡ 4
+pub word_long : (n : ℕ) → length (word n) ≡ 4
 unfolding word
 word_long n = refl
 
-pad_short : (n : ℕ) → length (pad n) ≤ 3
+pub pad_long : (n : ℕ) → length (pad n) ≡ pad_length n
 unfolding pad
-pad_short n = let long = length-replicate {A = ℕ} (pad_length n) 0 in let few = mod_below (4 - n % 4) 4 (omega arith) in omega (arith, long, few)
+pad_long n = length-replicate {A = ℕ} (pad_length n) 0
+
+pad_short : (n : ℕ) → length (pad n) ≤ 3
+pad_short n = let few = mod_below (4 - n % 4) 4 (omega arith) in omega (arith, pad_long n, few)
 
 opaque_short : (bytes : List ℕ) → length (opaque bytes) ≤ 7 + length bytes
 unfolding opaque

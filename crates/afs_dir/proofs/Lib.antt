@@ -2,3 +2,5 @@ pub mod Lengths
 pub mod Finding
 pub mod Reach
 pub mod Names
+pub mod Halves
+pub mod Fits

@@ -1,4 +1,4 @@
-ghost use Rattle.std.specs.Prelude.{◌≡◌, ◌≤◌, ◌==◌, [], length, IfOk, Ok, OnOk, OnErr};
+ghost use Rattle.std.specs.Prelude.{◌≡◌, ◌≤◌, ◌==◌, [], length, is_some, true, IfOk, None, Ok, OnOk, OnErr};
 ghost use Rattle.std.specs.Option.{option_map};
 ghost use Rattle.afs_ideal.specs.Directories.{named, with_name, without_name, add_refused, directory_bytes, directory_of};
 ghost use Rattle.afs_dir.specs.Dirs.{Answers, Reads, removal, vnode_named};
@@ -8,6 +8,7 @@ use crate::faults::DirFault;
 use crate::places::search;
 use crate::reading::{Stop, read_whole};
 use crate::spelling::write_names;
+use crate::splicing::{spelled_with, spelled_without};
 use afs_num::directories::{Name, Names};
 use afs_num::names::name_ok;
 use afs_num::sequences::Octets;
@@ -160,6 +161,38 @@ impl Dir {
         bytes.word(self.names.len() as u32)?;
         write_names(&self.names, &mut bytes)?;
         Ok(Octets::from_vec(bytes.into_vec()?))
+    }
+
+    /// The bytes that spell the directory with one more name, which it may have. What `bytes`, which spell the directory, have
+    /// of its other names is copied as it is.
+    pub fn bytes_with(&self, bytes: &[u8], name: &[u8], vnode: u32, unique: u32) -> Mem<Octets>
+        requires added { add_refused name.now self.now ≡ None }
+        requires read { directory_of bytes.now ≡ Ok self.now }
+        ensures spelled { IfOk result (λ b. b ≡ directory_bytes (with_name (record { name = name.now; vnode = vnode; unique = unique }) self.now)) }
+        ensures read { IfOk result (λ b. directory_of b ≡ Ok (with_name (record { name = name.now; vnode = vnode; unique = unique }) self.now)) }
+        ensures short { IfOk result (λ b. length b ≤ 276484) }
+    {
+        let Err(place) = search(&self.names, name) else {
+            unreachable!()
+        };
+        let spelled = spelled_with(self.alloc, &self.names, bytes, place, name, vnode, unique)?;
+        Ok(spelled)
+    }
+
+    /// The bytes that spell the directory without a name, which is there. What `bytes`, which spell the directory, have of its
+    /// other names is copied as it is.
+    pub fn bytes_without(&self, bytes: &[u8], name: &[u8]) -> Mem<Octets>
+        requires there { is_some (named name.now self.now) ≡ true }
+        requires read { directory_of bytes.now ≡ Ok self.now }
+        ensures spelled { IfOk result (λ b. b ≡ directory_bytes (without_name name.now self.now)) }
+        ensures read { IfOk result (λ b. directory_of b ≡ Ok (without_name name.now self.now)) }
+        ensures short { IfOk result (λ b. length b ≤ 276484) }
+    {
+        let Ok(place) = search(&self.names, name) else {
+            unreachable!()
+        };
+        let spelled = spelled_without(self.alloc, &self.names, bytes, place)?;
+        Ok(spelled)
     }
 
     /// The directory that the bytes spell. Memory is taken once the count is known to be within its limit.

@@ -6,6 +6,7 @@ mod faults;
 mod places;
 mod reading;
 mod spelling;
+mod splicing;
 
 pub use dir::Dir;
 pub use faults::DirFault;

@@ -8,3 +8,4 @@ pub mod Lists
 pub mod Since
 pub mod Logs
 pub mod Sorted
+pub mod Gathering

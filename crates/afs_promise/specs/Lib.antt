@@ -1,2 +1,3 @@
 pub mod Granting
 pub mod Owing
+pub mod Gathered

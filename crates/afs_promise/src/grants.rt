@@ -10,7 +10,7 @@ ghost use Rattle.afs_breaks.specs.declared.types.Promise.{Promise};
 ghost use Rattle.afs_breaks.specs.Promises.{with_promise, without_promise, hits, left, hits_on, left_off, by_fid, lasting};
 ghost use Rattle.afs_promise.specs.Granting.{promises_in};
 
-use crate::by_client::{add_lasting, oldest};
+use crate::by_client::{add_in_order, found_by, oldest};
 use crate::latest::{is_held, note, remove};
 use crate::log::{end_due, gather, goes_on, reach, sort_by_fid};
 use crate::types::{Grant, Holding};
@@ -172,7 +172,7 @@ impl Grants {
         ensures len { length self.new.promises + length (option_to_list result) ≡ length self.old.promises }
         ensures room { self.new.room ≡ self.old.room }
     {
-        let grant = oldest(&self.latest, &self.clients, except, fid, 0)?;
+        let grant = oldest(&self.latest, &self.clients, except, fid)?;
         self.give_up(grant.promise.client, grant.promise.fid);
         Some(grant.promise)
     }
@@ -182,11 +182,10 @@ impl Grants {
         ensures ok { OnOk result (out.new.items ≡ out.old.items ++ lasting now (hits except fid self.now.promises)) }
         ensures err { OnErr result ((some : List Promise) × (out.new.items ≡ out.old.items ++ some)) }
     {
-        let mut from = 0;
-        while let Some(grant) = oldest(&self.latest, &self.clients, except, fid, from) {
-            add_lasting(out, grant.promise, now)?;
-            from = grant.order + 1;
-        }
+        let alloc = *out.allocator();
+        let found = found_by(alloc, &self.latest, &self.clients, except, fid)?;
+        let next = self.next;
+        add_in_order(&found, next, now, out)?;
         Ok(())
     }
 

@@ -8,3 +8,4 @@ pub mod Sending
 pub mod Spelling
 pub mod Steps
 pub mod Turning
+pub mod Parted

@@ -166,6 +166,17 @@ fn put_callee(callees: &mut Vec<Callee>, callee: Callee)
     put_last(callees, callee);
 }
 
+/// Makes room for this node's call, where it is the first.
+fn make_room(callees: &mut Vec<Callee>, node: Node) -> Mem<()>
+    ensures room { OnOk result (HasRoom (callee_at node callees.new.items) (vec_capacity callees.new - length callees.new.items)) }
+    ensures same { callees.new.items ≡ callees.old.items }
+{
+    if find_keyed(callees, &node).is_none() {
+        callees.reserve(1)?;
+    }
+    Ok(())
+}
+
 /// Puts an unanswered call in the place of this node's, or takes that away.
 pub fn set_call(callees: &mut Vec<Callee>, node: Node, call: Option<BackCall>) -> Mem<()>
     ensures items { OnOk result (callees.new.items ≡ put_last node_called same_node (record { node = node; known = known_to callees.old.items node; call = call }) callees.old.items) }
@@ -175,7 +186,7 @@ pub fn set_call(callees: &mut Vec<Callee>, node: Node, call: Option<BackCall>) -
     ensures good { OnOk result ((me : Node) → AreGoodCalls me callees.old.items → IsGoodOrNone me node call → AreGoodCalls me callees.new.items) }
 {
     let known = known(callees, node);
-    callees.reserve(1)?;
+    make_room(callees, node)?;
     put_callee(callees, Callee { node, known, call });
     Ok(())
 }
@@ -199,7 +210,7 @@ pub fn set_known(alloc: Global, callees: &mut Vec<Callee>, node: Node, known: u3
     ensures good { OnOk result ((me : Node) → AreGoodCalls me callees.old.items → AreGoodCalls me callees.new.items) }
 {
     let call = copy_call_to(alloc, callees, node)?;
-    callees.reserve(1)?;
+    make_room(callees, node)?;
     put_callee(callees, Callee { node, known, call });
     Ok(())
 }

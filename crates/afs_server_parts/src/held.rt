@@ -1,6 +1,6 @@
 //! Replies that wait until breaks have ended.
 
-ghost use Rattle.std.specs.Prelude.{◌≡◌, ◌++◌, filter, not, IfOk, OnOk};
+ghost use Rattle.std.specs.Prelude.{◌≡◌, ◌++◌, [], ◌∷◌, filter, not, IfOk, OnOk};
 ghost use Rattle.afs_rows.specs.Callbacks.{is_ready, replies_of, waits_none};
 ghost use Rattle.afs_rows.specs.States.{Held};
 
@@ -57,6 +57,13 @@ impl HeldReply {
         })
     }
 
+    fn into_reply(self) -> SpelledMessage
+        ensures { result ≡ self.reply }
+    {
+        let HeldReply { reply, .. } = self;
+        reply
+    }
+
     /// Whether it waits no more where these breaks are owed.
     pub fn is_ready(&self, owed: &[OwedBreak]) -> bool
         ensures { result ≡ is_ready owed.now self.now }
@@ -76,36 +83,47 @@ pub fn copy_replies(alloc: Global, replies: &[HeldReply]) -> Mem<Sequence<HeldRe
     Ok(copies)
 }
 
-/// Sends those of the replies that wait no more.
-pub fn send_ready(
-    alloc: Global,
+/// Sends a reply, where it waits no more; else it is held.
+fn send_or_hold(
     sent: &mut Sequence<SpelledMessage>,
-    replies: &[HeldReply],
+    held: &mut Sequence<HeldReply>,
+    one: HeldReply,
     owed: &[OwedBreak],
 ) -> Mem<()>
-    ensures { OnOk result (sent.new ≡ sent.old ++ replies_of (filter (is_ready owed.now) replies.now)) }
+    ensures sent { OnOk result (sent.new ≡ sent.old ++ replies_of (filter (is_ready owed.now) (one ∷ []))) }
+    ensures held { OnOk result (held.new ≡ held.old ++ filter (λ (h : Held). not (is_ready owed.now h)) (one ∷ [])) }
 {
-    for one in replies {
-        if one.is_ready(owed) {
-            sent.push(one.reply.copy(alloc)?)?;
-        }
+    if one.is_ready(owed) {
+        sent.push(one.into_reply())?;
+    } else {
+        held.push(one)?;
     }
     Ok(())
 }
 
-/// Adds those of the replies that still wait.
-pub fn keep_waiting(
-    alloc: Global,
+/// Sends those of the replies that wait no more; the others are held.
+#[tactic(auto, using(crate::proofs::Parted::sent_next, crate::proofs::Parted::held_next))]
+pub(crate) fn part_ready(
+    sent: &mut Sequence<SpelledMessage>,
     held: &mut Sequence<HeldReply>,
-    replies: &[HeldReply],
+    replies: Sequence<HeldReply>,
     owed: &[OwedBreak],
 ) -> Mem<()>
-    ensures { OnOk result (held.new ≡ held.old ++ filter (λ (h : Held). not (is_ready owed.now h)) replies.now) }
+    ensures sent { OnOk result (sent.new ≡ sent.old ++ replies_of (filter (is_ready owed.now) replies)) }
+    ensures held { OnOk result (held.new ≡ held.old ++ filter (λ (h : Held). not (is_ready owed.now h)) replies) }
 {
-    for one in replies {
-        if !one.is_ready(owed) {
-            held.push(one.copy(alloc)?)?;
-        }
+    for one in replies.into_vec() {
+        send_or_hold(sent, held, one, owed)?;
+    }
+    Ok(())
+}
+
+/// Holds these replies besides.
+pub(crate) fn hold_all(held: &mut Sequence<HeldReply>, replies: Sequence<HeldReply>) -> Mem<()>
+    ensures { OnOk result (held.new ≡ held.old ++ replies) }
+{
+    for one in replies.into_vec() {
+        held.push(one)?;
     }
     Ok(())
 }

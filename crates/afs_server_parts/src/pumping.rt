@@ -12,12 +12,13 @@ ghost use Rattle.afs_server_parts.specs.Turning.{started_with, turn_with, IsBrea
 
 use crate::callees::{BackCall, is_waiting, known, set_call};
 use crate::calling::{carried, spell_call};
-use crate::held::{keep_waiting, send_ready};
+use crate::held::{hold_all, part_ready};
 use crate::turns::{Calls, Turn};
 use afs_breaks::types::OwedBreak;
 use afs_num::sequences::Sequence;
 use afs_num::types::{Mem, Node};
 use std::alloc::{AllocError, Global};
+use std::mem::replace;
 
 /// The number of the next call. What is left of numbers is never used up: a boot of the server is shorter.
 fn next_number(last: u32) -> Mem<u32>
@@ -108,23 +109,12 @@ impl Turn {
         ensures last { self.new.calls.last ≡ self.old.calls.last }
         ensures outs { OnOk result (self.new.outs ≡ []) }
     {
-        send_ready(
-            alloc,
-            &mut self.calls.sent,
-            self.outs.as_slice(),
-            &self.owed,
-        )?;
-        send_ready(
-            alloc,
-            &mut self.calls.sent,
-            self.held.as_slice(),
-            &self.owed,
-        )?;
-        let mut held = Sequence::new(alloc);
-        keep_waiting(alloc, &mut held, self.held.as_slice(), &self.owed)?;
-        keep_waiting(alloc, &mut held, self.outs.as_slice(), &self.owed)?;
-        self.held = held;
-        self.outs = Sequence::new(alloc);
+        let outs = replace(&mut self.outs, Sequence::new(alloc));
+        let held = replace(&mut self.held, Sequence::new(alloc));
+        let mut later = Sequence::new(alloc);
+        part_ready(&mut self.calls.sent, &mut later, outs, &self.owed)?;
+        part_ready(&mut self.calls.sent, &mut self.held, held, &self.owed)?;
+        hold_all(&mut self.held, later)?;
         Ok(())
     }
 

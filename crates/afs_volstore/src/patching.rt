@@ -136,7 +136,7 @@ impl<'a> Patch<'a> {
     fn others_named(&self, names: &[Name]) -> Mem<Vec<u32>>
         ensures { IfOk result (λ out. out.items ≡ others_named self.now.touched.now names.now) }
     {
-        let mut out = Vec::with_capacity(self.alloc, names.len())?;
+        let mut out = Vec::with_capacity(self.alloc, 2 * names.len())?;
         for name in names {
             self.put_other(&mut out, name)?;
         }

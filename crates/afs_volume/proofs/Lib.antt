@@ -28,3 +28,4 @@ pub mod Led
 pub mod Files
 pub mod Listing
 pub mod AtSetUp
+pub mod Spelled

@@ -16,7 +16,7 @@ use crate::edits::{Amend, Edit, Edits, New, Plan};
 use crate::faults::OpFault;
 use crate::finding::{is_directory, links_of, links_there, list_of, may_link};
 use crate::making::{new_directory, new_file, new_link, set_status};
-use crate::naming::{ascending, names_with, push_names};
+use crate::naming::{ascending, push_spelled, spelled_with};
 use crate::operations::is_mask;
 use afs_num::calls::AfsStoreStatus;
 use afs_num::sequences::Octets;
@@ -43,11 +43,19 @@ impl Volume {
     {
         let number = self.free_number(&made);
         let names = self.names(fid.vnode, d);
-        let names = names_with(names, name, number, self.head.unique, is_mask(status))?;
+        let bytes = d.contents.as_slice();
+        let names = spelled_with(
+            names,
+            bytes,
+            name,
+            number,
+            self.head.unique,
+            is_mask(status),
+        )?;
         let mut made = made;
         set_status(&mut made, status);
         let mut edits = Edits::new(self.alloc);
-        push_names(&mut edits, fid.vnode, &names, links)?;
+        push_spelled(&mut edits, fid.vnode, names, links)?;
         edits.push(Edit::Makes(number, New { vnode: made }))?;
         Ok(Plan {
             edits: ascending(self.alloc, edits)?,
@@ -135,8 +143,9 @@ impl Volume {
         check(self.is_writable(), 30)?;
         check(self.may(caller, 4, d)?, 13)?;
         let good = is_here && may_link(fid, x);
-        let names = names_with(
+        let names = spelled_with(
             self.names(fid.vnode, d),
+            d.contents.as_slice(),
             name.as_slice(),
             existing.vnode,
             existing.unique,
@@ -144,7 +153,7 @@ impl Volume {
         )?;
         let links = links_there(x) + 1;
         let mut edits = Edits::new(self.alloc);
-        push_names(&mut edits, fid.vnode, &names, None)?;
+        push_spelled(&mut edits, fid.vnode, names, None)?;
         edits.push(Edit::Amends(existing.vnode, Amend::with_links(links)))?;
         Ok(Plan {
             edits: ascending(self.alloc, edits)?,

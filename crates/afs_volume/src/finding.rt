@@ -1,9 +1,9 @@
 //! What is found in a volume.
 
-ghost use Rattle.std.specs.Prelude.{◌≡◌, ◌==◌, length, pos, true, ◌<◌, ◌≤◌, ◌^◌, None, Some, IfOk, IfSome, is_ok, is_some};
+ghost use Rattle.std.specs.Prelude.{◌≡◌, ◌==◌, length, pos, true, ◌<◌, ◌≤◌, ◌^◌, None, Some, IfOk, IfSome, Ok, is_ok, is_some};
 ghost use Rattle.std.specs.Option.{option_copied, option_map};
 ghost use Rattle.afs_ideal.specs.AccessLists.{acl_at};
-ghost use Rattle.afs_ideal.specs.Directories.{named};
+ghost use Rattle.afs_ideal.specs.Directories.{directory_of, named};
 ghost use Rattle.afs_ideal.specs.Operations.{is_directory, is_kind, is_empty, free_number, links_of, may_link, named_vnode, number_named};
 ghost use Rattle.afs_ideal.specs.Tables.{get};
 ghost use Rattle.afs_ideal.specs.VnodeImage.{most_acl, FitsImage};
@@ -168,7 +168,8 @@ impl Volume {
     pub(crate) fn names(&self, number: u32, d: &Vnode) -> &Dir
         requires there { get number self.now.vnodes.table ≡ Some d.now }
         requires directory { is_kind (seen d.now).kind a_directory ≡ true }
-        ensures { result.now ≡ (seen d.now).names }
+        ensures names { result.now ≡ (seen d.now).names }
+        ensures read { directory_of d.now.contents ≡ Ok result.now }
     {
         match self.dirs.get(number) {
             Some(names) => names,

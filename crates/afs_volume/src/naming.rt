@@ -1,25 +1,27 @@
 //! Names that operations add and remove, and the order of their edits.
 
-ghost use Rattle.std.specs.Prelude.{◌≡◌, ◌∷◌, [], Some, None, true, IfOk, IfErr, OnOk, ◌++◌, ◌≤◌, length, nat_lt};
+ghost use Rattle.std.specs.Prelude.{◌≡◌, ◌∷◌, [], Some, None, true, IfOk, IfErr, OnOk, ◌++◌, ◌≤◌, length, is_some, nat_lt, Ok};
 ghost use Rattle.std.specs.List.{prefix_len};
 ghost use Rattle.std.specs.Option.{option_copied, option_map};
-ghost use Rattle.afs_ideal.specs.Directories.{with_name, without_name};
+ghost use Rattle.afs_ideal.specs.Directories.{directory_of, named, with_name, without_name};
 ghost use Rattle.afs_ideal.specs.Operations.{adds_name, first_failing, name_of, no_amend, unlinks};
+ghost use Rattle.afs_ideal.specs.VnodeImage.{most_contents};
 ghost use Rattle.afs_ideal.specs.Volumes.{amends, ascending, edit_number, placed};
 ghost use Rattle.afs_volume.specs.declared.faults.OpFault.TheVariants.{OutOfMemory};
 ghost use Rattle.afs_volume.specs.Giving.{edit_seen, edits_seen, Passes};
-ghost use Rattle.afs_volume.specs.Seen.{seen};
+ghost use Rattle.afs_volume.specs.Seen.{names_spelled, seen, SpellsNames};
 
 use crate::checks::check;
 use crate::edits::{Amend, Edit, Edits, Plan};
 use crate::faults::OpFault;
 use crate::finding::{has_name, is_directory};
 use crate::making::spelled;
-use afs_dir::{Dir, DirFault};
+use afs_dir::Dir;
 use afs_num::names::name_ok;
+use afs_num::sequences::Octets;
 use afs_num::types::Mem;
 use afs_num::vnodes::Vnode;
-use std::alloc::{AllocError, Global};
+use std::alloc::Global;
 
 /// How many names a directory has at most.
 pub const MOST_NAMES: usize = 1_024;
@@ -34,34 +36,37 @@ fn may_add(names: &Dir, name: &[u8], good: bool) -> Result<(), OpFault>
     check(names.len() < MOST_NAMES, 27)
 }
 
-/// The names and one more, which may be added.
-#[tactic(auto, using(crate::proofs::Placed::added_by))]
-fn with_name(names: &Dir, name: &[u8], vnode: u32, unique: u32) -> Mem<Dir>
-    requires { first_failing (adds_name name.now names.now true) ≡ None }
-    ensures { IfOk result (λ ns. ns ≡ with_name (name_of name.now vnode unique) names.now) }
-{
-    let mut after = names.copy()?;
-    match after.add(name, vnode, unique) {
-        Ok(()) => Ok(after),
-        Err(DirFault::OutOfMemory) => Err(AllocError),
-        Err(_) => unreachable!(),
-    }
-}
-
-/// The names and one more: 22 where it is none or something else is bad, 17 where it is there, 27 where there are too many.
-/// Names that refuse it aren't copied.
-pub fn names_with(
+/// The bytes that spell the names and one more: 22 where it is none or something else is bad, 17 where it is there, 27 where
+/// there are too many. `bytes` spell the names as they are.
+#[tactic(auto, unfolding(crate::specs::Seen::names_spelled), using(crate::proofs::Spelled::may_be_added))]
+pub fn spelled_with(
     names: &Dir,
+    bytes: &[u8],
     name: &[u8],
     vnode: u32,
     unique: u32,
     good: bool,
-) -> Result<Dir, OpFault>
+) -> Result<Octets, OpFault>
+    requires { directory_of bytes.now ≡ Ok names.now }
     ensures answer { Passes (first_failing (adds_name name.now names.now good)) result }
-    ensures ok { IfOk result (λ ns. ns ≡ with_name (name_of name.now vnode unique) names.now) }
+    ensures read { IfOk result (λ bs. names_spelled bs ≡ with_name (name_of name.now vnode unique) names.now) }
+    ensures spelled { IfOk result (λ bs. SpellsNames (Some bs)) }
+    ensures short { IfOk result (λ bs. length bs ≤ most_contents) }
 {
     may_add(names, name, good)?;
-    Ok(with_name(names, name, vnode, unique)?)
+    Ok(names.bytes_with(bytes, name, vnode, unique)?)
+}
+
+/// The bytes that spell the names without this one, which is there. `bytes` spell all of them.
+#[tactic(auto, unfolding(crate::specs::Seen::names_spelled), using(crate::proofs::Spelled::may_be_added))]
+pub fn spelled_without(names: &Dir, bytes: &[u8], name: &[u8]) -> Mem<Octets>
+    requires there { is_some (named name.now names.now) ≡ true }
+    requires read { directory_of bytes.now ≡ Ok names.now }
+    ensures read { IfOk result (λ bs. names_spelled bs ≡ without_name name.now names.now) }
+    ensures spelled { IfOk result (λ bs. SpellsNames (Some bs)) }
+    ensures short { IfOk result (λ bs. length bs ≤ most_contents) }
+{
+    names.bytes_without(bytes, name)
 }
 
 /// Takes a name away, where it is there.
@@ -146,29 +151,40 @@ pub fn push_unlink(edits: &mut Edits, number: u32, target: Option<&Vnode>) -> Me
     }
 }
 
+/// Appends other names of a directory, which these bytes spell.
+pub fn push_spelled(edits: &mut Edits, d: u32, bytes: Octets, links: Option<u64>) -> Mem<()>
+    requires spelled { SpellsNames (Some bytes) }
+    requires short { length bytes ≤ most_contents }
+    ensures { OnOk result (edits_seen edits.new ≡ edits_seen edits.old ++ amends d (record no_amend { names = Some (names_spelled bytes); links = links }) ∷ []) }
+{
+    edits.push(Edit::Amends(d, Amend::with_names(bytes, links)))
+}
+
 /// Appends other names of a directory.
 pub fn push_names(edits: &mut Edits, d: u32, names: &Dir, links: Option<u64>) -> Mem<()>
     ensures { OnOk result (edits_seen edits.new ≡ edits_seen edits.old ++ amends d (record no_amend { names = Some names.now; links = links }) ∷ []) }
 {
     let bytes = spelled(names)?;
-    edits.push(Edit::Amends(d, Amend::with_names(bytes, links)))
+    push_spelled(edits, d, bytes, links)
 }
 
-/// A name less in a directory, and the vnode that it named without that name.
+/// A name less in a directory, whose names these bytes then spell, and the vnode that it named without that name.
 pub fn removes(
     alloc: Global,
     d: u32,
-    names: &Dir,
+    left: Octets,
     links: Option<u64>,
     number: u32,
     target: Option<&Vnode>,
 ) -> Result<Plan, OpFault>
-    ensures edits { IfOk result (λ p. edits_seen p.edits ≡ ascending (amends d (record no_amend { names = Some names.now; links = links }) ∷ unlinks number (option_map seen (option_copied target.entry)))) }
+    requires spelled { SpellsNames (Some left) }
+    requires short { length left ≤ most_contents }
+    ensures edits { IfOk result (λ p. edits_seen p.edits ≡ ascending (amends d (record no_amend { names = Some (names_spelled left); links = links }) ∷ unlinks number (option_map seen (option_copied target.entry)))) }
     ensures shown { IfOk result (λ p. p.shown ≡ d) }
     ensures err { IfErr result (λ e. e ≡ OutOfMemory) }
 {
     let mut edits = Edits::new(alloc);
-    push_names(&mut edits, d, names, links)?;
+    push_spelled(&mut edits, d, left, links)?;
     push_unlink(&mut edits, number, target)?;
     Ok(Plan {
         edits: ascending(alloc, edits)?,

@@ -10,7 +10,7 @@ use crate::checks::check;
 use crate::edits::Plan;
 use crate::faults::OpFault;
 use crate::finding::{has_name, is_directory, is_directory_there, links_of, number_named};
-use crate::naming::{names_without, removes};
+use crate::naming::{removes, spelled_without};
 use afs_num::sequences::Octets;
 use afs_num::types::Fid;
 
@@ -33,8 +33,8 @@ impl Volume {
         check(self.is_writable(), 30)?;
         check(self.may(caller, 16, d)?, 13)?;
         check(has_name(names, name.as_slice()), 2)?;
-        let left = names_without(names, name.as_slice())?;
-        let plan = removes(self.alloc, fid.vnode, &left, None, number, target)?;
+        let left = spelled_without(names, d.contents.as_slice(), name.as_slice())?;
+        let plan = removes(self.alloc, fid.vnode, left, None, number, target)?;
         Ok(plan)
     }
 
@@ -61,8 +61,8 @@ impl Volume {
         check(has_name(names, name.as_slice()), 2)?;
         check(self.is_empty(target), 39)?;
         let links = links_of(d).saturating_sub(1);
-        let left = names_without(names, name.as_slice())?;
-        let plan = removes(self.alloc, fid.vnode, &left, Some(links), number, target)?;
+        let left = spelled_without(names, d.contents.as_slice(), name.as_slice())?;
+        let plan = removes(self.alloc, fid.vnode, left, Some(links), number, target)?;
         Ok(plan)
     }
 }

@@ -38,16 +38,15 @@ fn rights_by(caller: &Caller, acl: &Acl) -> Rights
     ensures caller { result.caller ≡ rights_by (caller_seen caller.now) acl.now }
     ensures anonymous { result.anonymous ≡ rights_of anyuser acl.now }
 {
-    let anonymous = acl.rights(b"system:anyuser");
     match caller {
         Caller::AllRights => Rights {
             caller: 127,
-            anonymous,
+            anonymous: acl.rights(b"system:anyuser"),
         },
-        Caller::User(user) => Rights {
-            caller: acl.rights(user),
-            anonymous,
-        },
+        Caller::User(user) => {
+            let (caller, anonymous) = acl.rights_with_everyones(user);
+            Rights { caller, anonymous }
+        }
     }
 }
 

@@ -8,6 +8,6 @@ use Rattle.afs_server_parts.proofs.turns.Turn.release.Goals as goal
 pub returns-clause-backs : goal.returns-clause-backs
 returns-clause-backs c l q =
     let t = c.args.self.now in
-    let sent : c.send_ready-2.new.sent ≡ (t.calls.sent ++ replies_of (filter (is_ready t.owed.items) t.outs)) ++ replies_of (filter (is_ready t.owed.items) t.held) = search rules in
-    let held : c.keep_waiting-2.new.held ≡ filter (λ (h : Held). not (is_ready t.owed.items h)) t.held ++ filter (λ (h : Held). not (is_ready t.owed.items h)) t.outs = search rules in
-    released l t c.keep_waiting-2.new.held (record { last = t.calls.last; callees = t.calls.callees; sent = c.send_ready-2.new.sent }) q refl refl refl sent held
+    let sent : c.part_ready-2.new.sent ≡ (t.calls.sent ++ replies_of (filter (is_ready t.owed.items) t.outs)) ++ replies_of (filter (is_ready t.owed.items) t.held) = search rules in
+    let held : c.hold_all.new.held ≡ filter (λ (h : Held). not (is_ready t.owed.items h)) t.held ++ filter (λ (h : Held). not (is_ready t.owed.items h)) t.outs = search rules in
+    released l t c.hold_all.new.held (record { last = t.calls.last; callees = t.calls.callees; sent = c.part_ready-2.new.sent }) q refl refl refl sent held
