@@ -30,25 +30,16 @@ impl<'a> Print for &'a Body {
 /// The longest name that is put together with its numbers.
 const SHORT_NAME: usize = 64;
 
-/// So many bytes are enough for a comma, such a name and its numbers.
-const SHORT_ENTRY: usize = 215;
-
 impl<'a> Print for &'a directories::Name {
     ghost text = { λ name. entry_name_text name.now };
 
     fn print<K: Sink>(&self, sink: &mut K) -> Result<(), Failed> {
-        if self.name.as_slice().len() <= SHORT_NAME {
-            put_short(sink, self)
-        } else {
-            row!(
-                Name(self.name.as_slice()),
-                "=",
-                self.vnode,
-                ".",
-                self.unique
-            )
-            .print(sink)
+        let name = self.name.as_slice();
+        if name.len() <= SHORT_NAME {
+            return put_short(sink, self);
         }
+        Name(name).print(sink)?;
+        put_short(sink, &row!("=", self.vnode, ".", self.unique))
     }
 }
 
@@ -70,7 +61,7 @@ impl<'a> Short for &'a directories::Name {
 }
 
 /// Lays a comma and a name in a directory behind what the piece holds, which is put before where there is no room for them.
-/// A long name is put at once.
+/// Each byte of the name may need three, the comma and the numbers need 23. A long name isn't laid, but put behind the piece.
 fn lay_next_name<K: Sink>(
     sink: &mut K,
     piece: &mut Piece,
@@ -78,8 +69,9 @@ fn lay_next_name<K: Sink>(
 ) -> Result<(), Failed>
     ensures { Lays (codes "," ++ entry_name_text name.now) piece.old piece.new (K.held sink.old) (K.held sink.new) (K.faults sink.old) (K.faults sink.new) result }
 {
-    if name.name.as_slice().len() <= SHORT_NAME {
-        make_room(sink, piece, SHORT_ENTRY)?;
+    let len = name.name.as_slice().len();
+    if len <= SHORT_NAME {
+        make_room(sink, piece, 3 * len + 23)?;
         row!(",", name).lay(piece);
         return Ok(());
     }
