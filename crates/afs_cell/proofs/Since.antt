@@ -52,8 +52,10 @@ pub keeps_noted : {D : Type 0} (actor : Actor) (line : Line) (w new : WorldState
 keeps_noted {D} actor line w new (Ok done) is = keeps_is w _ new is (keeps_same w _ refl refl refl)
 keeps_noted {D} actor line w new (Err e) wants = keeps_is w _ new wants.1 (keeps_itself w)
 
-pub keeps_ticked : {D : Type 0} (n : ℕ) (w noted new : WorldState D) → Keeps w noted → new ≡ record noted { clock = noted.clock + n } → Keeps w new
-keeps_ticked {D} n w noted new keeps is = keeps_is w _ new is (record { script = keeps.script; gone = keeps.gone; sent = keeps.sent; wire = keeps.wire })
+pub keeps_ticked : {D : Type 0} (n : ℕ) (w noted new : WorldState D) → Notes actors.Clock (lines.Tick n) w noted (Ok tt) → new ≡ record noted { clock = noted.clock + n } → Keeps w new
+keeps_ticked {D} n w noted new notes is =
+    let keeps = keeps_noted actors.Clock (lines.Tick n) w noted (Ok tt) notes in
+    keeps_is w _ new is (record { script = keeps.script; gone = keeps.gone; sent = keeps.sent; wire = keeps.wire })
 
 pub keeps_skipped : {D : Type 0} (w new : WorldState D) (result : Result (Unit {0}) WorldFault) → NothingSettles w new result → Keeps w new
 keeps_skipped {D} w new (Ok done) is = keeps_is w _ new is (keeps_same w _ refl refl refl)
@@ -74,6 +76,12 @@ pub keeps_parts : {D : Type 0} (node : Node) (front : Option Line) (what : Happe
 keeps_parts {D} node front what w now script gone wire new result settled =
     let keeps = keeps_settled node front what now new result settled in
     record { script = keeps.script ∙ script; gone = keeps.gone ∙ gone; sent = keeps.sent; wire = keeps.wire ∙ ap (λ (ps : List Parcel). ps ++ keeps.sent) wire }
+
+pub keeps_served : {D : Type 0} (parts w new : WorldState D) (servers : List (ServerSeat D)) (node : Node) (front : Option Line) (what : Happened) (result : Result (Unit {0}) WorldFault) → parts ≡ w → Settles node front what (record parts { servers = servers }) new result → Keeps w new
+keeps_served {D} parts w new servers node front what result same settled = keeps_as parts w new same (keeps_parts node front what parts (record parts { servers = servers }) refl refl refl new result settled)
+
+pub keeps_heard : {D : Type 0} (parts w new : WorldState D) (clients : List ClientSeat) (node : Node) (front : Option Line) (what : Happened) (result : Result (Unit {0}) WorldFault) → parts ≡ w → Settles node front what (record parts { clients = clients }) new result → Keeps w new
+keeps_heard {D} parts w new clients node front what result same settled = keeps_as parts w new same (keeps_parts node front what parts (record parts { clients = clients }) refl refl refl new result settled)
 
 -- ---- these parts are those of the world
 
@@ -165,10 +173,10 @@ one_behind : (places old_gone new_gone gone : ℕ) → old_gone ≡ gone → (ne
 one_behind places old_gone new_gone gone same (inl still) = inl (still ∙ same)
 one_behind places old_gone new_gone gone same (inr few) = inr few
 
-pub lets_go : {D : Type 0} (places : ℕ) (parts w : WorldState D) → parts ≡ w → (sent : ℕ) → sent ≡ parts.gone.messages + length parts.wire → (es : List kept.Entry) → es ≡ [] → (old new : Sent) → old.gone ≡ parts.gone.messages → old.messages ≡ parts.wire → wire.LetsGo places old new
-    → LetsGo places w (record parts { wire = new.messages; history = es; gone = record { entries = parts.gone.entries + length parts.history; sent = sent; messages = new.gone } })
-lets_go {D} places parts w same sent counted es none old new gone messages go =
-    let entries = parts.gone.entries + length parts.history in
+pub lets_go : {D : Type 0} (places : ℕ) (parts w : WorldState D) → parts ≡ w → (long : ℕ) → long ≡ length parts.history → (sent : ℕ) → sent ≡ parts.gone.messages + length parts.wire → (es : List kept.Entry) → es ≡ [] → (old new : Sent) → old.gone ≡ parts.gone.messages → old.messages ≡ parts.wire → wire.LetsGo places old new
+    → LetsGo places w (record parts { wire = new.messages; history = es; gone = record { entries = parts.gone.entries + long; sent = sent; messages = new.gone } })
+lets_go {D} places parts w same long measured sent counted es none old new gone messages go =
+    let entries = parts.gone.entries + long in
     let left = drop go.count parts.wire in
     subst (λ (v : WorldState D). LetsGo places v (record parts { wire = new.messages; history = es; gone = record { entries = entries; sent = sent; messages = new.gone } })) same
     (record {
@@ -177,6 +185,8 @@ lets_go {D} places parts w same sent counted es none old new gone messages go =
       is =
           ap (λ (ps : List Parcel). record parts { wire = ps; history = es; gone = record { entries = entries; sent = sent; messages = new.gone } }) (go.messages ∙ ap (λ (ps : List Parcel). drop go.count ps) messages)
           ∙ (ap (λ (hs : List kept.Entry). record parts { wire = left; history = hs; gone = record { entries = entries; sent = sent; messages = new.gone } }) none
-          ∙ ap₂ (λ (a b : ℕ). record parts { wire = left; history = []; gone = record { entries = entries; sent = a; messages = b } }) counted (go.gone ∙ ap (λ (n : ℕ). n + go.count) gone));
+          ∙ (ap₂ (λ (a b : ℕ). record parts { wire = left; history = []; gone = record { entries = entries; sent = a; messages = b } }) counted (go.gone ∙ ap (λ (n : ℕ). n + go.count) gone)
+          ∙ ap (λ (n : ℕ). record parts { wire = left; history = []; gone = record { entries = parts.gone.entries + n; sent = parts.gone.messages + length parts.wire; messages = parts.gone.messages + go.count } }) measured));
       none_behind = one_behind places old.gone new.gone parts.gone.messages gone go.none_behind;
+      few_left = go.few_left;
     })

@@ -1,5 +1,5 @@
 -- A world of which the first entries, and the first messages, were let go: what is so of it together with these.
-use Rattle.std.specs.Prelude.{◌≡◌, ◌≤◌, ◌<◌, ◌⊎◌, ◌+◌, ℕ, List, [], ◌++◌, drop, length, false, Option, Result}
+use Rattle.std.specs.Prelude.{◌≡◌, ◌≤◌, ◌<◌, ◌⊎◌, ◌+◌, ◌/◌, ◌^◌, ℕ, List, [], ◌++◌, drop, length, false, Option, Result}
 use Rattle.afs_num.specs.declared.types.Parcel.{Parcel}
 use Rattle.afs_history.specs.declared.scripts.Event.{Event}
 use Rattle.afs_history.specs.declared.scripts.Event.TheVariants as events
@@ -60,7 +60,8 @@ StepsSince {D} seen may_leave faults limit is w new result =
 
 -- ---- more is let go
 
--- The entries were let go, and some of the first messages, none of them behind this place.
+-- The entries were let go, and some of the first messages, none of them behind this place. No message is kept then, or at most one half of
+-- those that are kept stand up to that place; but no run has so many places as 2 ^ 62.
 pub record LetsGo {D : Type 0} (settled : ℕ) (old new : WorldState D) : Type 0 where
   pub count : ℕ
   pub within : count ≤ length old.wire
@@ -70,6 +71,7 @@ pub record LetsGo {D : Type 0} (settled : ℕ) (old new : WorldState D) : Type 0
     gone = record { entries = old.gone.entries + length old.history; sent = old.gone.messages + length old.wire; messages = old.gone.messages + count };
   }
   pub none_behind : (new.gone.messages ≡ old.gone.messages) ⊎ (new.gone.messages ≤ settled)
+  pub few_left : (new.wire ≡ []) ⊎ ((settled ≤ new.gone.messages + length new.wire / 2) ⊎ (2 ^ 62 ≤ settled))
 
 -- ---- the end
 

@@ -9,7 +9,8 @@ use Rattle.afs_law.proofs.Backing.{all_lines}
 use Rattle.afs_law.proofs.Basics.{Each, IfCall, same_node-refl, same_node-true}
 use Rattle.afs_law.proofs.Calling.{AreReplies, IsAnswer, kept_answer, uncalled_any}
 use Rattle.afs_law.proofs.Seating.{AreSeated, kept_from, seated}
-use Rattle.afs_law.specs.Parts.{EachLine, IsInPlace}
+use Rattle.afs_law.specs.Legal.{IsInPlace}
+use Rattle.afs_law.specs.Parts.{EachLine}
 use Rattle.afs_law.specs.Past.{HasCode, has_begun, has_given, lines_of, onto, running}
 use Rattle.afs_model.specs.Calls as pairs
 use Rattle.afs_model.specs.Calls.{Admitted, admitted}
@@ -47,7 +48,7 @@ use Rattle.afs_rows.specs.States.{CacheEntry, Gift, Location, Seat}
 use Rattle.afs_rows.specs.Steps.{Step}
 use Rattle.std.proofs.Common.{zero, suc, ◌+◌, ◌≡◌, ℕ, ◌⊎◌, inl, inr, Bool, true, false, cond, List, [], ◌∷◌, ◌++◌, map, Option, Some, None, refl, sym, subst, filter, not, ap, ◌∙◌}
 use Rattle.std.specs.List.{list_any}
-use Rattle.std.specs.Prelude.{◌&&◌, nat_lt, ⊤}
+use Rattle.std.specs.Prelude.{◌&&◌, nat_lt}
 
 -- ---- its lines
 

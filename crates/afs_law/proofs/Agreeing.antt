@@ -21,7 +21,7 @@ use Rattle.afs_law.proofs.OneCell.{Cell, Input, moved, Leads, start, RunsTo}
 use Rattle.afs_rows.specs.States.{CacheEntry}
 use Rattle.afs_num.specs.declared.histories.ReadSource.TheVariants.{Cached}
 use Rattle.afs_num.specs.declared.types.Node.TheVariants.{Client}
-use Rattle.std.proofs.Common.{◌<◌, ◌≡◌, ℕ, List, [], ◌∷◌, Some, None, refl, sym, ap, subst, ◌∙◌}
+use Rattle.std.proofs.Common.{◌<◌, ◌≡◌, ℕ, List, [], ◌∷◌, Some, None, refl, sym, ap, subst}
 use Rattle.afs_num.specs.declared.types.Fid.{Fid}
 use Rattle.afs_history.specs.declared.scripts.Script.{Script}
 

@@ -42,7 +42,7 @@ use Rattle.afs_law.proofs.Quiet.{quiet_grant, AreQuiet, quiet_more, quiet_passes
 use Rattle.afs_law.proofs.Resting.{voids}
 use Rattle.afs_law.proofs.Saving.{old_withdrawn}
 use Rattle.afs_law.proofs.Serving.{onto_parts, told_file, told_reach, told_act, not_ran, stale_none, reached_still}
-use Rattle.afs_law.proofs.Skipping.{none_where, own_ended, skips, drop_lines, was_given, drop_file, drop_reach, drop_seen, drop_passes, ended_running, drops_good}
+use Rattle.afs_law.proofs.Skipping.{none_where, own_ended, skips, drop_lines, was_given, drop_file, drop_reach, drop_seen, drop_passes, ended_running, drops_good, answer_good}
 use Rattle.afs_history.specs.declared.acts.Act.{Act}
 use Rattle.afs_rows.specs.ClientRow.{boot_or_first, with_boot, takes_shown, takes_entry, boot_of, read_lines, status_told, entry_told, booted, joined, put_entry, calls_again, is_busy_code, most_busy, asking, is_trusted, goes_on, goes_by, look_at, looked, most_reads, walked, Walked, is_below, dropped_after, left_after, find_cached, used_first, refreshed, call_message, calls_step, zero_code, begin_row, ignores, ended, answers_step, takes_stored, takes, resends_step, counts, is_awaited, awaits, client_row, is_spent, hears, takes_plain, takes_data, takes_set, left_in, given_up_in, body_told, call_of, is_reading}
 use Rattle.afs_rows.specs.Going.{call_for, reads_status, reads_statuses, reads_rights, gives_back, asked, Going, Need, next, answers, began, with_read, ClientState, reads, asks_for}
@@ -494,7 +494,7 @@ takes_refused s c past n p act head code h d =
     let nz : is_zero_code code ≡ false = (neither _ _ d.answers.fits.0).0 in
     let held : ℕ = (h.floors n).held in
     moves s c past n (holding h.floors n held) (answers_step (Client n) (c.clients n) p code) h (client_ended s (c.clients n) (c.clients n).cache (h.own n) (h.own n).apart)
-    (refl, ((refl, good_code s c past n p act m code (lines.Given p ∷ []) h d refl (λ z. absurd (not_zero code nz z)) refl refl refl), tt))
+    (refl, (answer_good s n code past (lines.Given p ∷ []) [] (good_code s c past n p act m code (lines.Given p ∷ []) h d refl (λ z. absurd (not_zero code nz z)) refl refl refl), tt))
     (answered_passes s c past n p m code h d.heard)
     (ended_facts s c past n (c.clients n).cache held e h (h.clients n).holds (own_ended n (running s (Client n) (lines_of past)))
     (λ f u found lasts. let cur : IsCurrent n f u (view h.floors c n) past = (h.clients n).current f u found lasts in
@@ -1192,7 +1192,7 @@ takes_saved s c past n p act call f b i status m h d none not same told kept up 
     let cache : List CacheEntry = map (refreshed c.clock f i status b) (c.clients n).cache in
     let e : Entry = step_entry n (answered_lines n p zero_code) [] in
     moves s c past n (holding h.floors n held) (takes_stored (Client n) (c.clients n) c.clock p f i status b) h (client_ended s (c.clients n) cache (h.own n) (apart_refreshed c.clock f i status b (c.clients n).cache (h.own n).apart))
-    (refl, ((refl, good_code s c past n p act m zero_code (lines.Given p ∷ []) h d none (λ z. ends_for (next act) ((h.own n).needs act d.running) (subst IsNoRead (sym same.asks) same.unread)) refl refl refl), tt))
+    (refl, (answer_good s n zero_code past (lines.Given p ∷ []) [] (good_code s c past n p act m zero_code (lines.Given p ∷ []) h d none (λ z. ends_for (next act) ((h.own n).needs act d.running) (subst IsNoRead (sym same.asks) same.unread)) refl refl refl), tt))
     (answered_passes s c past n p m zero_code h d.heard)
     (ended_facts s c past n cache held e h (h.clients n).holds (own_ended n (running s (Client n) (lines_of past)))
     (λ g u found lasts. stored_of (find_cached g (c.clients n).cache) s c past n p act call f g b m i status u e cache h d kept same told left (answered_file n n p zero_code past) (answered_reach n n p zero_code past f i up).seen
@@ -1293,7 +1293,7 @@ rights_passes s c past n p m f i text es h d = record {
 
 -- the answer is good behind the drops
 rights_good : (s : Script) (n : ℕ) (a : Going) (past : List Entry) (es : List CacheEntry) (own : List Line) → running s (Client n) (own ++ lines_of past) ≡ Some a → next a ≡ answers 0 → HasUsed s (Client n) past own → has_read (Client n) own ≡ true → AreGood s (actors.Node (Client n)) past own (dropped (Client n) es (last_line n zero_code))
-rights_good s n a past [] own runs done used read = ((refl, record { act = a; runs = runs; cause = inr (inl (record { number = 0; is = refl; by = done; last = inr (used, read) })) }), tt)
+rights_good s n a past [] own runs done used read = (((refl, record { act = a; runs = runs }), record { act = a; runs = runs; cause = inr (inl (record { number = 0; is = refl; by = done; last = inr (used, read) })) }), tt)
 rights_good s n a past (u ∷ es) own runs done used read =
     (refl, rights_good s n a past es (lines.Drop (Client n) u.fid ∷ own) runs done (record { reply = used.reply; by = used.by; is_reply = used.is_reply; told = used.told; to = used.to; before = used.before; call = used.call; called = used.called }) read)
 

@@ -26,7 +26,7 @@ use Rattle.afs_rows.specs.Going.{Need, reads, reads_status, reads_statuses, read
 use Rattle.afs_law.specs.Ideal.{last_version, HasVersion, Accepts, clock_of, reach, is_zero_code, volume_after, call_in, call_under}
 use Rattle.afs_law.specs.Legal.{AreDropped, IsNew, AreGood, AreGoodSent, as_asked}
 use Rattle.afs_history.specs.declared.lines.Line.{Line}
-use Rattle.afs_law.specs.Past.{has_sent, is_late, server_boot, onto, lines_of, sent_of, given_message, running, CalledSince, IsCallUnder, has_begun, called_key, is_called, same_key, Sends}
+use Rattle.afs_law.specs.Past.{has_sent, is_new_to_act, server_boot, onto, lines_of, sent_of, given_message, running, CalledSince, IsCallUnder, has_begun, called_key, is_called, same_key, Sends}
 use Rattle.afs_rows.specs.Runs.{user_at, Entry, message_at}
 use Rattle.afs_law.proofs.OneCell.{the_server, Cell, client_moves}
 use Rattle.afs_rows.specs.Scopes.{is_volume}
@@ -376,11 +376,11 @@ called_one n k user call S (e ∷ past) node (inr x) h = called_one n k user cal
 
 -- the message of a call that the client sends now
 pub own_call : {s : Script} → (fl : ℕ → Ghost) (c : Cell) (past : List Entry) (n : ℕ) (floor : Ghost) (x : ClientState) (act : Going) (ls : List Line) → boot_of the_server x.boots ≤ c.server.lasting.boot → IsClient s n x → x.running ≡ Some act → running s (Client n) (onto (lines_of past) ls) ≡ Some act
-    → call_under (called_key (call_head (Client n) x act)) (sent_of past ++ call_message (Client n) x act ∷ []) ≡ Some (x.user, call_of x act) → AreDropped (Client n) (fids_of_gifts x.gifts) (onto (lines_of past) ls) → is_late (Client n) (called_key (call_head (Client n) x act)) (step_entry n ls (call_message (Client n) x act ∷ []) ∷ past) ≡ true → Fresh s c n (views_after fl c n floor x) (step_entry n ls (call_message (Client n) x act ∷ []) ∷ past) (call_message (Client n) x act ∷ [])
+    → call_under (called_key (call_head (Client n) x act)) (sent_of past ++ call_message (Client n) x act ∷ []) ≡ Some (x.user, call_of x act) → AreDropped (Client n) (fids_of_gifts x.gifts) (onto (lines_of past) ls) → is_new_to_act (Client n) (called_key (call_head (Client n) x act)) (step_entry n ls (call_message (Client n) x act ∷ []) ∷ past) ≡ true → Fresh s c n (views_after fl c n floor x) (step_entry n ls (call_message (Client n) x act ∷ []) ∷ past) (call_message (Client n) x act ∷ [])
 own_call {s} fl c past n floor x act ls le kind runs at one dropped late =
     let to : x.callee ≡ the_server = kind.callee act runs in
     record {
-      good = (record { sender = refl; reply = call_good _ (call_head (Client n) x act) x.user (call_of x act); gift = own_gift act x.gifts (call_head (Client n) x act) x.user (onto (lines_of past) ls) dropped; key = late }, tt);
+      good = (record { sender = refl; half = λ z. refl; reply = call_good _ (call_head (Client n) x act) x.user (call_of x act); gift = own_gift act x.gifts (call_head (Client n) x act) x.user (onto (lines_of past) ls) dropped; key = late }, tt);
       calls = (tt, tt);
       dones = (tt, tt);
       news = record {
@@ -459,15 +459,15 @@ late_by : (t a b : Bool) → a ≡ false → b ≡ true → cond t (not a) b ≡
 late_by true a b h e = ap not h
 late_by false a b h e = e
 
-pub unsent_late : (n : Node) (k : Key) (past : List Entry) → has_sent k (sent_of past) ≡ false → is_late n k past ≡ true
+pub unsent_late : (n : Node) (k : Key) (past : List Entry) → has_sent k (sent_of past) ≡ false → is_new_to_act n k past ≡ true
 unsent_late n k [] h = refl
-unsent_late n k (e ∷ past) h = let none : has_sent k (sent_of past) ≡ false = not_front k (sent_of past) e.sent h in late_by (has_begun n e.lines) (has_sent k (sent_of past)) (is_late n k past) none (unsent_late n k past none)
+unsent_late n k (e ∷ past) h = let none : has_sent k (sent_of past) ≡ false = not_front k (sent_of past) e.sent h in late_by (has_begun n e.lines) (has_sent k (sent_of past)) (is_new_to_act n k past) none (unsent_late n k past none)
 
-pub new_late : (s : Script) (c : Cell) (past : List Entry) (n : ℕ) (x : ClientState) (act : Going) (e : Entry) → Holds s c past → x.epoch ≡ (c.clients n).epoch → x.last ≡ (c.clients n).last + 1 → is_late (Client n) (called_key (call_head (Client n) x act)) (e ∷ past) ≡ true
+pub new_late : (s : Script) (c : Cell) (past : List Entry) (n : ℕ) (x : ClientState) (act : Going) (e : Entry) → Holds s c past → x.epoch ≡ (c.clients n).epoch → x.last ≡ (c.clients n).last + 1 → is_new_to_act (Client n) (called_key (call_head (Client n) x act)) (e ∷ past) ≡ true
 new_late s c past n x act e h epoch number =
     let k : Key = called_key (call_head (Client n) x act) in
     let none : has_sent k (sent_of past) ≡ false = ap (has_sent k) h.sent.told ∙ none_sent (view h.floors c) n k c.sent refl epoch number h.sent.calls in
-    late_by (has_begun (Client n) e.lines) (has_sent k (sent_of past)) (is_late (Client n) k past) none (unsent_late (Client n) k past none)
+    late_by (has_begun (Client n) e.lines) (has_sent k (sent_of past)) (is_new_to_act (Client n) k past) none (unsent_late (Client n) k past none)
 
 -- a call that is sent again is the one under its key
 pub same_one : (s : Script) (c : Cell) (past : List Entry) (n : ℕ) (act : Going) (ms : List Message) → (h : Holds s c past) → (c.clients n).running ≡ Some act → call_under (last_key n (view h.floors c n)) (sent_of past ++ ms) ≡ Some ((c.clients n).user, call_of (c.clients n) act)

@@ -16,7 +16,7 @@ use Rattle.afs_num.specs.declared.calls.FsCall.{FsCall}
 use Rattle.afs_num.specs.declared.messages.Message.{Message}
 use Rattle.afs_law.proofs.Basics.{both, same_node-refl, Above, Each, IfBack, IfDone, each_more, each_map, if_back, if_done}
 use Rattle.afs_law.proofs.Owing.{CarriedOwe, AllOf, all_map, IsGranted, IsIn, IsNumberIn, AccountedBy, WaitedBy, AllWaitedBy, HeldWaits, IsOwed, CallOut, BackIn, DroppedOwe, IsDone, DoneIn, SeatedIn, BackedIn, Promised, Numbered, Rising, ToClients, is_held}
-use Rattle.afs_law.specs.Breaks.{runs_now, returned_in, returned_by, is_entry_of, HasStopped, HasSettled, HasDrop, HasTimeout, last_grant, HasCome, Owes, AllOwes, EndedBy, OweAt, live_grant, is_on, last_number, lines_at, drops_of, fids_given_up, has_answer}
+use Rattle.afs_law.specs.Breaks.{unbroken_grant, runs_now, returned_in, returned_by, is_entry_of, HasStopped, HasSettled, HasDrop, HasTimeout, last_grant, HasCome, Owes, AllOwes, EndedBy, OweAt, live_grant, is_on, last_number, lines_at, drops_of, fids_given_up, has_answer}
 use Rattle.afs_rows.specs.Callbacks.{key_answered, breaks_call}
 use Rattle.afs_law.specs.Legal.{HasChange}
 use Rattle.afs_history.specs.declared.lines.Line.{Line}
@@ -111,13 +111,42 @@ pub stopped_back : (ls o : List Line) → all_lines is_up ls ≡ true → HasSto
 stopped_back [] o h x = x
 stopped_back (l ∷ ls) o h x = let q = both (is_up l) (all_lines is_up ls) h in stopped_before l o q.0 (stopped_back ls (l ∷ o) q.1 x)
 
-grant_before : (c : Node) (f : Fid) (l : Line) (o : List Line) → is_still l ≡ true → last_grant the_server c f (l ∷ o) ≡ last_grant the_server c f o
-grant_before c f (lines.Grant s d g index expiry) o h = absurd cc
-grant_before c f l o h = refl
+none_but : (t : Bool) (o : Option ℕ) → not t ≡ true → cond t None o ≡ o
+none_but true o h = absurd cc
+none_but false o h = refl
 
-pub grant_back : (c : Node) (f : Fid) (ls o : List Line) → all_lines is_still ls ≡ true → last_grant the_server c f (onto o ls) ≡ last_grant the_server c f o
-grant_back c f [] o h = refl
-grant_back c f (l ∷ ls) o h = let q = both (is_still l) (all_lines is_still ls) h in grant_back c f ls (l ∷ o) q.1 ∙ grant_before c f l o q.0
+unbroken_before : (c : Node) (f : Fid) (l : Line) (o : List Line) → is_still l ≡ true → is_up l ≡ true → is_oweless l ≡ true → unbroken_grant the_server c f (l ∷ o) ≡ unbroken_grant the_server c f o
+unbroken_before c f (lines.Grant s d g index expiry) o still up oweless = absurd cc
+unbroken_before c f (lines.Crash n) o still up oweless = none_but (same_node n the_server) _ up
+unbroken_before c f (lines.Fault n) o still up oweless = none_but (same_node n the_server) _ up
+unbroken_before c f (lines.Owe s d what n) o still up oweless = absurd cc
+unbroken_before c f l o still up oweless = refl
+
+-- lines that grant nothing, stop no server and owe nothing leave it as it is
+pub unbroken_back : (c : Node) (f : Fid) (ls o : List Line) → all_lines is_still ls ≡ true → all_lines is_up ls ≡ true → all_lines is_oweless ls ≡ true → unbroken_grant the_server c f (onto o ls) ≡ unbroken_grant the_server c f o
+unbroken_back c f [] o still up oweless = refl
+unbroken_back c f (l ∷ ls) o still up oweless =
+    let a = both (is_still l) (all_lines is_still ls) still in
+    let b = both (is_up l) (all_lines is_up ls) up in
+    let d = both (is_oweless l) (all_lines is_oweless ls) oweless in
+    unbroken_back c f ls (l ∷ o) a.1 b.1 d.1 ∙ unbroken_before c f l o a.0 b.0 d.0
+
+grants_by : (t : Bool) (x y : ℕ) (a b : Option ℕ) → (a ≡ Some x → b ≡ Some x) → cond t (Some y) a ≡ Some x → cond t (Some y) b ≡ Some x
+grants_by true x y a b w e = e
+grants_by false x y a b w e = w e
+
+not_none : (t : Bool) (x : ℕ) (o : Option ℕ) → cond t None o ≡ Some x → o ≡ Some x
+not_none true x o e = absurd cc
+not_none false x o e = e
+
+-- it is the last grant
+pub unbroken_last : (c : Node) (f : Fid) (x : ℕ) (ls : List Line) → unbroken_grant the_server c f ls ≡ Some x → last_grant the_server c f ls ≡ Some x
+unbroken_last c f x [] e = absurd cc
+unbroken_last c f x (lines.Grant s d g index expiry ∷ o) e = grants_by (same_node s the_server && (same_node d c && same_fid g f)) x expiry (unbroken_grant the_server c f o) (last_grant the_server c f o) (unbroken_last c f x o) e
+unbroken_last c f x (lines.Crash n ∷ o) e = unbroken_last c f x o (not_none (same_node n the_server) x _ e)
+unbroken_last c f x (lines.Fault n ∷ o) e = unbroken_last c f x o (not_none (same_node n the_server) x _ e)
+unbroken_last c f x (lines.Owe s d what n ∷ o) e = unbroken_last c f x o (not_none (same_node s the_server && (same_node d c && is_on f what)) x _ e)
+unbroken_last c f x (l ∷ o) e = unbroken_last c f x o e
 
 -- it grants this client nothing
 abbrev pub is_still_to : Node → Line → Bool
@@ -129,7 +158,7 @@ granted_other true b s x o h = absurd cc
 granted_other false b true x o h = refl
 granted_other false b false x o h = refl
 
-pub grant_before_to : (c : Node) (f : Fid) (l : Line) (o : List Line) → is_still_to c l ≡ true → last_grant the_server c f (l ∷ o) ≡ last_grant the_server c f o
+grant_before_to : (c : Node) (f : Fid) (l : Line) (o : List Line) → is_still_to c l ≡ true → last_grant the_server c f (l ∷ o) ≡ last_grant the_server c f o
 grant_before_to c f (lines.Grant s d g index expiry) o h = granted_other (same_node d c) (same_fid g f) (same_node s the_server) expiry (last_grant the_server c f o) h
 grant_before_to c f l o h = refl
 
@@ -477,8 +506,8 @@ plain_step d b clock then e past p le = record {
 pub plain_waits : (seats now : List Seat) (t u : ℕ) (e : Entry) (past : List Entry) (h : Held) → Plain e.lines → t ≤ u → ((m : Node) (x y : ℕ) → Above (call_seat m now) x y → Above (call_seat m seats) x y) → HeldWaits seats t past h → HeldWaits now u (e ∷ past) h
 plain_waits seats now t u e past h p le seat w = waits_over seats now t u e past h le (λ k x. inl (change_back k e.lines (lines_of past) p.unchanging x)) (λ before after c what n line. absurd (no_owe e.lines before after the_server c what n p.oweless line)) seat w
 
-pub granted_over : (e : Entry) (past : List Entry) (ps : List Promise) → all_lines is_still e.lines ≡ true → AllOf (IsGranted (lines_of past)) ps → AllOf (IsGranted (lines_of (e ∷ past))) ps
-granted_over e past ps still h = all_map (IsGranted (lines_of past)) (IsGranted (lines_of (e ∷ past))) (λ p x. grant_back p.client p.fid e.lines (lines_of past) still ∙ x) ps h
+pub granted_over : (e : Entry) (past : List Entry) (ps : List Promise) → all_lines is_still e.lines ≡ true → all_lines is_up e.lines ≡ true → all_lines is_oweless e.lines ≡ true → AllOf (IsGranted (lines_of past)) ps → AllOf (IsGranted (lines_of (e ∷ past))) ps
+granted_over e past ps still up oweless h = all_map (IsGranted (lines_of past)) (IsGranted (lines_of (e ∷ past))) (λ p x. unbroken_back p.client p.fid e.lines (lines_of past) still up oweless ∙ x) ps h
 
 pub owed_over : (e : Entry) (past : List Entry) (os : List Owed) → all_lines is_up e.lines ≡ true → AllOf (λ (o : Owed). IsOwed o.client (lines_of past) o) os → AllOf (λ (o : Owed). IsOwed o.client (lines_of (e ∷ past)) o) os
 owed_over e past os up h = all_map (λ (o : Owed). IsOwed o.client (lines_of past) o) (λ (o : Owed). IsOwed o.client (lines_of (e ∷ past)) o) (λ o x. owe_over o.client o.what o.number e past up x) os h
@@ -489,7 +518,7 @@ pub backed_plain : (d : Option Fall) (b : Backs) (boot : ℕ) (seats : List Seat
     → ((j : ℕ) (seat : Seat) (m : Message) → cz j ≡ Some seat → seat.reply ≡ Some m → SeatedIn d b.calls b.last_call boot (e ∷ past) j m) → BackedIn d b boot seats cz then (sent ++ ms) (e ∷ past)
 backed_plain d b boot seats cs cz clock then sent ms e past p le h backs dones seated =
     let s : Stepping d d b b clock then e past = plain_step d b clock then e past p le in
-    backed_step d d b b boot seats seats cs cz clock then sent ms e past s h (λ x. granted_over e past b.lists.promises p.still (h.granted x)) (promised_over d b.lists.promises clock then e past p.still le h.promised) (numbered_over d b.lists.last_owed e past p.up p.oweless h.numbered) (rising_over e past p.oweless h.rising) h.clients (λ x. owed_over e past b.lists.owed p.up (h.owing x))
+    backed_step d d b b boot seats seats cs cz clock then sent ms e past s h (λ x. granted_over e past b.lists.promises p.still p.up p.oweless (h.granted x)) (promised_over d b.lists.promises clock then e past p.still le h.promised) (numbered_over d b.lists.last_owed e past p.up p.oweless h.numbered) (rising_over e past p.oweless h.rising) h.clients (λ x. owed_over e past b.lists.owed p.up (h.owing x))
     (λ x. all_map (HeldWaits seats clock past) (HeldWaits seats then (e ∷ past)) (λ q y. plain_waits seats seats clock then e past q p le (λ m a c z. z) y) b.held (h.waiting x))
     (λ x j c at. call_over j c b.last_call b.last_call boot e past (le_refl _) p.up (h.outs x j c at)) backs dones seated
 

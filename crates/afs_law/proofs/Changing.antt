@@ -20,8 +20,8 @@ use Rattle.afs_law.proofs.Saving.{first_on, later_by}
 use Rattle.afs_law.proofs.Standing.{runs_admitted}
 use Rattle.afs_law.specs.Breaks.{HasStopped}
 use Rattle.afs_law.specs.Ideal.{change_key, set_up, user_of}
-use Rattle.afs_law.specs.Legal.{EndsBoot, HasChangeBy, IsNew, as_asked, versions_first}
-use Rattle.afs_law.specs.Parts.{ChangesAreIdeal, EachEntry, EachLine, IdealChange, IsIdeal}
+use Rattle.afs_law.specs.Legal.{EndsBoot, HasChangeBy, IdealChange, IsNew, as_asked, versions_first}
+use Rattle.afs_law.specs.Parts.{ChangesAreIdeal, EachEntry, EachLine, IsIdeal}
 use Rattle.afs_law.specs.Past.{Called, IsCall, IsCallUnder, IsToCome, given_message, lines_of, onto, sent_of}
 use Rattle.afs_model.specs.Calls.{call_seat}
 use Rattle.afs_num.specs.declared.calls.FsCall.{FsCall}
@@ -36,10 +36,9 @@ use Rattle.afs_num.specs.declared.types.Node.{Node}
 use Rattle.afs_num.specs.declared.types.Node.TheVariants.{Server}
 use Rattle.afs_records.specs.Durable.{Stored}
 use Rattle.afs_rows.specs.Runs.{Cell, Entry, Fall, Input, Leads, Moved, begun_by_disk, blow_line, message_at, moved, start}
-use Rattle.afs_rows.specs.ServerRow.{Begun, Change, key_of, made, versioned}
+use Rattle.afs_rows.specs.ServerRow.{Begun, key_of, made, versioned}
 use Rattle.afs_rows.specs.States.{ServerState}
 use Rattle.std.proofs.Common.{◌≡◌, ℕ, ◌⊎◌, inl, inr, Bool, true, length, List, [], ◌∷◌, ◌++◌, Some, None, refl, sym, ap, subst, ◌∙◌}
-use Rattle.std.specs.Prelude.{⊤}
 
 -- ---- lines without a change
 

@@ -29,7 +29,7 @@ use Rattle.afs_rows.specs.Runs.{Fall, at_rest, begun_by_disk, in_boot, in_step}
 use Rattle.afs_rows.specs.ServerRow.{Begun, Change, Decision, Sight, admits, begun_after, decided, decides, does, drops, granted, granted_in, hears, in_volume, is_client, is_unflagged, key_of, made, not_served, promise_ticks, record_of, refuses, repeats, runs_received, saves, serves_call, several, shows, sights, stored_by, tells_boot, versioned, whole, with_volume}
 use Rattle.afs_rows.specs.ServerSteps.{back_timeout_row, server_row, start_row, wake_row}
 use Rattle.afs_rows.specs.States.{BackCall, Backs, Held, ServerState, durable_of, volume_in}
-use Rattle.std.proofs.Common.{◌≡◌, ℕ, ℤ, ◌+◌, ◌⊎◌, inl, inr, Bool, true, false, cond, List, [], ◌∷◌, ◌++◌, map, length, filter, Option, Some, None, refl, sym, subst, ◌∙◌}
+use Rattle.std.proofs.Common.{◌≡◌, ℕ, ◌+◌, ◌⊎◌, inl, inr, Bool, true, false, cond, List, [], ◌∷◌, ◌++◌, map, length, filter, Option, Some, None, refl, sym, subst, ◌∙◌}
 use Rattle.std.specs.Prelude as outcome
 use Rattle.std.specs.Prelude.{⊤, ◌&&◌, nat_lt, Ok, Err}
 

@@ -22,7 +22,7 @@ use Rattle.afs_law.proofs.Owing.{BackedIn, IsNumberIn, DoneIn, is_held, WaitedBy
 use Rattle.afs_law.proofs.Passing.{no_change, ran_over, kept_over, replies_over, waiting_over}
 use Rattle.afs_law.proofs.Pumping.{no_news, pumped_news, starts_held, news_break}
 use Rattle.afs_law.proofs.Resting.{fall_backed, Rests, fault_rests, full_rests, alone, rests, still, voids, unheard_still, fallen_still, server_crash_rests, cut_entry, cut_rests}
-use Rattle.afs_law.proofs.Saving.{changed_later, versions_lines, versioned_front, saves_clock, Way, rises_to, faults, fills, saved_lines, saved_sent, saved_entry, given_on, Change', change_at, stock_after, NewEntry, saves_change_good, saves_holds, versions_good, saves_boot, saves_goes, top_number, reply_saved}
+use Rattle.afs_law.proofs.Saving.{top_stopped, changed_later, versions_lines, versioned_front, saves_clock, Way, rises_to, faults, fills, saved_lines, saved_sent, saved_entry, given_on, Change', change_at, stock_after, NewEntry, saves_change_good, saves_holds, versions_good, saves_boot, saves_goes, top_number, reply_saved}
 use Rattle.afs_law.proofs.Serving.{shows_goes, answered_goes, noticed_goes, nothing_done, quiet, acts_alone, still_loads, given_plain, Loads, up_backed, seats_of, Gives, noted, Dull, at_told, client_head, Now, call_at, taken, seats_after, views_after, ran_now, served_cell, unheard_later, refuses_goes, server_adds, server_does, IsRead, answer_in, AllSeen, IsSeen, IsLook}
 use Rattle.afs_law.proofs.Turning.{Pumps, pumps, put_call, break_good, reply_key}
 use Rattle.afs_law.specs.Breaks.{HasStopped, last_number, AllOwes}
@@ -443,7 +443,7 @@ repeat_loads s c past e p reply ws H up k is own all =
     let B = up_backed s c past H up in
     let q : Plain e.lines = given_plain p e e.sent is in
     record {
-      backed = run_loaded (expired c.clock c.server.backs) (expired c.clock c.server.backs).lists.promises c.server.lasting.boot c.server.seats c.server.seats (seats_of c) c.clock c.sent e past (again_held reply ws) B q.up q.oweless q.unchanging (granted_over e past (expired c.clock c.server.backs).lists.promises q.still (B.granted refl)) (B.clients refl).promised (promised_over None (expired c.clock c.server.backs).lists.promises c.clock c.clock e past q.still (le_refl _) B.promised) (λ m y z w. w)
+      backed = run_loaded (expired c.clock c.server.backs) (expired c.clock c.server.backs).lists.promises c.server.lasting.boot c.server.seats c.server.seats (seats_of c) c.clock c.sent e past (again_held reply ws) B q.up q.oweless q.unchanging (granted_over e past (expired c.clock c.server.backs).lists.promises q.still q.up q.oweless (B.granted refl)) (B.clients refl).promised (promised_over None (expired c.clock c.server.backs).lists.promises c.clock c.clock e past q.still (le_refl _) B.promised) (λ m y z w. w)
           (record { client = k.client; to = d.0.to; from = d.0.from; is_reply = d.0.is_reply; under = kept_under c reply k.client k.seat k.at d.0 }) own all;
       sends = record { good = tt; calls = tt; dones = tt };
     }
@@ -492,7 +492,7 @@ does_goes s c past armed p m drops i H up at to j = turned_goes s c past armed p
 does_goes s c past armed p m (tells_boot head) i H up at to j =
     subst (λ (x : Message). Goes s past (server_does c armed p x (tells_boot head))) (sym j.0.is)
     (quiet s c past armed p (called_at m.head j.0.user j.0.call) (turn_for the_server c.server c.clock (expired c.clock c.server.backs) (tells_boot head)) H up (at ∙ ap Some j.0.is) (subst (λ (x : Message). Dull c.server.seats c.server.lasting.boot x) j.0.is j.0.idle) tt tt
-    (λ e over held. record { notes = tt; sent = record { calls = (tt, tt); replies = (tt, tt); notices = (client_any head.from _ (le_refl _), tt); origins = (tt, tt); acts = (tt, tt); lasts = (tt, tt); ones = (tt, tt); to_clients = (tt, tt) }; outs = tt; held = held }) (λ e q. still_loads s c past e (boot_told c.server.lasting.boot head ∷ []) H up (given_plain p e _ q) (record { good = (record { sender = subst (λ (n : Node). IsBy n (e ∷ past)) (sym j.1) (ap (λ (y : Entry). y.actor) q); reply = λ is nought k from. absurd is.1; gift = tt; key = tt }, tt); calls = (tt, tt); dones = (tt, tt) })))
+    (λ e over held. record { notes = tt; sent = record { calls = (tt, tt); replies = (tt, tt); notices = (client_any head.from _ (le_refl _), tt); origins = (tt, tt); acts = (tt, tt); lasts = (tt, tt); ones = (tt, tt); to_clients = (tt, tt) }; outs = tt; held = held }) (λ e q. still_loads s c past e (boot_told c.server.lasting.boot head ∷ []) H up (given_plain p e _ q) (record { good = (record { sender = subst (λ (n : Node). IsBy n (e ∷ past)) (sym j.1) (ap (λ (y : Entry). y.actor) q); half = λ z. absurd z; reply = λ is nought k from. absurd is.1; gift = tt; key = tt }, tt); calls = (tt, tt); dones = (tt, tt) })))
 does_goes s c past armed p m (repeats reply) i H up at to j =
     subst (λ (x : Message). Goes s past (server_does c armed p x (repeats reply))) (sym j.call.is)
     (repeats_goes s c past armed p (called_at m.head j.call.user j.call.call) reply (held_under (key_answered reply) (expired c.clock c.server.backs).held) (is_seat_of reply (call_seat reply.head.to c.server.lasting.kept)) H up (at ∙ ap Some j.call.is) (subst (λ (x : Message). Dull c.server.seats c.server.lasting.boot x) j.call.is j.call.idle) j.kept refl refl)
@@ -701,7 +701,7 @@ rises_as s c past fall h e =
     record {
       replies = pump.good;
       volumes = refl;
-      good = ((refl, rises_owed s c h), alls_good s (c.clock + promise_ticks) 0 c.count past _ (le_of_eq (down_number s c past fall h e)) (inl refl) (owed_few s c past h));
+      good = ((refl, rises_owed s c h), alls_good s (c.clock + promise_ticks) 0 c.count past _ (le_of_eq (down_number s c past fall h e)) (λ z. z) (inl refl) (owed_few s c past h));
       holds = revives s (Some b) _ (x ∷ past) (pumped the_server b t).backs (noted s (Some b) c past c.armed (Some at_rest) x c.server.backs h (sk.boot _ ∙ rises_at s c past fall b h e) (risen_rests s b t.lines (pumped the_server b t).sent past sk) (sk.clock _)
           (unheard_still (Some at_rest) c x past (sk.given (sent_of past)) (λ k i l. unheard_later c.down c.server.seats c.server.lasting.boot past h.unheard k i l)) tt (rising_gives _ b _ _ c c.server.backs.held) (λ z. absurd cc)) (λ fl z. nothing_held b c _ _) (λ z. pump.backed);
     }
@@ -795,7 +795,7 @@ saved_up s c past fall n h user call time id st es shown H e w q is_cut =
     record {
       replies = pump.good;
       volumes = refl;
-      good = after_good s c past n h user call id st.volume es shown (lines.Restart the_server x ∷ t.lines) H w q e refl is_cut (inl refl) ((refl, rises_owed s c H), alls_good s (c.clock + promise_ticks) 0 c.count past _ (le_of_eq (top_number vs (lines.Change the_server key (length vs) ∷ []) (lines_of past) ∙ down_number s c past fall H e)) (inl refl) (owed_few s c past H));
+      good = after_good s c past n h user call id st.volume es shown (lines.Restart the_server x ∷ t.lines) H w q e refl is_cut (inl refl) ((refl, rises_owed s c H), alls_good s (c.clock + promise_ticks) 0 c.count past _ (le_of_eq (top_number vs (lines.Change the_server key (length vs) ∷ []) (lines_of past) ∙ down_number s c past fall H e)) (λ z. top_stopped vs (lines.Change the_server key (length vs) ∷ []) z) (inl refl) (owed_few s c past H));
       holds = revives s (Some x) _ _ (pumped the_server x t).backs (after_holds y s (Some x) c past c.server.backs at_rest n h user call time id st es shown H w q is_cut given (λ u z b. tt) (saves_boot y key vs r past ∙ (sk.boot _ ∙ rises_at s c past fall x H e)) (λ own. rising_gives _ x _ _ c c.server.backs.held) (λ z. absurd cc)) (λ fl z. nothing_held x c _ _) (λ z. pump.backed);
     }
 

@@ -1,4 +1,4 @@
-use Rattle.afs_law.proofs.Turning.{reply_key_good, reply_gift}
+use Rattle.afs_law.proofs.Turning.{reply_half, reply_key_good, reply_gift}
 use Rattle.afs_law.proofs.Facts.{last_key, fids_of_gifts, AreFetched, FitsBulk, its_call}
 use Rattle.afs_law.proofs.Passing.{late_over, all_dropped_onto, tried_kept, fetched_each, ran_over}
 use Rattle.std.specs.List.{list_any}
@@ -198,7 +198,7 @@ reply_fresh {s} c n views past m by x = record {
     ones = (no_call (ByClient (IsOne (sent_of past))) m.head m.carried x.is_reply, tt);
     to_clients = (no_call ToClient m.head m.carried x.is_reply, tt);
   };
-  good = (record { sender = subst (λ (q : Node). IsBy q past) (sym x.from) by; reply = not_good past m n x.from; gift = reply_gift m.head m.carried (lines_of past) x.is_reply; key = reply_key_good m.head m.carried past x.is_reply }, tt);
+  good = (record { sender = subst (λ (q : Node). IsBy q past) (sym x.from) by; half = reply_half m.head m.carried x.is_reply; reply = not_good past m n x.from; gift = reply_gift m.head m.carried (lines_of past) x.is_reply; key = reply_key_good m.head m.carried past x.is_reply }, tt);
   calls = (no_call (ByServer (BackIn c.down c.server.backs.calls c.server.backs.last_call c.server.lasting.boot)) m.head m.carried x.is_reply, tt);
   dones = (of_reply_any _ m.carried (server_any m.head.to _ (record { client = Client n; from = x.from; done = x.done })), tt);
 }
@@ -206,7 +206,7 @@ reply_fresh {s} c n views past m by x = record {
 pub notice_fresh : {s : Script} → (c : Cell) (n : ℕ) (views : ℕ → View) (past : List Entry) (boot : ℕ) (head : Head) → IsBy head.to past → head.from ≡ the_server → Fresh s c n views past (boot_told boot head ∷ [])
 notice_fresh {s} c n views past boot head by e = record {
   news = record { calls = (tt, tt); replies = (tt, tt); notices = (client_none head.from 1 _ e, tt); origins = (tt, tt); acts = (tt, tt); lasts = (tt, tt); ones = (tt, tt); to_clients = (tt, tt) };
-  good = (record { sender = by; reply = λ is nought i from. absurd is.1; gift = tt; key = tt }, tt);
+  good = (record { sender = by; half = λ z. absurd z; reply = λ is nought i from. absurd is.1; gift = tt; key = tt }, tt);
   calls = (tt, tt);
   dones = (tt, tt);
 }

@@ -22,7 +22,7 @@ use Rattle.afs_law.proofs.Walking.{walked_found}
 use Rattle.afs_law.specs.Breaks.{HasTimeout}
 use Rattle.afs_law.specs.Ideal.{first_lines, set_up, user_of}
 use Rattle.afs_law.specs.Legal.{AreGood, AreGoodSent, AreRising, IsBy, IsRising}
-use Rattle.afs_law.specs.Past.{HasCode, IsToCome, IsCallFrom, Ran, called_key, CalledSince, Sends, given_message, has_begun, has_given, has_sent, is_called, is_late, last_boot, lines_of, onto, risen, same_key, running, sent_of, server_boot}
+use Rattle.afs_law.specs.Past.{HasCode, IsToCome, IsCallFrom, Ran, called_key, CalledSince, Sends, given_message, has_begun, has_given, has_sent, is_called, is_new_to_act, last_boot, lines_of, onto, risen, same_key, running, sent_of, server_boot}
 use Rattle.afs_ideal.specs.Operations.{volume_changed}
 use Rattle.afs_history.specs.declared.lines.Line.{Line}
 use Rattle.afs_history.specs.declared.lines.Line.TheVariants as lines
@@ -127,7 +127,7 @@ abbrev key_at : ℕ → ℕ → ℕ → Key
 key_at j e n = record { node = Client j; epoch = e; number = n }
 
 abbrev IsGone : Script → ℕ → Key → List Entry → Type 0
-IsGone s j k past = (has_sent k (sent_of past) ≡ true) × ((running s (Client j) (lines_of past) ≡ None) ⊎ (is_late (Client j) k past ≡ false))
+IsGone s j k past = (has_sent k (sent_of past) ≡ true) × ((running s (Client j) (lines_of past) ≡ None) ⊎ (is_new_to_act (Client j) k past ≡ false))
 
 read_none : (t : Bool) (f : Fid) (body : ReadBody) → read_on t f body None ≡ None
 read_none true f body = refl
@@ -156,8 +156,8 @@ idle_onto : (s : Script) (j : ℕ) (ls o : List Line) → running s (Client j) o
 idle_onto s j [] o h b = h
 idle_onto s j (l ∷ ls) o h b = let f = begins_first j l ls b in idle_onto s j ls (l ∷ o) (idle_line s j l o h f.0) f.1
 
-gone_by : (s : Script) (j : ℕ) (k : Key) (e : Entry) (past : List Entry) (t : Bool) → has_begun (Client j) e.lines ≡ t → has_sent k (sent_of past) ≡ true → (running s (Client j) (lines_of past) ≡ None) ⊎ (is_late (Client j) k past ≡ false)
-    → (running s (Client j) (lines_of (e ∷ past)) ≡ None) ⊎ (cond t (not (has_sent k (sent_of past))) (is_late (Client j) k past) ≡ false)
+gone_by : (s : Script) (j : ℕ) (k : Key) (e : Entry) (past : List Entry) (t : Bool) → has_begun (Client j) e.lines ≡ t → has_sent k (sent_of past) ≡ true → (running s (Client j) (lines_of past) ≡ None) ⊎ (is_new_to_act (Client j) k past ≡ false)
+    → (running s (Client j) (lines_of (e ∷ past)) ≡ None) ⊎ (cond t (not (has_sent k (sent_of past))) (is_new_to_act (Client j) k past) ≡ false)
 gone_by s j k e past true b sent h = inr (ap not sent)
 gone_by s j k e past false b sent (inl none) = inl (idle_onto s j e.lines (lines_of past) none b)
 gone_by s j k e past false b sent (inr late) = inr late
@@ -240,7 +240,7 @@ record Dies (s : Script) (j clock : ℕ) (cache : List CacheEntry) (sent : List 
 alive : (s : Script) (j : ℕ) (v : View) (past : List Entry) (act : Going) (e n : ℕ) → ClientFacts s j v past → AreGone s j past → v.running ≡ Some act → HasTimeout (Client j) the_server e n 3 (lines_of past) → e ≡ v.epoch → n ≡ v.last → ⊥
 alive s j v past act e n f gone r dead a b = elim (gone e n dead).1 [
   | inl none ↦ let no_ : None ≡ Some act = sym none ∙ f.runs act r in absurd cc
-  | inr late ↦ let no_ : false ≡ true = sym late ∙ ((ap (λ (x : ℕ). is_late (Client j) (key_at j x n) past) a ∙ ap (λ (x : ℕ). is_late (Client j) (key_at j v.epoch x) past) b) ∙ f.late act r) in absurd cc
+  | inr late ↦ let no_ : false ≡ true = sym late ∙ ((ap (λ (x : ℕ). is_new_to_act (Client j) (key_at j x n) past) a ∙ ap (λ (x : ℕ). is_new_to_act (Client j) (key_at j v.epoch x) past) b) ∙ f.late act r) in absurd cc
 ]
 
 below_up : (e n d m : ℕ) → Below e n d m → UpTo e n d m

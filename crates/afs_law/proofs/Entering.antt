@@ -7,12 +7,12 @@ use Rattle.afs_law.proofs.Law.{AreEntries, last_each}
 use Rattle.afs_law.proofs.Members.{run_entries}
 use Rattle.afs_law.proofs.Moving.{EachMove, each_moved}
 use Rattle.afs_law.specs.Ideal.{set_up}
-use Rattle.afs_law.specs.Legal.{AreRan, IsEntryOf}
+use Rattle.afs_law.specs.Legal.{WereRun, IsEntryOf}
 use Rattle.afs_law.specs.Parts.{EachEntry, EntriesAreSound}
 use Rattle.afs_law.specs.Past.{sent_of}
 use Rattle.afs_num.specs.declared.messages.Message.{Message}
-use Rattle.afs_rows.specs.Runs.{Cell, Entry, Input, Moved, RunsTo, moved, start}
-use Rattle.std.proofs.Common.{◌≡◌, ℕ, List, [], ◌∷◌, ◌++◌, refl, sym, subst}
+use Rattle.afs_rows.specs.Runs.{Cell, Entry, Input, Moved, moved, start}
+use Rattle.std.proofs.Common.{◌≡◌, List, [], ◌∷◌, refl, sym, subst}
 
 -- no step lays volumes
 
@@ -43,20 +43,20 @@ none_laid = record {
 
 -- what it sends was run
 
-each_ran : (past : List Entry) (ms : List Message) → Each (IfReply (λ r. IsRan past r.head)) ms → AreRan past ms
+each_ran : (past : List Entry) (ms : List Message) → Each (IfReply (λ r. IsRan past r.head)) ms → WereRun past ms
 each_ran past [] h = tt
 each_ran past (m ∷ ms) h = (λ i j is from to. reply_ran past i j m.head m.carried is.1 from to h.0, each_ran past ms h.1)
 
-sent_ran : (c : Cell) (e : Entry) (past : List Entry) → HearsIn c (e ∷ past) → AreRan (e ∷ past) e.sent
+sent_ran : (c : Cell) (e : Entry) (past : List Entry) → HearsIn c (e ∷ past) → WereRun (e ∷ past) e.sent
 sent_ran c e past H = each_ran (e ∷ past) e.sent (last_each (IfReply (λ r. IsRan (e ∷ past) r.head)) (sent_of past) e.sent (subst (Each (IfReply (λ r. IsRan (e ∷ past) r.head))) (sym H.told) H.answers))
 
 abbrev SendsRan : List Entry → Entry → Type 0
-SendsRan past e = (e.volumes ≡ []) × AreRan (e ∷ past) e.sent
+SendsRan past e = (e.volumes ≡ []) × WereRun (e ∷ past) e.sent
 
 step_sends : (c : Cell) (past : List Entry) (x : Input) → HearsIn c past → SendsRan past (moved c x).entry
 step_sends c past x h = (each_moved HearsIn LaysNone none_laid c past x h, sent_ran (moved c x).cell (moved c x).entry past (moved_hears c past x h))
 
-join : (s : Script) (past es : List Entry) → AreEntries s past es → EachEntry SendsRan past es → EachEntry (λ past e. IsEntryOf s past e × AreRan (e ∷ past) e.sent) past es
+join : (s : Script) (past es : List Entry) → AreEntries s past es → EachEntry SendsRan past es → EachEntry (λ past e. IsEntryOf s past e × WereRun (e ∷ past) e.sent) past es
 join s past [] a b = tt
 join s past (e ∷ es) a b = ((((b.0.0, a.0.0), a.0.1), b.0.1), join s (e ∷ past) es a.1 b.1)
 

@@ -13,7 +13,7 @@ use Rattle.afs_law.specs.Ideal.{last_version, IsLast, WasLast, HasBeen, HasVersi
 use Rattle.afs_law.specs.Breaks.{HasStopped, HasTimeout}
 use Rattle.afs_law.specs.Legal.{HasChange, AreDropped, AreFailed, IsThere, IsNew, Cause, AreGood, AreGoodSent, as_asked}
 use Rattle.afs_history.specs.declared.lines.Line.{Line}
-use Rattle.afs_law.specs.Past.{is_late, server_boot, is_of_act, lines_of, sent_of, called_key, running, Called, CalledSince, IsUnheard, Ran}
+use Rattle.afs_law.specs.Past.{is_new_to_act, server_boot, is_of_act, lines_of, sent_of, called_key, running, Called, CalledSince, IsUnheard, Ran}
 use Rattle.afs_rows.specs.Runs.{user_at, locations, Entry, Fall, at_rest, in_step, in_boot, message_at}
 use Rattle.afs_law.proofs.OneCell.{the_server, Cell, Moved}
 use Rattle.afs_rows.specs.Scopes.{is_in_scope}
@@ -453,7 +453,7 @@ pub record ClientFacts (s : Script) (j : ℕ) (v : View) (past : List Entry) : T
   pub old : HasOld v.cache (lines_of past)
   pub runs : (act : Going) → v.running ≡ Some act → running s (Client j) (lines_of past) ≡ Some act
   pub asked : (act : Going) → v.running ≡ Some act → CalledSince (last_key j v) (user_of s (Client j)) (its_call v.gifts act) past
-  pub late : (act : Going) → v.running ≡ Some act → is_late (Client j) (last_key j v) past ≡ true
+  pub late : (act : Going) → v.running ≡ Some act → is_new_to_act (Client j) (last_key j v) past ≡ true
   pub none : v.running ≡ None → v.gifts ≡ []
   pub spared : (act : Going) → v.running ≡ Some act → (next act ≡ gives_back → ⊥) → v.gifts ≡ []
   pub gave : (act : Going) → v.running ≡ Some act → AreDropped (Client j) (fids_of_gifts v.gifts) (lines_of past)

@@ -224,7 +224,7 @@ gives_nothing s c past n act h none by =
       refl,
       (
         (
-          refl,
+          (refl, record { act = began (locations s) act; runs = own_begun n (began (locations s) act) (running s (Client n) (lines_of past)) }),
           record {
             act = began (locations s) act;
             runs = own_begun n (began (locations s) act) (running s (Client n) (lines_of past));

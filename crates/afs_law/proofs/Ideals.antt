@@ -43,13 +43,13 @@ use Rattle.afs_records.specs.Durable.{Stored}
 use Rattle.afs_rows.specs.Callbacks.{put}
 use Rattle.afs_rows.specs.Runs.{Armed, Cell, Entry, Fall, Host, RunsTo, at_rest, begun_by_disk, blow_line, counts_later, first_host, first_volumes, in_boot, in_step, message_at, placed_at, server_moves, server_stays, start, unarmed, unless_there, volumes_at}
 use Rattle.afs_rows.specs.Going.{ClientState}
-use Rattle.afs_rows.specs.ServerRow.{Begun, Change, key_of, result, stored_by, versioned}
+use Rattle.afs_rows.specs.ServerRow.{Begun, Change, key_of, stored_by, versioned}
 use Rattle.afs_rows.specs.ServerSteps.{back_timeout_row, server_row, start_row, wake_row}
 use Rattle.afs_rows.specs.States.{ServerState, volume_in}
 use Rattle.afs_rows.specs.Steps.{Step}
 use Rattle.std.proofs.Common.{◌≡◌, ℕ, ◌⊎◌, inl, inr, Bool, true, false, cond, eqb, eqb-true, eq-eqb, nat_eq, length, List, [], ◌∷◌, ◌++◌, Option, Some, None, refl, sym, ap, subst, ◌∙◌}
 use Rattle.std.specs.Option.{option_map}
-use Rattle.std.specs.Prelude.{is_some, ⊤}
+use Rattle.std.specs.Prelude.{is_some}
 
 -- ---- lines that tell no change and no version
 

@@ -21,7 +21,6 @@ use Rattle.afs_rows.specs.ServerRow.{key_of}
 use Rattle.afs_rows.specs.ServerSteps.{back_timeout_row, server_row, start_row, wake_row}
 use Rattle.afs_rows.specs.States.{BackCall, ServerState}
 use Rattle.std.proofs.Common.{◌≡◌, ℕ, Bool, List, [], ◌∷◌, Option, Some, None, subst}
-use Rattle.std.specs.Prelude.{⊤}
 
 pub record Known (c : Cell) (past : List Entry) : Type 0 where
   pub keys : StandsIn c (lines_of past)

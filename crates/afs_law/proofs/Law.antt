@@ -20,7 +20,7 @@ use Rattle.afs_law.proofs.Resting.{voids, ticks_goes, stop_set, fail_set}
 use Rattle.afs_law.proofs.Waiting.{waits_goes, client_stops_goes, client_starts_goes}
 use Rattle.afs_law.specs.Breaks.{live_grant, last_number}
 use Rattle.afs_law.specs.Ideal.{first_told, last_version, HasVersion, Accepts, clock_of, Reach, reach_over, first_lines, set_up, is_at, unless, reach, change_key, volume_after, brought, or_before, changed_under}
-use Rattle.afs_law.specs.Legal.{AreRising, IsOfScript, AreRan, IsNew, LegalAfter, Legal}
+use Rattle.afs_law.specs.Legal.{AreRising, IsOfScript, WereRun, IsNew, LegalAfter, Legal}
 use Rattle.afs_history.specs.declared.lines.Line.{Line}
 use Rattle.afs_law.specs.OneServer.{AreAtServer, IsOneServer}
 use Rattle.afs_law.specs.Past.{HasCode, Ran, sent_of, server_boot, running, onto, lines_of, given_message, IsCallUnder}
@@ -95,7 +95,7 @@ ran_of views past j head carried.Notice code to h = absurd code
 ran_of views past j head (carried.Refusal code') code to h = (subst (λ (n : Node). OfClient n (ReplyIn views past (record { head = head; carried = carried.Refusal code' }))) to h).fact.ran
 ran_of views past j head (carried.Reply reply) code to h = (subst (λ (n : Node). OfClient n (ReplyIn views past (record { head = head; carried = carried.Reply reply }))) to h).fact.ran
 
-are_ran : (views : ℕ → View) (past : List Entry) (ms : List Message) → Each (IfReply (ReplyIn views past)) ms → AreRan past ms
+are_ran : (views : ℕ → View) (past : List Entry) (ms : List Message) → Each (IfReply (ReplyIn views past)) ms → WereRun past ms
 are_ran views past [] h = tt
 are_ran views past (m ∷ ms) h = (λ i j is from to. ran_of views past j m.head m.carried is.1 to h.0, are_ran views past ms h.1)
 
@@ -103,7 +103,7 @@ pub last_each : (P : Message → Type 0) (a b : List Message) → Each P (a ++ b
 last_each P [] b h = h
 last_each P (m ∷ a) b h = last_each P a b h.1
 
-sent_ran : (s : Script) (c : Cell) (e : Entry) (past : List Entry) → (h : Holds s c (e ∷ past)) → AreRan (e ∷ past) e.sent
+sent_ran : (s : Script) (c : Cell) (e : Entry) (past : List Entry) → (h : Holds s c (e ∷ past)) → WereRun (e ∷ past) e.sent
 sent_ran s c e past h = are_ran (view h.floors c) (e ∷ past) e.sent (last_each (IfReply (ReplyIn (view h.floors c) (e ∷ past))) (sent_of past) e.sent (subst (Each (IfReply (ReplyIn (view h.floors c) (e ∷ past)))) (sym h.sent.told) h.sent.replies))
 
 -- the entries are of nodes of the script, and boots rise

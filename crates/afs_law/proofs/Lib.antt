@@ -60,4 +60,5 @@ pub mod Dying
 pub mod Made
 pub mod Surviving
 pub mod Worked
+pub mod KeptRuns
 pub mod Wrong

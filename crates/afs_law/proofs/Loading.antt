@@ -1,5 +1,5 @@
 -- What each step of the server makes of promises, breaks, calls and replies that wait.
-use Rattle.afs_law.specs.Grants.{IsWithdrawn}
+use Rattle.afs_law.specs.Grants.{IsChangedByOther}
 use Rattle.afs_law.proofs.Edits.{touches}
 use Rattle.afs_breaks.specs.declared.types.Promise.{Promise}
 use Rattle.afs_breaks.specs.Promises.{is_promise, with_promise, is_hit, owes_from, has_break, without_break}
@@ -16,14 +16,14 @@ use Rattle.afs_num.specs.declared.types.Node.TheVariants.{Client}
 use Rattle.afs_num.specs.declared.calls.FsCall.{FsCall}
 use Rattle.afs_num.specs.declared.messages.Message.{Message}
 use Rattle.afs_ideal.specs.Operations.{Found}
-use Rattle.afs_law.proofs.Backing.{owe_over, timeout_onto, Plain, Stepping, all_lines, is_up, is_still, is_oweless, is_unchanging, is_still_to, grant_back_to, settled_onto, stopped_back, grant_back, front_onto, change_back, no_owe, owes_over, ended_over, calls_same, backed_step, seated_over, plain_step, plain_waits, waits_over, granted_over, owed_over, call_over, backed_plain, promised_over, live_back, numbered_over, zero_back, live_given, before_own, rising_over, rising_back}
+use Rattle.afs_law.proofs.Backing.{unbroken_back, unbroken_last, owe_over, timeout_onto, Plain, Stepping, all_lines, is_up, is_still, is_oweless, is_unchanging, is_still_to, grant_back_to, settled_onto, stopped_back, front_onto, change_back, no_owe, owes_over, ended_over, calls_same, backed_step, seated_over, plain_step, plain_waits, waits_over, granted_over, owed_over, call_over, backed_plain, promised_over, live_back, numbered_over, zero_back, live_given, before_own, rising_over, rising_back}
 use Rattle.afs_law.proofs.Basics.{both, same_node-true, same_node-refl, same_fid-refl, same_fid-true, Above, Each, IfBack, IfDone, OfReply, each_map, if_back, if_done, some_of}
 use Rattle.afs_law.proofs.Owing.{CarriedOwe, AllOf, all_map, all_both, all_filter, IsGranted, IsIn, IsNumberIn, AccountedBy, WaitedBy, AllWaitedBy, HeldWaits, IsOwed, CallOut, BackIn, DroppedOwe, DoneIn, BackedIn, Promised, IsPromised, promise_to, Numbered, IsClient, Rising, ToClients, is_held}
 use Rattle.afs_law.proofs.Turning.{loaded, in_filter, put_call, kept_in}
-use Rattle.afs_law.specs.Breaks.{HasSettled, HasTimeout, last_grant, expiry_of, AllOwes, CarriesBreak, GoodQuit, live_grant, HasOwe, last_number, lines_at, drops_of, HasStopped, OweAt}
+use Rattle.afs_law.specs.Breaks.{unbroken_grant, HasSettled, HasTimeout, last_grant, expiry_of, AllOwes, CarriesBreak, GoodQuit, live_grant, HasOwe, last_number, lines_at, drops_of, HasStopped, OweAt}
 use Rattle.afs_rows.specs.Callbacks.{is_all, alls, numbers, is_reply_to, key_answered, breaks_call, break_message, owe_line, settle_line, quit_line, settles, quits, retries, still_owed}
 use Rattle.afs_law.specs.Ideal.{clock_of}
-use Rattle.afs_law.specs.Legal.{HasRisen, HasChange, AreGood, IsChanged}
+use Rattle.afs_law.specs.Legal.{IsUnbroken, HasRisen, HasChange, AreGood, IsChanged}
 use Rattle.afs_history.specs.declared.lines.Line.{Line}
 use Rattle.afs_law.specs.Past.{onto, lines_of, sent_of, given_message, called_key, IsCallUnder}
 use Rattle.afs_rows.specs.Runs.{Entry, Fall}
@@ -256,7 +256,7 @@ ends_backed b boot seats cs clock sent e past n c p h at gone =
       calls = λ j k y. inr (k, (none_by (same_node n j) (b.calls j) k y, (refl, refl)));
     } in
     subst (λ (ms : List Message). BackedIn None now boot seats cs clock ms (e ∷ past)) (append-nil sent)
-    (backed_step None None b now boot seats seats cs cs clock clock sent [] e past s h (λ x. granted_over e past b.lists.promises p.still (h.granted x)) (promised_over None b.lists.promises clock clock e past p.still (le_refl _) h.promised) (numbered_over None b.lists.last_owed e past p.up p.oweless h.numbered) (rising_over e past p.oweless h.rising)
+    (backed_step None None b now boot seats seats cs cs clock clock sent [] e past s h (λ x. granted_over e past b.lists.promises p.still p.up p.oweless (h.granted x)) (promised_over None b.lists.promises clock clock e past p.still (le_refl _) h.promised) (numbered_over None b.lists.last_owed e past p.up p.oweless h.numbered) (rising_over e past p.oweless h.rising)
     (λ x. record { promised = (h.clients x).promised; owed = all_without (λ (o : Owed). IsClient o.client) c.breaks b.lists.owed (h.clients x).owed })
     (λ x. all_without (λ (o : Owed). IsOwed o.client (lines_of (e ∷ past)) o) c.breaks b.lists.owed (owed_over e past b.lists.owed p.up (h.owing x)))
     (λ x. all_both (HeldWaits seats clock (e ∷ past)) b.held [] (all_map (HeldWaits seats clock past) (HeldWaits seats clock (e ∷ past)) (λ q y. plain_waits seats seats clock clock e past q p (le_refl _) (λ m a d z. z) y) b.held (h.waiting x)) tt)
@@ -264,16 +264,16 @@ ends_backed b boot seats cs clock sent e past n c p h at gone =
     (λ j seat m x y. seated_over None None b now boot clock clock e past s j m (h.seated j seat m x y)))
 
 -- the lines are good
-settles_by_good : (t : Bool) (s : Script) (n : Node) (o : Owed) (past : List Entry) (own : List Line) (xs : List Owed) → DroppedOwe n (lines_of past) o → ((own : List Line) → AreGood s (actors.Node the_server) past own (map (settle_line the_server n) xs)) → AreGood s (actors.Node the_server) past own (map (settle_line the_server n) (cond t (o ∷ xs) xs))
-settles_by_good true s n o past own xs d w = ((refl, record { what = o.what; owe = d.owe; dropped = d.dropped }), w (settle_line the_server n o ∷ own))
-settles_by_good false s n o past own xs d w = w own
+settles_by_good : (t : Bool) (s : Script) (n : Node) (o : Owed) (past : List Entry) (own : List Line) (xs : List Owed) → DroppedOwe n (lines_of past) o → (HasStopped the_server own → ⊥) → ((own : List Line) → (HasStopped the_server own → ⊥) → AreGood s (actors.Node the_server) past own (map (settle_line the_server n) xs)) → AreGood s (actors.Node the_server) past own (map (settle_line the_server n) (cond t (o ∷ xs) xs))
+settles_by_good true s n o past own xs d up w = ((refl, record { going = up; what = o.what; owe = d.owe; dropped = d.dropped }), w (settle_line the_server n o ∷ own) up)
+settles_by_good false s n o past own xs d up w = w own up
 
-settles_all : (s : Script) (n : Node) (past : List Entry) (os owed : List Owed) (own : List Line) → AllOf (DroppedOwe n (lines_of past)) os → AreGood s (actors.Node the_server) past own (map (settle_line the_server n) (filter (λ (o : Owed). has_break o.number owed) os))
-settles_all s n past [] owed own h = tt
-settles_all s n past (o ∷ os) owed own h = settles_by_good (has_break o.number owed) s n o past own (filter (λ (x : Owed). has_break x.number owed) os) h.0 (λ x. settles_all s n past os owed x h.1)
+settles_all : (s : Script) (n : Node) (past : List Entry) (os owed : List Owed) (own : List Line) → AllOf (DroppedOwe n (lines_of past)) os → (HasStopped the_server own → ⊥) → AreGood s (actors.Node the_server) past own (map (settle_line the_server n) (filter (λ (o : Owed). has_break o.number owed) os))
+settles_all s n past [] owed own h up = tt
+settles_all s n past (o ∷ os) owed own h up = settles_by_good (has_break o.number owed) s n o past own (filter (λ (x : Owed). has_break x.number owed) os) h.0 up (λ x still. settles_all s n past os owed x h.1 still)
 
-pub settles_good : (s : Script) (n : Node) (c : BackCall) (b : Backs) (past : List Entry) (own : List Line) → AllOf (DroppedOwe n (lines_of past)) c.breaks → AreGood s (actors.Node the_server) past own (map (settle_line the_server n) (still_owed c b))
-settles_good s n c b past own h = settles_all s n past c.breaks b.lists.owed own h
+pub settles_good : (s : Script) (n : Node) (c : BackCall) (b : Backs) (past : List Entry) (own : List Line) → AllOf (DroppedOwe n (lines_of past)) c.breaks → (HasStopped the_server own → ⊥) → AreGood s (actors.Node the_server) past own (map (settle_line the_server n) (still_owed c b))
+settles_good s n c b past own h up = settles_all s n past c.breaks b.lists.owed own h up
 
 -- a break that is given up
 record MayQuit (n : Node) (past : List Entry) (boot number most : ℕ) (call : FsCall) (o : Owed) : Type 0 where
@@ -284,8 +284,9 @@ pub two_all : {A : Type 0} → (P Q R : A → Type 0) → ((x : A) → P x → Q
 two_all P Q R w [] h k = tt
 two_all P Q R w (x ∷ xs) h k = (w x h.0 k.0, two_all P Q R w xs h.1 k.1)
 
-quit_good : (n : Node) (boot : ℕ) (c : BackCall) (o : Owed) (past : List Entry) (own : List Line) (last : ℕ) → CallOut n c last boot past → 2 ≤ c.tries → HasTimeout the_server n boot c.number 3 own → MayQuit n past boot c.number c.tries (breaks_call c.breaks) o → GoodQuit the_server n o.number past own
-quit_good n boot c o past own last out le third m = record {
+quit_good : (n : Node) (boot : ℕ) (c : BackCall) (o : Owed) (past : List Entry) (own : List Line) (last : ℕ) → CallOut n c last boot past → 2 ≤ c.tries → HasTimeout the_server n boot c.number 3 own → (HasStopped the_server own → ⊥) → MayQuit n past boot c.number c.tries (breaks_call c.breaks) o → GoodQuit the_server n o.number past own
+quit_good n boot c o past own last out le third up m = record {
+  going = up;
   what = o.what;
   owe = m.owe.owe;
   epoch = boot;
@@ -299,17 +300,17 @@ quit_good n boot c o past own last out le third m = record {
   carries = m.carries;
 }
 
-quits_by_good : (t : Bool) (s : Script) (n : Node) (boot last : ℕ) (c : BackCall) (o : Owed) (past : List Entry) (own : List Line) (xs : List Owed) → CallOut n c last boot past → 2 ≤ c.tries → HasTimeout the_server n boot c.number 3 own → MayQuit n past boot c.number c.tries (breaks_call c.breaks) o
-    → ((own : List Line) → HasTimeout the_server n boot c.number 3 own → AreGood s (actors.Node the_server) past own (map (quit_line the_server n) xs)) → AreGood s (actors.Node the_server) past own (map (quit_line the_server n) (cond t (o ∷ xs) xs))
-quits_by_good true s n boot last c o past own xs out le third m w = ((refl, quit_good n boot c o past own last out le third m), w (quit_line the_server n o ∷ own) third)
-quits_by_good false s n boot last c o past own xs out le third m w = w own third
+quits_by_good : (t : Bool) (s : Script) (n : Node) (boot last : ℕ) (c : BackCall) (o : Owed) (past : List Entry) (own : List Line) (xs : List Owed) → CallOut n c last boot past → 2 ≤ c.tries → HasTimeout the_server n boot c.number 3 own → (HasStopped the_server own → ⊥) → MayQuit n past boot c.number c.tries (breaks_call c.breaks) o
+    → ((own : List Line) → HasTimeout the_server n boot c.number 3 own → (HasStopped the_server own → ⊥) → AreGood s (actors.Node the_server) past own (map (quit_line the_server n) xs)) → AreGood s (actors.Node the_server) past own (map (quit_line the_server n) (cond t (o ∷ xs) xs))
+quits_by_good true s n boot last c o past own xs out le third up m w = ((refl, quit_good n boot c o past own last out le third up m), w (quit_line the_server n o ∷ own) third up)
+quits_by_good false s n boot last c o past own xs out le third up m w = w own third up
 
-quits_all : (s : Script) (n : Node) (boot last : ℕ) (c : BackCall) (past : List Entry) (os owed : List Owed) (own : List Line) → CallOut n c last boot past → 2 ≤ c.tries → HasTimeout the_server n boot c.number 3 own → AllOf (MayQuit n past boot c.number c.tries (breaks_call c.breaks)) os → AreGood s (actors.Node the_server) past own (map (quit_line the_server n) (filter (λ (o : Owed). has_break o.number owed) os))
-quits_all s n boot last c past [] owed own out le third h = tt
-quits_all s n boot last c past (o ∷ os) owed own out le third h = quits_by_good (has_break o.number owed) s n boot last c o past own (filter (λ (x : Owed). has_break x.number owed) os) out le third h.0 (λ x y. quits_all s n boot last c past os owed x out le y h.1)
+quits_all : (s : Script) (n : Node) (boot last : ℕ) (c : BackCall) (past : List Entry) (os owed : List Owed) (own : List Line) → CallOut n c last boot past → 2 ≤ c.tries → HasTimeout the_server n boot c.number 3 own → (HasStopped the_server own → ⊥) → AllOf (MayQuit n past boot c.number c.tries (breaks_call c.breaks)) os → AreGood s (actors.Node the_server) past own (map (quit_line the_server n) (filter (λ (o : Owed). has_break o.number owed) os))
+quits_all s n boot last c past [] owed own out le third up h = tt
+quits_all s n boot last c past (o ∷ os) owed own out le third up h = quits_by_good (has_break o.number owed) s n boot last c o past own (filter (λ (x : Owed). has_break x.number owed) os) out le third up h.0 (λ x y still. quits_all s n boot last c past os owed x out le y still h.1)
 
 pub quits_good : (s : Script) (n : Node) (boot last : ℕ) (c : BackCall) (b : Backs) (past : List Entry) → CallOut n c last boot past → nat_lt c.tries 2 ≡ false → AreGood s (actors.Node the_server) past (lines.Timeout the_server n boot c.number 3 ∷ []) (map (quit_line the_server n) (still_owed c b))
-quits_good s n boot last c b past out e = quits_all s n boot last c past c.breaks b.lists.owed _ out (ltb-false _ _ e) (inl (refl, (refl, (refl, (refl, refl)))))
+quits_good s n boot last c b past out e = quits_all s n boot last c past c.breaks b.lists.owed _ out (ltb-false _ _ e) (inl (refl, (refl, (refl, (refl, refl))))) (λ z. z)
     (two_all (CarriedOwe n c.number c.tries boot (lines_of past)) (λ (o : Owed). CarriesBreak (breaks_call c.breaks) o.what) (MayQuit n past boot c.number c.tries (breaks_call c.breaks)) (λ o x y. record { owe = x; carries = y }) c.breaks out.owes out.carries)
 
 pub settles_backed : (b : Backs) (boot : ℕ) (seats : List Seat) (cs : ℕ → Option Seat) (clock : ℕ) (sent : List Message) (e : Entry) (past : List Entry) (n : Node) (p : ℕ) (c : BackCall) → b.calls n ≡ Some c → e.lines ≡ lines.Given p ∷ map (settle_line the_server n) (still_owed c b) → BackedIn None b boot seats cs clock sent past → BackedIn None (loaded (settles the_server n c b)) boot seats cs clock sent (e ∷ past)
@@ -366,7 +367,7 @@ retries_backed b boot seats cs clock sent e past n c at is h =
       calls = λ j k y. put_call n j more k b.calls _ y (λ q z. inr (c, (ap b.calls (sym q) ∙ at, (ap (λ (u : BackCall). u.number) z, ap (λ (u : BackCall). u.breaks) z)))) (λ z. inr (k, (z, (refl, refl))));
     } in
     subst (λ (ms : List Message). BackedIn None now boot seats cs clock ms (e ∷ past)) (append-nil sent)
-    (backed_step None None b now boot seats seats cs cs clock clock sent [] e past s h (λ x. granted_over e past b.lists.promises p.still (h.granted x)) (promised_over None b.lists.promises clock clock e past p.still (le_refl _) h.promised) (numbered_over None b.lists.last_owed e past p.up p.oweless h.numbered) (rising_over e past p.oweless h.rising) h.clients (λ x. owed_over e past b.lists.owed p.up (h.owing x))
+    (backed_step None None b now boot seats seats cs cs clock clock sent [] e past s h (λ x. granted_over e past b.lists.promises p.still p.up p.oweless (h.granted x)) (promised_over None b.lists.promises clock clock e past p.still (le_refl _) h.promised) (numbered_over None b.lists.last_owed e past p.up p.oweless h.numbered) (rising_over e past p.oweless h.rising) h.clients (λ x. owed_over e past b.lists.owed p.up (h.owing x))
     (λ x. all_both (HeldWaits seats clock (e ∷ past)) b.held [] (all_map (HeldWaits seats clock past) (HeldWaits seats clock (e ∷ past)) (λ q y. plain_waits seats seats clock clock e past q p (le_refl _) (λ m a d z. z) y) b.held (h.waiting x)) tt)
     (λ x j k y. put_call n j more k b.calls (CallOut j k b.last_call boot (e ∷ past)) y (λ q z. subst (λ (i : Node). CallOut i k b.last_call boot (e ∷ past)) q (subst (λ (u : BackCall). CallOut n u b.last_call boot (e ∷ past)) z (tried n boot b.last_call c e past is (h.outs x n c at)))) (λ z. call_over j k b.last_call b.last_call boot e past (le_refl _) p.up (h.outs x j k z))) tt tt
     (λ j seat m x y. seated_over None None b now boot clock clock e past s j m (h.seated j seat m x y)))
@@ -472,7 +473,7 @@ not_granted false b n m f g x y e = granted_false (same_node n m) (same_fid f g)
 others_granted : (n : Node) (f : Fid) (x index : ℕ) (base : List Line) (ps : List Promise) → AllOf (IsGranted base) ps → AllOf (IsGranted (lines.Grant the_server n f index x ∷ base)) (filter (λ q. not (is_promise n f q)) ps)
 others_granted n f x index base [] h = tt
 others_granted n f x index base (q ∷ ps) h = granted_if (not (is_promise n f q)) (IsGranted (lines.Grant the_server n f index x ∷ base)) q (filter (λ z. not (is_promise n f z)) ps) refl
-    (λ e. grant_by (same_node the_server the_server && (same_node n q.client && same_fid f q.fid)) x (last_grant the_server q.client q.fid base) q.expiry (not_granted (same_node q.client n) (same_fid q.fid f) n q.client f q.fid refl refl e) h.0) (others_granted n f x index base ps h.1)
+    (λ e. grant_by (same_node the_server the_server && (same_node n q.client && same_fid f q.fid)) x (unbroken_grant the_server q.client q.fid base) q.expiry (not_granted (same_node q.client n) (same_fid q.fid f) n q.client f q.fid refl refl e) h.0) (others_granted n f x index base ps h.1)
 
 -- the promises behind a grant
 granted_now : (n : Node) (f : Fid) (x index : ℕ) (base : List Line) (ps : List Promise) → AllOf (IsGranted base) ps → AllOf (IsGranted (lines.Grant the_server n f index x ∷ base)) (with_promise n x f ps)
@@ -673,7 +674,7 @@ pub record NewOwe (n : Node) (ls : List Line) (o : Owed) : Type 0 where
 
 pub all_new : (n : Node) (ls : List Line) (k : ℕ) (ps : List Promise) → AllOf (IsGranted ls) ps → AllOf (IsOfOther n) ps → AllOf (NewOwe n ls) (owes_from k ps)
 all_new n ls k [] h o = tt
-all_new n ls k (p ∷ ps) h o = (record { other = o.0; fid = p.fid; on = refl; granted = h.0 }, all_new n ls (k + 1) ps h.1 o.1)
+all_new n ls k (p ∷ ps) h o = (record { other = o.0; fid = p.fid; on = refl; granted = unbroken_last p.client p.fid p.expiry ls h.0 }, all_new n ls (k + 1) ps h.1 o.1)
 
 -- of the promises some are withdrawn, and the others stay
 pub all_hits : (P : Promise → Type 0) (n : Node) (vs : List Version) (ps : List Promise) → AllOf P ps → AllOf P (hits n vs ps)
@@ -847,17 +848,69 @@ left_promised n k x clock vs ps fs e past front are still h j f y l t =
       | inr z ↦ (refl, z)
     ]
 
+-- ---- a promise that stays is on none of the breaks
+
+IsUnlike : Promise → Promise → Type 0
+IsUnlike p h = (same_node h.client p.client && same_fid h.fid p.fid) ≡ false
+
+unlike_by : (t : Bool) (n : Node) (vs : List Version) (p h : Promise) → (same_node h.client p.client && same_fid h.fid p.fid) ≡ t → (IsHit n vs p → ⊥) → IsHit n vs h → t ≡ false
+unlike_by true n vs p h e safe hit =
+    let q = both (same_node h.client p.client) (same_fid h.fid p.fid) e in
+    absurd (safe (subst (λ (f : Fid). touches f vs ≡ true) (same_fid-true h.fid p.fid q.1) hit.0, λ z. hit.1 (same_node-true h.client p.client q.0 ∙ z)))
+unlike_by false n vs p h e safe hit = refl
+
+apart_owe : (s t : Bool) (o : Option ℕ) → t ≡ false → cond (s && t) None o ≡ o
+apart_owe true true o e = absurd cc
+apart_owe true false o e = refl
+apart_owe false t o e = refl
+
+unlike_owes : (n : Node) (vs : List Version) (p : Promise) (k : ℕ) (hs : List Promise) (o : List Line) → (IsHit n vs p → ⊥) → AllOf (IsHit n vs) hs → unbroken_grant the_server p.client p.fid (onto o (map (owe_line the_server) (owes_from k hs))) ≡ unbroken_grant the_server p.client p.fid o
+unlike_owes n vs p k [] o safe hit = refl
+unlike_owes n vs p k (h ∷ hs) o safe hit =
+    unlike_owes n vs p (k + 1) hs (lines.Owe the_server h.client (Some h.fid) (k + 1) ∷ o) safe hit.1
+    ∙ apart_owe (same_node the_server the_server) (same_node h.client p.client && same_fid h.fid p.fid) (unbroken_grant the_server p.client p.fid o) (unlike_by (same_node h.client p.client && same_fid h.fid p.fid) n vs p h refl safe hit.0)
+
+all_any : (P : Promise → Type 0) → ((p : Promise) → P p) → (ps : List Promise) → AllOf P ps
+all_any P w [] = tt
+all_any P w (p ∷ ps) = (w p, all_any P w ps)
+
+pub filtered : (q : Promise → Bool) (ps : List Promise) → AllOf (λ (p : Promise). q p ≡ true) (filter q ps)
+filtered q [] = tt
+filtered q (p ∷ ps) = that_one (λ (x : Promise). q x ≡ true) (q p) p (filter q ps) (λ t. t) (filtered q ps)
+
+missed_by : (a b t : Bool) → (a && not b) ≡ t → not t ≡ true → a ≡ true → b ≡ true
+missed_by true true t e h is = refl
+missed_by true false t e h is = let no_ : true ≡ t = e in absurd cc
+missed_by false b t e h is = absurd cc
+
+safe_by : (t : Bool) (n : Node) (v : Version) (vs : List Version) (p : Promise) → same_fid v.fid p.fid ≡ t → not (is_hit n v.fid p) ≡ true → (IsHit n vs p → ⊥) → cond t true (touches p.fid vs) ≡ true → IsOfOther n p → ⊥
+safe_by true n v vs p e missed safe touched other =
+    let same : same_fid p.fid v.fid ≡ true = ap (λ (f : Fid). same_fid f v.fid) (sym (same_fid-true v.fid p.fid e)) ∙ same_fid-refl v.fid in
+    other (same_node-true p.client n (missed_by (same_fid p.fid v.fid) (same_node p.client n) (is_hit n v.fid p) refl missed same))
+safe_by false n v vs p e missed safe touched other = safe (touched, other)
+
+stays_safe : (n : Node) (vs : List Version) (ps : List Promise) → AllOf (λ (p : Promise). IsHit n vs p → ⊥) (staying n vs ps)
+stays_safe n [] ps = all_any (λ (p : Promise). IsHit n [] p → ⊥) (λ p hit. let no_ : false ≡ true = hit.0 in absurd cc) ps
+stays_safe n (v ∷ vs) ps =
+    let rest : List Promise = filter (λ p. not (is_hit n v.fid p)) ps in
+    two_all (λ (p : Promise). not (is_hit n v.fid p) ≡ true) (λ (p : Promise). IsHit n vs p → ⊥) (λ (p : Promise). IsHit n (v ∷ vs) p → ⊥) (λ p missed safe hit. safe_by (same_fid v.fid p.fid) n v vs p refl missed safe hit.0 hit.1) (staying n vs rest)
+    (all_left (λ (p : Promise). not (is_hit n v.fid p) ≡ true) n vs rest (filtered (λ p. not (is_hit n v.fid p)) ps)) (stays_safe n vs rest)
+
+all_with : (P : Promise → Type 0) (n : Node) (x : ℕ) (fs : List Found) (ps : List Promise) → ((f : Fid) → P (record { client = n; fid = f; expiry = x })) → AllOf P ps → AllOf P (with_promises n x fs ps)
+all_with P n x [] ps w h = h
+all_with P n x (f ∷ fs) ps w h = all_with P n x fs (with_promise n x f.fid ps) w (all_both P (filter (λ q. not (is_promise n f.fid q)) ps) _ (all_filter P (λ q. not (is_promise n f.fid q)) ps h) (w f.fid, tt))
+
 -- the promises behind a change
-pub left_granted : (n : Node) (k x : ℕ) (vs : List Version) (ps : List Promise) (fs : List Found) (e : Entry) (past : List Entry) (front : List Line) → e.lines ≡ front ++ granted the_server n x fs (map (owe_line the_server) (owes_from k (hits n vs ps))) → all_lines is_still front ≡ true → AllOf (IsGranted (lines_of past)) ps
+pub left_granted : (n : Node) (k x : ℕ) (vs : List Version) (ps : List Promise) (fs : List Found) (e : Entry) (past : List Entry) (front : List Line) → e.lines ≡ front ++ granted the_server n x fs (map (owe_line the_server) (owes_from k (hits n vs ps))) → all_lines is_still front ≡ true → all_lines is_up front ≡ true → all_lines is_oweless front ≡ true → AllOf (IsGranted (lines_of past)) ps
     → AllOf (IsGranted (lines_of (e ∷ past))) (with_promises n x fs (staying n vs ps))
-left_granted n k x vs ps fs e past front are still h =
+left_granted n k x vs ps fs e past front are still up oweless h =
     let owes : List Line = map (owe_line the_server) (owes_from k (hits n vs ps)) in
     let base : List Line = onto (lines_of past) front in
     let mid : List Line = onto base (granted the_server n x fs []) in
-    let first : AllOf (IsGranted base) (staying n vs ps) = all_map (IsGranted (lines_of past)) (IsGranted base) (λ p z. grant_back p.client p.fid front (lines_of past) still ∙ z) (staying n vs ps) (all_left (IsGranted (lines_of past)) n vs ps h) in
+    let first : AllOf (IsGranted base) (staying n vs ps) = all_map (IsGranted (lines_of past)) (IsGranted base) (λ p z. unbroken_back p.client p.fid front (lines_of past) still up oweless ∙ z) (staying n vs ps) (all_left (IsGranted (lines_of past)) n vs ps h) in
     let second : AllOf (IsGranted mid) (with_promises n x fs (staying n vs ps)) = all_granted n x fs base (staying n vs ps) first in
     subst (λ (ls : List Line). AllOf (IsGranted ls) (with_promises n x fs (staying n vs ps))) (sym (ap (onto (lines_of past)) are ∙ (onto_both (lines_of past) front (granted the_server n x fs owes) ∙ onto_granted n x fs owes base)))
-    (all_map (IsGranted mid) (IsGranted (onto mid owes)) (λ p z. grant_back p.client p.fid owes mid (owes_still (owes_from k (hits n vs ps))) ∙ z) (with_promises n x fs (staying n vs ps)) second)
+    (two_all (λ (p : Promise). IsHit n vs p → ⊥) (IsGranted mid) (IsGranted (onto mid owes)) (λ p safe z. unlike_owes n vs p k (hits n vs ps) mid safe (hits_hit n vs ps) ∙ z) (with_promises n x fs (staying n vs ps)) (all_with (λ (p : Promise). IsHit n vs p → ⊥) n x fs (staying n vs ps) (λ f hit. hit.1 refl) (stays_safe n vs ps)) second)
 
 pub record Changing (n : Node) (b : Backs) (seats now : List Seat) (e : Entry) (past : List Entry) (pre : List Line) (os : List Owed) (hd : Held) (m : Message) : Type 0 where
   pub are : e.lines ≡ pre ++ map (owe_line the_server) os
@@ -930,9 +983,9 @@ change_loaded who b ps more boot seats now cs clock sent e past pre os hd m h gr
     (λ j seat k x y. seated_over None None b after boot clock clock e past s j k (h.seated j seat k x y)))
 
 -- numbers of new breaks
-pub numbers_good : (s : Script) (k : ℕ) (ps : List Promise) (past : List Entry) (own : List Line) → last_number the_server (own ++ lines_of past) ≤ k → AllOf (λ (p : Promise). IsWithdrawn the_server p.client p.fid own) ps → AllOf (λ (p : Promise). (x : ℕ) × (last_grant the_server p.client p.fid (own ++ lines_of past) ≡ Some x)) ps → AreGood s (actors.Node the_server) past own (map (owe_line the_server) (owes_from k ps))
-numbers_good s k [] past own h w g = tt
-numbers_good s k (p ∷ ps) past own h w g = ((refl, (omega arith, (w.0, g.0))), numbers_good s (k + 1) ps past (lines.Owe the_server p.client (Some p.fid) (k + 1) ∷ own) (le_refl _) w.1 g.1)
+pub numbers_good : (s : Script) (k : ℕ) (ps : List Promise) (past : List Entry) (own : List Line) → last_number the_server (own ++ lines_of past) ≤ k → (HasStopped the_server own → ⊥) → AllOf (λ (p : Promise). IsChangedByOther the_server p.client p.fid own) ps → AllOf (λ (p : Promise). IsUnbroken the_server p.client p.fid past) ps → AreGood s (actors.Node the_server) past own (map (owe_line the_server) (owes_from k ps))
+numbers_good s k [] past own h up w g = tt
+numbers_good s k (p ∷ ps) past own h up w g = ((refl, record { going = up; number = omega arith; cause = (w.0, g.0) }), numbers_good s (k + 1) ps past (lines.Owe the_server p.client (Some p.fid) (k + 1) ∷ own) (le_refl _) up w.1 g.1)
 
 pub numbers_rise : (k : ℕ) (ps : List Promise) (base : List Line) → last_number the_server base ≤ k → last_number the_server (onto base (map (owe_line the_server) (owes_from k ps))) ≤ k + length (owes_from k ps)
 numbers_rise k [] base h = omega arith
@@ -946,9 +999,9 @@ alls_rising : (x k m : ℕ) (base : List Line) → last_number the_server base �
 alls_rising x k zero base le h = h
 alls_rising x k (suc m) base le h = alls_rising x (k + 1) m (lines.Owe the_server (Client (k + 1)) None (k + 1) ∷ base) (le_refl _) (λ e. omega arith, h)
 
-pub alls_good : (s : Script) (x k m : ℕ) (past : List Entry) (own : List Line) → last_number the_server (own ++ lines_of past) ≤ k → HasRisen the_server own → k + m ≤ s.clients → AreGood s (actors.Node the_server) past own (map (owe_line the_server) (owes_all x k m))
-alls_good s x k zero past own h w few = tt
-alls_good s x k (suc m) past own h w few = ((refl, (omega arith, (w, (omega arith, omega arith)))), alls_good s x (k + 1) m past (lines.Owe the_server (Client (k + 1)) None (k + 1) ∷ own) (le_refl _) w (omega arith))
+pub alls_good : (s : Script) (x k m : ℕ) (past : List Entry) (own : List Line) → last_number the_server (own ++ lines_of past) ≤ k → (HasStopped the_server own → ⊥) → HasRisen the_server own → k + m ≤ s.clients → AreGood s (actors.Node the_server) past own (map (owe_line the_server) (owes_all x k m))
+alls_good s x k zero past own h up w few = tt
+alls_good s x k (suc m) past own h up w few = ((refl, record { going = up; number = omega arith; cause = (w, (omega arith, omega arith)) }), alls_good s x (k + 1) m past (lines.Owe the_server (Client (k + 1)) None (k + 1) ∷ own) (le_refl _) up w (omega arith))
 
 pub alls_rise : (x k m : ℕ) (base : List Line) → last_number the_server base ≤ k → last_number the_server (onto base (map (owe_line the_server) (owes_all x k m))) ≤ k + m
 alls_rise x k zero base h = omega arith

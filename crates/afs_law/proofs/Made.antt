@@ -242,7 +242,7 @@ acknowledged_by s history before after e first rest c code act legal split line 
     let past : List Entry = past_of (set_up s ∷ []) before in
     let all : AreGood s e.actor past [] (first ++ lines.Answer c code ∷ rest) = subst (AreGood s e.actor past []) line (good_in s (set_up s ∷ []) before after e (subst (LegalAfter s (set_up s ∷ [])) split legal)) in
     let g = good_behind s e.actor past [] first (lines.Answer c code) rest all in
-    made s c code past (onto [] first) act g.1 runs is zero (client_of e.actor c g.0)
+    made s c code past (onto [] first) act g.1 runs is zero (client_of e.actor c g.0.0)
 
 pub acknowledged : (s : Script) (history before after : List Entry) (e : Entry) (first rest : List Line) (c : Node) (code : Code) (act : Going) → Legal history s → history ≡ before ++ (e ∷ after) → e.lines ≡ first ++ lines.Answer c code ∷ rest
     → running s c (onto [] first ++ lines_of (past_of (set_up s ∷ []) before)) ≡ Some act → IsChangingAct act.act → code.0 ≡ pos 0 → IsMade c (past_of (set_up s ∷ []) before) (onto [] first)

@@ -22,7 +22,7 @@ use Rattle.afs_law.specs.Legal.{as_asked}
 use Rattle.afs_law.specs.Once.{past_of}
 use Rattle.afs_records.specs.Durable.{Stored}
 use Rattle.afs_law.specs.Parts.{ActsAreTold, CallsAreAsked, IsAsked}
-use Rattle.afs_law.specs.Past.{CalledSince, Sends, called_key, has_begun, has_sent, is_called, is_late, lines_of, onto, running, same_key, sent_of}
+use Rattle.afs_law.specs.Past.{CalledSince, Sends, called_key, has_begun, has_sent, is_called, is_new_to_act, lines_of, onto, running, same_key, sent_of}
 use Rattle.afs_num.specs.Nodes.{same_node}
 use Rattle.afs_num.specs.declared.calls.FsCall.{FsCall}
 use Rattle.afs_num.specs.declared.histories.Actor.TheVariants as actors
@@ -38,7 +38,7 @@ use Rattle.afs_num.specs.declared.types.Node.{Node}
 use Rattle.afs_num.specs.declared.types.Node.TheVariants.{Admin, Client, Loc, Server}
 use Rattle.afs_rows.specs.Callbacks.{put}
 use Rattle.afs_rows.specs.ClientRow.{call_by, call_message, call_of}
-use Rattle.afs_rows.specs.Going.{ClientState, Going, asked, began, next, read_on}
+use Rattle.afs_rows.specs.Going.{ClientState, Going, began, next, read_on}
 use Rattle.afs_rows.specs.Runs.{Armed, Cell, Entry, Fall, at_rest, in_boot, in_step, RunsTo, begun_by_disk, blow_line, locations, server_moves, start, unarmed, user_at}
 use Rattle.afs_rows.specs.ServerRow.{key_of, made, versioned}
 use Rattle.afs_rows.specs.ServerSteps.{back_timeout_row, server_row, start_row, wake_row}
@@ -194,7 +194,7 @@ pub record Asked (s : Script) (clients : ℕ → ClientState) (sent : List Messa
   pub last : (j : ℕ) (act : Going) → (clients j).running ≡ Some act → call_under (last_key j (clients j)) sent ≡ Some ((clients j).user, call_of (clients j) act)
   pub origins : Each (IfCall (Origin s past)) sent
   pub asked : (j : ℕ) (act : Going) → (clients j).running ≡ Some act → CalledSince (last_key j (clients j)) (user_at s j) (call_of (clients j) act) past
-  pub late : (j : ℕ) (act : Going) → (clients j).running ≡ Some act → is_late (Client j) (last_key j (clients j)) past ≡ true
+  pub late : (j : ℕ) (act : Going) → (clients j).running ≡ Some act → is_new_to_act (Client j) (last_key j (clients j)) past ≡ true
   pub seats : (j : ℕ) → AreSeated (Client j) (clients j).seats
 
 abbrev pub AskedIn : Script → Cell → List Entry → Type 0
@@ -275,14 +275,14 @@ late_by true a b x y = rw x refl
 late_by false a b x y = y
 
 pub last_late : (c : Cell) (past : List Entry) (s : Script) (n : ℕ) (st : Step ClientState) → Known c past → AskedIn s c past → Rests n (who_at (c.clients n)) (c.clients n).gifts st ⊎ (Asks n (who_at (c.clients n)) st ⊎ Stops n (who_at (c.clients n)) st) → (act : Going) → st.state.running ≡ Some act
-    → is_late (Client n) (last_key n st.state) (of_client n st ∷ past) ≡ true
+    → is_new_to_act (Client n) (last_key n st.state) (of_client n st ∷ past) ≡ true
 last_late c past s n st K A (inl r) act run = elim r.act [
   | inl none ↦ absurd (none_runs st.state.running act none run)
-  | inr same ↦ late_still (has_begun (Client n) st.lines) _ _ same.1.1 (subst (λ (k : Key). is_late (Client n) k past ≡ true) (sym (same_key_at n (c.clients n) st.state r.epoch r.last)) (A.late n act (sym same.0 ∙ run)))
+  | inr same ↦ late_still (has_begun (Client n) st.lines) _ _ same.1.1 (subst (λ (k : Key). is_new_to_act (Client n) k past ≡ true) (sym (same_key_at n (c.clients n) st.state r.epoch r.last)) (A.late n act (sym same.0 ∙ run)))
 ]
 last_late c past s n st K A (inr (inl a)) act run =
     let no : has_sent (last_key n st.state) (sent_of past) ≡ false = subst (λ (ms : List Message). has_sent (last_key n st.state) ms ≡ false) (sym K.hears.told) (unsent K.keys.callees c.clients n (last_key n st.state) c.sent (next_key n c.clients st a) K.keys.calls).0 in
-    late_by (has_begun (Client n) st.lines) (has_sent (last_key n st.state) (sent_of past)) (is_late (Client n) (last_key n st.state) past) no (unsent_late (Client n) (last_key n st.state) past no)
+    late_by (has_begun (Client n) st.lines) (has_sent (last_key n st.state) (sent_of past)) (is_new_to_act (Client n) (last_key n st.state) past) no (unsent_late (Client n) (last_key n st.state) past no)
 last_late c past s n st K A (inr (inr z)) act run = absurd (none_runs st.state.running act z.act run)
 
 -- a call that is sent now is that of the act which runs
@@ -321,8 +321,8 @@ client_asked s c past n st K A a =
       asked = λ j. at_put n j (λ (x : ClientState). (act : Going) → x.running ≡ Some act → CalledSince (last_key j x) (user_at s j) (call_of x act) (e ∷ past)) st.state c.clients
           (λ same. subst (λ (i : ℕ). (act : Going) → st.state.running ≡ Some act → CalledSince (last_key i st.state) (user_at s i) (call_of st.state act) (e ∷ past)) same (last_asked c past s n st A a.user a.goes))
           (λ other act r. inr ((other_leaves s n j st.lines (lines_of past) a.of other).begins, A.asked j act r));
-      late = λ j. at_put n j (λ (x : ClientState). (act : Going) → x.running ≡ Some act → is_late (Client j) (last_key j x) (e ∷ past) ≡ true) st.state c.clients
-          (λ same. subst (λ (i : ℕ). (act : Going) → st.state.running ≡ Some act → is_late (Client i) (last_key i st.state) (e ∷ past) ≡ true) same (last_late c past s n st K A a.goes))
+      late = λ j. at_put n j (λ (x : ClientState). (act : Going) → x.running ≡ Some act → is_new_to_act (Client j) (last_key j x) (e ∷ past) ≡ true) st.state c.clients
+          (λ same. subst (λ (i : ℕ). (act : Going) → st.state.running ≡ Some act → is_new_to_act (Client i) (last_key i st.state) (e ∷ past) ≡ true) same (last_late c past s n st K A a.goes))
           (λ other act r. late_still (has_begun (Client j) st.lines) _ _ (other_leaves s n j st.lines (lines_of past) a.of other).begins (A.late j act r));
       seats = λ j. at_put n j (λ (x : ClientState). AreSeated (Client j) x.seats) st.state c.clients (λ same. subst (λ (i : ℕ). AreSeated (Client i) st.state.seats) same (a.seats (A.seats n))) (λ other. A.seats j);
     }

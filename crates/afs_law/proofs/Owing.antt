@@ -11,7 +11,7 @@ use Rattle.afs_num.specs.declared.types.Node.TheVariants.{Client}
 use Rattle.afs_num.specs.declared.calls.FsCall.{FsCall}
 use Rattle.afs_num.specs.declared.messages.Message.{Message}
 use Rattle.afs_law.proofs.Basics.{Above, Each, IfBack, IfDone, OfReply}
-use Rattle.afs_law.specs.Breaks.{HasDrop, HasTimeout, last_grant, expiry_of, Owes, AllOwes, EndedBy, OweAt, CarriesBreak, live_grant, last_number, lines_at}
+use Rattle.afs_law.specs.Breaks.{HasDrop, HasTimeout, unbroken_grant, expiry_of, Owes, AllOwes, EndedBy, OweAt, CarriesBreak, live_grant, last_number, lines_at}
 use Rattle.afs_rows.specs.Callbacks.{key_answered, breaks_call, is_reply_to}
 use Rattle.afs_law.specs.Legal.{HasChange}
 use Rattle.afs_history.specs.declared.lines.Line.{Line}
@@ -49,9 +49,9 @@ abbrev pub is_held : Key → List Held → Bool
 is_held k [] = false
 is_held k (h ∷ hs) = if is_reply_to k h.reply then true else is_held k hs
 
--- a promise is that of the last grant
+-- a promise is that of the last grant, and wasn't broken
 abbrev pub IsGranted : List Line → Promise → Type 0
-IsGranted ls p = last_grant the_server p.client p.fid ls ≡ Some p.expiry
+IsGranted ls p = unbroken_grant the_server p.client p.fid ls ≡ Some p.expiry
 
 abbrev pub IsIn : Owed → List Owed → Type 0
 IsIn o [] = ⊥

@@ -27,7 +27,7 @@ use Rattle.afs_law.specs.Grants.{is_promised, has_fetched, fetch_reply, GrantOf,
 use Rattle.afs_law.specs.Ideal.{WasBefore, IsLast, WasLast, Unless, last_version, HasVersion, reach, change_in, call_in, call_under}
 use Rattle.afs_law.specs.Legal.{IsNew, IsNot, AreDropped, HasDropped, GoodGift, IsResult, IsKey, HasChange, Cause, answer_at, IsTold, as_asked}
 use Rattle.afs_history.specs.declared.lines.Line.{Line}
-use Rattle.afs_law.specs.Past.{is_of_act, IsCallUnder, IsCallFrom, IsToCome, IsUnheard, is_late, begins_act, onto, lines_of, sent_of, given_message, running, has_begun, Ran, called_key, same_key, is_called, has_sent, is_sent_since, answered_key}
+use Rattle.afs_law.specs.Past.{is_of_act, IsCallUnder, IsCallFrom, IsToCome, IsUnheard, is_new_to_act, begins_act, onto, lines_of, sent_of, given_message, running, has_begun, Ran, called_key, same_key, is_called, has_sent, is_sent_since, answered_key}
 use Rattle.afs_rows.specs.Runs.{Entry, Fall, at_rest, in_step, in_boot}
 use Rattle.afs_law.proofs.OneCell.{the_server}
 use Rattle.afs_rows.specs.States.{Gift, CacheEntry, Seat, Lasting}
@@ -457,8 +457,8 @@ reached_more c f i k past le h = let a : (reach c f past).made ≤ i = h.made in
 late_kept : (t a b : Bool) → t ≡ false → b ≡ true → cond t a b ≡ true
 late_kept t a b e h = rw e h
 
-pub late_over : (n : Node) (k : Key) (e : Entry) (past : List Entry) → has_begun n e.lines ≡ false → is_late n k past ≡ true → is_late n k (e ∷ past) ≡ true
-late_over n k e past none h = late_kept (has_begun n e.lines) (not (has_sent k (sent_of past))) (is_late n k past) none h
+pub late_over : (n : Node) (k : Key) (e : Entry) (past : List Entry) → has_begun n e.lines ≡ false → is_new_to_act n k past ≡ true → is_new_to_act n k (e ∷ past) ≡ true
+late_over n k e past none h = late_kept (has_begun n e.lines) (not (has_sent k (sent_of past))) (is_new_to_act n k past) none h
 
 pub client_over : {s : Script} → (j : ℕ) (v : View) (e : Entry) (past : List Entry) → ((f : Fid) → PassesFile j f e past) → ((f : Fid) → PassesReach j f e past) → ((f : Fid) → StaysNewest j f e past) → PassesAct j e past
     → ((f : Fid) → index_in (last_version f (lines_of past)) ≤ index_in (last_version f (lines_of (e ∷ past)))) → ClientFacts s j v past → ClientFacts s j v (e ∷ past)

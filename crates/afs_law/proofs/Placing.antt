@@ -15,8 +15,8 @@ use Rattle.afs_law.proofs.Origins.{KnownAsked, asked_first, asked_kept}
 use Rattle.afs_law.proofs.Promising.{owes_all, risen_is}
 use Rattle.afs_law.specs.Breaks.{HasOwe}
 use Rattle.afs_law.specs.Ideal.{set_up}
-use Rattle.afs_law.specs.Legal.{GoodRestart, IsOfServer, IsUnderChange}
-use Rattle.afs_law.specs.Parts.{EachLine, IsInPlace, LinesAreInPlace}
+use Rattle.afs_law.specs.Legal.{GoodRestart, IsInPlace, IsOfServer, IsUnderChange}
+use Rattle.afs_law.specs.Parts.{EachLine, LinesAreInPlace}
 use Rattle.afs_law.specs.Past.{has_begun, has_given}
 use Rattle.afs_model.specs.Calls.{call_seat}
 use Rattle.afs_num.specs.Nodes.{same_node}
@@ -30,14 +30,14 @@ use Rattle.afs_num.specs.declared.types.Fid.{Fid}
 use Rattle.afs_num.specs.declared.types.Head.{Head}
 use Rattle.afs_num.specs.declared.types.Node.{Node}
 use Rattle.afs_num.specs.declared.types.Node.TheVariants.{Client, Server}
-use Rattle.afs_rows.specs.Callbacks.{Turn, expired, held_under, is_back_awaited, is_ready, is_seat_of, key_answered, new_owes, owe_line, quit_line, renews_by, repeats_by, risen_turn, settle_line, settles_by, still_owed, timed, turn_for, turned_by, turned_in}
+use Rattle.afs_rows.specs.Callbacks.{Turn, expired, held_under, is_back_awaited, is_ready, is_seat_of, key_answered, new_owes, owe_line, quit_line, renews_by, repeats_by, risen_turn, settle_line, settles_by, still_owed, turn_for, turned_by, turned_in}
 use Rattle.afs_rows.specs.Runs.{Cell, Entry, Fall, Moved, at_rest, begun_by_disk, blow_line, in_boot, in_step, start}
 use Rattle.afs_rows.specs.ServerRow.{Decision, begun_after, decides, does, drops, granted, granted_in, key_of, made, promise_ticks, refuses, repeats, saves, shows, tells_boot, versioned}
 use Rattle.afs_rows.specs.ServerSteps.{back_timeout_row, server_row, start_row, wake_row}
 use Rattle.afs_rows.specs.States.{BackCall, Backs, Held, ServerState}
 use Rattle.std.proofs.Common.{zero, suc, ◌≡◌, ℕ, ◌+◌, ◌≤◌, ◌<◌, ◌⊎◌, inl, inr, arith, Bool, true, false, cond, List, [], ◌∷◌, map, length, Option, Some, None, refl, sym, ap, subst, ◌∙◌}
 use Rattle.std.proofs.Math.Nat.{eq-or-lt_of_le}
-use Rattle.std.specs.Prelude.{⊤, ◌&&◌, nat_lt}
+use Rattle.std.specs.Prelude.{◌&&◌, nat_lt}
 
 -- ---- lines of a server that may stand anywhere in its entry
 

@@ -10,7 +10,7 @@ use Rattle.afs_law.specs.Ideal.{set_up}
 use Rattle.afs_law.specs.Laws.{AnswersAreRecent}
 use Rattle.afs_law.specs.Legal.{AreGoodSent, GoodCall, HasOwnKey, LegalAfter}
 use Rattle.afs_law.specs.Once.{past_of}
-use Rattle.afs_law.specs.Past.{AreWithin, CalledSince, Ran, Sends, answered_key, called_key, given_message, has_begun, has_sent, is_called, is_late, same_key, sent_of}
+use Rattle.afs_law.specs.Past.{AreWithin, CalledSince, Ran, Sends, answered_key, called_key, given_message, has_begun, has_sent, is_called, is_new_to_act, same_key, sent_of}
 use Rattle.afs_num.specs.declared.calls.FsCall.{FsCall}
 use Rattle.afs_num.specs.declared.messages.Call.TheVariants as ask
 use Rattle.afs_num.specs.declared.messages.Carried.{Carried}
@@ -40,11 +40,11 @@ behind_by : (t a b : Bool) → a ≡ true → cond t (not a) b ≡ true → (t �
 behind_by true a b h l = let no_ : true ≡ false = sym l ∙ ap not h in absurd cc
 behind_by false a b h l = (refl, l)
 
-late_within : (n : Node) (k : Key) (newer : List Entry) (at : Entry) (older : List Entry) → has_sent k (sent_of older) ≡ true → is_late n k (newer ++ (at ∷ older)) ≡ true → AreWithin n (newer ++ at ∷ [])
-late_within n k [] at older h l = ((behind_by (has_begun n at.lines) (has_sent k (sent_of older)) (is_late n k older) h l).0, tt)
+late_within : (n : Node) (k : Key) (newer : List Entry) (at : Entry) (older : List Entry) → has_sent k (sent_of older) ≡ true → is_new_to_act n k (newer ++ (at ∷ older)) ≡ true → AreWithin n (newer ++ at ∷ [])
+late_within n k [] at older h l = ((behind_by (has_begun n at.lines) (has_sent k (sent_of older)) (is_new_to_act n k older) h l).0, tt)
 late_within n k (e ∷ newer) at older h l =
     let rest : List Entry = newer ++ (at ∷ older) in
-    let x = behind_by (has_begun n e.lines) (has_sent k (sent_of rest)) (is_late n k rest) (sent_before k newer (at ∷ older) (has_more k (sent_of older) at.sent h)) l in
+    let x = behind_by (has_begun n e.lines) (has_sent k (sent_of rest)) (is_new_to_act n k rest) (sent_before k newer (at ∷ older) (has_more k (sent_of older) at.sent h)) l in
     (x.0, late_within n k newer at older h x.1)
 
 or_true : (t x : Bool) → x ≡ true → cond t true x ≡ true
@@ -62,11 +62,11 @@ sent_given k [] sent m e t = absurd cc
 sent_given k (lines.Given place ∷ ls) sent m e t = sent_at k sent place m e t
 sent_given k (l ∷ ls) sent m e t = sent_given k ls sent m e t
 
-ran_within : (n : Node) (reply : Head) (past : List Entry) (user : List ℕ) (call : FsCall) → (r : Ran reply past) → r.message.carried ≡ carried.Call user (ask.File call) → is_late n (answered_key reply) past ≡ true → AreWithin n (r.newer ++ r.at ∷ [])
+ran_within : (n : Node) (reply : Head) (past : List Entry) (user : List ℕ) (call : FsCall) → (r : Ran reply past) → r.message.carried ≡ carried.Call user (ask.File call) → is_new_to_act n (answered_key reply) past ≡ true → AreWithin n (r.newer ++ r.at ∷ [])
 ran_within n reply past user call r carries late =
     let k : Key = answered_key reply in
     let is : is_called k r.message.head r.message.carried ≡ true = ap (is_called k r.message.head) carries ∙ (ap (λ (l : Key). same_key l k) r.key ∙ same_key-refl k) in
-    late_within n k r.newer r.at r.older (sent_given k r.at.lines (sent_of r.older) r.message r.given is) (subst (λ (p : List Entry). is_late n k p ≡ true) r.split late)
+    late_within n k r.newer r.at r.older (sent_given k r.at.lines (sent_of r.older) r.message r.given is) (subst (λ (p : List Entry). is_new_to_act n k p ≡ true) r.split late)
 
 -- ---- what a legal history sends
 
@@ -78,15 +78,15 @@ legal_sent : (s : Script) (past es : List Entry) → AreSent past → LegalAfter
 legal_sent s past [] h l = h
 legal_sent s past (e ∷ es) h l = legal_sent s (e ∷ past) es (l.0.0.1, h) l.1
 
-own_key : (j : ℕ) (k : Key) (user : List ℕ) (call : FsCall) (past : List Entry) (ms : List Message) → k.node ≡ Client j → Sends k user call ms → AreGoodSent past ms → is_late (Client j) k past ≡ true
+own_key : (j : ℕ) (k : Key) (user : List ℕ) (call : FsCall) (past : List Entry) (ms : List Message) → k.node ≡ Client j → Sends k user call ms → AreGoodSent past ms → is_new_to_act (Client j) k past ≡ true
 own_key j k user call past [] node x h = absurd x
 own_key j k user call past (m ∷ ms) node (inl x) h =
     let own : HasOwnKey m.head.from (called_key m.head) past = subst (λ (c : Carried). GoodCall m.head c past) x.1 h.0.key in
     let from : m.head.from ≡ Client j = ap (λ (l : Key). l.node) x.0 ∙ node in
-    subst (λ (l : Key). is_late (Client j) l past ≡ true) x.0 (subst (λ (n : Node). HasOwnKey n (called_key m.head) past) from own)
+    subst (λ (l : Key). is_new_to_act (Client j) l past ≡ true) x.0 (subst (λ (n : Node). HasOwnKey n (called_key m.head) past) from own)
 own_key j k user call past (m ∷ ms) node (inr x) h = own_key j k user call past ms node x h.1
 
-called_late : (j : ℕ) (k : Key) (user : List ℕ) (call : FsCall) (past : List Entry) → k.node ≡ Client j → AreSent past → CalledSince k user call past → is_late (Client j) k past ≡ true
+called_late : (j : ℕ) (k : Key) (user : List ℕ) (call : FsCall) (past : List Entry) → k.node ≡ Client j → AreSent past → CalledSince k user call past → is_new_to_act (Client j) k past ≡ true
 called_late j k user call [] node h x = absurd x
 called_late j k user call (e ∷ past) node h (inl x) = own_key j k user call (e ∷ past) e.sent node x.1 h.0
 called_late j k user call (e ∷ past) node h (inr x) = late_over (Client j) k e past (subst (λ (n : Node). has_begun n e.lines ≡ false) node x.0) (called_late j k user call past node h.1 x.1)

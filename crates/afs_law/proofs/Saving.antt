@@ -11,12 +11,12 @@ use Rattle.afs_ideal.specs.Replies.{vnode_or_none, change_reply, status_at, stat
 use Rattle.afs_ideal.specs.Tables.{Table, get, set}
 use Rattle.afs_ideal.specs.Told.{AreNext}
 use Rattle.afs_ideal.specs.Volumes.{or_old, with_status, Amend, Volume, Vnode, Kind, a_file, a_directory, a_link, body_by, body_of, version_at, Edit, versions_by, edited_all, counted, amended, vnode_of, if_unique}
-use Rattle.afs_law.proofs.Backing.{grant_before_to, is_still_to, all_lines, is_up, is_still, is_oweless, is_unchanging, change_back, promised_given, rising_back}
+use Rattle.afs_law.proofs.Backing.{is_still_to, all_lines, is_up, is_still, is_oweless, is_unchanging, change_back, promised_given, rising_back}
 use Rattle.afs_law.proofs.Basics.{same_key-true, same_key-refl, UpTo, Below, below-true, below-false, up_to_below, node_apart, Above, up_to_by, same_fid-true, same_node-true, client_number, below_not, up_to_same, raised_up_to, some_of, yes_no}
 use Rattle.afs_law.proofs.Edits.{agrees_of, last_of, ones, Ones, index_in, fid_at, Sound, SoundIn, sound_same, Tops, on_top, Grow, Told, edits_told, counted_sound, rises, tops, touches, untouched, touched_volume, not_touched, there, none_has, live, live_is}
 use Rattle.afs_law.proofs.Facts.{FitsList, Leaves, HeldIn, Ghost, HoldsAt, up_boot, LastStored, IsStored, IsUntrusted, view, Spot, spot, ReplyFact, HasFallen, Reached, Stands, IsCurrent, Fits, Answers, IsReply, AreUnheard, stored_index, Holds, Goes, FitsReply, FitsData, FitsSet, FitsPlain, WasChanged, AreIdeal, AreSound, WasStored, FitsShown}
 use Rattle.afs_law.proofs.Keeping.{volume_put, own_placed}
-use Rattle.afs_law.proofs.Loading.{two_all, IsOfOther, hits_hit, IsHit, hits_other, granted_all, onto_granted, left_granted, all_hits, change_loaded, owes_unchanging, all_new, number_front, number_second, left_promised, has_owe, touched_hit, numbers_good, numbers_rise, granted_to_client, owes_to_clients, owes_rising, all_left}
+use Rattle.afs_law.proofs.Loading.{filtered, two_all, hits_hit, IsHit, hits_other, granted_all, onto_granted, left_granted, all_hits, change_loaded, owes_unchanging, all_new, number_front, number_second, left_promised, has_owe, touched_hit, numbers_good, numbers_rise, granted_to_client, owes_to_clients, owes_rising, all_left}
 use Rattle.afs_law.proofs.Naming.{fine_after}
 use Rattle.afs_law.proofs.Notes.{granted_notes, AreNotes, Skips, skips, owe_notes, no_versions}
 use Rattle.afs_law.proofs.Ops.{stored_kind, stored_fid, amend_of, in_scope, changes_is, Storing, storing, stored_vnode}
@@ -25,13 +25,13 @@ use Rattle.afs_law.proofs.Passing.{act_last, lone_at, changed_before, no_change,
 use Rattle.afs_law.proofs.Pumping.{no_news, pumped_news}
 use Rattle.afs_law.proofs.Serving.{granted_then, runs_here, up_backed, seats_of, Gives, taken_not, up_boots, reached_at, at_told, client_head, Now, call_at, taken, seats_after, Stock, server_after, caller_view, views_after, durable_before, above_before, not_ran, unheard_after, HasRun, cause_now, running_act, stale_none, served_cell, serves, last_has, has_run, server_does, answer_in}
 use Rattle.afs_law.proofs.Turning.{loaded, Pumps, pumps}
-use Rattle.afs_law.specs.Breaks.{last_grant, HasStopped, live_grant, HasOwe, last_number, lines_at}
+use Rattle.afs_law.specs.Breaks.{HasStopped, live_grant, HasOwe, last_number, lines_at}
 use Rattle.afs_rows.specs.Callbacks.{Turn, pumped, expired, numbers, alls}
 use Rattle.afs_rows.specs.ClientRow.{status_told}
 use Rattle.afs_rows.specs.Going.{Going, next}
-use Rattle.afs_law.specs.Grants.{IsWithdrawn, has_fetched, fetch_reply, since, change_below, IsByOther, IsDropped}
+use Rattle.afs_law.specs.Grants.{IsWithdrawn, IsChangedByOther, has_fetched, fetch_reply, since, change_below, IsByOther, IsDropped}
 use Rattle.afs_law.specs.Ideal.{versions_in, Reach, raised, IsLast, clock_of, last_version, HasVersion, Accepts, reach, volume_after, change_key, call_under, reach_over, applied, applied_by, HasBeen, TellsIn, TellsOf, shown_status}
-use Rattle.afs_law.specs.Legal.{IsPromisedBy, HasChangeBy, IsLater, RanBefore, RunsHere, code_given, AreGood, IsNew, HasChange, GoodChange, versions_first, IsTold, answer_at, IsUnderChange, IsChanged, op_on, as_asked}
+use Rattle.afs_law.specs.Legal.{IsUnbroken, IsPromisedBy, HasChangeBy, IsLater, RanBefore, RunsHere, code_given, AreGood, IsNew, HasChange, GoodChange, versions_first, IsTold, answer_at, IsUnderChange, IsChanged, op_on, as_asked}
 use Rattle.afs_history.specs.declared.lines.Line.{Line}
 use Rattle.afs_law.specs.Past.{same_key, risen, server_boot, code_told, onto, lines_of, sent_of, given_message, called_key, HasCode, is_of_act, running, has_begun}
 use Rattle.afs_rows.specs.Runs.{Entry, message_at, Armed, Fall}
@@ -43,7 +43,7 @@ use Rattle.afs_records.specs.Changes.{stored_after}
 use Rattle.afs_records.specs.Durable.{Stored, time_in, place_length}
 use Rattle.afs_model.specs.Calls.{CallSeat, pair_below, call_seat}
 use Rattle.afs_num.specs.declared.calls.AfsStoreStatus.{AfsStoreStatus}
-use Rattle.std.proofs.Common.{◌≡◌, ℕ, ◌+◌, ◌<◌, ◌≤◌, ◌⊎◌, inl, inr, Bool, true, false, cond, length, List, [], ◌∷◌, ◌++◌, Option, Some, None, pos, refl, sym, ap, subst, ◌∙◌, arith, eq-eqb, eqb-true, eqb}
+use Rattle.std.proofs.Common.{◌≡◌, ℕ, ◌+◌, ◌<◌, ◌≤◌, ◌⊎◌, inl, inr, Bool, true, false, cond, length, List, [], ◌∷◌, ◌++◌, Option, Some, None, pos, refl, sym, ap, subst, ◌∙◌, arith, eq-eqb, eqb-true, eqb, ltb-true, nat_lt}
 use Rattle.std.specs.Prelude.{◌&&◌, not, is_some}
 use Rattle.std.specs.Option.{option_map}
 use Rattle.afs_num.specs.Fids.{same_fid}
@@ -143,6 +143,28 @@ breaks_by false s c f v vs o t by e h = h e
 pub on_breaks : (s c : Node) (f : Fid) (vs : List Version) (o : List Line) → IsByOther s c (change_below o) → touches f vs ≡ true → IsWithdrawn s c f (on_top vs o)
 on_breaks s c f [] o by e = absurd cc
 on_breaks s c f (v ∷ vs) o by e = breaks_by (same_fid v.fid f) s c f v vs o refl by e (λ t. on_breaks s c f vs (lines.Version v ∷ o) by t)
+
+-- the same of what the entry itself changed
+on_more : (s c : Node) (f : Fid) (vs : List Version) (o : List Line) → IsChangedByOther s c f o → IsChangedByOther s c f (on_top vs o)
+on_more s c f [] o h = h
+on_more s c f (v ∷ vs) o h = on_more s c f vs (lines.Version v ∷ o) (inr h)
+
+others_by : (t : Bool) (s c : Node) (f : Fid) (v : Version) (vs : List Version) (o : List Line) → same_fid v.fid f ≡ t → IsByOther s c (change_below o) → cond t true (touches f vs) ≡ true → (touches f vs ≡ true → IsChangedByOther s c f (on_top vs (lines.Version v ∷ o))) → IsChangedByOther s c f (on_top vs (lines.Version v ∷ o))
+others_by true s c f v vs o t by e h = on_more s c f vs (lines.Version v ∷ o) (inl (same_fid-true v.fid f t, by))
+others_by false s c f v vs o t by e h = h e
+
+on_others : (s c : Node) (f : Fid) (vs : List Version) (o : List Line) → IsByOther s c (change_below o) → touches f vs ≡ true → IsChangedByOther s c f (on_top vs o)
+on_others s c f [] o by e = absurd cc
+on_others s c f (v ∷ vs) o by e = others_by (same_fid v.fid f) s c f v vs o refl by e (λ t. on_others s c f vs (lines.Version v ∷ o) by t)
+
+-- grants behind that change nothing of it
+granted_others : (s c q d : Node) (f : Fid) (x : ℕ) (fs : List Found) (o : List Line) → IsChangedByOther s c f o → IsChangedByOther s c f (onto o (granted q d x fs []))
+granted_others s c q d f x [] o h = h
+granted_others s c q d f x (g ∷ fs) o h = granted_others s c q d f x fs (lines.Grant q d g.fid g.vnode.index x ∷ o) h
+
+granted_stopped : (s q d : Node) (x : ℕ) (fs : List Found) (o : List Line) → (HasStopped s o → ⊥) → HasStopped s (onto o (granted q d x fs [])) → ⊥
+granted_stopped s q d x [] o h z = h z
+granted_stopped s q d x (g ∷ fs) o h z = granted_stopped s q d x fs (lines.Grant q d g.fid g.vnode.index x ∷ o) h z
 
 pub on_running : (s : Script) (n : Node) (vs : List Version) (o : List Line) → running s n (on_top vs o) ≡ running s n o
 on_running s n [] o = refl
@@ -816,31 +838,33 @@ pub saves_change_good : (s : Script) (c : Cell) (past : List Entry) (own tail : 
     → RunsHere the_server (called_key (client_head n h)) past own ⊎ RanBefore the_server (called_key (client_head n h)) past own (versioned (versions_by id es v) tail) → IsNew (called_key (client_head n h)) (own ++ lines_of past) → ((l : Key) → HasChangeBy the_server l (own ++ lines_of past) → l.node ≡ Client n → IsLater (called_key (client_head n h)) l) → (HasStopped the_server own → ⊥) → change_key own ≡ None → Accepts s id the_server (own ++ lines_of past) → versions_first tail ≡ [] → ((j : ℕ) (f : Fid) (x : ℕ) → (Client j ≡ Client n → ⊥) → IsChanged f (versions_by id es v) → live_grant the_server (Client j) f (own ++ lines_at the_server past) ≡ Some x → clock_of (own ++ lines_of past) < x → HasOwe the_server (Client j) (Some f) (versioned (versions_by id es v) tail))
     → GoodChange s the_server (called_key (client_head n h)) (length (versions_by id es v)) past own (versioned (versions_by id es v) tail)
 saves_change_good s c past own tail n h user call id v es shown H w q place new latest going only home none owed = record {
-  fresh = new;
-  latest = latest;
+  ideal = record {
+    fresh = new;
+    latest = latest;
+    place = place;
+    going = going;
+    only = only;
+    user = user;
+    call = call;
+    act = w.origin.act;
+    called = w.origin.called;
+    one = w.one;
+    own_user = w.origin.own_user;
+    own_call = sym (served_as call id q.of_volume) ∙ w.origin.own_call;
+    id = id;
+    of_volume = q.of_volume;
+    before = v;
+    at = sym (H.ideal id) ∙ q.at;
+    edits = es;
+    shown = shown;
+    result = q.result;
+    versions = first_on (versions_by id es v) tail none;
+    number = ap length (sym (first_on (versions_by id es v) tail none));
+    home = home;
+  };
   once = λ a runs l has of_act. changed_once s c past n h user call H w a l runs has of_act;
   alone = changed_alone s c past n h user call H w (changes_is id (the_user user) call v es shown q.of_volume q.result);
-  place = place;
-  going = going;
-  only = only;
-  user = user;
-  call = call;
-  act = w.origin.act;
-  called = w.origin.called;
-  one = w.one;
-  own_user = w.origin.own_user;
-  own_call = sym (served_as call id q.of_volume) ∙ w.origin.own_call;
-  id = id;
-  of_volume = q.of_volume;
-  before = v;
-  at = sym (H.ideal id) ∙ q.at;
-  edits = es;
-  shown = shown;
-  result = q.result;
-  versions = first_on (versions_by id es v) tail none;
-  number = ap length (sym (first_on (versions_by id es v) tail none));
   owed = λ j f x ne c l t. owed j f x ne (subst (IsChanged f) (first_on (versions_by id es v) tail none) c) l t;
-  home = home;
 }
 
 -- the ideal operation where the call ran
@@ -978,24 +1002,13 @@ top_clock : (vs : List Version) (own o : List Line) → clock_of (on_top vs own 
 top_clock [] own o = refl
 top_clock (v ∷ vs) own o = top_clock vs (lines.Version v ∷ own) o
 
-top_stopped : (vs : List Version) (own : List Line) → HasStopped the_server (on_top vs own) → HasStopped the_server own
+pub top_stopped : (vs : List Version) (own : List Line) → HasStopped the_server (on_top vs own) → HasStopped the_server own
 top_stopped [] own h = h
 top_stopped (v ∷ vs) own h = top_stopped vs (lines.Version v ∷ own) h
 
 top_runs : (k : Key) (past : List Entry) (vs : List Version) (own : List Line) → RunsHere the_server k past own → RunsHere the_server k past (on_top vs own)
 top_runs k past [] own r = r
 top_runs k past (v ∷ vs) own r = top_runs k past vs (lines.Version v ∷ own) (record { boot = r.boot; up = r.up; given = r.given; first = r.first })
-
-top_grant : (c : Node) (f : Fid) (vs : List Version) (own o : List Line) → last_grant the_server c f (on_top vs own ++ o) ≡ last_grant the_server c f (own ++ o)
-top_grant c f [] own o = refl
-top_grant c f (v ∷ vs) own o = top_grant c f vs (lines.Version v ∷ own) o
-
--- grants to one client are none to another
-granted_grant : (c : Node) (f : Fid) (n x : ℕ) (fs : List Found) (own o : List Line) → (Client n ≡ c → ⊥) → last_grant the_server c f (onto own (granted the_server (Client n) x fs []) ++ o) ≡ last_grant the_server c f (own ++ o)
-granted_grant c f n x [] own o ne = refl
-granted_grant c f n x (g ∷ fs) own o ne =
-    let l : Line = lines.Grant the_server (Client n) g.fid g.vnode.index x in
-    granted_grant c f n x fs (l ∷ own) o ne ∙ grant_before_to c f l (own ++ o) (ap not (node_apart (Client n) c ne))
 
 top_given : (vs : List Version) (own : List Line) (sent : List Message) → given_message (on_top vs own) sent ≡ given_message own sent
 top_given [] own sent = refl
@@ -1035,7 +1048,7 @@ saves_by_turn s c past armed p n h user call id st es shown H up at w q =
     let hd : Held = record { reply = r; waits = numbers os ++ alls b0.lists.owed; again = false } in
     let loads : BackedIn None (loaded t) c.server.lasting.boot (seats_after c n h r) (seats_of c) c.clock c.sent (e ∷ past) =
     change_loaded (Client n) b0 t.backs.lists.promises t.backs.lists.last_owed c.server.lasting.boot c.server.seats (seats_after c n h r) (seats_of c) c.clock c.sent e past pre os hd (call_at n h user call) B
-    (left_granted (Client n) b0.lists.last_owed x vs b0.lists.promises fs e past front fronted (versions_lines is_still vs [] (λ z. refl) refl) (B.granted refl))
+    (left_granted (Client n) b0.lists.last_owed x vs b0.lists.promises fs e past front fronted (versions_lines is_still vs [] (λ z. refl) refl) (versions_lines is_up vs [] (λ z. refl) refl) (versions_lines is_oweless vs [] (λ z. refl) refl) (B.granted refl))
     (left_promised (Client n) b0.lists.last_owed x c.clock vs b0.lists.promises fs e past front fronted (versions_lines is_still vs [] (λ z. refl) refl) (promised_given None b0.lists.promises c.clock e past B.promised))
     (subst (λ (ls : List Line). last_number the_server ls ≤ t.backs.lists.last_owed) (sym (saved_on y k vs (lines_of past) ∙ onto_granted (Client n) x fs t.lines base0))
     (numbers_rise b0.lists.last_owed (hits (Client n) vs b0.lists.promises) (onto base0 (granted the_server (Client n) x fs [])) (subst (λ (i : ℕ). i ≤ b0.lists.last_owed) (sym (granted_number n x fs base0 ∙ on_number vs (base y k (length vs) (lines_of past)))) B.numbered)))
@@ -1071,7 +1084,7 @@ saves_by_turn s c past armed p n h user call id st es shown H up at w q =
                 (λ j f z ne d l u. owe_behind (Client j) (Some f) vs tl (owe_granted (Client j) (Some f) n x fs t.lines (has_owe (Client j) f z b0.lists.last_owed (hits (Client n) vs b0.lists.promises) (touched_hit (Client n) (Client j) f z vs b0.lists.promises ne d (B.promised (Client j) f z l (subst (λ (i : ℕ). i < z) H.clock u)).1)))),
           ),
           versions_good s past _ tl vs tt (granted_then s past (on_top vs (lines.Change the_server k (length vs) ∷ lines.Given p ∷ [])) (Client n) x fs t.lines
-              (λ f yes. let made = newly id (the_user user) call st.volume es shown f q.of_volume q.result yes in record {
+              (λ f yes. let made = newly id (the_user user) call st.volume es shown past f q.of_volume q.result (sym (H.ideal id) ∙ q.at) (H.fine id st.volume q.at).ascends yes in record {
                 key = k;
                 node = refl;
                 ran = let r0 = runs_here s c past p n h user call H up at w in top_runs k past vs (lines.Change the_server k (length vs) ∷ lines.Given p ∷ []) (record { boot = r0.boot; up = r0.up; given = r0.given; first = r0.first });
@@ -1080,18 +1093,19 @@ saves_by_turn s c past armed p n h user call id st es shown H up at w q =
                 call = call;
                 carries = ap (option_map (λ (m : Message). m.carried)) (top_given vs (lines.Change the_server k (length vs) ∷ lines.Given p ∷ []) (sent_of past) ∙ at_told s c past p (call_at n h user call) H at);
                 code = ap code_given answer;
-                promises = subst (IsPromisedBy f.fid call) (sym answer) made.asked;
-                newest = ap (option_map (λ (v : Version). v.index)) (top_last f.fid vs (lines.Change the_server k (length vs) ∷ lines.Given p ∷ []) (lines_of past) ∙ made_last id st.volume es shown call f (lines.Change the_server k (length vs) ∷ lines.Given p ∷ lines_of past) made (told_at y s c past user call id st.volume es shown k H q).sound);
+                promises = subst (λ (o : Option Result). IsPromisedBy f.fid call o past) (sym answer) made.asked;
+                newest = ap (option_map (λ (v : Version). v.index)) (top_last f.fid vs (lines.Change the_server k (length vs) ∷ lines.Given p ∷ []) (lines_of past) ∙ made_last id st.volume es shown call past f (lines.Change the_server k (length vs) ∷ lines.Given p ∷ lines_of past) made (told_at y s c past user call id st.volume es shown k H q).sound);
                 lasts = ap (λ (i : ℕ). i + promise_ticks) (sym (top_clock vs (lines.Change the_server k (length vs) ∷ lines.Given p ∷ []) (lines_of past) ∙ H.clock));
               })
               (numbers_good s b0.lists.last_owed (hits (Client n) vs b0.lists.promises) past (onto (on_top vs (lines.Change the_server k (length vs) ∷ lines.Given p ∷ [])) (granted the_server (Client n) x fs []))
               (subst (λ (i : ℕ). i ≤ b0.lists.last_owed) (sym (granted_top n x fs (on_top vs (lines.Change the_server k (length vs) ∷ lines.Given p ∷ [])) (lines_of past) ∙ top_number vs (lines.Change the_server k (length vs) ∷ lines.Given p ∷ []) (lines_of past))) B.numbered)
-              (all_map (IsHit (Client n) vs) (λ (o : Promise). IsWithdrawn the_server o.client o.fid (onto (on_top vs (lines.Change the_server k (length vs) ∷ lines.Given p ∷ [])) (granted the_server (Client n) x fs [])))
-              (λ o z. (skips (granted the_server (Client n) x fs []) (granted_notes (Client n) x fs [] tt)).withdrawn the_server o.client o.fid (on_top vs (lines.Change the_server k (length vs) ∷ lines.Given p ∷ [])) (on_breaks the_server o.client o.fid vs (lines.Change the_server k (length vs) ∷ lines.Given p ∷ []) (refl, λ q. z.1 (sym q)) z.0))
+              (granted_stopped the_server the_server (Client n) x fs (on_top vs (lines.Change the_server k (length vs) ∷ lines.Given p ∷ [])) (λ z. top_stopped vs (lines.Change the_server k (length vs) ∷ lines.Given p ∷ []) z))
+              (all_map (IsHit (Client n) vs) (λ (o : Promise). IsChangedByOther the_server o.client o.fid (onto (on_top vs (lines.Change the_server k (length vs) ∷ lines.Given p ∷ [])) (granted the_server (Client n) x fs [])))
+              (λ o z. granted_others the_server o.client the_server (Client n) o.fid x fs (on_top vs (lines.Change the_server k (length vs) ∷ lines.Given p ∷ [])) (on_others the_server o.client o.fid vs (lines.Change the_server k (length vs) ∷ lines.Given p ∷ []) (refl, λ q. z.1 (sym q)) z.0))
               (hits (Client n) vs b0.lists.promises) (hits_hit (Client n) vs b0.lists.promises))
-              (two_all (IsOfOther (Client n)) (IsGranted (lines_of past)) (λ (o : Promise). (i : ℕ) × (last_grant the_server o.client o.fid (onto (on_top vs (lines.Change the_server k (length vs) ∷ lines.Given p ∷ [])) (granted the_server (Client n) x fs []) ++ lines_of past) ≡ Some i))
-              (λ o other was. (o.expiry, granted_grant o.client o.fid n x fs (on_top vs (lines.Change the_server k (length vs) ∷ lines.Given p ∷ [])) (lines_of past) (λ q. other (sym q)) ∙ (top_grant o.client o.fid vs (lines.Change the_server k (length vs) ∷ lines.Given p ∷ []) (lines_of past) ∙ was)))
-              (hits (Client n) vs b0.lists.promises) (hits_other (Client n) vs b0.lists.promises) (all_hits (IsGranted (lines_of past)) (Client n) vs b0.lists.promises (B.granted refl))))),
+              (two_all (IsGranted (lines_of past)) (λ (o : Promise). c.clock < o.expiry) (λ (o : Promise). IsUnbroken the_server o.client o.fid past) (λ o was lasts. (o.expiry, (was, subst (λ (i : ℕ). i < o.expiry) (sym H.clock) lasts)))
+              (hits (Client n) vs b0.lists.promises) (all_hits (IsGranted (lines_of past)) (Client n) vs b0.lists.promises (B.granted refl))
+              (all_hits (λ (o : Promise). c.clock < o.expiry) (Client n) vs b0.lists.promises (all_map (λ (o : Promise). nat_lt c.clock o.expiry ≡ true) (λ (o : Promise). c.clock < o.expiry) (λ o lasts. ltb-true _ _ lasts) b0.lists.promises (filtered (λ o. nat_lt c.clock o.expiry) c.server.backs.lists.promises)))))),
         ),
       );
       holds = saves_holds y s (Some c.server.lasting.boot) c past (pumped the_server c.server.lasting.boot t).backs armed None n h user call c.clock id st es shown H w q (has_run s c past p n h user call e H up at w refl refl) (saves_boot y k vs r past ∙ (sk.boot _ ∙ up_boots s c past H up)) (unheard_after s c past p n h user call r e H up at w refl) tt

@@ -9,7 +9,7 @@ use Rattle.afs_law.proofs.Moving.{Behind, EachMove, each_moved, run_keeps}
 use Rattle.afs_law.specs.Ideal.{set_up}
 use Rattle.afs_law.specs.Laws.{seat_key}
 use Rattle.afs_law.specs.Once.{past_of}
-use Rattle.afs_law.specs.Past.{HasCode, Ran, answered_key}
+use Rattle.afs_law.specs.Past.{HasCode, IsReply, Ran, answered_key}
 use Rattle.afs_model.specs.Calls as pairs
 use Rattle.afs_model.specs.Calls.{Admitted, admitted, call_seat, call_seated, paired}
 use Rattle.afs_num.specs.Nodes.{same_node}
@@ -88,7 +88,7 @@ pub record IsReplyOf (me n : Node) (seat : Seat) (m : Message) : Type 0 where
   pub to : m.head.to ≡ n
   pub epoch : m.head.epoch ≡ seat.epoch
   pub number : m.head.number ≡ seat.number
-  pub code : HasCode m.carried
+  pub reply : IsReply m
 
 abbrev pub AreSeated : Node → List Seat → Type 0
 AreSeated me seats = (n : Node) (seat : Seat) (m : Message) → call_seat n seats ≡ Some seat → seat.reply ≡ Some m → IsReplyOf me n seat m
@@ -101,7 +101,7 @@ own_reply : (me : Node) (boot : ℕ) (head : Head) (c : Carried) (n : Node) → 
 own_reply me boot head c n to code from seat m e r =
     let same : seat_for head (replied boot head c) ≡ seat = some_of (seat_for head (replied boot head c)) seat e in
     let is : replied boot head c ≡ m = some_of (replied boot head c) m (ap (λ (s : Seat). s.reply) same ∙ r) in
-    subst (IsReplyOf me n seat) is (subst (λ (s : Seat). IsReplyOf me n s (replied boot head c)) same (record { from = to; to = from; epoch = refl; number = refl; code = code }))
+    subst (IsReplyOf me n seat) is (subst (λ (s : Seat). IsReplyOf me n s (replied boot head c)) same (record { from = to; to = from; epoch = refl; number = refl; reply = (refl, code) }))
 
 pub seated : (me : Node) (boot : ℕ) (head : Head) (c : Carried) (seats : List Seat) → head.to ≡ me → HasCode c → AreSeated me seats → AreSeated me (call_seated (seat_for head (replied boot head c)) seats)
 seated me boot head c seats to code h n = at_seat (seat_for head (replied boot head c)) n seats (IsSeat me n) (λ own. own_reply me boot head c n to code own) (λ other. h n)
@@ -202,11 +202,14 @@ sits_at s h end r = run_keeps SitsIn (each_moved SitsIn (Behind SitsIn) sits_mov
 
 -- a kept reply is that of the entry which ran its call
 pub run_seated : (s : Script) (h : List Entry) (end : Cell) → RunsTo h s end → (i j : ℕ) (seat : Seat) (m : Message) → call_seat (Client j) (end.hosts i).state.seats ≡ Some seat → seat.reply ≡ Some m
-    → Ran m.head (past_of (set_up s ∷ []) h) × ((answered_key m.head ≡ seat_key (Client j) seat) × (m.head.from ≡ Server i))
+    → IsReply m × (Ran m.head (past_of (set_up s ∷ []) h) × ((answered_key m.head ≡ seat_key (Client j) seat) × (m.head.from ≡ Server i)))
 run_seated s h end r i j seat m at kept =
     let past : List Entry = past_of (set_up s ∷ []) h in
     let H : HearsIn end past = hears_at s h end r in
     let q : IsReplyOf (Server i) (Client j) seat m = (sits_at s h end r i).seats (Client j) seat m at kept in (
-      reply_ran past i j m.head m.carried q.code q.from q.to ((H.sound i).seats (Client j) seat m at kept).1.0,
-      (ap (λ (n : Node). a_key n m.head.epoch m.head.number) q.to ∙ (ap (λ (e : ℕ). a_key (Client j) e m.head.number) q.epoch ∙ ap (λ (k : ℕ). a_key (Client j) seat.epoch k) q.number), q.from),
+      q.reply,
+      (
+        reply_ran past i j m.head m.carried q.reply.1 q.from q.to ((H.sound i).seats (Client j) seat m at kept).1.0,
+        (ap (λ (n : Node). a_key n m.head.epoch m.head.number) q.to ∙ (ap (λ (e : ℕ). a_key (Client j) e m.head.number) q.epoch ∙ ap (λ (k : ℕ). a_key (Client j) seat.epoch k) q.number), q.from),
+      ),
     )

@@ -14,7 +14,7 @@ use Rattle.afs_law.proofs.Seating.{AreSeated, SitsIn, kept_from, sits_moves}
 use Rattle.afs_law.specs.Ideal.{set_up}
 use Rattle.afs_law.specs.Legal.{GoodCall, HasOwnKey, IsBy}
 use Rattle.afs_law.specs.Parts.{EachSent, IsOwn, MessagesAreOwn}
-use Rattle.afs_law.specs.Past.{called_key, is_late}
+use Rattle.afs_law.specs.Past.{called_key, is_new_to_act}
 use Rattle.afs_model.specs.Calls as pairs
 use Rattle.afs_model.specs.Calls.{Admitted, admitted, call_seat}
 use Rattle.afs_num.specs.Nodes.{same_node}
@@ -245,17 +245,17 @@ server_own : (i : ℕ) (past : List Entry) (ms : List Message) → IsBy (Server 
 server_own i past [] by h = tt
 server_own i past (m ∷ ms) by h = ((subst (λ (n : Node). IsBy n past) (sym h.0) by, server_key i m.head m.carried past h.0), server_own i past ms by h.1)
 
-client_key : (n : ℕ) (y : ClientState) (head : Head) (x : Carried) (past : List Entry) → head.from ≡ Client n → ((act : Going) → y.running ≡ Some act → is_late (Client n) (last_key n y) past ≡ true) → OfCall (ByClient (IsTheCall n y)) head x → GoodCall head x past
+client_key : (n : ℕ) (y : ClientState) (head : Head) (x : Carried) (past : List Entry) → head.from ≡ Client n → ((act : Going) → y.running ≡ Some act → is_new_to_act (Client n) (last_key n y) past ≡ true) → OfCall (ByClient (IsTheCall n y)) head x → GoodCall head x past
 client_key n y head (carried.Call user (ask.File call)) past from late w =
     let c : IsTheCall n y head user call = by_client n head.from (IsTheCall n y head user call) from w in
-    subst (λ (q : Node). HasOwnKey q (called_key head) past) (sym from) (subst (λ (k : Key). is_late (Client n) k past ≡ true) (sym c.key) (late c.act c.runs))
+    subst (λ (q : Node). HasOwnKey q (called_key head) past) (sym from) (subst (λ (k : Key). is_new_to_act (Client n) k past ≡ true) (sym c.key) (late c.act c.runs))
 client_key n y head (carried.Call user (ask.Volume call)) past from late w = absurd w
 client_key n y head (carried.Call user (ask.Location call)) past from late w = absurd w
 client_key n y head (carried.Refusal code) past from late w = tt
 client_key n y head (carried.Reply reply) past from late w = tt
 client_key n y head carried.Notice past from late w = tt
 
-client_each : (n : ℕ) (y : ClientState) (past : List Entry) (ms : List Message) → IsBy (Client n) past → Each (IsFrom (Client n)) ms → Each (IfCall (IsTheCall n y)) ms → ((act : Going) → y.running ≡ Some act → is_late (Client n) (last_key n y) past ≡ true) → EachSent IsOwn past ms
+client_each : (n : ℕ) (y : ClientState) (past : List Entry) (ms : List Message) → IsBy (Client n) past → Each (IsFrom (Client n)) ms → Each (IfCall (IsTheCall n y)) ms → ((act : Going) → y.running ≡ Some act → is_new_to_act (Client n) (last_key n y) past ≡ true) → EachSent IsOwn past ms
 client_each n y past [] by from calls late = tt
 client_each n y past (m ∷ ms) by from calls late = ((subst (λ (q : Node). IsBy q past) (sym from.0) by, client_key n y m.head m.carried past from.0 late calls.0), client_each n y past ms by from.1 calls.1 late)
 

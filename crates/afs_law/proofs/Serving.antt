@@ -56,7 +56,7 @@ use Rattle.afs_num.specs.Nodes.{same_node}
 use Rattle.afs_breaks.specs.declared.types.Promise.{Promise}
 use Rattle.afs_law.proofs.Promising.{Owed, without_promises, shows_turn, shows_turn_is}
 use Rattle.afs_law.specs.Grants.{has_fetched, IsDropped}
-use Rattle.afs_law.specs.Breaks.{IsNamedIn, is_in, is_call_from, is_to_come, returned_in, returned_by, is_call, lines_at, fids_given_up, has_answer, drops_of, is_told}
+use Rattle.afs_law.specs.Breaks.{IsNamedIn, is_in, is_call_from, is_to_come, returned_in, returned_by, is_call, lines_at, fids_given_up, has_answer, drops_of, is_reply_of_0}
 use Rattle.afs_rows.specs.ServerSteps.{stepped, done}
 use Rattle.afs_law.proofs.Keeping.{at_placed}
 use Rattle.afs_records.specs.Durable.{Stored}
@@ -233,7 +233,7 @@ settled_goes s c past armed p n m k false H up at j is done e = nothing_done s c
 settled_goes s c past armed p n m k true H up at j is done e =
     let q = both _ _ e in
     let dropped : AllOf (DroppedOwe n (lines_of past)) k.breaks = done.dropped k up (eqb-true _ _ q.0) is (eqb-true _ _ (both _ _ q.1).0) in
-    quiet s c past armed p m (settles the_server n k (expired c.clock c.server.backs)) H up at j (settle_notes n _) (settles_good s n k (expired c.clock c.server.backs) past (lines.Given p ∷ []) dropped)
+    quiet s c past armed p m (settles the_server n k (expired c.clock c.server.backs)) H up at j (settle_notes n _) (settles_good s n k (expired c.clock c.server.backs) past (lines.Given p ∷ []) dropped (λ z. z))
     (λ x over held. record { notes = settle_notes n _; sent = no_news _ _ _; outs = tt; held = held })
     (λ x z. record { backed = settles_backed (expired c.clock c.server.backs) c.server.lasting.boot c.server.seats (seats_of c) c.clock c.sent x past n p k is (ap (λ (y : Entry). y.lines) z) (up_backed s c past H up); sends = record { good = tt; calls = tt; dones = tt } })
 
@@ -690,7 +690,7 @@ refuses_goes s c past armed p n h user call code H up at w nz result =
     let t : Turn = turn_for the_server c.server c.clock (expired c.clock c.server.backs) (refuses (client_head n h) code) in
     let ms : List Message = (pumped the_server c.server.lasting.boot t).sent in
     let e : Entry = record { actor = actors.Node the_server; lines = lines.Given p ∷ []; sent = ms; volumes = [] } in
-    let pump : Pumps c.server.lasting.boot (seats_after c n h r) (seats_of c) c.clock c.sent (e ∷ past) t = pumps c.server.lasting.boot (seats_after c n h r) (seats_of c) c.clock c.sent e past t refl refl H.clock (run_backed s c past n h user call x e (expired c.clock c.server.backs).lists.promises H up w (λ y. y) refl refl refl (granted_over e past (expired c.clock c.server.backs).lists.promises refl ((up_backed s c past H up).granted refl)) ((up_backed s c past H up).clients refl).promised (promised_over None (expired c.clock c.server.backs).lists.promises c.clock c.clock e past refl (le_refl _) (up_backed s c past H up).promised)) (record { good = tt; calls = tt; dones = tt }) (up_boots s c past H up) in
+    let pump : Pumps c.server.lasting.boot (seats_after c n h r) (seats_of c) c.clock c.sent (e ∷ past) t = pumps c.server.lasting.boot (seats_after c n h r) (seats_of c) c.clock c.sent e past t refl refl H.clock (run_backed s c past n h user call x e (expired c.clock c.server.backs).lists.promises H up w (λ y. y) refl refl refl (granted_over e past (expired c.clock c.server.backs).lists.promises refl refl refl ((up_backed s c past H up).granted refl)) ((up_backed s c past H up).clients refl).promised (promised_over None (expired c.clock c.server.backs).lists.promises c.clock c.clock e past refl (le_refl _) (up_backed s c past H up).promised)) (record { good = tt; calls = tt; dones = tt }) (up_boots s c past H up) in
     record {
       good = (refl, tt);
       holds = serves false s (Some c.server.lasting.boot) c past n h user call x e (stock c.server) (pumped the_server c.server.lasting.boot t).backs None armed H w
@@ -852,15 +852,15 @@ all_shown c (g ∷ fids) (x ∷ xs) f h (inl e) = let y = seen_shown c g x.store
 all_shown c (g ∷ fids) (x ∷ xs) f h (inr z) = let y = all_shown c fids xs f h.1 z in (inr y.0, y.1)
 
 -- it is promised what it asked for
-read_shown : (c : Cell) (call : FsCall) (r : Reading) (o : Option Result) (f : Found) → IsRead c call r → IsAmong f r.granted → IsPromisedBy f.fid call o × IsShown c f
-read_shown c (calls.FetchData g p w) r o f x z = look_shown c g x.stored x.found f x.seen (subst (λ (y : Reading). IsAmong f y.granted) x.is z)
-read_shown c (calls.FetchAcl g) r o f x z = absurd (subst (λ (y : Reading). IsAmong f y.granted) x.look.is z)
-read_shown c (calls.FetchStatus g) r o f x z = look_shown c g x.stored x.found f x.seen (subst (λ (y : Reading). IsAmong f y.granted) x.is z)
-read_shown c (calls.GetVolumeStatus k) r o f x z = absurd (subst (λ (y : Reading). IsAmong f y.granted) x.is z)
-read_shown c (calls.GiveUpCallBacks fids callbacks) r o f x z = absurd (subst (λ (y : Reading). IsAmong f y.granted) x z)
-read_shown c calls.GetTime r o f x z = absurd (subst (λ (y : Reading). IsAmong f y.granted) x.is z)
-read_shown c (calls.BulkStatus fids) r o f x z = all_shown c fids x.sights f x.seen (subst (λ (y : Reading). IsAmong f y.granted) x.is z)
-read_shown c call r o f x z = absurd x
+read_shown : (c : Cell) (call : FsCall) (r : Reading) (o : Option Result) (past : List Entry) (f : Found) → IsRead c call r → IsAmong f r.granted → IsPromisedBy f.fid call o past × IsShown c f
+read_shown c (calls.FetchData g p w) r o past f x z = look_shown c g x.stored x.found f x.seen (subst (λ (y : Reading). IsAmong f y.granted) x.is z)
+read_shown c (calls.FetchAcl g) r o past f x z = absurd (subst (λ (y : Reading). IsAmong f y.granted) x.look.is z)
+read_shown c (calls.FetchStatus g) r o past f x z = look_shown c g x.stored x.found f x.seen (subst (λ (y : Reading). IsAmong f y.granted) x.is z)
+read_shown c (calls.GetVolumeStatus k) r o past f x z = absurd (subst (λ (y : Reading). IsAmong f y.granted) x.is z)
+read_shown c (calls.GiveUpCallBacks fids callbacks) r o past f x z = absurd (subst (λ (y : Reading). IsAmong f y.granted) x z)
+read_shown c calls.GetTime r o past f x z = absurd (subst (λ (y : Reading). IsAmong f y.granted) x.is z)
+read_shown c (calls.BulkStatus fids) r o past f x z = all_shown c fids x.sights f x.seen (subst (λ (y : Reading). IsAmong f y.granted) x.is z)
+read_shown c call r o past f x z = absurd x
 
 -- the index of what stands under a fid
 abbrev index_of : Option Vnode → ℕ
@@ -995,7 +995,7 @@ told_still k o ls h = tt
 
 more_answers : (k : Key) (ms ns : List Message) → has_answer k ms ≡ true → has_answer k (ms ++ ns) ≡ true
 more_answers k [] ns h = absurd cc
-more_answers k (m ∷ ms) ns h = answers_by (same_key (answered_key m.head) k && is_told m.head.half m.carried) k ms ns h (more_answers k ms ns)
+more_answers k (m ∷ ms) ns h = answers_by (same_key (answered_key m.head) k && is_reply_of_0 m.head.half m.carried) k ms ns h (more_answers k ms ns)
 
 by_answer : (boot : ℕ) (k : Key) (t : Started) (o : Owed) (x : Option BackCall) → has_answer k t.sent ≡ true → has_answer k (starts_by the_server boot t o x).sent ≡ true
 by_answer boot k t o None h = more_answers k t.sent _ h
@@ -1072,7 +1072,7 @@ shows_by s c past armed p n h user call r H up at w is code done =
     record {
       good = (
         refl,
-        granted_then s past (lines.Given p ∷ []) (Client n) t fs [] (λ f yes. let q = read_shown c call r (answer_at user call past) f is yes in record {
+        granted_then s past (lines.Given p ∷ []) (Client n) t fs [] (λ f yes. let q = read_shown c call r (answer_at user call past) past f is yes in record {
           key = called_key (client_head n h);
           node = refl;
           ran = runs_here s c past p n h user call H up at w;

@@ -14,7 +14,7 @@ use Rattle.afs_rows.specs.ClientRow.{find_cached, left_in, given_up_in, dropped,
 use Rattle.afs_rows.specs.Going.{Going}
 use Rattle.afs_law.specs.Grants.{has_fetched, IsWithdrawn, IsDropped}
 use Rattle.afs_law.specs.Ideal.{raised, last_version, HasVersion, Accepts, clock_of, Reach, reach_over, reach, is_zero_code, change_key, volume_after, changed_under, brought}
-use Rattle.afs_law.specs.Legal.{IsNew, AreGood, GoodCode}
+use Rattle.afs_law.specs.Legal.{IsNew, AreGood, GoodCode, IsGood}
 use Rattle.afs_history.specs.declared.lines.Line.{Line}
 use Rattle.afs_law.specs.Past.{server_boot, onto, lines_of, sent_of, given_message, has_begun, running, IsCallUnder}
 use Rattle.afs_rows.specs.Runs.{Entry, message_at}
@@ -281,8 +281,12 @@ pub none_where : (q : Fid → Bool) (m c : Node) (f : Fid) (cache : List CacheEn
 none_where q m c f [] other = tt
 none_where q m c f (u ∷ cache) other = none_of (q u.fid) q m c f u _ refl other (none_where q m c f cache other)
 
+-- an answer that is good is in its place
+pub answer_good : (s : Script) (n : ℕ) (code : Code) (past : List Entry) (own next : List Line) → GoodCode s (Client n) code past own → IsGood s (actors.Node (Client n)) (lines.Answer (Client n) code) past own next
+answer_good s n code past own next good = ((refl, record { act = good.act; runs = good.runs }), good)
+
 -- the answer 0 is good behind the drops
 pub drops_good : (s : Script) (n p : ℕ) (act : Going) (m : Message) (past : List Entry) (es : List CacheEntry) (own : List Line) → ((own : List Line) → given_message own (sent_of past) ≡ message_at (sent_of past) p → has_begun (Client n) own ≡ false → running s (Client n) (own ++ lines_of past) ≡ running s (Client n) (lines_of past) → GoodCode s (Client n) zero_code past own)
     → given_message own (sent_of past) ≡ message_at (sent_of past) p → has_begun (Client n) own ≡ false → running s (Client n) (own ++ lines_of past) ≡ running s (Client n) (lines_of past) → AreGood s (actors.Node (Client n)) past own (dropped (Client n) es (last_line n zero_code))
-drops_good s n p act m past [] own good a b r = ((refl, good own a b r), tt)
+drops_good s n p act m past [] own good a b r = (answer_good s n zero_code past own [] (good own a b r), tt)
 drops_good s n p act m past (u ∷ es) own good a b r = (refl, drops_good s n p act m past es (lines.Drop (Client n) u.fid ∷ own) good a b r)

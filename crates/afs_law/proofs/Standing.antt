@@ -112,7 +112,7 @@ done_in carried.Notice to X is e h = absurd is
 
 handled_all : (j : ℕ) (past : List Entry) (os : List OwedBreak) → AllOf (DroppedOwe (Client j) (lines_of past)) os → AllByRecursion (IsHandled j past) os
 handled_all j past [] h = tt
-handled_all j past (o ∷ os) h = ((record { what = o.what; owe = h.0.owe; dropped = h.0.dropped }, refl), handled_all j past os h.1)
+handled_all j past (o ∷ os) h = ((record { going = λ z. z; what = o.what; owe = h.0.owe; dropped = h.0.dropped }, refl), handled_all j past os h.1)
 
 pub run_handled : (s : Script) (h : List Entry) (end : cells.Cell) → IsOneServer s → cells.RunsTo h s end → (j place : ℕ) (m : Message) (b : BackCall) → message_at end.sent place ≡ Some m → HasCode m.carried → m.head.to ≡ Server 1 → m.head.from ≡ Client j
     → (end.hosts 1).down ≡ None → m.head.epoch ≡ (end.hosts 1).state.lasting.boot → (end.hosts 1).state.backs.calls (Client j) ≡ Some b → m.head.number ≡ b.number → AllByRecursion (IsHandled j (past_of (set_up s ∷ []) h)) b.breaks

@@ -1,11 +1,11 @@
--- What was acknowledged survives: its versions, or later ones, are what the server keeps, and what a step that was interrupted may have
--- left.
+-- What was acknowledged survives: the server keeps the ideal volumes, and so does what a step that was interrupted may have left; the
+-- versions that were made, or later ones, are in these.
 use Rattle.afs_history.specs.declared.acts.Written.{Written}
 use Rattle.afs_history.specs.declared.lines.Line.{Line}
 use Rattle.afs_history.specs.declared.lines.Line.TheVariants as lines
 use Rattle.afs_history.specs.declared.scripts.Script.{Script}
 use Rattle.afs_ideal.specs.Operations.{Caller, changes, op, the_user, volume_called}
-use Rattle.afs_ideal.specs.Tables.{get}
+use Rattle.afs_ideal.specs.Tables.{Table, get}
 use Rattle.afs_ideal.specs.Told.{live, fid_at}
 use Rattle.afs_ideal.specs.Volumes.{Amend, Edit, Kind, Vnode, Volume, a_directory, a_file, a_link, amended, amends_at, body_by, version_at, versions_by, vnode_of}
 use Rattle.afs_law.proofs.Agreeing.{at_end}
@@ -23,8 +23,8 @@ use Rattle.afs_law.proofs.Ops.{Storing, amend_of, stored_kind, storing}
 use Rattle.afs_law.proofs.Serving.{last_has}
 use Rattle.afs_law.proofs.Servers.{run_same, seen_in}
 use Rattle.afs_law.specs.Grants.{change_below}
-use Rattle.afs_law.specs.Ideal.{HasVersion, IsThat, call_in, call_under, last_version, set_up, version_in}
-use Rattle.afs_law.specs.Laws.{AreMadeAndKept, HasMade, IsChangingAct, IsClosed, IsKept, IsOfKey, Survives}
+use Rattle.afs_law.specs.Ideal.{HasVersion, IsThat, brought, call_in, call_under, change_in, change_key, changed_under, first_key, last_version, set_up, version_in, volume_after}
+use Rattle.afs_law.specs.Laws.{AreMadeAndKept, HasMade, IsChangingAct, IsClosed, IsHeldStill, IsKept, IsOfKey, Survives, told_by_restart}
 use Rattle.afs_law.specs.Legal.{AreGood, GoodChange, HasChange, LegalAfter, as_asked, versions_first}
 use Rattle.afs_law.specs.Once.{past_of}
 use Rattle.afs_law.specs.OneServer.{IsOneServer}
@@ -45,7 +45,7 @@ use Rattle.afs_rows.specs.Going.{Going, asked, nothing_set, stored_whole}
 use Rattle.afs_rows.specs.Runs.{Entry, Fall, begun_by_disk, fails_midway}
 use Rattle.afs_rows.specs.Runs as cells
 use Rattle.afs_rows.specs.ServerRow.{Begun}
-use Rattle.afs_rows.specs.States.{volume_in}
+use Rattle.afs_rows.specs.States.{ServerState, volume_in}
 use Rattle.std.proofs.Common.{◌≡◌, ℕ, ◌≤◌, ◌⊎◌, inl, inr, ◌+◌, Bool, true, false, cond, length, List, [], ◌∷◌, ◌++◌, Option, Some, None, pos, refl, sym, ap, subst, append-nil, ◌∙◌}
 use Rattle.std.specs.Option.{option_map}
 
@@ -121,6 +121,37 @@ kept_in s c past v H told =
 
 -- ---- behind a step that was interrupted: what a restart finds, whose own record the disk then fails
 
+-- a fault changes nothing
+fault_key : (ls : List Line) (n : Node) → change_key (ls ++ lines.Fault n ∷ []) ≡ change_key ls
+fault_key [] n = refl
+fault_key (l ∷ ls) n = ap (first_key (change_in l)) (fault_key ls n)
+
+record IsFailed (s : Script) (c : Cell) (past : List Entry) (fall : Fall) : Type 0 where
+  entry : Entry
+  cell : Cell
+  holds : Holds s cell (entry ∷ past)
+  server : cell.server ≡ (begun_by_disk the_server c.server true fall).state
+  lines_are : entry.lines ≡ (begun_by_disk the_server c.server true fall).before [] ++ lines.Fault the_server ∷ []
+  volumes : entry.volumes ≡ []
+
+failed : (s : Script) (c : Cell) (past : List Entry) (fall : Fall) → Holds s c past → c.down ≡ Some fall → IsFailed s c past fall
+failed s c past fall H down =
+    let m : Moved = server_ends c (begun_by_disk the_server c.server true fall) fall fails_midway in
+    record { entry = m.entry; cell = m.cell; holds = (at_fall s c past true fails_midway fall H down).holds; server = refl; lines_are = (disk_front the_server c.server true fall).before (lines.Fault the_server ∷ []); volumes = refl }
+
+-- the volumes that it finds are the ideal ones, behind what it tells
+ideal_after : (s : Script) (c : Cell) (past : List Entry) (fall : Fall) (e : Entry) → Holds s c past → c.down ≡ Some fall → e.lines ≡ (begun_by_disk the_server c.server true fall).before [] → e.volumes ≡ [] → (id : ℕ)
+    → volume_in id (begun_by_disk the_server c.server true fall).state.lasting.volumes ≡ volume_after id (e ∷ past)
+ideal_after s c past fall e H down ls none id =
+    let f : Begun = begun_by_disk the_server c.server true fall in
+    let k : IsFailed s c past fall = failed s c past fall H down in
+    let keys : change_key k.entry.lines ≡ change_key e.lines = ap change_key k.lines_are ∙ (fault_key (f.before []) the_server ∙ sym (ap change_key ls)) in
+    ap (λ (x : ServerState). volume_in id x.lasting.volumes) (sym k.server)
+    ∙ (k.holds.ideal id
+    ∙ (ap (λ (vs : Table Volume). brought id vs (changed_under id (change_key k.entry.lines) (sent_of past) (volume_after id past))) (k.volumes ∙ sym none)
+    ∙ ap (λ (o : Option Key). brought id e.volumes (changed_under id o (sent_of past) (volume_after id past))) keys))
+
+-- and they hold what was told before
 behind_in : (s : Script) (c : Cell) (past : List Entry) (v : Version) (fall : Fall) → Holds s c past → c.down ≡ Some fall → HasVersion v.fid v.index v.body (lines_of past)
     → IsKept v (begun_by_disk the_server c.server true fall).state.lasting.volumes (onto (lines_of past) ((begun_by_disk the_server c.server true fall).before []))
 behind_in s c past v fall H down told =
@@ -132,10 +163,16 @@ behind_in s c past v fall H down told =
     kept_in s m.cell (m.entry ∷ past) v (at_fall s c past true fails_midway fall H down).holds (has_onto v.fid v.index v.body m.entry.lines (lines_of past) told) in
     record { last = k.last; is_last = sym (ap (last_version v.fid) at) ∙ k.is_last; since = k.since; same = k.same; volume = k.volume; at = k.at; held = k.held }
 
-survives : (s : Script) (h : List Entry) (end : cells.Cell) (v : Version) → IsOneServer s → cells.RunsTo h s end → HasVersion v.fid v.index v.body (lines_of (past_of (set_up s ∷ []) h)) → Survives v (end.hosts 1) (past_of (set_up s ∷ []) h)
-survives s h end v one r told =
+pub survives : (s : Script) (h : List Entry) (end : cells.Cell) → IsOneServer s → cells.RunsTo h s end → Survives (end.hosts 1) (past_of (set_up s ∷ []) h)
+survives s h end one r =
+    let past : List Entry = past_of (set_up s ∷ []) h in
+    let H : Holds s (seen_in end) past = at_end s h (seen_in end) one (run_same s h end one r) in
+    record { kept = H.ideal; after = λ fall down id. ideal_after s (seen_in end) past fall (told_by_restart (end.hosts 1) fall) H down refl refl id }
+
+version_kept : (s : Script) (h : List Entry) (end : cells.Cell) (v : Version) → IsOneServer s → cells.RunsTo h s end → HasVersion v.fid v.index v.body (lines_of (past_of (set_up s ∷ []) h)) → IsHeldStill v (end.hosts 1) (past_of (set_up s ∷ []) h)
+version_kept s h end v one r told =
     let H : Holds s (seen_in end) (past_of (set_up s ∷ []) h) = at_end s h (seen_in end) one (run_same s h end one r) in
-    record { kept = kept_in s (seen_in end) (past_of (set_up s ∷ []) h) v H told; behind = λ fall down. behind_in s (seen_in end) (past_of (set_up s ∷ []) h) v fall H down told }
+    record { kept = kept_in s (seen_in end) (past_of (set_up s ∷ []) h) v H told; after = λ fall down. behind_in s (seen_in end) (past_of (set_up s ∷ []) h) v fall H down told }
 
 -- ---- the change of a key, in a legal history
 
@@ -292,7 +329,7 @@ carried_behind k x past (y ∷ es) e = carried_behind k x (y ∷ past) es (more_
 
 closed_by : (s : Script) (act : Going) (contents : Written) (k : Key) (f : Fid) (user : List ℕ) (call : FsCall) (sent : List Message) (ls : List Line) → IsFound s k sent ls → call_under k sent ≡ Some (user, call) → call ≡ stored_whole f (bytes_in contents) → asked act ≡ stored_whole f (bytes_in contents) → IsClosed act contents k ls
 closed_by s act contents k f user call sent ls found at is asks =
-    let g = found.good in
+    let g = found.good.ideal in
     let bytes : List ℕ = bytes_in contents in
     let same : g.call ≡ stored_whole f bytes = one_call (g.user, g.call) (user, call) (sym (found.carried (g.user, g.call) g.one) ∙ at) ∙ is in
     let of : f.volume ≡ g.id = some_of f.volume g.id (sym (ap volume_called same) ∙ g.of_volume) in
@@ -329,7 +366,8 @@ run_survives s history before after e first rest c code act end one r split line
       closed = λ o contents close. let f = m.stores o contents close in
           closed_by s act contents k f.0 m.made.user m.made.call end.sent (own ++ lines_of past) (found_at_end s k (sent_of past) end.sent (own ++ lines_of past) (subst (IsFound s k (sent_of past)) here found) (λ x at. subst (λ (ms : List Message). call_under k ms ≡ Some x) (ap sent_of (sym all) ∙ H.sent.told) (carried_behind k x past (e ∷ after) at)))
           (called_one m.client.0 k m.made.user m.made.call end.sent past (m.made.node ∙ m.client.1) m.made.called ones) (stored_call m.made.call f.0 (bytes_in contents) (m.asks ∙ f.1)) f.1;
-      survive = λ v has. survives s history end v one r (subst (λ (es : List Entry). HasVersion v.fid v.index v.body (lines_of es)) (sym all) (has_behind v.fid v.index v.body (e ∷ past) after
+      survive = survives s history end one r;
+      versions = λ v has. version_kept s history end v one r (subst (λ (es : List Entry). HasVersion v.fid v.index v.body (lines_of es)) (sym all) (has_behind v.fid v.index v.body (e ∷ past) after
           (subst (λ (ls : List Line). HasVersion v.fid v.index v.body (onto (lines_of past) ls)) (sym line) (subst (HasVersion v.fid v.index v.body) (sym (onto_more (lines_of past) first (lines.Answer c code ∷ rest))) (has_onto v.fid v.index v.body (lines.Answer c code ∷ rest) (onto (lines_of past) first) (subst (HasVersion v.fid v.index v.body) (sym here) (made_told k v (own ++ lines_of past) has)))))));
     }
   where

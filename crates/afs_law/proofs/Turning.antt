@@ -22,7 +22,7 @@ use Rattle.afs_law.proofs.Owing.{CarriedOwe, AllOf, all_map, all_both, all_filte
 use Rattle.afs_law.specs.Breaks.{HasCome, AllOwes, EndedBy, EndedOf, EndedAll, CarriesBreak, NamesIn}
 use Rattle.afs_rows.specs.Callbacks.{put_at, Turn, Started, expired, is_all, waits_none, is_ready, is_reply_to, key_answered, fids_of, breaks_call, fid_before, call_for, break_message, first_of, is_for, most_breaks, carries_for, started_call, starts_by, starts, replies_of, held_after, given_out, pumped}
 use Rattle.afs_law.specs.Ideal.{clock_of}
-use Rattle.afs_law.specs.Legal.{IsBy, GoodCall, GoodGift, HasChange, GoodReply, AreGoodSent}
+use Rattle.afs_law.specs.Legal.{HasOwnHalf, IsBy, GoodCall, GoodGift, HasChange, GoodReply, AreGoodSent}
 use Rattle.afs_history.specs.declared.lines.Line.{Line}
 use Rattle.afs_law.specs.Past.{SendsTo, WasSent, server_boot, lines_of, sent_of, given_message, answered_key, IsCallUnder}
 use Rattle.afs_rows.specs.Runs.{Entry}
@@ -205,8 +205,15 @@ reply_key_good head (carried.Refusal code) past h = tt
 reply_key_good head (carried.Reply reply) past h = tt
 reply_key_good head carried.Notice past h = tt
 
+-- and is none by its half
+pub reply_half : (head : Head) (c : Carried) → (OfReply ⊥ c → ⊥) → HasOwnHalf (record { head = head; carried = c })
+reply_half head (carried.Call user call) h = absurd (h tt)
+reply_half head (carried.Refusal code) h = λ z. absurd z
+reply_half head (carried.Reply reply) h = λ z. absurd z
+reply_half head carried.Notice h = λ z. absurd z
+
 good_by : (t : Bool) (past : List Entry) (h : Held) (rest : List Held) → IsBy h.reply.head.from past → (t ≡ true → GoodReply past h.reply) → (OfReply ⊥ h.reply.carried → ⊥) → AreGoodSent past (replies_of rest) → AreGoodSent past (replies_of (cond t (h ∷ rest) rest))
-good_by true past h rest by a is b = (record { sender = by; reply = a refl; gift = reply_gift h.reply.head h.reply.carried (lines_of past) is; key = reply_key_good h.reply.head h.reply.carried past is }, b)
+good_by true past h rest by a is b = (record { sender = by; half = reply_half h.reply.head h.reply.carried is; reply = a refl; gift = reply_gift h.reply.head h.reply.carried (lines_of past) is; key = reply_key_good h.reply.head h.reply.carried past is }, b)
 good_by false past h rest by a is b = b
 
 replies_good : (b : Backs) (boot : ℕ) (seats : List Seat) (cs : ℕ → Option Seat) (clock : ℕ) (sent : List Message) (past : List Entry) (hs : List Held) → BackedIn None b boot seats cs clock sent past → clock_of (lines_of past) ≡ clock → AllOf (HeldWaits seats clock past) hs → server_boot the_server (lines_of past) ≡ Some boot → IsBy the_server past → AreGoodSent past (replies_of (filter (is_ready b.lists.owed) hs))
@@ -438,7 +445,7 @@ break_gift [] head ls = tt
 break_gift (o ∷ os) head ls = on_gift o.what (o ∷ os) head ls
 
 good_by_call : (boot : ℕ) (past : List Entry) (t : Started) (o : Owed) (x : Option BackCall) → IsBy the_server past → AreGoodSent past t.sent → AreGoodSent past (starts_by the_server boot t o x).sent
-good_by_call boot past t o None by h = let m : Message = break_message the_server boot o.client (t.backs.known o.client) (started_call t.backs o) in good_more past t.sent (m ∷ []) h (record { sender = by; reply = call_good past m.head [] (breaks_call (started_call t.backs o).breaks); gift = break_gift (started_call t.backs o).breaks m.head (lines_of past); key = tt }, tt)
+good_by_call boot past t o None by h = let m : Message = break_message the_server boot o.client (t.backs.known o.client) (started_call t.backs o) in good_more past t.sent (m ∷ []) h (record { sender = by; half = λ z. refl; reply = call_good past m.head [] (breaks_call (started_call t.backs o).breaks); gift = break_gift (started_call t.backs o).breaks m.head (lines_of past); key = tt }, tt)
 good_by_call boot past t o (Some c) by h = h
 
 calls_good : (boot : ℕ) (past : List Entry) (os : List Owed) (t : Started) → IsBy the_server past → AreGoodSent past t.sent → AreGoodSent past (starts the_server boot os t).sent
@@ -464,4 +471,4 @@ pumps boot seats cs clock sent e past t by is time h s up =
     }
 
 pub break_good : (past : List Entry) (boot : ℕ) (n : Node) (known : ℕ) (c : BackCall) → IsBy the_server past → AreGoodSent past (break_message the_server boot n known c ∷ [])
-break_good past boot n known c by = let m : Message = break_message the_server boot n known c in (record { sender = by; reply = call_good past m.head [] (breaks_call c.breaks); gift = break_gift c.breaks m.head (lines_of past); key = tt }, tt)
+break_good past boot n known c by = let m : Message = break_message the_server boot n known c in (record { sender = by; half = λ z. refl; reply = call_good past m.head [] (breaks_call c.breaks); gift = break_gift c.breaks m.head (lines_of past); key = tt }, tt)

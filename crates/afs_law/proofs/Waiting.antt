@@ -113,7 +113,7 @@ pub dead_good : (s : Script) (n : ℕ) (act : Going) (callee : Node) (epoch numb
     → has_begun (Client n) own ≡ false → (call : FsCall) → as_asked call ≡ asked act → CalledSince (record { node = Client n; epoch = epoch; number = number }) (user_of s (Client n)) call past → WasSent callee (record { node = Client n; epoch = epoch; number = number }) (user_of s (Client n)) call past
     → AreGood s (actors.Node (Client n)) past own (dropped (Client n) es (last_line n dead_code))
 dead_good s n act callee epoch number past [] own runs third first second before call asks called to =
-    ((refl, record { act = act; runs = runs; cause = inr (inr (inl (record { is = refl; callee = callee; epoch = epoch; number = number; third = third; first = first; second = second; before = before; call = call; asks = asks; called = called; to = to }))) }), tt)
+    (((refl, record { act = act; runs = runs }), record { act = act; runs = runs; cause = inr (inr (inl (record { is = refl; callee = callee; epoch = epoch; number = number; third = third; first = first; second = second; before = before; call = call; asks = asks; called = called; to = to }))) }), tt)
 dead_good s n act callee epoch number past (u ∷ es) own runs third first second before call asks called to = (refl, dead_good s n act callee epoch number past es (lines.Drop (Client n) u.fid ∷ own) runs third first second before call asks called to)
 
 pub dead_safe : (call : FsCall) (t e l : ℕ) (act : Going) (o : Option Going) (cache : List CacheEntry) (aged older : Type 0) (head : Head) → o ≡ Some act → (aged → older) → IsSafe t e l o cache aged head call → IsSafe t e l None (left_in (volume_changed (asked act)) cache) older head call

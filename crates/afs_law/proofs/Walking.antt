@@ -350,4 +350,4 @@ walk_current s c past n most ls a cache tail ms v g u w t ends le free found las
 -- an act that needs no more is answered
 pub walk_answered : (s : Script) (c : Cell) (past : List Entry) (n most : ℕ) (ls : List Line) (a : Going) (cache : List CacheEntry) (k : ℕ) → Walks s c past n most ls a cache → next a ≡ answers k → IsAtOnce (Client n) (onto [] ls) ⊎ (HasUsed s (Client n) past (onto [] ls) × (has_read (Client n) (onto [] ls) ≡ true)) → AreGood s (actors.Node (Client n)) past [] (ls ++ lines.Answer (Client n) (record { 0 = pos k }) ∷ [])
 walk_answered s c past n most ls a cache k w e last =
-    w.good (lines.Answer (Client n) (record { 0 = pos k }) ∷ []) ((refl, record { act = a; runs = ap (running s (Client n)) (sym (own_lines ls (lines_of past))) ∙ w.runs; cause = inr (inl (record { number = k; is = refl; by = e; last = last })) }), tt)
+    w.good (lines.Answer (Client n) (record { 0 = pos k }) ∷ []) (((refl, record { act = a; runs = ap (running s (Client n)) (sym (own_lines ls (lines_of past))) ∙ w.runs }), record { act = a; runs = ap (running s (Client n)) (sym (own_lines ls (lines_of past))) ∙ w.runs; cause = inr (inl (record { number = k; is = refl; by = e; last = last })) }), tt)

@@ -289,7 +289,7 @@ counts_two l = l
 
 counted_wrong : Legal (six_by 3 (by_lines counts_two)) (script 2) → ⊥
 unfolding moved begin_row client_row server_row back_timeout_row wake_row start_row record_bytes head_form volume_form spelled opaque pad word laid_at led name_ok directory_bytes name_bytes rights_of image acl_text digits entry_text
-counted_wrong h = apart_numbers 2 1 refl h.1.1.1.0.0.0.1.0.1.number
+counted_wrong h = apart_numbers 2 1 refl h.1.1.1.0.0.0.1.0.1.ideal.number
 
 -- a version under no change
 abbrev no_change : Line → Line
@@ -307,7 +307,7 @@ nought l = l
 
 owed_nought : Legal (six_by 3 (by_lines nought)) (script 2) → ⊥
 unfolding moved begin_row client_row server_row back_timeout_row wake_row start_row record_bytes head_form volume_form spelled opaque pad word laid_at led name_ok directory_bytes name_bytes rights_of image acl_text digits entry_text
-owed_nought h = let e : 0 < 0 = h.1.1.1.0.0.0.1.1.1.0.1.0 in absurd (omega arith)
+owed_nought h = let e : 0 < 0 = h.1.1.1.0.0.0.1.1.1.0.1.number in absurd (omega arith)
 
 -- an entry that brings a volume
 abbrev brings : Entry → Entry

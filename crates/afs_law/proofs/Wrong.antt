@@ -18,15 +18,15 @@ use Rattle.afs_law.proofs.Homes.{accepts_first}
 use Rattle.afs_law.specs.Grants.{GrantOf, until}
 use Rattle.afs_num.specs.declared.histories.Actor.{Actor}
 use Rattle.afs_num.specs.declared.types.Node.{Node}
-use Rattle.afs_law.proofs.OneCell.{Cell, stops, the_server, server_waits, Input, begins, gives, moved, nothing, sets_stop, start, starts_again, waits}
-use Rattle.afs_law.proofs.Worked.{by_lines, stores, alters, answer, begun, entries, file, root, script, six_front}
+use Rattle.afs_law.proofs.OneCell.{ticks, Cell, stops, the_server, server_waits, Input, begins, gives, moved, nothing, sets_stop, start, starts_again, waits}
+use Rattle.afs_law.proofs.Worked.{apart_numbers, home, by_lines, stores, alters, answer, begun, entries, file, root, script, six_front}
 use Rattle.afs_law.specs.Breaks.{HasTimeout, HasStopped}
 use Rattle.afs_law.specs.Legal.{IsPromisedBy, Cause, EndsAct, IsResult, Legal, answer_at, code_given}
 use Rattle.afs_model.specs.Messages.{spelled}
 use Rattle.afs_num.specs.Names.{name_ok}
 use Rattle.afs_num.specs.declared.types.Fid.{Fid}
 use Rattle.afs_rows.specs.ClientRow.{begin_row, client_row}
-use Rattle.afs_rows.specs.Going.{Going, answers, asked, asks_for, gives_back, next, reads, stored_whole}
+use Rattle.afs_rows.specs.Going.{Going, nothing_set, answers, asked, asks_for, gives_back, next, reads, stored_whole}
 use Rattle.afs_rows.specs.Runs.{Entry, comes_up, steady}
 use Rattle.afs_xdr.specs.Words.{opaque, pad, word, opaque_at, word_at, counted_at}
 use Rattle.afs_law.specs.Ideal.{set_up}
@@ -168,7 +168,7 @@ parted (e ∷ f ∷ es) = e ∷ parted (f ∷ es)
 
 changed_an_entry_late : Legal (parted (entries (start (script 2)) six_front)) (script 2) → ⊥
 unfolding moved begin_row client_row server_row back_timeout_row wake_row start_row record_bytes head_form volume_form spelled opaque pad word laid_at led name_ok directory_bytes name_bytes rights_of image acl_text digits entry_text directory_of names_at opaque_at word_at counted_at whole_at count_at name_at spelled_at bytes_below
-changed_an_entry_late h = let g = h.1.1.1.1.0.0.0.0.1 in elim g.place [ inl x ↦ x.given | inr y ↦ y.boots ]
+changed_an_entry_late h = let g = h.1.1.1.1.0.0.0.0.1 in elim g.ideal.place [ inl x ↦ x.given | inr y ↦ y.boots ]
 
 -- a break becomes owed an entry before the change that it is for: that change then owes nobody
 abbrev owes_ahead : List Entry → List Entry
@@ -178,7 +178,7 @@ owes_ahead (e ∷ f ∷ es) = e ∷ owes_ahead (f ∷ es)
 
 owed_ahead : Legal (owes_ahead (entries (start (script 2)) six_front)) (script 2) → ⊥
 unfolding moved begin_row client_row server_row back_timeout_row wake_row start_row record_bytes head_form volume_form spelled opaque pad word laid_at led name_ok directory_bytes name_bytes rights_of image acl_text digits entry_text directory_of names_at opaque_at word_at counted_at whole_at count_at name_at spelled_at bytes_below
-owed_ahead h = h.1.1.1.0.0.0.0.1.1.0
+owed_ahead h = h.1.1.1.0.0.0.0.1.cause.0
 
 -- a break is given up by timeouts of before it became owed
 abbrev timeouts_first : List Entry → List Entry
@@ -252,7 +252,7 @@ run_when_down : Legal (after_a_stop (entries (start (script 1)) store_front)) (s
 unfolding moved begin_row client_row server_row back_timeout_row wake_row start_row record_bytes head_form volume_form spelled opaque pad word laid_at led name_ok directory_bytes name_bytes rights_of image acl_text digits entry_text directory_of names_at opaque_at word_at counted_at whole_at count_at name_at spelled_at bytes_below
 run_when_down h =
     let g = h.1.1.0.0.0.1.0.1 in
-    elim g.place [
+    elim g.ideal.place [
       | inl x ↦ let e : None ≡ Some x.boot = x.up in absurd cc
       | inr y ↦ y.boots
     ]
@@ -271,7 +271,7 @@ changed_behind_a_later_one : Legal (alters 1 to_boot_two (alters 9 (instead (lin
 unfolding moved begin_row client_row server_row back_timeout_row wake_row start_row record_bytes head_form volume_form spelled opaque pad word laid_at led name_ok directory_bytes name_bytes rights_of image acl_text digits entry_text directory_of names_at opaque_at word_at counted_at whole_at count_at name_at spelled_at bytes_below
 changed_behind_a_later_one h =
     let g = h.1.1.1.1.1.1.1.1.1.0.0.0.1.0.1 in
-    elim (g.latest (key_of_one 2) (inl (refl, refl)) refl) [
+    elim (g.ideal.latest (key_of_one 2) (inl (refl, refl)) refl) [
       | inl x ↦ let e : 1 < 1 = x in absurd (omega arith)
       | inr x ↦ let e : 2 < 1 = x.1 in absurd (omega arith)
     ]
@@ -281,7 +281,7 @@ run_in_another_boot : Legal (alters 0 to_boot_two (entries (start (script 1)) (b
 unfolding moved begin_row client_row server_row back_timeout_row wake_row start_row record_bytes head_form volume_form spelled opaque pad word laid_at led name_ok directory_bytes name_bytes rights_of image acl_text digits entry_text directory_of names_at opaque_at word_at counted_at whole_at count_at name_at spelled_at bytes_below
 run_in_another_boot h =
     let g = h.1.0.0.0.1.0.1 in
-    elim g.place [
+    elim g.ideal.place [
       | inl x ↦ let e : 2 ≡ 1 = x.given.1.1 ∙ sym (some_of 1 x.boot x.up) in absurd cc
       | inr y ↦ y.boots
     ]
@@ -761,6 +761,18 @@ quit_for_another_client h =
     let none_ : NeverTo (Client 1) quit_past = ((λ e c. two_clients e, tt), ((λ e c. two_clients e, tt), ((λ e c. two_clients e, tt), ((λ e c. no_client e, tt), ((λ e c. c, tt), ((λ e c. no_client e, tt), (tt, tt))))))) in
     never_to (Client 1) (record { node = Server 1; epoch = g.epoch; number = g.number }) g.user g.call quit_past none_ g.called
 
+-- ---- a call is one by its header too
+
+abbrev as_a_reply : Entry → Entry
+as_a_reply e = record e { sent = map (λ (m : Message). record m { head = record m.head { half = halves.Reply } }) e.sent }
+
+reply_not : halves.Reply ≡ halves.Call → ⊥
+reply_not e = absurd cc
+
+called_by_a_reply : Legal (alters 0 as_a_reply (entries (start (script 1)) (begins 1 (acts.Open (operands.Fid file)) ∷ []))) (script 1) → ⊥
+unfolding moved begin_row client_row server_row back_timeout_row wake_row start_row record_bytes head_form volume_form spelled opaque pad word laid_at led name_ok directory_bytes name_bytes rights_of image acl_text digits entry_text directory_of names_at opaque_at word_at counted_at whole_at count_at name_at spelled_at bytes_below
+called_by_a_reply h = reply_not (h.0.0.1.0.half tt)
+
 -- ---- a promise is what the reply to a call of the client carries
 
 abbrev grants : Fid → ℕ → Entry → Entry
@@ -777,7 +789,7 @@ granted_unasked : Legal (alters 1 (grants root 1) (entries (start (script 1)) (b
 unfolding moved begin_row client_row server_row back_timeout_row wake_row start_row record_bytes head_form volume_form spelled opaque pad word laid_at led name_ok directory_bytes name_bytes rights_of image acl_text digits entry_text directory_of names_at opaque_at word_at counted_at whole_at count_at name_at spelled_at bytes_below
 granted_unasked h =
     let g = h.1.0.0.0.1.0.1 in
-    file_apart (subst (λ (k : FsCall). IsPromisedBy root k (answer_at g.user g.call asked_past)) (sym (one_call _ _ _ _ (some_of _ _ g.carries))) g.promises)
+    file_apart (subst (λ (k : FsCall). IsPromisedBy root k (answer_at g.user g.call asked_past) asked_past) (sym (one_call _ _ _ _ (some_of _ _ g.carries))) g.promises)
 
 -- the promise tells an index that no version has
 granted_ahead : Legal (alters 1 (grants file 2) (entries (start (script 1)) (begins 1 (acts.Open (operands.Fid file)) ∷ gives 1 steady ∷ []))) (script 1) → ⊥
@@ -804,6 +816,29 @@ granted_with_a_refusal h =
     let same : carried.Call (codes "guest") (ask.File in_part) ≡ carried.Call g.user (ask.File g.call) = some_of _ _ g.carries in
     refused_not (subst (λ (u : List ℕ). code_given (answer_at u in_part part_past) ≡ pos 0) (sym (one_user _ _ _ _ same)) (subst (λ (k : FsCall). code_given (answer_at g.user k part_past) ≡ pos 0) (sym (one_call _ _ _ _ same)) g.code))
 
+-- a file is made where one was removed: it is promised under the fid of the old one, whose last version tells that it is gone
+abbrev made_anew : List Input
+made_anew = begins 1 (acts.Remove (record { volume = codes "proj"; names = codes "a" ∷ [] })) ∷ gives 1 steady ∷ gives 2 steady ∷ gives 3 steady ∷ gives 4 steady ∷ begins 1 (acts.Make (record { volume = codes "proj"; names = codes "b" ∷ [] })) ∷ gives 5 steady ∷ gives 6 steady ∷ []
+
+abbrev grants_old : Line → Line
+grants_old (lines.Grant s c f i x) = lines.Grant s c file 2 x
+grants_old l = l
+
+abbrev made_past : List Entry
+made_past = past_of (set_up (script 1) ∷ []) (entries (start (script 1)) made_anew)
+
+abbrev makes_b : FsCall
+makes_b = calls.CreateFile root (codes "b") nothing_set
+
+granted_on_the_old_unique : Legal (alters 8 (by_lines grants_old) (entries (start (script 1)) (made_anew ++ gives 7 steady ∷ []))) (script 1) → ⊥
+unfolding moved begin_row client_row server_row back_timeout_row wake_row start_row record_bytes head_form volume_form spelled opaque pad word laid_at led name_ok directory_bytes name_bytes rights_of image acl_text digits entry_text directory_of names_at opaque_at word_at counted_at whole_at count_at name_at spelled_at bytes_below
+granted_on_the_old_unique h =
+    let g = h.1.1.1.1.1.1.1.1.0.0.0.1.1.1.1.0.1 in
+    let same : carried.Call (codes "guest") (ask.File makes_b) ≡ carried.Call g.user (ask.File g.call) = some_of _ _ g.carries in
+    let old : file ≡ record { volume = home; vnode = 2; unique = 3 } =
+    subst (λ (u : List ℕ). IsPromisedBy file makes_b (answer_at u makes_b made_past) made_past) (sym (one_user _ _ _ _ same)) (subst (λ (k : FsCall). IsPromisedBy file k (answer_at g.user k made_past) made_past) (sym (one_call _ _ _ _ same)) g.promises) in
+    apart_numbers 2 3 refl (ap (λ (f : Fid). f.unique) old)
+
 -- ---- a restart owes the clients of the script, and nobody else
 
 abbrev owes_two : Entry → Entry
@@ -811,7 +846,7 @@ owes_two e = record e { lines = e.lines ++ lines.Owe (Server 1) (Client 2) None 
 
 owed_to_a_stranger : Legal (alters 1 owes_two (entries (start (script 1)) (stops ∷ starts_again false comes_up ∷ []))) (script 1) → ⊥
 unfolding moved begin_row client_row server_row back_timeout_row wake_row start_row record_bytes head_form volume_form spelled opaque pad word laid_at led name_ok directory_bytes name_bytes rights_of image acl_text digits entry_text directory_of names_at opaque_at word_at counted_at whole_at count_at name_at spelled_at bytes_below
-owed_to_a_stranger h = let e : 2 ≤ 1 = h.1.0.0.0.1.1.0.1.1.1.1 in absurd (omega arith)
+owed_to_a_stranger h = let e : 2 ≤ 1 = h.1.0.0.0.1.1.0.1.cause.1.1 in absurd (omega arith)
 
 -- ---- what is given back is gone from the step on that answers it, and a call answers nothing
 
@@ -870,5 +905,63 @@ owes_one e = record e { lines = e.lines ++ lines.Owe (Server 1) (Client 1) (Some
 owed_unpromised : Legal (alters 1 owes_one (entries (start (script 2)) (begins 2 (acts.Close (operands.Fid file) (Hex (codes "def"))) ∷ gives 1 steady ∷ []))) (script 2) → ⊥
 unfolding moved begin_row client_row server_row back_timeout_row wake_row start_row record_bytes head_form volume_form spelled opaque pad word laid_at led name_ok directory_bytes name_bytes rights_of image acl_text digits entry_text directory_of names_at opaque_at word_at counted_at whole_at count_at name_at spelled_at bytes_below
 owed_unpromised h =
-    let g = h.1.0.0.0.1.1.1.0.1.1.1 in
-    let e : None ≡ Some g.0 = g.1 in absurd cc
+    let g = h.1.0.0.0.1.1.1.0.1.cause.1 in
+    let e : None ≡ Some g.0 = g.1.0 in absurd cc
+
+-- a stop of the server is no reason for it, even if a server that stopped might owe something
+owed_behind_a_crash : Legal (alters 2 owes_one (entries (start (script 1)) (begins 1 (acts.Open (operands.Fid file)) ∷ gives 1 steady ∷ stops ∷ []))) (script 1) → ⊥
+unfolding moved begin_row client_row server_row back_timeout_row wake_row start_row record_bytes head_form volume_form spelled opaque pad word laid_at led name_ok directory_bytes name_bytes rights_of image acl_text digits entry_text directory_of names_at opaque_at word_at counted_at whole_at count_at name_at spelled_at bytes_below
+owed_behind_a_crash h = h.1.1.0.0.0.1.0.1.cause.0
+
+-- nor does a server that stopped owe it, settle it or give it up, whatever it changed before
+abbrev stops_and_owes : Entry → Entry
+stops_and_owes e = record e { lines = e.lines ++ lines.Crash (Server 1) ∷ lines.Owe (Server 1) (Client 1) (Some file) 1 ∷ []; sent = [] }
+
+abbrev changes_file : List Input
+changes_file = begins 1 (acts.Open (operands.Fid file)) ∷ gives 1 steady ∷ begins 2 (acts.Close (operands.Fid file) (Hex (codes "def"))) ∷ gives 3 steady ∷ []
+
+owed_by_a_stopped_server : Legal (alters 3 stops_and_owes (entries (start (script 2)) changes_file)) (script 2) → ⊥
+unfolding moved begin_row client_row server_row back_timeout_row wake_row start_row record_bytes head_form volume_form spelled opaque pad word laid_at led name_ok directory_bytes name_bytes rights_of image acl_text digits entry_text directory_of names_at opaque_at word_at counted_at whole_at count_at name_at spelled_at bytes_below
+owed_by_a_stopped_server h = h.1.1.1.0.0.0.1.1.1.1.1.0.1.going (inl refl)
+
+-- nor is it owed for a promise that a break ended before, for one of an older boot, or for one whose time has come
+abbrev owes_number : ℕ → Entry → Entry
+owes_number n e = record e { lines = e.lines ++ lines.Owe (Server 1) (Client 1) (Some file) n ∷ [] }
+
+abbrev stored_again : List Input
+stored_again = changes_file ++ gives 4 steady ∷ gives 5 steady ∷ gives 6 steady ∷ begins 2 (acts.Close (operands.Fid file) (Hex (codes "xyz"))) ∷ gives 7 steady ∷ []
+
+owed_again : Legal (alters 8 (owes_number 2) (entries (start (script 2)) stored_again)) (script 2) → ⊥
+unfolding moved begin_row client_row server_row back_timeout_row wake_row start_row record_bytes head_form volume_form spelled opaque pad word laid_at led name_ok directory_bytes name_bytes rights_of image acl_text digits entry_text directory_of names_at opaque_at word_at counted_at whole_at count_at name_at spelled_at bytes_below
+owed_again h =
+    let g = h.1.1.1.1.1.1.1.1.0.0.0.1.1.1.0.1.cause.1 in
+    let e : None ≡ Some g.0 = g.1.0 in absurd cc
+
+abbrev stored_in_boot_two : List Input
+stored_in_boot_two = begins 1 (acts.Open (operands.Fid file)) ∷ gives 1 steady ∷ stops ∷ starts_again false comes_up ∷ begins 2 (acts.Close (operands.Fid file) (Hex (codes "def"))) ∷ gives 5 steady ∷ gives 6 steady ∷ gives 7 steady ∷ []
+
+owed_in_a_later_boot : Legal (alters 7 (owes_number 3) (entries (start (script 2)) stored_in_boot_two)) (script 2) → ⊥
+unfolding moved begin_row client_row server_row back_timeout_row wake_row start_row record_bytes head_form volume_form spelled opaque pad word laid_at led name_ok directory_bytes name_bytes rights_of image acl_text digits entry_text directory_of names_at opaque_at word_at counted_at whole_at count_at name_at spelled_at bytes_below
+owed_in_a_later_boot h =
+    let g = h.1.1.1.1.1.1.1.0.0.0.1.1.1.0.1.cause.1 in
+    let e : None ≡ Some g.0 = g.1.0 in absurd cc
+
+abbrev stored_too_late : List Input
+stored_too_late = begins 1 (acts.Open (operands.Fid file)) ∷ gives 1 steady ∷ ticks 7200 ∷ begins 2 (acts.Close (operands.Fid file) (Hex (codes "def"))) ∷ gives 3 steady ∷ []
+
+owed_when_ended : Legal (alters 4 (owes_number 1) (entries (start (script 2)) stored_too_late)) (script 2) → ⊥
+unfolding moved begin_row client_row server_row back_timeout_row wake_row start_row record_bytes head_form volume_form spelled opaque pad word laid_at led name_ok directory_bytes name_bytes rights_of image acl_text digits entry_text directory_of names_at opaque_at word_at counted_at whole_at count_at name_at spelled_at bytes_below
+owed_when_ended h =
+    let g = h.1.1.1.1.0.0.0.1.1.1.0.1.cause.1 in
+    let e : 7200 < 7200 = subst (λ (x : ℕ). 7200 < x) (some_of g.0 7200 (sym g.1.0)) g.1.1 in absurd (omega arith)
+
+abbrev stops_first : Entry → Entry
+stops_first e = record e { lines = lines.Crash (Server 1) ∷ e.lines; sent = [] }
+
+settled_by_a_stopped_server : Legal (alters 5 stops_first (entries (start (script 2)) (changes_file ++ gives 4 steady ∷ gives 5 steady ∷ []))) (script 2) → ⊥
+unfolding moved begin_row client_row server_row back_timeout_row wake_row start_row record_bytes head_form volume_form spelled opaque pad word laid_at led name_ok directory_bytes name_bytes rights_of image acl_text digits entry_text directory_of names_at opaque_at word_at counted_at whole_at count_at name_at spelled_at bytes_below
+settled_by_a_stopped_server h = h.1.1.1.1.1.0.0.0.1.1.0.1.going (inl refl)
+
+quit_by_a_stopped_server : Legal (alters 6 stops_first (entries (start (script 2)) (changes_file ++ server_waits (Client 1) ∷ server_waits (Client 1) ∷ server_waits (Client 1) ∷ []))) (script 2) → ⊥
+unfolding moved begin_row client_row server_row back_timeout_row wake_row start_row record_bytes head_form volume_form spelled opaque pad word laid_at led name_ok directory_bytes name_bytes rights_of image acl_text digits entry_text directory_of names_at opaque_at word_at counted_at whole_at count_at name_at spelled_at bytes_below
+quit_by_a_stopped_server h = h.1.1.1.1.1.1.0.0.0.1.1.0.1.going (inl refl)

@@ -75,20 +75,30 @@ live_grant s c f (lines.DropAll m q ∷ older) = cond (same_node m c && same_nod
 live_grant s c f (lines.Owe q d w n ∷ older) = cond (same_node q s && (same_node d c && is_on f w)) None (live_grant s c f older)
 live_grant s c f (l ∷ older) = live_grant s c f older
 
+-- When the server's last grant on f to the client ends, unless since then the server stopped or that break became owed. That the client
+-- dropped it is nothing that a server has to know
+abbrev pub unbroken_grant : Node → Node → Fid → List Line → Option ℕ
+unbroken_grant s c f [] = None
+unbroken_grant s c f (lines.Grant q d g index expiry ∷ older) = cond (same_node q s && (same_node d c && same_fid g f)) (Some expiry) (unbroken_grant s c f older)
+unbroken_grant s c f (lines.Crash n ∷ older) = cond (same_node n s) None (unbroken_grant s c f older)
+unbroken_grant s c f (lines.Fault n ∷ older) = cond (same_node n s) None (unbroken_grant s c f older)
+unbroken_grant s c f (lines.Owe q d w n ∷ older) = cond (same_node q s && (same_node d c && is_on f w)) None (unbroken_grant s c f older)
+unbroken_grant s c f (l ∷ older) = unbroken_grant s c f older
+
 -- ---- the lines before, as a server knows them: what a client gave back by a call is dropped where the server runs the call
 
 abbrev pub fids_given_up : FsCall → List Fid
 fids_given_up (calls.GiveUpCallBacks fids callbacks) = fids
 fids_given_up call = []
 
--- a reply with code 0
-abbrev pub is_told : Half → Carried → Bool
-is_told halves.Reply (carried.Reply reply) = true
-is_told half c = false
+-- whether a message of this half that carries this is a reply with code 0
+abbrev pub is_reply_of_0 : Half → Carried → Bool
+is_reply_of_0 halves.Reply (carried.Reply reply) = true
+is_reply_of_0 half c = false
 
 abbrev pub has_answer : Key → List Message → Bool
 has_answer k [] = false
-has_answer k (m ∷ ms) = if (same_key (answered_key m.head) k && is_told m.head.half m.carried) then true else has_answer k ms
+has_answer k (m ∷ ms) = if (same_key (answered_key m.head) k && is_reply_of_0 m.head.half m.carried) then true else has_answer k ms
 
 abbrev pub drops_of : Node → List Fid → List Line
 drops_of c [] = []
@@ -193,8 +203,9 @@ pub record OweAt (s c : Node) (what : Option Fid) (n : ℕ) (ls : List Line) : T
   pub split : ls ≡ newer ++ (lines.Owe s c what n ∷ base)
   pub up : HasStopped s newer → ⊥
 
--- the client gave up what the break is on
+-- the client gave up what the break is on; the server hasn't stopped in this entry
 pub record GoodSettle (s c : Node) (n : ℕ) (past : List Entry) (own : List Line) : Type 0 where
+  pub going : HasStopped s own → ⊥
   pub what : Option Fid
   pub owe : OweAt s c what n (lines_of past)
   pub dropped : HasDrop s c what owe.newer
@@ -212,8 +223,10 @@ CarriesBreak (calls.CallBack fs callbacks) what = NamesIn what fs
 CarriesBreak calls.InitCallBackState what = what ≡ None
 CarriesBreak call what = ⊥
 
--- a call to the client that carries the break was timed out for the third time in this entry, and twice since the break became owed
+-- a call to the client that carries the break was timed out for the third time in this entry, in which the server hasn't stopped, and
+-- twice since the break became owed
 pub record GoodQuit (s c : Node) (n : ℕ) (past : List Entry) (own : List Line) : Type 0 where
+  pub going : HasStopped s own → ⊥
   pub what : Option Fid
   pub owe : OweAt s c what n (lines_of past)
   pub epoch : ℕ

@@ -85,6 +85,12 @@ IsWithdrawn s c f (lines.Crash n ∷ newer) = (n ≡ s) ⊎ IsWithdrawn s c f ne
 IsWithdrawn s c f (lines.Fault n ∷ newer) = (n ≡ s) ⊎ IsWithdrawn s c f newer
 IsWithdrawn s c f (l ∷ newer) = IsWithdrawn s c f newer
 
+-- in its entry's own lines, the newest first, the server changed f under the key of another node
+abbrev pub IsChangedByOther : Node → Node → Fid → List Line → Type 0
+IsChangedByOther s c f [] = ⊥
+IsChangedByOther s c f (lines.Version v ∷ own) = ((v.fid ≡ f) × IsByOther s c (change_below own)) ⊎ IsChangedByOther s c f own
+IsChangedByOther s c f (l ∷ own) = IsChangedByOther s c f own
+
 -- the client gave f up, or all that the server granted
 abbrev pub IsDropped : Node → Node → Fid → List Line → Type 0
 IsDropped s c f [] = ⊥

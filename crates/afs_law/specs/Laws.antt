@@ -1,3 +1,4 @@
+-- Laws about the runs of a script.
 use Rattle.afs_history.specs.Written.{bytes_in}
 use Rattle.afs_history.specs.declared.acts.Written.{Written}
 use Rattle.afs_history.specs.declared.acts.Operand.{Operand}
@@ -12,7 +13,6 @@ use Rattle.afs_law.specs.Breaks.{AllOwes, EndedBy, HasTimeout, Owes, GoodSettle,
 use Rattle.afs_model.specs.Calls.{admitted, call_seat}
 use Rattle.afs_rows.specs.Going.{stored_whole, ClientState, asked, Going}
 use Rattle.afs_ideal.specs.Operations.{Caller, the_user, Result, refused, reads, changes, no_operation, op, volume_called, volume_changed}
--- Laws about the runs of a script.
 use Rattle.afs_num.specs.declared.histories.ReadSource.TheVariants.{Cached}
 use Rattle.afs_rows.specs.ClientRow.{find_cached}
 use Rattle.afs_num.specs.declared.messages.Message.{Message}
@@ -31,15 +31,16 @@ use Rattle.afs_law.specs.Legal.{IsCaused, HasChangeBy, GoodRead, HasChange, Lega
 use Rattle.afs_history.specs.declared.lines.Line.{Line}
 use Rattle.afs_law.specs.Once.{past_of, ChangesOnce}
 use Rattle.afs_law.specs.OneServer.{IsOneServer}
-use Rattle.afs_law.specs.Past.{AreWithin, IsUpTo, CalledSince, HasCode, IsCall, lines_of, onto, running, IsUnheard, called_key, answered_key, Ran}
+use Rattle.afs_law.specs.Past.{IsReply, AreWithin, IsUpTo, CalledSince, HasCode, IsCall, lines_of, onto, running, IsUnheard, called_key, answered_key, Ran}
 use Rattle.afs_rows.specs.Runs.{Fall, begun_by_disk, message_at, Leads, start, Input, Entry, Cell, RunsTo, Host, first_lasting, first_stored, volumes_at}
-use Rattle.afs_rows.specs.ServerRow.{Change, is_client, lasting_after, lasting_started, record_of, serves, runs, refuses, not_served, whole, is_client, no_room, key_of, made, versioned}
+use Rattle.afs_rows.specs.ServerRow.{Begun, Change, is_client, lasting_after, lasting_started, record_of, serves, runs, refuses, not_served, whole, is_client, no_room, key_of, made, versioned}
 use Rattle.afs_rows.specs.States.{CacheEntry, Seat, Lasting, durable_of, volume_in, ServerState, BackCall}
 use Rattle.afs_model.specs.FsRows.{call_number}
 use Rattle.afs_num.specs.declared.messages.Carried.TheVariants as carried
 use Rattle.afs_num.specs.declared.messages.Call.TheVariants as ask
 use Rattle.afs_model.specs.Calls as pairs
 use Rattle.afs_history.specs.declared.lines.Line.TheVariants as lines
+use Rattle.afs_num.specs.declared.histories.Actor.TheVariants as actors
 use Rattle.afs_history.specs.declared.acts.Act.{Act}
 use Rattle.afs_history.specs.declared.acts.Act.TheVariants as acts
 use Rattle.afs_num.specs.declared.types.Code.{Code}
@@ -74,12 +75,12 @@ pub record IsHeld (id : ℕ) (volumes : Table Stored) (past : List Entry) : Type
   pub ideal : volume_in id volumes ≡ volume_after id past
   pub told : (v : Volume) → volume_after id past ≡ Some v → Agrees id v (versions_in (lines_of past))
 
--- so are all of which a server accepts stores, and it holds no others
+-- each volume whose stores the server accepts is held so, and it holds no other
 pub record AreHeld (s : Script) (i : ℕ) (volumes : Table Stored) (past : List Entry) : Type 0 where
   pub held : (id : ℕ) → Accepts s id (Server i) (lines_of past) → IsHeld id volumes past
   pub alone : (id : ℕ) (v : Volume) → volume_in id volumes ≡ Some v → Accepts s id (Server i) (lines_of past)
 
--- and of which no server does, that volume isn't there
+-- it is so of every server, and a volume whose stores no server accepts isn't there
 pub record AreTold (s : Script) (end : Cell) (past : List Entry) : Type 0 where
   pub servers : (i : ℕ) → AreHeld s i (end.hosts i).state.lasting.volumes past
   pub nowhere : (id : ℕ) → ((server : Node) → Accepts s id server (lines_of past) → ⊥) → volume_after id past ≡ None
@@ -140,11 +141,12 @@ AcknowledgedAreMade =
     (s : Script) (history before after : List Entry) (e : Entry) (first rest : List Line) (c : Node) (code : Code) (act : Going) → Legal history s → history ≡ before ++ (e ∷ after) → e.lines ≡ first ++ lines.Answer c code ∷ rest
     → running s c (onto [] first ++ lines_of (past_of (set_up s ∷ []) before)) ≡ Some act → IsChangingAct act.act → code.0 ≡ pos 0 → IsMade c (past_of (set_up s ∷ []) before) (onto [] first)
 
--- the version stands under a change of this key
+-- the change has this key
 abbrev pub IsOfKey : Key → Option (Node × Key) → Type 0
 IsOfKey k None = ⊥
 IsOfKey k (Some change) = change.1 ≡ k
 
+-- the version stands, by these lines, under a change of this key
 abbrev pub HasMade : Key → Version → List Line → Type 0
 HasMade k v [] = ⊥
 HasMade k v (lines.Version w ∷ older) = ((w ≡ v) × IsOfKey k (change_below older)) ⊎ HasMade k v older
@@ -161,11 +163,24 @@ pub record IsKept (v : Version) (volumes : Table Stored) (told : List Line) : Ty
   pub at : volume_in v.fid.volume volumes ≡ Some volume
   pub held : live (Some last) ≡ option_map (version_at v.fid.volume v.fid.vnode) (vnode_of v.fid volume)
 
--- It is so of what the server keeps. While the server is down, it is also so of what the step that was interrupted may have left,
--- with what the restart then tells of that
-pub record Survives (v : Version) (host : Host) (past : List Entry) : Type 0 where
+-- What a restart of the server finds, where the record of the interrupted step is on its disk; and the entry that this restart makes,
+-- by what it tells of that step
+abbrev pub found_by_restart : Host → Fall → Begun
+found_by_restart host fall = begun_by_disk (Server 1) host.state true fall
+
+abbrev pub told_by_restart : Host → Fall → Entry
+told_by_restart host fall = record { actor = actors.Node (Server 1); lines = (found_by_restart host fall).before []; sent = []; volumes = [] }
+
+-- The server keeps of each volume just the ideal one: all that the changes which were told have made of it, with each mode, owner, link
+-- count and access list. While the server is down, it is also so of what the step that was interrupted may have left
+pub record Survives (host : Host) (past : List Entry) : Type 0 where
+  pub kept : (id : ℕ) → volume_in id host.state.lasting.volumes ≡ volume_after id past
+  pub after : (fall : Fall) → host.down ≡ Some fall → (id : ℕ) → volume_in id (found_by_restart host fall).state.lasting.volumes ≡ volume_after id (told_by_restart host fall ∷ past)
+
+-- read by one version: these volumes hold it or a later one, and so does what the interrupted step may have left
+pub record IsHeldStill (v : Version) (host : Host) (past : List Entry) : Type 0 where
   pub kept : IsKept v host.state.lasting.volumes (lines_of past)
-  pub behind : (fall : Fall) → host.down ≡ Some fall → IsKept v (begun_by_disk (Server 1) host.state true fall).state.lasting.volumes (onto (lines_of past) ((begun_by_disk (Server 1) host.state true fall).before []))
+  pub after : (fall : Fall) → host.down ≡ Some fall → IsKept v (found_by_restart host fall).state.lasting.volumes (lines_of (told_by_restart host fall ∷ past))
 
 -- the version gives a file the bytes that a close stores
 pub record IsClosed (act : Going) (contents : Written) (key : Key) (ls : List Line) : Type 0 where
@@ -174,16 +189,17 @@ pub record IsClosed (act : Going) (contents : Written) (key : Key) (ls : List Li
   pub asked_for : asked act ≡ stored_whole version.fid (bytes_in contents)
   pub body : version.body ≡ bodies.File (bytes_in contents)
 
--- one key of the act has a change line; where the act is a close, a version under that gives the file the bytes of the close; and each
--- version under it survives
+-- One key of the act has a change line; where the act is a close, a version under that gives the file the bytes of the close. All changes
+-- that were told, and so this one, survive: in each volume, and by each version under this key
 pub record AreMadeAndKept (c : Node) (act : Going) (past : List Entry) (own : List Line) (host : Host) (later : List Entry) : Type 0 where
   pub made : IsMade c past own
   pub closed : (o : Operand) (contents : Written) → act.act ≡ acts.Close o contents → IsClosed act contents made.key (own ++ lines_of past)
-  pub survive : (v : Version) → HasMade made.key v (own ++ lines_of past) → Survives v host later
+  pub survive : Survives host later
+  pub versions : (v : Version) → HasMade made.key v (own ++ lines_of past) → IsHeldStill v host later
 
--- What is acknowledged survives every crash. In every run, where an act that changes something was answered 0, what it changed, or
--- something later, is from then on what its server's disk holds, wherever the server stops, and however often. Before the answer
--- stand the entries `before`, and in its own entry the lines `first`; `end` is any moment behind it
+-- What is acknowledged survives every crash. In every run of a script for one server, where an act that changes something was answered
+-- 0, its change was told, and from then on the server keeps of each volume what all changes that were told have made of it. Before the
+-- answer stand the entries `before`, and in its own entry the lines `first`; `end` is any moment behind it
 abbrev pub AcknowledgedAreKept : Type 0
 AcknowledgedAreKept =
     (s : Script) (history before after : List Entry) (e : Entry) (first rest : List Line) (c : Node) (code : Code) (act : Going) (end : Cell) → IsOneServer s → RunsTo history s end → history ≡ before ++ (e ∷ after) → e.lines ≡ first ++ lines.Answer c code ∷ rest
@@ -267,18 +283,18 @@ RepliesAreCaused =
     → (end.clients j).running ≡ Some act → m.head.epoch ≡ (end.clients j).epoch → m.head.number ≡ (end.clients j).last → (code : ℤ) × ((cause : Cause m code (asked act) (past_of (set_up s ∷ []) history) []) × (cause.user ≡ user_of s (Client j)))
 
 -- each reply of a server to a client, once sent, is that of the entry that ran its call in the boot that it carries
-abbrev pub RepliesAreRan : Type 0
-RepliesAreRan =
+abbrev pub RepliesWereRun : Type 0
+RepliesWereRun =
     (s : Script) (history : List Entry) (end : Cell) → RunsTo history s end → (i j place : ℕ) (m : Message) → message_at end.sent place ≡ Some m → HasCode m.carried → m.head.from ≡ Server i → m.head.to ≡ Client j → Ran m.head (past_of (set_up s ∷ []) history)
 
 abbrev pub seat_key : Node → Seat → Key
 seat_key n seat = record { node = n; epoch = seat.epoch; number = seat.number }
 
--- And so is each that a server keeps for a client: it is its own, and answers the call whose pair the seat has
-abbrev pub KeptAreRan : Type 0
-KeptAreRan =
+-- And so is each that a server keeps for a client: it is its own reply, and answers the call whose pair the seat has
+abbrev pub KeptWereRun : Type 0
+KeptWereRun =
     (s : Script) (history : List Entry) (end : Cell) → RunsTo history s end → (i j : ℕ) (seat : Seat) (m : Message) → call_seat (Client j) (end.hosts i).state.seats ≡ Some seat → seat.reply ≡ Some m
-    → Ran m.head (past_of (set_up s ∷ []) history) × ((answered_key m.head ≡ seat_key (Client j) seat) × (m.head.from ≡ Server i))
+    → IsReply m × (Ran m.head (past_of (set_up s ∷ []) history) × ((answered_key m.head ≡ seat_key (Client j) seat) × (m.head.from ≡ Server i)))
 
 -- its reply is kept
 abbrev pub HasReply : Node → Seat → Type 0

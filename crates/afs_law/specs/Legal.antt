@@ -15,12 +15,12 @@ use Rattle.afs_num.specs.declared.messages.Carried.{Carried}
 use Rattle.afs_num.specs.declared.messages.Message.{Message}
 use Rattle.afs_ideal.specs.Operations.{Caller, the_user, Result, refused, changes, no_operation, op, code_of, volume_called}
 use Rattle.afs_ideal.specs.Volumes.{Volume, Edit, versions_by}
-use Rattle.afs_law.specs.Breaks.{last_grant, IsNamedIn, AllOwes, HasStopped, HasTimeout, EndedOf, EndedAll, GoodSettle, GoodQuit, live_grant, lines_at, HasOwe, last_number}
+use Rattle.afs_law.specs.Breaks.{unbroken_grant, IsNamedIn, AllOwes, HasStopped, HasTimeout, EndedOf, EndedAll, GoodSettle, GoodQuit, live_grant, lines_at, HasOwe, last_number}
 use Rattle.afs_rows.specs.Going.{Going, Need, answers, asks_for, next, asked, gives_back, reads_rights}
-use Rattle.afs_law.specs.Grants.{is_promised, read_reply, GrantOf, since, until, IsWithdrawn, IsDropped}
+use Rattle.afs_law.specs.Grants.{is_promised, read_reply, GrantOf, since, until, IsWithdrawn, IsChangedByOther, IsDropped}
 use Rattle.afs_law.specs.Ideal.{last_version, Unless, set_up, IsLast, WasLast, HasBeen, HasVersion, Accepts, clock_of, user_of, seen, change_in, change_key, call_under, volume_after}
 use Rattle.afs_history.specs.declared.lines.Line.{Line}
-use Rattle.afs_law.specs.Past.{WasSent, last_boot, is_late, called_key, IsToCome, is_of_act, lines_of, sent_of, given_message, answered_key, code_told, IsReply, running, has_begun, has_given, Called, CalledSince, IsCallUnder, Ran, server_boot}
+use Rattle.afs_law.specs.Past.{WasSent, last_boot, is_new_to_act, called_key, IsCall, IsToCome, is_of_act, lines_of, sent_of, given_message, answered_key, code_told, IsReply, running, has_begun, has_given, Called, CalledSince, IsCallUnder, Ran, server_boot}
 use Rattle.afs_rows.specs.Runs.{Entry}
 use Rattle.afs_history.specs.declared.scripts.Script.{Script}
 use Rattle.afs_num.specs.declared.histories.Actor.{Actor}
@@ -33,6 +33,7 @@ use Rattle.afs_num.specs.declared.histories.ReadSource.{ReadSource}
 use Rattle.afs_num.specs.declared.histories.ReadSource.TheVariants.{Fetched}
 use Rattle.afs_num.specs.declared.histories.Version.{Version}
 use Rattle.afs_num.specs.declared.messages.Carried.TheVariants as carried
+use Rattle.afs_num.specs.declared.types.Half.TheVariants as halves
 use Rattle.afs_num.specs.declared.messages.Call.TheVariants as ask
 use Rattle.afs_history.specs.declared.lines.Line.TheVariants as lines
 
@@ -192,17 +193,13 @@ pub record RanBefore (server : Node) (k : Key) (past : List Entry) (own next : L
   pub stopped : HasStopped server at.lines
   pub since : AreFailed server newer
 
--- A change runs a key for the first time, at a server that accepts stores of the volume, and is the only one of its entry. What
--- the server changed before for the same node it did under keys of earlier calls, and while an act runs there, under none of
--- that act. No server did under another key of this key's act, were that long over: an act changes things once. The entry ran the
--- key's call, or is the restart behind the one that was interrupted in that. The key's call was sent by its node, for its user, and
--- is that of the act that ran there, with the act's own bytes. The versions that follow are just those of the ideal operation on the
--- ideal volume. Each other client's last grant on one of their fids that lasts has a break behind the change
-pub record GoodChange (s : Script) (server : Node) (k : Key) (count : ℕ) (past : List Entry) (own next : List Line) : Type 0 where
+-- A change runs a key for the first time, at a server that accepts stores of the volume, is the only one of its entry, and is later than
+-- what the server changed before for the same node. Its entry ran the key's call, or is the restart behind the one that was interrupted
+-- in that. The call was sent by its node, for its user, and is that of the act that ran there, with the act's own bytes. The versions
+-- that follow are just those of the ideal operation on the ideal volume
+pub record IdealChange (s : Script) (server : Node) (k : Key) (count : ℕ) (past : List Entry) (own next : List Line) : Type 0 where
   pub fresh : IsNew k (own ++ lines_of past)
   pub latest : (l : Key) → HasChangeBy server l (own ++ lines_of past) → l.node ≡ k.node → IsLater k l
-  pub once : (a : Going) → running s k.node (lines_of past) ≡ Some a → (l : Key) → HasChangeBy server l (lines_of past) → is_of_act k.node l past ≡ true → ⊥
-  pub alone : (newer older : List Entry) → past ≡ newer ++ older → is_of_act k.node k older ≡ true → (l : Key) → HasChange l (lines_of past) → is_of_act k.node l older ≡ true → ⊥
   pub place : RunsHere server k past own ⊎ RanBefore server k past own next
   pub going : HasStopped server own → ⊥
   pub only : change_key own ≡ None
@@ -222,8 +219,16 @@ pub record GoodChange (s : Script) (server : Node) (k : Key) (count : ℕ) (past
   pub result : op id (the_user user) call before ≡ changes edits shown
   pub versions : versions_first next ≡ versions_by id edits before
   pub number : count ≡ length (versions_first next)
-  pub owed : (j : ℕ) (f : Fid) (x : ℕ) → (Client j ≡ k.node → ⊥) → IsChanged f (versions_first next) → live_grant server (Client j) f (own ++ lines_at server past) ≡ Some x → clock_of (own ++ lines_of past) < x → HasOwe server (Client j) (Some f) next
   pub home : Accepts s id server (own ++ lines_of past)
+
+-- While an act runs at the key's node, the server has changed nothing under a key of that act; and no server has under another key of
+-- this key's act, were that long over: an act changes things once. Each other client's last grant on one of the fids that change, if it
+-- lasts, has a break behind the change
+pub record GoodChange (s : Script) (server : Node) (k : Key) (count : ℕ) (past : List Entry) (own next : List Line) : Type 0 where
+  pub ideal : IdealChange s server k count past own next
+  pub once : (a : Going) → running s k.node (lines_of past) ≡ Some a → (l : Key) → HasChangeBy server l (lines_of past) → is_of_act k.node l past ≡ true → ⊥
+  pub alone : (newer older : List Entry) → past ≡ newer ++ older → is_of_act k.node k older ≡ true → (l : Key) → HasChange l (lines_of past) → is_of_act k.node l older ≡ true → ⊥
+  pub owed : (j : ℕ) (f : Fid) (x : ℕ) → (Client j ≡ k.node → ⊥) → IsChanged f (versions_first next) → live_grant server (Client j) f (own ++ lines_at server past) ≡ Some x → clock_of (own ++ lines_of past) < x → HasOwe server (Client j) (Some f) next
 
 -- the server began again in this entry
 abbrev pub HasRisen : Node → List Line → Type 0
@@ -236,10 +241,21 @@ abbrev pub IsClientOf : Script → Node → Type 0
 IsClientOf s (Client j) = (1 ≤ j) × (j ≤ s.clients)
 IsClientOf s n = ⊥
 
--- a break becomes owed where a fid changes that the client was promised, or, to each client of the script, where the server began again
-abbrev pub GoodOwe : Script → Node → Node → Option Fid → List Entry → List Line → Type 0
-GoodOwe s server c None past own = HasRisen server own × IsClientOf s c
-GoodOwe s server c (Some f) past own = IsWithdrawn server c f own × ((expiry : ℕ) × (last_grant server c f (own ++ lines_of past) ≡ Some expiry))
+-- a promise of the server to the client on f, made in an entry before, lasts, and was not broken
+abbrev pub IsUnbroken : Node → Node → Fid → List Entry → Type 0
+IsUnbroken server c f past = (expiry : ℕ) × ((unbroken_grant server c f (lines_of past) ≡ Some expiry) × (clock_of (lines_of past) < expiry))
+
+-- why a break becomes owed: the server began again, and each client of the script is owed one on all; or another node's call changed a
+-- fid in this entry that the client is promised
+abbrev pub IsOwedFor : Script → Node → Node → Option Fid → List Entry → List Line → Type 0
+IsOwedFor s server c None past own = HasRisen server own × IsClientOf s c
+IsOwedFor s server c (Some f) past own = IsChangedByOther server c f own × IsUnbroken server c f past
+
+-- a break becomes owed at a server that hasn't stopped in this entry, under a number above those of its boot
+pub record GoodOwe (s : Script) (server c : Node) (what : Option Fid) (n : ℕ) (past : List Entry) (own : List Line) : Type 0 where
+  pub going : HasStopped server own → ⊥
+  pub number : last_number server (own ++ lines_of past) < n
+  pub cause : IsOwedFor s server c what past own
 
 -- a version stands under its change; that these are not too many is said of the change
 abbrev pub IsUnderChange : List Line → Type 0
@@ -378,23 +394,23 @@ pub record GoodCode (s : Script) (c : Node) (code : Code) (past : List Entry) (o
 
 -- ---- grants
 
--- a new vnode of this number in this volume is what the ideal operation shows
-abbrev pub IsNewIn : ℕ → Fid → Option Result → Type 0
-IsNewIn id f (Some (changes es shown)) = (f.volume ≡ id) × (f.vnode ≡ shown)
-IsNewIn id f r = ⊥
+-- the fid of a new vnode: the number is what the ideal operation shows, and the unique what the volume before gives next
+abbrev pub IsNewIn : ℕ → Fid → Option Result → Option Volume → Type 0
+IsNewIn id f (Some (changes es shown)) (Some v) = f ≡ record { volume = id; vnode = shown; unique = v.next }
+IsNewIn id f r o = ⊥
 
--- the reply to this call, of which the ideal operation makes this, promises the fid: the one that the call reads or names, or the
--- new one that it makes
-abbrev pub IsPromisedBy : Fid → FsCall → Option Result → Type 0
-IsPromisedBy f (calls.FetchData g position wanted) r = g ≡ f
-IsPromisedBy f (calls.FetchStatus g) r = g ≡ f
-IsPromisedBy f (calls.BulkStatus fids) r = IsNamedIn f fids
-IsPromisedBy f (calls.CreateFile d name status) r = IsNewIn d.volume f r
-IsPromisedBy f (calls.MakeDir d name status) r = IsNewIn d.volume f r
-IsPromisedBy f call r = ⊥
+-- the reply to this call promises the fid, where this is what the ideal operation makes of the call: the one that the call reads or
+-- names, or the new one that it makes
+abbrev pub IsPromisedBy : Fid → FsCall → Option Result → List Entry → Type 0
+IsPromisedBy f (calls.FetchData g position wanted) r past = g ≡ f
+IsPromisedBy f (calls.FetchStatus g) r past = g ≡ f
+IsPromisedBy f (calls.BulkStatus fids) r past = IsNamedIn f fids
+IsPromisedBy f (calls.CreateFile d name status) r past = IsNewIn d.volume f r (volume_after d.volume past)
+IsPromisedBy f (calls.MakeDir d name status) r past = IsNewIn d.volume f r (volume_after d.volume past)
+IsPromisedBy f call r past = ⊥
 
--- The server grants in the entry that runs a call of the client, and so long. The call's reply promises the fid, and the ideal
--- operation gives it code 0. The index that the grant tells is the fid's last one
+-- A server makes a promise in the entry in which it runs a call of the client, for 7200 ticks. The call's reply promises the fid, and
+-- the ideal operation gives it code 0. The index that the grant tells is the fid's last one
 pub record GoodGrant (server c : Node) (f : Fid) (index expiry : ℕ) (past : List Entry) (own : List Line) : Type 0 where
   pub key : Key
   pub node : key.node ≡ c
@@ -404,7 +420,7 @@ pub record GoodGrant (server c : Node) (f : Fid) (index expiry : ℕ) (past : Li
   pub call : FsCall
   pub carries : option_map (λ (m : Message). m.carried) (given_message own (sent_of past)) ≡ Some (carried.Call user (ask.File call))
   pub code : code_given (answer_at user call past) ≡ pos 0
-  pub promises : IsPromisedBy f call (answer_at user call past)
+  pub promises : IsPromisedBy f call (answer_at user call past) past
   pub newest : IsLast f index (own ++ lines_of past)
   pub lasts : expiry ≡ clock_of (own ++ lines_of past) + promise_ticks
 
@@ -440,17 +456,23 @@ IsBy n (e ∷ past) = e.actor ≡ actors.Node n
 
 -- a client gives its call a key that no act before the one that it began last used
 abbrev pub HasOwnKey : Node → Key → List Entry → Type 0
-HasOwnKey (Client j) k past = is_late (Client j) k past ≡ true
+HasOwnKey (Client j) k past = is_new_to_act (Client j) k past ≡ true
 HasOwnKey n k past = ⊤
 
 abbrev pub GoodCall : Head → Carried → List Entry → Type 0
 GoodCall head (carried.Call user call) past = HasOwnKey head.from (called_key head) past
 GoodCall head c past = ⊤
 
--- A message is sent by the node that it names, in the entry with which `past` begins. A reply of a server waits for its breaks, what
--- a call gives back was dropped, and a client's call has a key of its own act
+-- what carries a call is one by its header too
+abbrev pub HasOwnHalf : Message → Type 0
+HasOwnHalf m = IsCall m.carried → m.head.half ≡ halves.Call
+
+-- A message is sent by the node that its header names as sender, in the entry with which `past` begins, and a call is one by its header.
+-- A reply of a server waits for its breaks, what a call gives back was dropped, and a client's call has a key that no call had which was
+-- sent before its act began
 pub record GoodMessage (past : List Entry) (m : Message) : Type 0 where
   pub sender : IsBy m.head.from past
+  pub half : HasOwnHalf m
   pub reply : GoodReply past m
   pub gift : GoodGift m.head m.carried (lines_of past)
   pub key : GoodCall m.head m.carried past
@@ -460,9 +482,9 @@ AreGoodSent past [] = ⊤
 AreGoodSent past (m ∷ ms) = GoodMessage past m × AreGoodSent past ms
 
 -- what is sent as a server's reply to a client is that of the entry which ran its call: one before, or the one that sends it
-abbrev pub AreRan : List Entry → List Message → Type 0
-AreRan past [] = ⊤
-AreRan past (m ∷ ms) = ((i j : ℕ) → IsReply m → m.head.from ≡ Server i → m.head.to ≡ Client j → Ran m.head past) × AreRan past ms
+abbrev pub WereRun : List Entry → List Message → Type 0
+WereRun past [] = ⊤
+WereRun past (m ∷ ms) = ((i j : ℕ) → IsReply m → m.head.from ≡ Server i → m.head.to ≡ Client j → Ran m.head past) × WereRun past ms
 
 -- ---- restarts
 
@@ -495,30 +517,44 @@ IsOfServer who n = ⊥
 abbrev pub IsTimed : Node → List Line → List Line → Type 0
 IsTimed c own next = ((has_given own ≡ false) × (has_begun c own ≡ false)) × ((has_given next ≡ false) × (has_begun c next ≡ false))
 
--- An entry is given one message at most, and each line stands in an entry of its own node: a begin, a read, an answer, a drop in one
--- of its client, a change, a grant, a break in one of its server, a tick in the clock's, and that nothing happened in nobody's
+-- Each line stands in an entry of its own node: a begin, a read, an answer, a drop in one of its client, a change, a grant, a break in
+-- one of its server, a tick in the clock's, and that nothing happened in nobody's. An entry is given one message at most; a version
+-- stands under its change; an act runs where a client reads or answers; a timeout stands in an entry that is given no message and in
+-- which its node begins no act; and a server that begins again owes each client of the script a break on all. A crash is of any node, a
+-- fault of a server alone, for clients have no disk
+abbrev pub IsInPlace : Script → Actor → Line → List Entry → List Line → List Line → Type 0
+IsInPlace s who (lines.Begin c act) past own next = IsOfClient who c
+IsInPlace s who (lines.Given place) past own next = has_given own ≡ false
+IsInPlace s who (lines.Grant server c f index expiry) past own next = IsOfServer who server
+IsInPlace s who (lines.Change server k count) past own next = IsOfServer who server
+IsInPlace s who (lines.Version v) past own next = IsUnderChange own
+IsInPlace s who (lines.Read c f index source body) past own next = IsOfClient who c × HasAct s c past own
+IsInPlace s who (lines.Answer c code) past own next = IsOfClient who c × HasAct s c past own
+IsInPlace s who (lines.Timeout c callee epoch number count) past own next = (who ≡ actors.Node c) × IsTimed c own next
+IsInPlace s who (lines.Tick n) past own next = who ≡ actors.Clock
+IsInPlace s who (lines.Stop n calls pick) past own next = IsOfServer who n
+IsInPlace s who (lines.Fail n call) past own next = IsOfServer who n
+IsInPlace s who (lines.Crash n) past own next = who ≡ actors.Node n
+IsInPlace s who (lines.Fault n) past own next = IsOfServer who n
+IsInPlace s who (lines.Restart n boot) past own next = (who ≡ actors.Node n) × GoodRestart s n next
+IsInPlace s who (lines.Full n) past own next = IsOfServer who n
+IsInPlace s who (lines.Drop c f) past own next = IsOfClient who c
+IsInPlace s who (lines.DropAll c server) past own next = IsOfClient who c
+IsInPlace s who (lines.Owe server c what n) past own next = IsOfServer who server
+IsInPlace s who (lines.Settle server c n) past own next = IsOfServer who server
+IsInPlace s who (lines.Quit server c n) past own next = IsOfServer who server
+IsInPlace s who lines.Void past own next = who ≡ actors.Nobody
+
+-- a line is in its place; and what it grants, changes, reads, answers, owes, settles or gives up is good
 abbrev pub IsGood : Script → Actor → Line → List Entry → List Line → List Line → Type 0
-IsGood s who (lines.Begin c act) past own next = IsOfClient who c
-IsGood s who (lines.Given place) past own next = has_given own ≡ false
-IsGood s who (lines.Grant server c f index expiry) past own next = IsOfServer who server × GoodGrant server c f index expiry past own
-IsGood s who (lines.Change server k count) past own next = IsOfServer who server × GoodChange s server k count past own next
-IsGood s who (lines.Version v) past own next = IsUnderChange own
-IsGood s who (lines.Read c f index source body) past own next = (IsOfClient who c × HasAct s c past own) × GoodReadBy s (is_promised body) c f index source body past own
-IsGood s who (lines.Answer c code) past own next = IsOfClient who c × GoodCode s c code past own
-IsGood s who (lines.Timeout c callee epoch number count) past own next = (who ≡ actors.Node c) × IsTimed c own next
-IsGood s who (lines.Tick n) past own next = who ≡ actors.Clock
-IsGood s who (lines.Stop n calls pick) past own next = IsOfServer who n
-IsGood s who (lines.Fail n call) past own next = IsOfServer who n
-IsGood s who (lines.Crash n) past own next = who ≡ actors.Node n
-IsGood s who (lines.Fault n) past own next = IsOfServer who n
-IsGood s who (lines.Restart n boot) past own next = (who ≡ actors.Node n) × GoodRestart s n next
-IsGood s who (lines.Full n) past own next = IsOfServer who n
-IsGood s who (lines.Drop c f) past own next = IsOfClient who c
-IsGood s who (lines.DropAll c server) past own next = IsOfClient who c
-IsGood s who (lines.Owe server c what n) past own next = IsOfServer who server × ((last_number server (own ++ lines_of past) < n) × GoodOwe s server c what past own)
-IsGood s who (lines.Settle server c n) past own next = IsOfServer who server × GoodSettle server c n past own
-IsGood s who (lines.Quit server c n) past own next = IsOfServer who server × GoodQuit server c n past own
-IsGood s who lines.Void past own next = who ≡ actors.Nobody
+IsGood s who (lines.Grant server c f index expiry) past own next = IsInPlace s who (lines.Grant server c f index expiry) past own next × GoodGrant server c f index expiry past own
+IsGood s who (lines.Change server k count) past own next = IsInPlace s who (lines.Change server k count) past own next × GoodChange s server k count past own next
+IsGood s who (lines.Read c f index source body) past own next = IsInPlace s who (lines.Read c f index source body) past own next × GoodReadBy s (is_promised body) c f index source body past own
+IsGood s who (lines.Answer c code) past own next = IsInPlace s who (lines.Answer c code) past own next × GoodCode s c code past own
+IsGood s who (lines.Owe server c what n) past own next = IsInPlace s who (lines.Owe server c what n) past own next × GoodOwe s server c what n past own
+IsGood s who (lines.Settle server c n) past own next = IsInPlace s who (lines.Settle server c n) past own next × GoodSettle server c n past own
+IsGood s who (lines.Quit server c n) past own next = IsInPlace s who (lines.Quit server c n) past own next × GoodQuit server c n past own
+IsGood s who l past own next = IsInPlace s who l past own next
 
 abbrev pub AreGood : Script → Actor → List Entry → List Line → List Line → Type 0
 AreGood s who past own [] = ⊤
@@ -532,14 +568,14 @@ IsOfScript s (actors.Node n) = ⊥
 IsOfScript s actors.Clock = ⊤
 IsOfScript s actors.Nobody = ⊤
 
--- an entry lays no volumes, for the set-up alone does; it is of a node of the script; and a server that begins again was down, and
--- begins no boot twice
+-- an entry lays no volumes, for the set-up alone does; it is of a node of the script; and a server that begins again was down, and is
+-- then in a boot above the last one that it began
 abbrev pub IsEntryOf : Script → List Entry → Entry → Type 0
 IsEntryOf s past e = ((e.volumes ≡ []) × IsOfScript s e.actor) × AreRising (lines_of past) e.lines
 
 abbrev pub LegalAfter : Script → List Entry → List Entry → Type 0
 LegalAfter s past [] = ⊤
-LegalAfter s past (e ∷ es) = ((AreGood s e.actor past [] e.lines × AreGoodSent (e ∷ past) e.sent) × (IsEntryOf s past e × AreRan (e ∷ past) e.sent)) × LegalAfter s (e ∷ past) es
+LegalAfter s past (e ∷ es) = ((AreGood s e.actor past [] e.lines × AreGoodSent (e ∷ past) e.sent) × (IsEntryOf s past e × WereRun (e ∷ past) e.sent)) × LegalAfter s (e ∷ past) es
 
 abbrev pub Legal : List Entry → Script → Type 0
 Legal history s = LegalAfter s (set_up s ∷ []) history

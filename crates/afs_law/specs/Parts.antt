@@ -1,24 +1,20 @@
--- What makes runs legal, part by part, for scripts with any number of servers.
-use Rattle.std.specs.Prelude.{◌≡◌, ℕ, List, [], ◌∷◌, ◌++◌, Some, None, false, length, true, ⊤, ◌⊎◌}
+-- Parts of what a legal history is, each proved of the runs of every script, with any number of servers. Reads, answers, promises and
+-- breaks are not among them.
+use Rattle.std.specs.Prelude.{◌≡◌, ℕ, List, [], ◌∷◌, Some, true, ⊤}
 use Rattle.afs_history.specs.declared.lines.Line.{Line}
 use Rattle.afs_history.specs.declared.lines.Line.TheVariants as lines
 use Rattle.afs_history.specs.declared.scripts.Script.{Script}
-use Rattle.afs_ideal.specs.Operations.{changes, op, the_user, volume_called}
-use Rattle.afs_ideal.specs.Volumes.{Edit, Volume, versions_by}
-use Rattle.afs_law.specs.Breaks.{HasStopped}
-use Rattle.afs_law.specs.Ideal.{Accepts, call_under, change_key, set_up, user_of, volume_after}
-use Rattle.afs_law.specs.Legal.{AreRan, IsEntryOf, GoodCall, IsBy, GoodRestart, HasAct, HasChangeBy, IsLater, IsNew, IsOfClient, IsOfServer, IsTimed, IsUnderChange, RanBefore, RunsHere, as_asked, versions_first}
+use Rattle.afs_law.specs.Ideal.{call_under, set_up, user_of}
+use Rattle.afs_law.specs.Legal.{WereRun, GoodCall, IdealChange, IsBy, IsEntryOf, IsInPlace, IsOfServer, as_asked}
 use Rattle.afs_law.specs.Once.{past_of}
-use Rattle.afs_law.specs.Past.{Called, CalledSince, called_key, has_given, is_late, lines_of, running, sent_of}
+use Rattle.afs_law.specs.Past.{Called, CalledSince, called_key, is_new_to_act, lines_of, running}
 use Rattle.afs_num.specs.declared.calls.FsCall.{FsCall}
 use Rattle.afs_num.specs.declared.histories.Actor.{Actor}
-use Rattle.afs_num.specs.declared.histories.Actor.TheVariants as actors
 use Rattle.afs_num.specs.declared.messages.Call.TheVariants as ask
 use Rattle.afs_num.specs.declared.messages.Carried.TheVariants as carried
 use Rattle.afs_num.specs.declared.messages.Message.{Message}
 use Rattle.afs_num.specs.declared.types.Head.{Head}
 use Rattle.afs_num.specs.declared.types.Key.{Key}
-use Rattle.afs_num.specs.declared.types.Node.{Node}
 use Rattle.afs_num.specs.declared.types.Node.TheVariants.{Client}
 use Rattle.afs_rows.specs.ClientRow.{call_of}
 use Rattle.afs_rows.specs.Going.{ClientState, Going, asked}
@@ -30,7 +26,7 @@ use Rattle.afs_rows.specs.Runs.{Cell, Entry, RunsTo, message_at}
 abbrev pub ActsAreTold : Type 0
 ActsAreTold = (s : Script) (history : List Entry) (end : Cell) → RunsTo history s end → (j : ℕ) → running s (Client j) (lines_of (past_of (set_up s ∷ []) history)) ≡ (end.clients j).running
 
--- a call is the one under its key, and was sent by its client, for its user, while the act ran that asks for it
+-- a file call is the one under its key, and was sent by its client, for its user, while the act ran that asks for it
 pub record IsAsked (s : Script) (sent : List Message) (past : List Entry) (head : Head) (user : List ℕ) (call : FsCall) : Type 0 where
   pub one : call_under (called_key head) sent ≡ Some (user, call)
   pub act : Going
@@ -42,16 +38,16 @@ pub record IsAsked (s : Script) (sent : List Message) (past : List Entry) (head 
 abbrev pub waited_key : ℕ → ClientState → Key
 waited_key j c = record { node = Client j; epoch = c.epoch; number = c.last }
 
--- the call that the act waits for was sent since it began, under a key that no act before used
+-- the call that the act waits for was sent since it began, under a key that no call had which was sent before the act's entry
 pub record IsWaiting (s : Script) (j : ℕ) (c : ClientState) (act : Going) (past : List Entry) : Type 0 where
   pub called : CalledSince (waited_key j c) (user_of s (Client j)) (call_of c act) past
-  pub late : is_late (Client j) (waited_key j c) past ≡ true
+  pub late : is_new_to_act (Client j) (waited_key j c) past ≡ true
 
 pub record AreAsked (s : Script) (end : Cell) (past : List Entry) : Type 0 where
   pub calls : (j place : ℕ) (head : Head) (user : List ℕ) (call : FsCall) → message_at end.sent place ≡ Some (record { head = head; carried = carried.Call user (ask.File call) }) → head.from ≡ Client j → IsAsked s end.sent past head user call
   pub waits : (j : ℕ) (act : Going) → (end.clients j).running ≡ Some act → IsWaiting s j (end.clients j) act past
 
--- each call of a client is one that the act asked which ran there
+-- each file call of a client is one that the act asked which ran there
 abbrev pub CallsAreAsked : Type 0
 CallsAreAsked = (s : Script) (history : List Entry) (end : Cell) → RunsTo history s end → AreAsked s end (past_of (set_up s ∷ []) history)
 
@@ -74,39 +70,14 @@ AllLines G s history = EachEntry (λ past e. EachLine G e.actor past [] e.lines)
 
 -- ---- entries
 
--- each entry of a run is of a node of the script, lays no volume and begins no boot twice; and what it sends as a server's reply to a
--- client is that of the entry which ran its call
+-- each entry of a run is of a node of the script and lays no volume; a server that begins again in it was down, and is then in a boot
+-- above the last one that it began; and what it sends as a server's reply to a client is that of the entry which ran its call
 abbrev pub EntriesAreSound : Type 0
-EntriesAreSound = (s : Script) (history : List Entry) (end : Cell) → RunsTo history s end → EachEntry (λ past e. IsEntryOf s past e × AreRan (e ∷ past) e.sent) (set_up s ∷ []) history
+EntriesAreSound = (s : Script) (history : List Entry) (end : Cell) → RunsTo history s end → EachEntry (λ past e. IsEntryOf s past e × WereRun (e ∷ past) e.sent) (set_up s ∷ []) history
 
 -- ---- where lines stand
 
--- Each line stands in an entry of its node. A message is given first, and a version stands under its change; an act runs where a
--- client reads or answers; a timeout is alone; and a server that begins again owes every client a break on all
-abbrev pub IsInPlace : Script → LineRule
-IsInPlace s who (lines.Begin c act) past own next = IsOfClient who c
-IsInPlace s who (lines.Given place) past own next = has_given own ≡ false
-IsInPlace s who (lines.Grant server c f index expiry) past own next = IsOfServer who server
-IsInPlace s who (lines.Change server k count) past own next = IsOfServer who server
-IsInPlace s who (lines.Version v) past own next = IsUnderChange own
-IsInPlace s who (lines.Read c f index source body) past own next = IsOfClient who c × HasAct s c past own
-IsInPlace s who (lines.Answer c code) past own next = IsOfClient who c × HasAct s c past own
-IsInPlace s who (lines.Timeout c callee epoch number count) past own next = (who ≡ actors.Node c) × IsTimed c own next
-IsInPlace s who (lines.Tick n) past own next = who ≡ actors.Clock
-IsInPlace s who (lines.Stop n calls pick) past own next = IsOfServer who n
-IsInPlace s who (lines.Fail n call) past own next = IsOfServer who n
-IsInPlace s who (lines.Crash n) past own next = who ≡ actors.Node n
-IsInPlace s who (lines.Fault n) past own next = IsOfServer who n
-IsInPlace s who (lines.Restart n boot) past own next = (who ≡ actors.Node n) × GoodRestart s n next
-IsInPlace s who (lines.Full n) past own next = IsOfServer who n
-IsInPlace s who (lines.Drop c f) past own next = IsOfClient who c
-IsInPlace s who (lines.DropAll c server) past own next = IsOfClient who c
-IsInPlace s who (lines.Owe server c what n) past own next = IsOfServer who server
-IsInPlace s who (lines.Settle server c n) past own next = IsOfServer who server
-IsInPlace s who (lines.Quit server c n) past own next = IsOfServer who server
-IsInPlace s who lines.Void past own next = who ≡ actors.Nobody
-
--- so do all lines of a run
+-- each line of a run is in its place: a history is legal of which, besides, grants, changes, reads, answers and breaks are good
 abbrev pub LinesAreInPlace : Type 0
 LinesAreInPlace = (s : Script) (history : List Entry) (end : Cell) → RunsTo history s end → AllLines (IsInPlace s) s history
 
@@ -117,7 +88,8 @@ abbrev pub EachSent : (List Entry → Message → Type 0) → List Entry → Lis
 EachSent G past [] = ⊤
 EachSent G past (m ∷ ms) = G past m × EachSent G past ms
 
--- it is sent by the node that it names, and a call of a client under a key of its own act
+-- it is sent by the node that its header names as sender, and a call of a client under a key that no call had which was sent before its
+-- act began
 abbrev pub IsOwn : List Entry → Message → Type 0
 IsOwn past m = IsBy m.head.from past × GoodCall m.head m.carried past
 
@@ -126,34 +98,6 @@ abbrev pub MessagesAreOwn : Type 0
 MessagesAreOwn = (s : Script) (history : List Entry) (end : Cell) → RunsTo history s end → EachEntry (λ past e. EachSent IsOwn (e ∷ past) e.sent) (set_up s ∷ []) history
 
 -- ---- changes
-
--- A change runs a new key at a server that accepts stores of the volume, is the only one of its entry, and is later than what the
--- server changed before for the same node. Its entry ran the key's call, or is the restart behind the one that was interrupted in
--- that. The call is that of the act which ran at its node, for its user, and the versions that follow are just those of the ideal
--- operation on the ideal volume
-pub record IdealChange (s : Script) (server : Node) (k : Key) (count : ℕ) (past : List Entry) (own next : List Line) : Type 0 where
-  pub fresh : IsNew k (own ++ lines_of past)
-  pub latest : (l : Key) → HasChangeBy server l (own ++ lines_of past) → l.node ≡ k.node → IsLater k l
-  pub place : RunsHere server k past own ⊎ RanBefore server k past own next
-  pub going : HasStopped server own → ⊥
-  pub only : change_key own ≡ None
-  pub user : List ℕ
-  pub call : FsCall
-  pub act : Going
-  pub called : Called s k user call act past
-  pub one : call_under k (sent_of past) ≡ Some (user, call)
-  pub own_user : user ≡ user_of s k.node
-  pub own_call : call ≡ asked act
-  pub id : ℕ
-  pub of_volume : volume_called call ≡ Some id
-  pub before : Volume
-  pub at : volume_after id past ≡ Some before
-  pub edits : List Edit
-  pub shown : ℕ
-  pub result : op id (the_user user) call before ≡ changes edits shown
-  pub versions : versions_first next ≡ versions_by id edits before
-  pub number : count ≡ length (versions_first next)
-  pub home : Accepts s id server (own ++ lines_of past)
 
 abbrev pub IsIdeal : Script → LineRule
 IsIdeal s who (lines.Change server k count) past own next = IsOfServer who server × IdealChange s server k count past own next

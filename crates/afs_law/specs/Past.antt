@@ -119,10 +119,10 @@ abbrev pub is_sent_since : Node → Key → List Entry → Bool
 is_sent_since n k [] = false
 is_sent_since n k (e ∷ past) = if has_sent k e.sent then true else (if has_begun n e.lines then false else is_sent_since n k past)
 
--- whether a key was used for no call that was sent before the entry in which the node last began an act
-abbrev pub is_late : Node → Key → List Entry → Bool
-is_late n k [] = true
-is_late n k (e ∷ past) = if has_begun n e.lines then not (has_sent k (sent_of past)) else is_late n k past
+-- whether no call with this key was sent before the entry in which the node last began an act
+abbrev pub is_new_to_act : Node → Key → List Entry → Bool
+is_new_to_act n k [] = true
+is_new_to_act n k (e ∷ past) = if has_begun n e.lines then not (has_sent k (sent_of past)) else is_new_to_act n k past
 
 -- no act of the node begins in these entries
 abbrev pub AreWithin : Node → List Entry → Type 0

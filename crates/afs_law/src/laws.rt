@@ -1,6 +1,6 @@
 //! Laws about the runs of a script. Each is the contract of a function that does nothing.
 
-ghost use Rattle.afs_law.specs.Laws.{AcknowledgedAreKept, AcknowledgedAreMade, AnswersAreRecent, ChangesAreFolded, EffectsAreTold, KeysRunOnce, ReadsAreNewest, RunsAreLegal, RunsAreOne, SetUpsAreFirst, StartsAreFolded, VolumesAreTold, PairsAreKnown, TrustedIsGood, RoomlessAreRefused, UnservedAreRefused, CallsRunOnce, RepliesAreCaused, RepliesAreRan, KeptAreRan, DurableAreChanges, GrantsAreKept, BreaksAreOwed, RepliesFollowDrops, UnawaitedAreUntrusted, DeadAreUntrusted};
+ghost use Rattle.afs_law.specs.Laws.{AcknowledgedAreKept, AcknowledgedAreMade, AnswersAreRecent, ChangesAreFolded, EffectsAreTold, KeysRunOnce, ReadsAreNewest, RunsAreLegal, RunsAreOne, SetUpsAreFirst, StartsAreFolded, VolumesAreTold, PairsAreKnown, TrustedIsGood, RoomlessAreRefused, UnservedAreRefused, CallsRunOnce, RepliesAreCaused, RepliesWereRun, KeptWereRun, DurableAreChanges, GrantsAreKept, BreaksAreOwed, RepliesFollowDrops, UnawaitedAreUntrusted, DeadAreUntrusted};
 ghost use Rattle.afs_law.specs.Parts.{ActsAreTold, CallsAreAsked, ChangesAreIdeal, EntriesAreSound, LinesAreInPlace, MessagesAreOwn};
 
 /// Every run of a script for one server is legal.
@@ -13,7 +13,7 @@ pub fn keys_run_once()
     ensures { KeysRunOnce }
 {}
 
-/// A good read shows the newest version, unless its grant was withdrawn and the client has not given it up.
+/// A good read shows the newest version, unless its grant was withdrawn and the client hasn't given it up.
 pub fn reads_are_newest()
     ensures { ReadsAreNewest }
 {}
@@ -23,7 +23,8 @@ pub fn acknowledged_are_made()
     ensures { AcknowledgedAreMade }
 {}
 
-/// What was acknowledged survives every crash: its server's disk holds it, or something later.
+/// In a run of a script for one server, what was acknowledged survives every crash: the server keeps of each volume what all changes that
+/// were told have made of it, and so does what an interrupted step may have left, with what a restart tells of that.
 pub fn acknowledged_are_kept()
     ensures { AcknowledgedAreKept }
 {}
@@ -38,7 +39,7 @@ pub fn runs_are_one()
     ensures { RunsAreOne }
 {}
 
-/// What each server holds of its volumes is what the versions told.
+/// Each server holds just the ideal volumes whose stores it accepts, and the versions that were told agree with them.
 pub fn volumes_are_told()
     ensures { VolumesAreTold }
 {}
@@ -48,7 +49,7 @@ pub fn pairs_are_known()
     ensures { PairsAreKnown }
 {}
 
-/// What an idle client trusts can be shown from its cache.
+/// In a run of a script for one server, what an idle client trusts can be shown from its cache.
 pub fn trusted_is_good()
     ensures { TrustedIsGood }
 {}
@@ -88,19 +89,20 @@ pub fn calls_run_once()
     ensures { CallsRunOnce }
 {}
 
-/// A reply that counts is that of the entry which ran its call, and tells what the ideal cell made of it there.
+/// In a run of a script for one server, a reply that counts is that of the entry which ran its call, and tells what the ideal cell made
+/// of it there.
 pub fn replies_are_caused()
     ensures { RepliesAreCaused }
 {}
 
 /// Each reply to a client is that of the entry that ran its call in the boot that the reply carries.
-pub fn replies_are_ran()
-    ensures { RepliesAreRan }
+pub fn replies_were_run()
+    ensures { RepliesWereRun }
 {}
 
-/// So is each reply that a server keeps for a client: it is its own, and answers the call whose pair is kept.
-pub fn kept_are_ran()
-    ensures { KeptAreRan }
+/// So is each reply that a server keeps for a client: it is its own reply, and answers the call whose pair is kept.
+pub fn kept_were_run()
+    ensures { KeptWereRun }
 {}
 
 /// What a disk keeps of a caller is its last call that changed something, with the reply to that.
@@ -108,27 +110,28 @@ pub fn durable_are_changes()
     ensures { DurableAreChanges }
 {}
 
-/// A grant that lasts, and was neither withdrawn nor dropped by its client, is promised still.
+/// In a run of a script for one server, a grant that lasts, and was neither withdrawn nor dropped by its client, is promised still.
 pub fn grants_are_kept()
     ensures { GrantsAreKept }
 {}
 
-/// A break that became owed is ended, or is owed still.
+/// In a run of a script for one server, a break that became owed is ended, or is owed still.
 pub fn breaks_are_owed()
     ensures { BreaksAreOwed }
 {}
 
-/// A client that answers a break has given up what the break is on.
+/// In a run of a script for one server, a client that answers a break has given up what the break is on.
 pub fn replies_follow_drops()
     ensures { RepliesFollowDrops }
 {}
 
-/// What a client trusts of the fids that a call may change for which it waits no more, it was promised in an older boot.
+/// In a run of a script for one server, a changing call that may still run, and for which its client no longer waits, can change nothing
+/// that this client trusts, but for what it was promised in an older boot.
 pub fn unawaited_are_untrusted()
     ensures { UnawaitedAreUntrusted }
 {}
 
-/// Of the volume of a changing call that was given up and may still run its client trusts nothing.
+/// In a run of a script for one server, a client trusts nothing of the volume of a changing call that it gave up and that may still run.
 pub fn dead_are_untrusted()
     ensures { DeadAreUntrusted }
 {}
@@ -138,22 +141,23 @@ pub fn acts_are_told()
     ensures { ActsAreTold }
 {}
 
-/// Each call of a client is one that the act asked which ran there.
+/// Each file call of a client is one that the act asked which ran there.
 pub fn calls_are_asked()
     ensures { CallsAreAsked }
 {}
 
-/// Each entry is of a node of the script, and each reply that it sends to a client was run.
+/// Each entry is of a node of the script, a server that begins again in it was down, and each reply that it sends to a client was run.
 pub fn entries_are_sound()
     ensures { EntriesAreSound }
 {}
 
-/// Each line stands in an entry of its node, where it may.
+/// Each line stands in an entry of its node, and not beside what excludes it.
 pub fn lines_are_in_place()
     ensures { LinesAreInPlace }
 {}
 
-/// Each message is sent by the node that it names, and each call of a client under a key of its own act.
+/// Each message is sent by the node that its header names as sender, and each call of a client under a key that no call had which was
+/// sent before its act began.
 pub fn messages_are_own()
     ensures { MessagesAreOwn }
 {}

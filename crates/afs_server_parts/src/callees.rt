@@ -70,9 +70,7 @@ impl Keyed for Callee {
 pub fn copy_breaks(alloc: Global, breaks: &[OwedBreak]) -> Mem<Sequence<OwedBreak>>
     ensures { IfOk result (λ os. os ≡ breaks.now) }
 {
-    let mut copy = Vec::new(alloc);
-    copy.extend_from_slice(breaks)?;
-    Ok(Sequence::from_vec(copy))
+    Ok(Sequence::from_vec(Vec::from_slice(alloc, breaks)?))
 }
 
 impl BackCall {
@@ -125,7 +123,7 @@ impl Callee {
 pub fn copy_callees(alloc: Global, callees: &[Callee]) -> Mem<Vec<Callee>>
     ensures { IfOk result (λ cs. cs.items ≡ callees.now) }
 {
-    let mut copies = Vec::new(alloc);
+    let mut copies = Vec::with_capacity(alloc, callees.len())?;
     for one in callees {
         copies.push(one.copy(alloc)?)?;
     }

@@ -31,9 +31,7 @@ impl Model for HeldReply {
 pub fn copy_numbers(alloc: Global, numbers: &[u32]) -> Mem<Sequence<u32>>
     ensures { IfOk result (λ ns. ns ≡ numbers.now) }
 {
-    let mut copy = Vec::new(alloc);
-    copy.extend_from_slice(numbers)?;
-    Ok(Sequence::from_vec(copy))
+    Ok(Sequence::from_vec(Vec::from_slice(alloc, numbers)?))
 }
 
 /// No break of these numbers is owed.

@@ -1,5 +1,6 @@
-use Rattle.std.proofs.Common.{refl}
-use Rattle.afs_cell.proofs.Since.{asked_since, keeps_as, keeps_parts, inside_since, ready_since}
+use Rattle.std.proofs.Common.{None}
+use Rattle.afs_num.specs.declared.types.Node.TheVariants.{Client}
+use Rattle.afs_cell.proofs.Since.{asked_since, inside_since, keeps_heard, ready_since}
 use Rattle.afs_cell.proofs.world.World.ask.Goals as goal
 
 pub client_takes-happened-requires-clause-ready : goal.client_takes-happened-requires-clause-ready
@@ -12,4 +13,5 @@ returns-clause-stepped g c =
     (inside_since g.D.Disk.limit _ c.args.self.now c.self.view_is c.requires.safe c.args.client c.requires.inside) c.client_takes-happened.ensures c.settle.ensures
 
 pub returns-clause-keeps : goal.returns-clause-keeps
-returns-clause-keeps g c = keeps_as _ c.args.self.now c.settle.new.self c.self.view_is (keeps_parts _ _ c.client_takes-happened.result _ _ refl refl refl c.settle.new.self c.settle.result c.settle.ensures)
+returns-clause-keeps g c =
+    keeps_heard _ c.args.self.now c.settle.new.self c.client_takes-happened.new.clients.items (Client c.args.client) None c.client_takes-happened.result c.settle.result c.self.view_is c.settle.ensures

@@ -1,5 +1,7 @@
-use Rattle.std.proofs.Common.{refl}
-use Rattle.afs_cell.proofs.Since.{admin_since, can_since, keeps_as, keeps_parts, keeps_skipped, loc_since, message_heard_since, message_served_since, nobody_since, ready_since}
+use Rattle.std.proofs.Common.{Some}
+use Rattle.afs_num.specs.declared.types.Node.TheVariants.{Client, Server}
+use Rattle.afs_history.specs.declared.lines.Line.TheVariants as lines
+use Rattle.afs_cell.proofs.Since.{admin_since, can_since, keeps_heard, keeps_served, keeps_skipped, loc_since, message_heard_since, message_served_since, nobody_since, ready_since}
 use Rattle.afs_cell.proofs.world.World.deliver.Goals as goal
 
 pub returns-in_default-clause-stepped : goal.returns-in_default-clause-stepped
@@ -38,10 +40,12 @@ pub returns-in_default-clause-keeps : goal.returns-in_default-clause-keeps
 returns-in_default-clause-keeps g c = keeps_skipped c.args.self.now c.skip.new.self c.skip.result c.skip.ensures
 
 pub returns-in-Server-clause-keeps : goal.returns-in-Server-clause-keeps
-returns-in-Server-clause-keeps g c = keeps_as _ c.args.self.now c.settle.new.self c.self.view_is (keeps_parts _ _ c.server_hears-happened.result _ _ refl refl refl c.settle.new.self c.settle.result c.settle.ensures)
+returns-in-Server-clause-keeps g c =
+    keeps_served _ c.args.self.now c.settle.new.self c.server_hears-happened.new.servers.items (Server c.in-Server.server) (Some (lines.Given c.args.place)) c.server_hears-happened.result c.settle.result c.self.view_is c.settle.ensures
 
 pub returns-in-Client-clause-keeps : goal.returns-in-Client-clause-keeps
-returns-in-Client-clause-keeps g c = keeps_as _ c.args.self.now c.settle-in-Client.new.self c.self.view_is (keeps_parts _ _ c.client_hears-happened.result _ _ refl refl refl c.settle-in-Client.new.self c.settle-in-Client.result c.settle-in-Client.ensures)
+returns-in-Client-clause-keeps g c =
+    keeps_heard _ c.args.self.now c.settle-in-Client.new.self c.client_hears-happened.new.clients.items (Client c.in-Client.client) (Some (lines.Given c.args.place)) c.client_hears-happened.result c.settle-in-Client.result c.self.view_is c.settle-in-Client.ensures
 
 pub returns-in-Loc-clause-keeps : goal.returns-in-Loc-clause-keeps
 returns-in-Loc-clause-keeps g c = keeps_skipped c.args.self.now c.skip-in-Loc.new.self c.skip-in-Loc.result c.skip-in-Loc.ensures

@@ -1,6 +1,7 @@
-use Rattle.std.proofs.Common.{refl}
+use Rattle.std.proofs.Common.{None}
+use Rattle.afs_num.specs.declared.types.Node.TheVariants.{Server}
 use Rattle.afs_cell.proofs.Picked.{picked}
-use Rattle.afs_cell.proofs.Since.{can_since, keeps_as, keeps_parts, served_since}
+use Rattle.afs_cell.proofs.Since.{can_since, keeps_served, served_since}
 use Rattle.afs_cell.proofs.world.World.serve.Goals as goal
 
 pub server_takes-happened-requires-clause-can : goal.server_takes-happened-requires-clause-can
@@ -17,4 +18,5 @@ returns-clause-picked g c = λ pick crash.
     c.server_takes-happened.ensures.happened c.server_takes-happened.ensures.picked c.settle.ensures
 
 pub returns-clause-keeps : goal.returns-clause-keeps
-returns-clause-keeps g c = keeps_as _ c.args.self.now c.settle.new.self c.self.view_is (keeps_parts _ _ c.server_takes-happened.result _ _ refl refl refl c.settle.new.self c.settle.result c.settle.ensures)
+returns-clause-keeps g c =
+    keeps_served _ c.args.self.now c.settle.new.self c.server_takes-happened.new.servers.items (Server c.args.server) None c.server_takes-happened.result c.settle.result c.self.view_is c.settle.ensures

@@ -18,3 +18,6 @@ returns-clause-world g c = λ before is world.
 
 pub returns-clause-steps : goal.returns-clause-steps
 returns-clause-steps g c = λ before is world. (c.play_event.ensures.stepped before is world.safe).steps
+
+pub returns-clause-counts : goal.returns-clause-counts
+returns-clause-counts g c = (c.play_event.ensures.stepped c.requires.world.before c.requires.world.is c.requires.world.world.safe).counts

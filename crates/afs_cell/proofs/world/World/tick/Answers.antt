@@ -1,6 +1,6 @@
 use Rattle.std.proofs.Common.{ap, ◌+◌}
 use Rattle.afs_cell.specs.Worlds.{WorldState}
-use Rattle.afs_cell.proofs.Since.{keeps_noted, keeps_ticked, ticked_since}
+use Rattle.afs_cell.proofs.Since.{keeps_ticked, ticked_since}
 use Rattle.afs_cell.proofs.world.World.tick.Goals as goal
 
 pub returns-clause-stepped : goal.returns-clause-stepped
@@ -10,4 +10,4 @@ returns-clause-stepped g c =
 
 pub returns-clause-keeps : goal.returns-clause-keeps
 returns-clause-keeps g c =
-    keeps_ticked c.args.ticks c.args.self.now _ _ (keeps_noted _ _ c.args.self.now _ _ c.in_ok-note.ensures) (ap (λ (w : WorldState g.row.D.Denot). record w { clock = w.clock + c.args.ticks }) c.self.view_is)
+    keeps_ticked c.args.ticks c.args.self.now _ _ c.in_ok-note.ensures (ap (λ (w : WorldState g.row.D.Denot). record w { clock = w.clock + c.args.ticks }) c.self.view_is)
