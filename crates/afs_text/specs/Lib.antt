@@ -4,3 +4,4 @@ pub mod HistoryText
 pub mod RunText
 pub mod Telling
 pub mod KeptText
+pub mod Laying

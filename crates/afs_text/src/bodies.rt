@@ -1,14 +1,17 @@
 //! What the lines of a history show: bodies and statuses.
 
+ghost use Rattle.std.specs.Prelude.{◌+◌, ◌*◌, ◌≤◌, ◌++◌, codes, length};
 ghost use Rattle.afs_outside.specs.Outside.{Puts};
+ghost use Rattle.afs_text.specs.Laying.{Lays};
 ghost use Rattle.afs_model.specs.LineText.{entry_name_text, more_names_text, directory_text, body_text, status_text, read_body_text, source_text, owed_text};
 
 use crate::bytes::{Hex, Name};
+use crate::laying::{Piece, Short, make_room, put_short};
 use crate::pieces::Print;
 use afs_num::directories;
 use afs_num::histories::{Body, ReadBody, ReadSource, ReadStatus};
 use afs_num::types::Fid;
-use afs_outside::outside::{Failed, Sink};
+use afs_outside::outside::{Failed, Sink, put_bytes};
 
 impl<'a> Print for &'a Body {
     ghost text = { λ body. body_text body.now };
@@ -24,10 +27,28 @@ impl<'a> Print for &'a Body {
     }
 }
 
+/// The longest name that is put together with its numbers.
+const SHORT_NAME: usize = 64;
+
 impl<'a> Print for &'a directories::Name {
     ghost text = { λ name. entry_name_text name.now };
 
     fn print<K: Sink>(&self, sink: &mut K) -> Result<(), Failed> {
+        let name = self.name.as_slice();
+        if name.len() <= SHORT_NAME {
+            return put_short(sink, self);
+        }
+        Name(name).print(sink)?;
+        put_short(sink, &row!("=", self.vnode, ".", self.unique))
+    }
+}
+
+impl<'a> Short for &'a directories::Name {
+    ghost text = { λ name. entry_name_text name.now };
+
+    ghost most = { λ name. 3 * length name.now.name + 22 };
+
+    fn lay(&self, piece: &mut Piece) {
         row!(
             Name(self.name.as_slice()),
             "=",
@@ -35,8 +56,28 @@ impl<'a> Print for &'a directories::Name {
             ".",
             self.unique
         )
-        .print(sink)
+        .lay(piece);
     }
+}
+
+/// Lays a comma and a name in a directory behind what the piece holds, which is put before where there is no room for them.
+/// Each byte of the name may need three, the comma and the numbers need 23. A long name isn't laid, but put behind the piece.
+fn lay_next_name<K: Sink>(
+    sink: &mut K,
+    piece: &mut Piece,
+    name: &directories::Name,
+) -> Result<(), Failed>
+    ensures { Lays (codes "," ++ entry_name_text name.now) piece.old piece.new (K.held sink.old) (K.held sink.new) (K.faults sink.old) (K.faults sink.new) result }
+{
+    let len = name.name.as_slice().len();
+    if len <= SHORT_NAME {
+        make_room(sink, piece, 3 * len + 23)?;
+        row!(",", name).lay(piece);
+        return Ok(());
+    }
+    put_bytes(sink, piece.as_slice())?;
+    piece.clear();
+    row!(",", name).print(sink)
 }
 
 /// Writes names in a directory, each behind a comma.
@@ -44,10 +85,11 @@ impl<'a> Print for &'a directories::Name {
 fn put_more_names<K: Sink>(sink: &mut K, names: &[directories::Name]) -> Result<(), Failed>
     ensures { Puts (more_names_text names.now) (K.held sink.old) (K.held sink.new) (K.faults sink.old) (K.faults sink.new) result }
 {
+    let mut piece = Piece::new();
     for name in names {
-        row!(",", name).print(sink)?;
+        lay_next_name(sink, &mut piece, name)?;
     }
-    Ok(())
+    put_bytes(sink, piece.as_slice())
 }
 
 /// Names in a directory behind others.
@@ -78,11 +120,13 @@ impl<'a> Print for Directory<'a> {
     }
 }
 
-impl Print for ReadStatus {
+impl Short for ReadStatus {
     ghost text = { status_text };
 
+    ghost most = { λ _. 55 };
+
     #[tactic(auto, unfolding(afs_model::specs::LineText::status_text))]
-    fn print<K: Sink>(&self, sink: &mut K) -> Result<(), Failed> {
+    fn lay(&self, piece: &mut Piece) {
         row!(
             "s:",
             self.kind,
@@ -93,7 +137,7 @@ impl Print for ReadStatus {
             ",",
             self.mode
         )
-        .print(sink)
+        .lay(piece);
     }
 }
 
@@ -104,19 +148,21 @@ impl<'a> Print for &'a ReadBody {
     fn print<K: Sink>(&self, sink: &mut K) -> Result<(), Failed> {
         match *self {
             ReadBody::Contents(body) => body.print(sink),
-            ReadBody::Status(status) => status.print(sink),
+            ReadBody::Status(status) => put_short(sink, status),
             ReadBody::AccessList(text) => row!("a:", Hex(text.as_slice())).print(sink),
         }
     }
 }
 
-impl Print for ReadSource {
+impl Short for ReadSource {
     ghost text = { source_text };
 
-    fn print<K: Sink>(&self, sink: &mut K) -> Result<(), Failed> {
+    ghost most = { λ _. 7 };
+
+    fn lay(&self, piece: &mut Piece) {
         match self {
-            ReadSource::Cached => "cached".print(sink),
-            ReadSource::Fetched => "fetched".print(sink),
+            ReadSource::Cached => "cached".lay(piece),
+            ReadSource::Fetched => "fetched".lay(piece),
         }
     }
 }
@@ -125,13 +171,15 @@ impl Print for ReadSource {
 #[derive(Drop)]
 pub struct Owed(pub Option<Fid>);
 
-impl Print for Owed {
+impl Short for Owed {
     ghost text = { λ owed. owed_text owed.0 };
 
-    fn print<K: Sink>(&self, sink: &mut K) -> Result<(), Failed> {
+    ghost most = { λ _. 32 };
+
+    fn lay(&self, piece: &mut Piece) {
         match self.0 {
-            Some(fid) => fid.print(sink),
-            None => "all".print(sink),
+            Some(fid) => fid.lay(piece),
+            None => "all".lay(piece),
         }
     }
 }

@@ -1,11 +1,12 @@
 //! Contents and names as texts.
 
-ghost use Rattle.std.specs.Prelude.{◌≡◌, ◌<◌, ◌≤◌, true, false, length};
+ghost use Rattle.std.specs.Prelude.{◌≡◌, ◌+◌, ◌*◌, ◌<◌, ◌≤◌, ◌++◌, true, false, length};
 ghost use Rattle.std.specs.Fmt.{digit_glyph};
 ghost use Rattle.std.specs.List.{list_all};
 ghost use Rattle.afs_outside.specs.Outside.{Puts};
 ghost use Rattle.afs_model.specs.LineText.{hex_byte, hex_text, is_plain, name_byte, name_text};
 
+use crate::laying::{Piece, Short};
 use crate::pieces::Print;
 use afs_outside::outside::{Failed, Sink, put_bytes};
 
@@ -116,6 +117,33 @@ impl<'a> Print for Name<'a> {
             put_bytes(sink, self.0)
         } else {
             put_escaped(sink, self.0)
+        }
+    }
+}
+
+/// Lays a byte of a name.
+fn lay_name_byte(piece: &mut Piece, b: u8)
+    requires { length piece.old + 3 ≤ 256 }
+    ensures { piece.new ≡ piece.old ++ name_byte b }
+{
+    if is_plain(b) {
+        piece.push(b);
+    } else {
+        piece.push(b'%');
+        piece.push(upper_hex_digit(b / 16));
+        piece.push(upper_hex_digit(b % 16));
+    }
+}
+
+impl<'a> Short for Name<'a> {
+    ghost text = { λ name. name_text name.0.now };
+
+    ghost most = { λ name. 3 * length name.0.now };
+
+    #[tactic(auto, unfolding(afs_model::specs::LineText::name_text))]
+    fn lay(&self, piece: &mut Piece) {
+        for b in self.0 {
+            lay_name_byte(piece, *b);
         }
     }
 }

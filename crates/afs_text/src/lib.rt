@@ -11,6 +11,7 @@ mod acts;
 mod bodies;
 mod bytes;
 pub mod histories;
+mod laying;
 mod lines;
 pub mod pieces;
 mod printing;

@@ -4,6 +4,7 @@ ghost use Rattle.afs_outside.specs.Outside.{Puts};
 ghost use Rattle.afs_model.specs.LineText.{answer_text, change_text, crash_text, drop_all_text, drop_text, fail_text, fault_text, full_text, given_text, grant_text, owe_text, quit_text, read_text, restart_text, settle_text, stop_text, tick_text, timeout_text, version_text};
 
 use crate::bodies::Owed;
+use crate::laying::put_short;
 use crate::pieces::Print;
 use afs_num::histories::{ReadBody, ReadSource, Version};
 use afs_num::types::{Code, Fid, Key, Node};
@@ -15,25 +16,26 @@ use afs_outside::outside::{Failed, Sink};
 pub fn put_change<K: Sink>(sink: &mut K, server: Node, key: Key, count: u32) -> Result<(), Failed>
     ensures { Puts (change_text server key count) (K.held sink.old) (K.held sink.new) (K.faults sink.old) (K.faults sink.new) result }
 {
-    row!("change ", server, " ", key, " ", count, "\n").print(sink)
+    put_short(sink, &row!("change ", server, " ", key, " ", count, "\n"))
 }
 
 #[tactic(auto, unfolding(afs_model::specs::LineText::version_text))]
 pub fn put_version<K: Sink>(sink: &mut K, version: &Version) -> Result<(), Failed>
     ensures { Puts (version_text version.now) (K.held sink.old) (K.held sink.new) (K.faults sink.old) (K.faults sink.new) result }
 {
-    row!(
-        "version ",
-        version.fid,
-        " ",
-        version.index,
-        " ",
-        version.data_version,
-        " ",
-        &version.body,
-        "\n"
-    )
-    .print(sink)
+    put_short(
+        sink,
+        &row!(
+            "version ",
+            version.fid,
+            " ",
+            version.index,
+            " ",
+            version.data_version,
+            " "
+        ),
+    )?;
+    row!(&version.body, "\n").print(sink)
 }
 
 #[tactic(auto, unfolding(afs_model::specs::LineText::read_text))]
@@ -47,24 +49,25 @@ pub fn put_read<K: Sink>(
 ) -> Result<(), Failed>
     ensures { Puts (read_text client fid index source body.now) (K.held sink.old) (K.held sink.new) (K.faults sink.old) (K.faults sink.new) result }
 {
-    row!(
-        "read ", client, " ", fid, " ", index, " ", source, " ", body, "\n"
-    )
-    .print(sink)
+    put_short(
+        sink,
+        &row!("read ", client, " ", fid, " ", index, " ", source, " "),
+    )?;
+    row!(body, "\n").print(sink)
 }
 
 #[tactic(auto, unfolding(afs_model::specs::LineText::answer_text))]
 pub fn put_answer<K: Sink>(sink: &mut K, node: Node, code: Code) -> Result<(), Failed>
     ensures { Puts (answer_text node code) (K.held sink.old) (K.held sink.new) (K.faults sink.old) (K.faults sink.new) result }
 {
-    row!("answer ", node, " ", code, "\n").print(sink)
+    put_short(sink, &row!("answer ", node, " ", code, "\n"))
 }
 
 #[tactic(auto, unfolding(afs_model::specs::LineText::given_text))]
 pub fn put_given<K: Sink>(sink: &mut K, place: u64) -> Result<(), Failed>
     ensures { Puts (given_text place) (K.held sink.old) (K.held sink.new) (K.faults sink.old) (K.faults sink.new) result }
 {
-    row!("given ", place, "\n").print(sink)
+    put_short(sink, &row!("given ", place, "\n"))
 }
 
 // ---- promises and breaks
@@ -80,10 +83,12 @@ pub fn put_grant<K: Sink>(
 ) -> Result<(), Failed>
     ensures { Puts (grant_text server client fid index expiry) (K.held sink.old) (K.held sink.new) (K.faults sink.old) (K.faults sink.new) result }
 {
-    row!(
-        "grant ", server, " ", client, " ", fid, " ", index, " ", expiry, "\n"
+    put_short(
+        sink,
+        &row!(
+            "grant ", server, " ", client, " ", fid, " ", index, " ", expiry, "\n"
+        ),
     )
-    .print(sink)
 }
 
 #[tactic(auto, unfolding(afs_model::specs::LineText::owe_text))]
@@ -96,18 +101,20 @@ pub fn put_owe<K: Sink>(
 ) -> Result<(), Failed>
     ensures { Puts (owe_text server client fid number) (K.held sink.old) (K.held sink.new) (K.faults sink.old) (K.faults sink.new) result }
 {
-    row!(
-        "owe ",
-        server,
-        " ",
-        client,
-        " ",
-        Owed(fid),
-        " ",
-        number,
-        "\n"
+    put_short(
+        sink,
+        &row!(
+            "owe ",
+            server,
+            " ",
+            client,
+            " ",
+            Owed(fid),
+            " ",
+            number,
+            "\n"
+        ),
     )
-    .print(sink)
 }
 
 #[tactic(auto, unfolding(afs_model::specs::LineText::settle_text))]
@@ -119,7 +126,10 @@ pub fn put_settle<K: Sink>(
 ) -> Result<(), Failed>
     ensures { Puts (settle_text server client number) (K.held sink.old) (K.held sink.new) (K.faults sink.old) (K.faults sink.new) result }
 {
-    row!("settle ", server, " ", client, " ", number, "\n").print(sink)
+    put_short(
+        sink,
+        &row!("settle ", server, " ", client, " ", number, "\n"),
+    )
 }
 
 #[tactic(auto, unfolding(afs_model::specs::LineText::quit_text))]
@@ -131,21 +141,21 @@ pub fn put_quit<K: Sink>(
 ) -> Result<(), Failed>
     ensures { Puts (quit_text server client number) (K.held sink.old) (K.held sink.new) (K.faults sink.old) (K.faults sink.new) result }
 {
-    row!("quit ", server, " ", client, " ", number, "\n").print(sink)
+    put_short(sink, &row!("quit ", server, " ", client, " ", number, "\n"))
 }
 
 #[tactic(auto, unfolding(afs_model::specs::LineText::drop_text))]
 pub fn put_drop<K: Sink>(sink: &mut K, client: Node, fid: Fid) -> Result<(), Failed>
     ensures { Puts (drop_text client fid) (K.held sink.old) (K.held sink.new) (K.faults sink.old) (K.faults sink.new) result }
 {
-    row!("drop ", client, " ", fid, "\n").print(sink)
+    put_short(sink, &row!("drop ", client, " ", fid, "\n"))
 }
 
 #[tactic(auto, unfolding(afs_model::specs::LineText::drop_all_text))]
 pub fn put_drop_all<K: Sink>(sink: &mut K, client: Node, server: Node) -> Result<(), Failed>
     ensures { Puts (drop_all_text client server) (K.held sink.old) (K.held sink.new) (K.faults sink.old) (K.faults sink.new) result }
 {
-    row!("drop ", client, " all ", server, "\n").print(sink)
+    put_short(sink, &row!("drop ", client, " all ", server, "\n"))
 }
 
 // ---- crashes and disks
@@ -154,42 +164,42 @@ pub fn put_drop_all<K: Sink>(sink: &mut K, client: Node, server: Node) -> Result
 pub fn put_crash<K: Sink>(sink: &mut K, node: Node) -> Result<(), Failed>
     ensures { Puts (crash_text node) (K.held sink.old) (K.held sink.new) (K.faults sink.old) (K.faults sink.new) result }
 {
-    row!("crash ", node, "\n").print(sink)
+    put_short(sink, &row!("crash ", node, "\n"))
 }
 
 #[tactic(auto, unfolding(afs_model::specs::LineText::fault_text))]
 pub fn put_fault<K: Sink>(sink: &mut K, node: Node) -> Result<(), Failed>
     ensures { Puts (fault_text node) (K.held sink.old) (K.held sink.new) (K.faults sink.old) (K.faults sink.new) result }
 {
-    row!("fault ", node, "\n").print(sink)
+    put_short(sink, &row!("fault ", node, "\n"))
 }
 
 #[tactic(auto, unfolding(afs_model::specs::LineText::full_text))]
 pub fn put_full<K: Sink>(sink: &mut K, node: Node) -> Result<(), Failed>
     ensures { Puts (full_text node) (K.held sink.old) (K.held sink.new) (K.faults sink.old) (K.faults sink.new) result }
 {
-    row!("full ", node, "\n").print(sink)
+    put_short(sink, &row!("full ", node, "\n"))
 }
 
 #[tactic(auto, unfolding(afs_model::specs::LineText::restart_text))]
 pub fn put_restart<K: Sink>(sink: &mut K, node: Node, boot: u32) -> Result<(), Failed>
     ensures { Puts (restart_text node boot) (K.held sink.old) (K.held sink.new) (K.faults sink.old) (K.faults sink.new) result }
 {
-    row!("restart ", node, " ", boot, "\n").print(sink)
+    put_short(sink, &row!("restart ", node, " ", boot, "\n"))
 }
 
 #[tactic(auto, unfolding(afs_model::specs::LineText::stop_text))]
 pub fn put_stop<K: Sink>(sink: &mut K, node: Node, calls: u32, pick: u8) -> Result<(), Failed>
     ensures { Puts (stop_text node calls pick) (K.held sink.old) (K.held sink.new) (K.faults sink.old) (K.faults sink.new) result }
 {
-    row!("stop ", node, " ", calls, " ", pick, "\n").print(sink)
+    put_short(sink, &row!("stop ", node, " ", calls, " ", pick, "\n"))
 }
 
 #[tactic(auto, unfolding(afs_model::specs::LineText::fail_text))]
 pub fn put_fail<K: Sink>(sink: &mut K, node: Node, calls: u32) -> Result<(), Failed>
     ensures { Puts (fail_text node calls) (K.held sink.old) (K.held sink.new) (K.faults sink.old) (K.faults sink.new) result }
 {
-    row!("fail ", node, " ", calls, "\n").print(sink)
+    put_short(sink, &row!("fail ", node, " ", calls, "\n"))
 }
 
 // ---- timeouts and the clock
@@ -205,15 +215,17 @@ pub fn put_timeout<K: Sink>(
 ) -> Result<(), Failed>
     ensures { Puts (timeout_text caller callee epoch number count) (K.held sink.old) (K.held sink.new) (K.faults sink.old) (K.faults sink.new) result }
 {
-    row!(
-        "timeout ", caller, " ", callee, " ", epoch, ".", number, " ", count, "\n"
+    put_short(
+        sink,
+        &row!(
+            "timeout ", caller, " ", callee, " ", epoch, ".", number, " ", count, "\n"
+        ),
     )
-    .print(sink)
 }
 
 #[tactic(auto, unfolding(afs_model::specs::LineText::tick_text))]
 pub fn put_tick<K: Sink>(sink: &mut K, ticks: u32) -> Result<(), Failed>
     ensures { Puts (tick_text ticks) (K.held sink.old) (K.held sink.new) (K.faults sink.old) (K.faults sink.new) result }
 {
-    row!("tick ", ticks, "\n").print(sink)
+    put_short(sink, &row!("tick ", ticks, "\n"))
 }

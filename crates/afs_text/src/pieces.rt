@@ -6,6 +6,7 @@ ghost use Rattle.std.specs.Fmt.{decimal, signed_decimal};
 ghost use Rattle.afs_num.specs.Texts.{node_text, fid_text, key_text};
 ghost use Rattle.afs_outside.specs.Outside.{Puts};
 
+use crate::laying::{Piece, Short, put_short};
 use afs_num::types::{Code, Fid, Key, Node};
 use afs_outside::outside::{Failed, Sink, put_bytes};
 use itoa::Buffer;
@@ -66,8 +67,7 @@ impl Print for u64 {
     ghost text = { decimal };
 
     fn print<K: Sink>(&self, sink: &mut K) -> Result<(), Failed> {
-        let mut buffer = Buffer::new();
-        put_bytes(sink, buffer.format(*self).as_bytes())
+        put_short(sink, self)
     }
 }
 
@@ -75,8 +75,7 @@ impl Print for u32 {
     ghost text = { decimal };
 
     fn print<K: Sink>(&self, sink: &mut K) -> Result<(), Failed> {
-        let mut buffer = Buffer::new();
-        put_bytes(sink, buffer.format(*self).as_bytes())
+        put_short(sink, self)
     }
 }
 
@@ -84,8 +83,7 @@ impl Print for u8 {
     ghost text = { decimal };
 
     fn print<K: Sink>(&self, sink: &mut K) -> Result<(), Failed> {
-        let mut buffer = Buffer::new();
-        put_bytes(sink, buffer.format(*self).as_bytes())
+        put_short(sink, self)
     }
 }
 
@@ -93,8 +91,18 @@ impl Print for Code {
     ghost text = { λ c. signed_decimal c.0 };
 
     fn print<K: Sink>(&self, sink: &mut K) -> Result<(), Failed> {
+        put_short(sink, self)
+    }
+}
+
+impl Short for Code {
+    ghost text = { λ c. signed_decimal c.0 };
+
+    ghost most = { λ _. 11 };
+
+    fn lay(&self, piece: &mut Piece) {
         let mut buffer = Buffer::new();
-        put_bytes(sink, buffer.format(self.0).as_bytes())
+        piece.push_bytes(buffer.format(self.0).as_bytes());
     }
 }
 
@@ -102,11 +110,21 @@ impl Print for Node {
     ghost text = { node_text };
 
     fn print<K: Sink>(&self, sink: &mut K) -> Result<(), Failed> {
+        put_short(sink, self)
+    }
+}
+
+impl Short for Node {
+    ghost text = { node_text };
+
+    ghost most = { λ _. 4 };
+
+    fn lay(&self, piece: &mut Piece) {
         match *self {
-            Node::Loc => "loc".print(sink),
-            Node::Server(i) => row!("s", i).print(sink),
-            Node::Client(i) => row!("c", i).print(sink),
-            Node::Admin(i) => row!("a", i).print(sink),
+            Node::Loc => "loc".lay(piece),
+            Node::Server(i) => row!("s", i).lay(piece),
+            Node::Client(i) => row!("c", i).lay(piece),
+            Node::Admin(i) => row!("a", i).lay(piece),
         }
     }
 }
@@ -115,7 +133,17 @@ impl Print for Fid {
     ghost text = { fid_text };
 
     fn print<K: Sink>(&self, sink: &mut K) -> Result<(), Failed> {
-        row!(self.volume, ".", self.vnode, ".", self.unique).print(sink)
+        put_short(sink, self)
+    }
+}
+
+impl Short for Fid {
+    ghost text = { fid_text };
+
+    ghost most = { λ _. 32 };
+
+    fn lay(&self, piece: &mut Piece) {
+        row!(self.volume, ".", self.vnode, ".", self.unique).lay(piece);
     }
 }
 
@@ -123,6 +151,16 @@ impl Print for Key {
     ghost text = { key_text };
 
     fn print<K: Sink>(&self, sink: &mut K) -> Result<(), Failed> {
-        row!(self.node, ".", self.epoch, ".", self.number).print(sink)
+        put_short(sink, self)
+    }
+}
+
+impl Short for Key {
+    ghost text = { key_text };
+
+    ghost most = { λ _. 26 };
+
+    fn lay(&self, piece: &mut Piece) {
+        row!(self.node, ".", self.epoch, ".", self.number).lay(piece);
     }
 }

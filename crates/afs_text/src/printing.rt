@@ -6,6 +6,7 @@ ghost use Rattle.afs_model.specs.Text.{half_word, head_text, code_text, tail_tex
 ghost use Rattle.afs_model.specs.Telling.{code_at};
 
 use crate::bytes::Hex;
+use crate::laying::{Piece, Short, put_short};
 use crate::pieces::Print;
 use afs_num::histories::Actor;
 use afs_num::types::{Code, Half, Head, Parcel};
@@ -31,23 +32,27 @@ fn code_of(bytes: &[u8]) -> Code
     }
 }
 
-impl Print for Half {
+impl Short for Half {
     ghost text = { half_word };
 
-    fn print<K: Sink>(&self, sink: &mut K) -> Result<(), Failed> {
+    ghost most = { λ _. 6 };
+
+    fn lay(&self, piece: &mut Piece) {
         match self {
-            Half::Call => "call ".print(sink),
-            Half::Reply => "reply ".print(sink),
-            Half::Boot => "boot ".print(sink),
+            Half::Call => "call ".lay(piece),
+            Half::Reply => "reply ".lay(piece),
+            Half::Boot => "boot ".lay(piece),
         }
     }
 }
 
-impl Print for Head {
+impl Short for Head {
     ghost text = { head_text };
 
+    ghost most = { λ _. 48 };
+
     #[tactic(auto, unfolding(afs_model::specs::Text::head_text))]
-    fn print<K: Sink>(&self, sink: &mut K) -> Result<(), Failed> {
+    fn lay(&self, piece: &mut Piece) {
         row!(
             self.from,
             " ",
@@ -60,7 +65,7 @@ impl Print for Head {
             ".",
             self.number
         )
-        .print(sink)
+        .lay(piece);
     }
 }
 
@@ -68,39 +73,21 @@ impl Print for Head {
 #[derive(Drop)]
 struct HalfCode(Half, Code);
 
-impl Print for HalfCode {
+impl Short for HalfCode {
     ghost text = { λ c. code_text c.0 c.1.0 };
 
+    ghost most = { λ _. 12 };
+
     #[tactic(auto, unfolding(afs_model::specs::Text::code_text))]
-    fn print<K: Sink>(&self, sink: &mut K) -> Result<(), Failed> {
+    fn lay(&self, piece: &mut Piece) {
         match self.0 {
-            Half::Reply => row!(" ", self.1).print(sink),
-            Half::Call | Half::Boot => Ok(()),
+            Half::Reply => row!(" ", self.1).lay(piece),
+            Half::Call | Half::Boot => {}
         }
     }
 }
 
-/// The bytes of a message, where they are asked for.
-#[derive(Drop)]
-struct Tail<'a> {
-    wire: bool,
-    bytes: &'a [u8],
-}
-
-impl<'a> Print for Tail<'a> {
-    ghost text = { λ t. tail_text t.wire t.bytes.now };
-
-    #[tactic(auto, unfolding(afs_model::specs::Text::tail_text))]
-    fn print<K: Sink>(&self, sink: &mut K) -> Result<(), Failed> {
-        if self.wire {
-            row!(" ", Hex(self.bytes)).print(sink)
-        } else {
-            Ok(())
-        }
-    }
-}
-
-#[tactic(auto, unfolding(afs_model::specs::Text::sent_text))]
+#[tactic(auto, unfolding(afs_model::specs::Text::sent_text, afs_model::specs::Text::tail_text))]
 pub(crate) fn put_parcel<K: Sink>(
     sink: &mut K,
     place: u64,
@@ -111,28 +98,26 @@ pub(crate) fn put_parcel<K: Sink>(
 {
     let bytes = parcel.bytes.as_slice();
     let code = HalfCode(parcel.head.half, code_of(bytes));
-    row!(
-        "sent ",
-        place,
-        " ",
-        parcel.head,
-        code,
-        Tail { wire, bytes },
-        "\n"
-    )
-    .print(sink)
+    if wire {
+        put_short(sink, &row!("sent ", place, " ", parcel.head, code, " "))?;
+        row!(Hex(bytes), "\n").print(sink)
+    } else {
+        put_short(sink, &row!("sent ", place, " ", parcel.head, code, "\n"))
+    }
 }
 
 // ---- entries
 
-impl Print for Actor {
+impl Short for Actor {
     ghost text = { actor_text };
 
-    fn print<K: Sink>(&self, sink: &mut K) -> Result<(), Failed> {
+    ghost most = { λ _. 5 };
+
+    fn lay(&self, piece: &mut Piece) {
         match self {
-            Actor::Node(node) => node.print(sink),
-            Actor::Clock => "clock".print(sink),
-            Actor::Nobody => "none".print(sink),
+            Actor::Node(node) => node.lay(piece),
+            Actor::Clock => "clock".lay(piece),
+            Actor::Nobody => "none".lay(piece),
         }
     }
 }
@@ -149,6 +134,6 @@ impl Print for Step {
 
     #[tactic(auto, unfolding(afs_model::specs::Text::step_text))]
     fn print<K: Sink>(&self, sink: &mut K) -> Result<(), Failed> {
-        row!("entry ", self.number, " ", self.actor, "\n").print(sink)
+        put_short(sink, &row!("entry ", self.number, " ", self.actor, "\n"))
     }
 }

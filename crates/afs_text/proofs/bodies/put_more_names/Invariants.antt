@@ -6,4 +6,4 @@ use Rattle.afs_text.proofs.bodies.put_more_names.Given as goal
 
 abbrev pub invariant-loop-name : goal.invariant-loop-name
 invariant-loop-name g l =
-    Completes (flat_map (λ n. codes "," ++ entry_name_text n) (drop l.name-index l.names)) (flat_map (λ n. codes "," ++ entry_name_text n) l.names) (g.K.Sink.held l.fn.sink) (g.K.Sink.held l.sink) (g.K.Sink.faults l.fn.sink) (g.K.Sink.faults l.sink)
+    Completes (l.piece ++ flat_map (λ n. codes "," ++ entry_name_text n) (drop l.name-index l.names)) (flat_map (λ n. codes "," ++ entry_name_text n) l.names) (g.K.Sink.held l.fn.sink) (g.K.Sink.held l.sink) (g.K.Sink.faults l.fn.sink) (g.K.Sink.faults l.sink)
