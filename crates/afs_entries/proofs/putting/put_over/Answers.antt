@@ -1,4 +1,4 @@
-use Rattle.std.proofs.Common.{ap, ◌∙◌, map, length, arith}
+use Rattle.std.proofs.Common.{true, ap, ◌∙◌, map, length, arith}
 use Rattle.lru.specs.LruCache.{LruCache}
 use Rattle.afs_entries.specs.declared.cache.Slot.{Slot}
 use Rattle.afs_entries.specs.declared.cache.Entry.{Entry}
