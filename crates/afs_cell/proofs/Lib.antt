@@ -1,6 +1,7 @@
 mod Parcels
 mod Numbers
 mod Counts
+mod Falling
 mod HostSteps
 mod Links
 mod Settled

@@ -1,5 +1,5 @@
 -- A node was taken from its place, was given something, and was put back.
-use Rattle.std.proofs.Common.{refl, arith, ap, sym, ◌∙◌, ◌≡◌, ◌-◌, inl, inr, ℕ, List, Option, None}
+use Rattle.std.proofs.Common.{refl, arith, ap, sym, ◌∙◌, ◌≡◌, ◌-◌, inl, inr, ℕ, List, Option, None, Some}
 use Rattle.std.specs.List.{insert}
 use Rattle.afs_num.specs.Places.{at_place}
 use Rattle.afs_history.specs.declared.lines.Line.{Line}
@@ -8,7 +8,7 @@ use Rattle.afs_history.specs.declared.scripts.Script.{Script}
 use Rattle.afs_rows.specs.Runs.{Host}
 use Rattle.afs_host.specs.Hosts.{HostStep}
 use Rattle.afs_cell.specs.Happening.{ClientGoes, ClientHappens, ClientsHappened, SeatGoes, SeatHappens, SeatKeeps, ServersHappened}
-use Rattle.afs_cell.specs.Places.{IsLifted, Room}
+use Rattle.afs_cell.specs.Places.{put_place, IsLifted, Room}
 use Rattle.afs_rows.specs.States.{Location}
 use Rattle.afs_cell.specs.Seating.{GoesOn}
 use Rattle.afs_cell.specs.Worlds.{IsHanded, ServerSeat}
@@ -26,9 +26,10 @@ pub no_server : {D : Type 0} (seen : D → Option (List ℕ)) (may_leave : D →
     → at_place old.items i ≡ None → new ≡ old → ServersHappened seen may_leave faults limit i front IsVoid Has old.items new.items happened.Nothing
 no_server {D} seen may_leave faults limit i front IsVoid Has old new none same = inl (record { none = none; same = λ j. (same j).items; nothing = refl })
 
-pub client_put : (s : Script) (n : ℕ) (IsVoid : ClientSeat → Type 0) (Takes : ClientSeat → ClientSeat → Outs → Type 0) (old mid : Room ClientSeat) (new : List ClientSeat) (was now : ClientSeat) (what : Happened) → IsLifted n old mid was
-    → new ≡ insert mid.items (n - 1) now → ClientHappens IsVoid Takes was now what → ClientGoes s n was now what → ClientsHappened s n IsVoid Takes old.items new what
-client_put s n IsVoid Takes old mid new was now what lifted is happens goes = inr (record { was = was; now = now; found = lifted.found; put = is ∙ lifted.back now; happens = happens; goes = goes })
+-- it was given it in its place
+pub client_changed : (s : Script) (n : ℕ) (IsVoid : ClientSeat → Type 0) (Takes : ClientSeat → ClientSeat → Outs → Type 0) (old : List ClientSeat) (was now : ClientSeat) → at_place old n ≡ Some was → (new : List ClientSeat) (what : Happened) → new ≡ put_place n now old
+    → ClientHappens IsVoid Takes was now what → ClientGoes s n was now what → ClientsHappened s n IsVoid Takes old new what
+client_changed s n IsVoid Takes old was now found new what put happens goes = inr (record { was = was; now = now; found = found; put = put; happens = happens; goes = goes })
 
 pub no_client : (s : Script) (n : ℕ) (IsVoid : ClientSeat → Type 0) (Takes : ClientSeat → ClientSeat → Outs → Type 0) (old new : Room ClientSeat) → at_place old.items n ≡ None → new ≡ old → ClientsHappened s n IsVoid Takes old.items new.items happened.Nothing
 no_client s n IsVoid Takes old new none same = inl (record { none = none; same = λ j. (same j).items; nothing = refl })

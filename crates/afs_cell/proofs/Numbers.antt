@@ -1,7 +1,7 @@
 -- What stands at a number, and what is put there.
 use Rattle.std.proofs.Common.{refl, arith, ap, sym, subst, ◌∙◌, ◌≡◌, ◌≤◌, ◌<◌, ◌+◌, ◌-◌, ◌⊎◌, inl, inr, ℕ, zero, suc, List, [], ◌∷◌, length, Bool, true, false, Some, None, nat_eq}
 use Rattle.std.specs.List.{insert, remove}
-use Rattle.std.specs.Prelude.{slice_index_or}
+use Rattle.std.specs.Prelude.{slice_index_or, slice_set, IfNone, Option}
 use Rattle.std.proofs.lemmas.Bool.{eqb-true, eqb-false, ne_eqb, lt-ltb, le-ltb}
 use Rattle.afs_num.specs.Places.{at_place}
 use Rattle.afs_rows.specs.Runs.{has_client, has_host, Cell}
@@ -156,3 +156,22 @@ back_in n i xs new e lt is y =
     let next : suc i ≡ n = omega (arith, e) in
     let same : n - 1 ≡ i = omega (arith, e) in
     ap (λ zs. insert zs (n - 1) y) is ∙ ap (λ (k : ℕ). insert (remove xs i) k y) same ∙ back_at xs i y lt ∙ ap (λ (k : ℕ). put_place k y xs) next
+
+-- ---- one changed in its place
+
+set_at : {A : Type 0} (xs : List A) (i : ℕ) (y : A) → slice_set xs i y ≡ put_place (suc i) y xs
+set_at [] i y = refl
+set_at (x ∷ xs) zero y = refl
+set_at (x ∷ xs) (suc i) y = ap (λ zs. x ∷ zs) (set_at xs i y)
+
+pub set_in : {A : Type 0} (n i : ℕ) (xs : List A) (y : A) → i + 1 ≡ n → slice_set xs i y ≡ put_place n y xs
+set_in n i xs y e =
+    let next : suc i ≡ n = omega (arith, e) in
+    subst (λ (k : ℕ). slice_set xs i y ≡ put_place k y xs) next (set_at xs i y)
+
+pub none_found : {A : Type 0} (xs : List A) (n len : ℕ) (o : Option ℕ) → len ≡ length xs → IfNone o ((n ≡ 0) ⊎ (len < n)) → IfNone o (at_place xs n ≡ None)
+none_found xs n len None same past = none_at xs n (subst (λ (k : ℕ). (n ≡ 0) ⊎ (k < n)) same past)
+none_found xs n len (Some i) same past = tt
+
+pub at_found : {A : Type 0} (xs : List A) (n next : ℕ) (x : A) → next ≡ n → Some x ≡ at_place xs next → at_place xs n ≡ Some x
+at_found xs n next x e found = ap (at_place xs) (sym e) ∙ sym found

@@ -5,6 +5,7 @@ ghost use Rattle.afs_num.specs.declared.types.Node.TheVariants.{Server};
 ghost use Rattle.afs_history.specs.declared.lines.Line.TheVariants as lines;
 ghost use Rattle.afs_grammar.specs.CellScripts.{IsCellScript};
 ghost use Rattle.afs_cell.specs.Happening.{ClientHears, ClientsHappened, ClientTakes, HasHeard, HasStep, IsDue, IsFallen, IsVoidClient, IsVoidServer, ServersHappened};
+ghost use Rattle.afs_cell.specs.Hearing.{OneFalls, IsUpAt};
 ghost use Rattle.afs_cell.specs.Picks.{OneLeavesPick};
 ghost use Rattle.afs_cell.specs.Ready.{AllCanStep, AllReady};
 
@@ -16,6 +17,19 @@ use afs_disk::Disk;
 use afs_history::scripts::Script;
 use afs_host::ServerSeat;
 use std::alloc::Global;
+
+/// The disk of this server ended its step, and it goes down.
+fn fall<D: Disk>(alloc: Global, servers: &mut Places<ServerSeat<D>>, server: u8) -> Happened
+    requires { IsUpAt server servers.old.items }
+    ensures { OneFalls D.seen D.left_by D.may_leave D.faults D.limit server servers.old.items servers.new.items result }
+{
+    let Some(seat) = servers.lift(server) else {
+        unreachable!()
+    };
+    let (seat, happened) = servers::fall(alloc, seat);
+    servers.put(server, seat);
+    happened
+}
 
 /// A server is given a message.
 pub fn server_hears<D: Disk>(
@@ -29,12 +43,13 @@ pub fn server_hears<D: Disk>(
     requires now { now ≤ 1000000000 }
     ensures { (place : ℕ) → ServersHappened D.seen D.may_leave D.faults D.limit server (lines.Given place ∷ []) IsFallen (HasHeard (Server server) now place bytes.now) servers.old.items servers.new.items result }
 {
-    let Some(seat) = servers.lift(server) else {
+    let Some(i) = servers.find(server) else {
         return Happened::Nothing;
     };
-    let (seat, happened) = servers::hear(alloc, seat, bytes, now);
-    servers.put(server, seat);
-    happened
+    match servers::hear(servers.at(i), bytes, now) {
+        Some(happened) => happened,
+        None => fall(alloc, servers, server),
+    }
 }
 
 /// A server is given something that is no message.
@@ -73,12 +88,10 @@ pub fn client_hears<'a>(
     ensures { (place : ℕ) → ClientsHappened script.now client (λ seat. seat.is_away ≡ true) (ClientHears client now place bytes.now) clients.old.items clients.new.items result }
 {
     let _script = script;
-    let Some(mut seat) = clients.lift(client) else {
+    let Some(i) = clients.find(client) else {
         return Happened::Nothing;
     };
-    let happened = seat.hear(client, bytes, now);
-    clients.put(client, seat);
-    happened
+    clients.at(i).hear(client, bytes, now)
 }
 
 /// A client is given something that is no message.
@@ -94,10 +107,8 @@ pub fn client_takes<'a>(
     requires ready { AllReady script.now clients.old.items }
     ensures { ClientsHappened script.now client (IsVoidClient given) (ClientTakes client now given) clients.old.items clients.new.items result }
 {
-    let Some(mut seat) = clients.lift(client) else {
+    let Some(i) = clients.find(client) else {
         return Happened::Nothing;
     };
-    let happened = seat.take(alloc, script, client, now, given);
-    clients.put(client, seat);
-    happened
+    clients.at(i).take(alloc, script, client, now, given)
 }

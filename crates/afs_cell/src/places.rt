@@ -1,6 +1,7 @@
 //! Things that have numbers, from 1 on.
 
-ghost use Rattle.std.specs.Prelude.{◌≡◌, ◌≤◌, ◌<◌, ◌⊎◌, ◌+◌, ◌-◌, None, length, IfNone, IfSome};
+ghost use Rattle.std.specs.Prelude.{◌≡◌, ◌≤◌, ◌<◌, ◌⊎◌, ◌+◌, ◌-◌, None, Some, length, IfNone, IfSome};
+ghost use Rattle.std.specs.Borrow.{sem};
 ghost use Rattle.std.specs.List.{insert};
 ghost use Rattle.afs_num.specs.Places.{at_place};
 ghost use Rattle.afs_cell.specs.Places.{IsLifted};
@@ -59,6 +60,25 @@ fn index(number: u8, len: usize) -> Option<usize>
 }
 
 impl<T> Places<T> {
+    ghost use Rattle.afs_cell.specs.PlaceLends.{LendsPlace};
+
+    /// Where the one of this number stands.
+    pub fn find(&self, number: u8) -> Option<usize>
+        ensures some { IfSome result (λ i. (i + 1 ≡ number) × (i < length self.now.items)) }
+        ensures none { IfNone result (at_place self.now.items number ≡ None) }
+    {
+        index(number, self.items.len())
+    }
+
+    /// The one that stands here, to be changed.
+    pub fn at(&mut self, i: usize) -> &mut T
+        requires { i < length self.old.items }
+        ensures* writes_back { sem 𝓛 (LendsPlace T.row self.entry i result) }
+        ensures value { Some result.now ≡ at_place self.old.items (i + 1) }
+    {
+        &mut self.items[i]
+    }
+
     /// Takes out the one of this number. Those behind it move up until one is put back.
     pub fn lift(&mut self, number: u8) -> Option<T>
         ensures some { IfSome result (IsLifted number self.old self.new) }

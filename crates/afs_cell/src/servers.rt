@@ -1,11 +1,12 @@
 //! What a cell's servers are given.
 
-ghost use Rattle.std.specs.Prelude.{◌≡◌, ◌≤◌, [], ◌∷◌, ℕ};
+ghost use Rattle.std.specs.Prelude.{◌≡◌, ◌≤◌, [], ◌∷◌, ℕ, IfNone};
 ghost use Rattle.afs_num.specs.Nodes.{IsNode};
 ghost use Rattle.afs_num.specs.declared.types.Node.TheVariants.{Server};
 ghost use Rattle.afs_history.specs.declared.lines.Line.TheVariants as lines;
 ghost use Rattle.afs_host.specs.declared.seats.Seat.TheVariants as seat;
 ghost use Rattle.afs_cell.specs.Happening.{CanStep, HasHeard, HasStep, IsDue, IsFallen, IsSeatOf, IsVoidServer, SeatGoes, SeatHappens, SeatKeeps};
+ghost use Rattle.afs_cell.specs.Hearing.{IsUpSeat, SeatBecomes, SeatFalls};
 ghost use Rattle.afs_cell.specs.Picks.{LeavesPick};
 ghost use Rattle.afs_cell.specs.Worlds.{seat_disk};
 ghost use Rattle.afs_cell.specs.declared.happening.ServerInput.TheVariants as input;
@@ -14,34 +15,45 @@ use crate::happening::{Happened, ServerInput};
 use crate::telling::told_alone;
 use afs_disk::Disk;
 use afs_history::lines::{Line, Outs};
-use afs_host::{Resting, Running, Seat, Served, ServerSeat, Start};
+use afs_host::{Resting, Running, Seat, ServerSeat, Start};
 use afs_num::sequences::Sequence;
 use afs_num::types::Node;
+use afs_server::faults::NodeFault;
 use std::alloc::Global;
 
-/// A server is given a message, if it is up.
-pub fn hear<D: Disk>(
-    alloc: Global,
-    seat: ServerSeat<D>,
-    bytes: &[u8],
-    now: u32,
-) -> (ServerSeat<D>, Happened)
-    requires can { CanStep seat }
+/// A server is given a message, if it is up. `None` where its disk ended the step: then it is to fall.
+pub fn hear<D: Disk>(seat: &mut ServerSeat<D>, bytes: &[u8], now: u32) -> Option<Happened>
+    requires can { CanStep seat.old }
     requires now { now ≤ 1000000000 }
-    ensures happens { (i place : ℕ) → IsSeatOf i seat → SeatHappens D.seen D.may_leave D.faults D.limit i (lines.Given place ∷ []) IsFallen (HasHeard (Server i) now place bytes.now) seat result.0 result.1 }
-    ensures goes { (i : ℕ) → IsSeatOf i seat → SeatGoes i seat result.0 result.1 }
-    ensures keeps { SeatKeeps D.seen D.faults D.limit seat result.0 }
+    ensures happens { (i place : ℕ) → IsSeatOf i seat.old → SeatBecomes D.seen D.left_by D.may_leave D.faults D.limit (λ s what. SeatHappens D.seen D.may_leave D.faults D.limit i (lines.Given place ∷ []) IsFallen (HasHeard (Server i) now place bytes.now) seat.old s what) seat.new result }
+    ensures goes { (i : ℕ) → IsSeatOf i seat.old → SeatBecomes D.seen D.left_by D.may_leave D.faults D.limit (λ s what. SeatGoes i seat.old s what) seat.new result }
+    ensures keeps { SeatBecomes D.seen D.left_by D.may_leave D.faults D.limit (λ s what. SeatKeeps D.seen D.faults D.limit seat.old s) seat.new result }
+    ensures falls { IfNone result (IsUpSeat seat.new) }
 {
     match seat {
         Seat::Up(running) => match running.serve(bytes, now) {
-            Served::Up(running, outs) => (Seat::Up(running), Happened::Step(outs)),
-            Served::Down(resting, line) => match told_alone(alloc, line) {
+            Ok(outs) => Some(Happened::Step(outs)),
+            Err(NodeFault::OutOfMemory) => Some(Happened::Unchanged),
+            Err(NodeFault::Down) => None,
+        },
+        Seat::Down(_) => Some(Happened::Nothing),
+    }
+}
+
+/// A server whose disk ended its step goes down.
+pub fn fall<D: Disk>(alloc: Global, seat: ServerSeat<D>) -> (ServerSeat<D>, Happened)
+    requires up { IsUpSeat seat }
+    ensures { SeatFalls D.seen D.left_by D.may_leave D.faults D.limit seat result.0 result.1 }
+{
+    match seat {
+        Seat::Up(running) => {
+            let (resting, line) = running.fall();
+            match told_alone(alloc, line) {
                 Ok(outs) => (Seat::Down(resting), Happened::Step(outs)),
                 Err(_) => (Seat::Down(resting), Happened::Lost),
-            },
-            Served::Unchanged(running) => (Seat::Up(running), Happened::Unchanged),
-        },
-        Seat::Down(resting) => (Seat::Down(resting), Happened::Nothing),
+            }
+        }
+        Seat::Down(_) => unreachable!(),
     }
 }
 

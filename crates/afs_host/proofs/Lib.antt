@@ -1,3 +1,4 @@
+pub mod Becoming
 pub mod Blows
 pub mod Booting
 pub mod Breaking

@@ -18,14 +18,19 @@ use Rattle.afs_host.specs.Hosts.{fall_line, given, served, GivesOut, HostStep, I
 use Rattle.afs_host.specs.Seats.{count_mark, disk_of, GoesOn, IsSame, IsStepDown, IsStepUp, IsUp, Resting, Running}
 use Rattle.afs_host.specs.Setting.{pick_of, stops_now}
 use Rattle.afs_host.specs.Standing.{Lies}
-use Rattle.afs_host.specs.declared.serving.Served.{Served}
-use Rattle.afs_host.specs.declared.serving.Served.TheVariants as outcome
+
+-- What became of a server that was given a message: it is up, and gave this out; or it went down, as this line tells. Memory may
+-- have been wanting, and then nothing was done.
+pub data Served (D : Type 0) : Type 0 where
+  is_up : Running D → Outs → Served D
+  is_down : Resting D → Line → Served D
+  unchanged : Running D → Served D
 
 -- the disk, whatever became of the server
-abbrev pub disk_served : {D : Type 0} → Served (Running D) (Resting D) → D
-disk_served {D} (outcome.Up r outs) = disk_of r
-disk_served {D} (outcome.Down s line) = s.disk
-disk_served {D} (outcome.Unchanged r) = disk_of r
+abbrev pub disk_served : {D : Type 0} → Served D → D
+disk_served {D} (is_up r outs) = disk_of r
+disk_served {D} (is_down s line) = s.disk
+disk_served {D} (unchanged r) = disk_of r
 
 -- With some luck of the disk the step of the host is this. Where the disk fails by itself, its count rose.
 pub record HasServed (me : Node) (h : Host) (clock place : ℕ) (m : Message) (Is : HostStep → Type 0) (rose : Type 0) : Type 0 where
@@ -37,23 +42,23 @@ pub record HasServed (me : Node) (h : Host) (clock place : ℕ) (m : Message) (I
 -- So it is of each host that the server stands for, and of the message that was found, at any place: the server is up, and gave
 -- this out behind the line of the place; or it went down, and that line and this are all. Or memory was wanting, and it is as it was.
 abbrev pub IsServed : {D : Type 0} → (D → Option (List ℕ)) → (D → ℕ → Option (List ℕ)) → (D → ℕ) → (D → List ℕ → Type 0) → (D → ℕ) → (D → ℕ → List ℕ → Type 0) → (D → ℕ) → (D → ℕ) →
-    Running D → ℕ → Received → Served (Running D) (Resting D) → Type 0
-IsServed {D} seen left_by size may_leave moment left_since faults limit old clock found (outcome.Up r outs) =
+    Running D → ℕ → Received → Served D → Type 0
+IsServed {D} seen left_by size may_leave moment left_since faults limit old clock found (is_up r outs) =
     (h : Host) → IsUp old h → (m : Message) → found ≡ Whole m → (place : ℕ) →
     HasServed old.store.node h clock place m (IsStepUp r (lines.Given place ∷ []) outs) (Rose (faults (disk_of old)) (faults (disk_of r)))
-IsServed {D} seen left_by size may_leave moment left_since faults limit old clock found (outcome.Down s line) =
+IsServed {D} seen left_by size may_leave moment left_since faults limit old clock found (is_down s line) =
     (h : Host) → IsUp old h → (m : Message) → found ≡ Whole m → (place : ℕ) →
     HasServed old.store.node h clock place m (IsStepDown seen may_leave limit old.store.node s (lines.Given place ∷ line ∷ [])) (Rose (faults (disk_of old)) (faults s.disk))
-IsServed {D} seen left_by size may_leave moment left_since faults limit old clock found (outcome.Unchanged r) =
+IsServed {D} seen left_by size may_leave moment left_since faults limit old clock found (unchanged r) =
     IsSame seen left_by size may_leave moment left_since old r
 
 -- Whatever the bytes are, the server makes the step of its row on what it finds in them; or it went down, and they are those of a
 -- message.
-abbrev pub MakesRow : {D : Type 0} → Running D → ℕ → List ℕ → Served (Running D) (Resting D) → Type 0
-MakesRow {D} old clock bytes (outcome.Up r outs) =
+abbrev pub MakesRow : {D : Type 0} → Running D → ℕ → List ℕ → Served D → Type 0
+MakesRow {D} old clock bytes (is_up r outs) =
     (h : Host) → IsUp old h → (place : ℕ) → IsStepUp r (lines.Given place ∷ []) outs (given old.store.node h clock place (received_by calls_served bytes))
-MakesRow {D} old clock bytes (outcome.Down s line) = (m : Message) × (received bytes ≡ Whole m)
-MakesRow {D} old clock bytes (outcome.Unchanged r) = Unit {0}
+MakesRow {D} old clock bytes (is_down s line) = (m : Message) × (received bytes ≡ Whole m)
+MakesRow {D} old clock bytes (unchanged r) = Unit {0}
 
 -- ---- a step that the disk ended
 
@@ -103,20 +108,26 @@ pub record HasFallen {D : Type 0} (seen : D → Option (List ℕ)) (left_by : D 
   pub same_faults : faults s.disk ≡ faults (disk_of r)
   pub same_limit : limit s.disk ≡ limit (disk_of r)
 
+-- It is so, whatever became of the server: where its disk ended the step, that is what is left of it once it has fallen.
+abbrev pub Becomes : {D : Type 0} → (D → Option (List ℕ)) → (D → ℕ → Option (List ℕ)) → (D → List ℕ → Type 0) → (D → ℕ) → (D → ℕ) → (Served D → Type 0) → Running D → Result Outs NodeFault → Type 0
+Becomes {D} seen left_by may_leave faults limit Is new (Ok outs) = Is (is_up new outs)
+Becomes {D} seen left_by may_leave faults limit Is new (Err nodes.OutOfMemory) = Is (unchanged new)
+Becomes {D} seen left_by may_leave faults limit Is new (Err nodes.Down) = (s : Resting D) (line : Line) → HasFallen seen left_by may_leave faults limit new s line → Is (is_down s line)
+
 -- where it went down its mark is that from before the step, whatever its disk tells
-abbrev pub KeepsMark : {D : Type 0} → Running D → Served (Running D) (Resting D) → Type 0
-KeepsMark {D} old (outcome.Up r outs) = Unit {0}
-KeepsMark {D} old (outcome.Down s line) = s.mark ≡ count_mark old.store.count
-KeepsMark {D} old (outcome.Unchanged r) = Unit {0}
+abbrev pub KeepsMark : {D : Type 0} → Running D → Served D → Type 0
+KeepsMark {D} old (is_up r outs) = Unit {0}
+KeepsMark {D} old (is_down s line) = s.mark ≡ count_mark old.store.count
+KeepsMark {D} old (unchanged r) = Unit {0}
 
 -- where it was stopped, what a read gives is what its disk keeps
-abbrev pub RestsServed : {D : Type 0} → (D → Option (List ℕ)) → (D → List ℕ → Type 0) → Node → Served (Running D) (Resting D) → Type 0
-RestsServed {D} seen may_leave me (outcome.Up r outs) = Unit {0}
-RestsServed {D} seen may_leave me (outcome.Down s line) = line ≡ lines.Crash me → IfSome (seen s.disk) (λ bytes. LeavesJust bytes (may_leave s.disk))
-RestsServed {D} seen may_leave me (outcome.Unchanged r) = Unit {0}
+abbrev pub RestsServed : {D : Type 0} → (D → Option (List ℕ)) → (D → List ℕ → Type 0) → Node → Served D → Type 0
+RestsServed {D} seen may_leave me (is_up r outs) = Unit {0}
+RestsServed {D} seen may_leave me (is_down s line) = line ≡ lines.Crash me → IfSome (seen s.disk) (λ bytes. LeavesJust bytes (may_leave s.disk))
+RestsServed {D} seen may_leave me (unchanged r) = Unit {0}
 
 -- ---- while it is up it can be given what comes next
-abbrev pub GoesOnServed : {D : Type 0} → Running D → Served (Running D) (Resting D) → Type 0
-GoesOnServed {D} old (outcome.Up r outs) = GoesOn 4 50 old r
-GoesOnServed {D} old (outcome.Down s line) = Unit {0}
-GoesOnServed {D} old (outcome.Unchanged r) = GoesOn 4 50 old r
+abbrev pub GoesOnServed : {D : Type 0} → Running D → Served D → Type 0
+GoesOnServed {D} old (is_up r outs) = GoesOn 4 50 old r
+GoesOnServed {D} old (is_down s line) = Unit {0}
+GoesOnServed {D} old (unchanged r) = GoesOn 4 50 old r

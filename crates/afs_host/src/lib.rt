@@ -12,5 +12,4 @@ mod starting;
 pub use resting::Resting;
 pub use running::Running;
 pub use seats::{Seat, ServerSeat};
-pub use serving::Served;
 pub use starting::Start;

@@ -4,7 +4,7 @@ ghost use Rattle.std.specs.Prelude.{◌≡◌, ◌≤◌, ◌↔◌, IsSome};
 ghost use Rattle.afs_model.specs.Messages.{received};
 ghost use Rattle.afs_server.specs.Seen.{CanDraw};
 ghost use Rattle.afs_host.specs.Seats.{disk_of, CanRun};
-ghost use Rattle.afs_host.specs.Serving.{disk_served, GoesOnServed, HasFallen, IsHandled, IsServed, KeepsMark, MakesRow, RestsServed, RunsRow};
+ghost use Rattle.afs_host.specs.Serving.{disk_served, Becomes, GoesOnServed, HasFallen, IsHandled, IsServed, KeepsMark, MakesRow, RestsServed, RunsRow};
 
 use crate::resting::Resting;
 use crate::running::Running;
@@ -15,39 +15,22 @@ use afs_server::faults::NodeFault;
 /// How many device calls a record takes.
 const CALLS_OF_A_RECORD: u64 = 4;
 
-/// What became of a server that was given a message: it is up, and gave this out; or it went down, as this line tells. Memory may
-/// have been wanting, and then nothing was done.
-#[derive(Drop)]
-pub enum Served<U, R> {
-    Up(U, Outs),
-    Down(R, Line),
-    Unchanged(U),
-}
-
 impl<D: Disk> Running<D> {
-    /// The server is given the bytes of a message, at this time in ticks.
-    pub fn serve(self, bytes: &[u8], now: u32) -> Served<Running<D>, Resting<D>>
-        requires can_run { CanRun self }
-        requires draws { CanDraw self.memory self.store.drawn }
+    /// The server is given the bytes of a message, at this time in ticks. Where its disk ended the step, it is to fall.
+    pub fn serve(&mut self, bytes: &[u8], now: u32) -> Result<Outs, NodeFault>
+        requires can_run { CanRun self.old }
+        requires draws { CanDraw self.old.memory self.old.store.drawn }
         requires now { now ≤ 1000000000 }
-        ensures served { IsServed D.seen D.left_by D.size D.may_leave D.moment D.left_since D.faults D.limit self now (received bytes.now) result }
-        ensures row { MakesRow self now bytes.now result }
-        ensures goes_on { GoesOnServed self result }
-        ensures mark { KeepsMark self result }
-        ensures rests { RestsServed D.seen D.may_leave self.store.node result }
-        ensures told { IsSome (D.seen (disk_served result)) ↔ IsSome (D.seen (disk_of self)) }
-        ensures limit { D.limit (disk_served result) ≡ D.limit (disk_of self) }
-        ensures faults { D.faults (disk_of self) ≤ D.faults (disk_served result) }
+        ensures served { Becomes D.seen D.left_by D.may_leave D.faults D.limit (λ s. IsServed D.seen D.left_by D.size D.may_leave D.moment D.left_since D.faults D.limit self.old now (received bytes.now) s) self.new result }
+        ensures row { Becomes D.seen D.left_by D.may_leave D.faults D.limit (λ s. MakesRow self.old now bytes.now s) self.new result }
+        ensures goes_on { Becomes D.seen D.left_by D.may_leave D.faults D.limit (λ s. GoesOnServed self.old s) self.new result }
+        ensures mark { Becomes D.seen D.left_by D.may_leave D.faults D.limit (λ s. KeepsMark self.old s) self.new result }
+        ensures rests { Becomes D.seen D.left_by D.may_leave D.faults D.limit (λ s. RestsServed D.seen D.may_leave self.old.store.node s) self.new result }
+        ensures told { Becomes D.seen D.left_by D.may_leave D.faults D.limit (λ s. IsSome (D.seen (disk_served s)) ↔ IsSome (D.seen (disk_of self.old))) self.new result }
+        ensures limit { Becomes D.seen D.left_by D.may_leave D.faults D.limit (λ s. D.limit (disk_served s) ≡ D.limit (disk_of self.old)) self.new result }
+        ensures faults { Becomes D.seen D.left_by D.may_leave D.faults D.limit (λ s. D.faults (disk_of self.old) ≤ D.faults (disk_served s)) self.new result }
     {
-        let mut running = self;
-        match running.handle(bytes, now) {
-            Ok(outs) => Served::Up(running, outs),
-            Err(NodeFault::OutOfMemory) => Served::Unchanged(running),
-            Err(NodeFault::Down) => {
-                let (resting, line) = running.fall();
-                Served::Down(resting, line)
-            }
-        }
+        self.handle(bytes, now)
     }
 
     /// The server is given these bytes. A step that passed lowers what the disk is set to by its device calls.
@@ -74,7 +57,7 @@ impl<D: Disk> Running<D> {
     }
 
     /// The disk ended a step of the server. A stop leaves of the disk what its pick says, a failure leaves it as it is.
-    fn fall(self) -> (Resting<D>, Line)
+    pub fn fall(self) -> (Resting<D>, Line)
         ensures { HasFallen D.seen D.left_by D.may_leave D.faults D.limit self result.0 result.1 }
     {
         let node = self.store.node();

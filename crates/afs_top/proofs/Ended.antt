@@ -33,7 +33,7 @@ use Rattle.afs_final.specs.declared.reading.Left.{Left}
 use Rattle.afs_lending.specs.Lending.{faults_of, kept_disks, lends, with_faults, AreUnused, GivesBackAll, GivesBackSome, LendsSome}
 use Rattle.afs_top.specs.Outside.{span, IsUnchanged, Outside, RoseBy, Span, Writes, WritesText}
 use Rattle.afs_top.specs.Parts.{lend_status, returned, set_up_status, TellsLeft}
-use Rattle.afs_top.specs.Top.{lends_of, AreKept, AtBankFault, EndsReplay, EndsRun, FailsBehind, GivesBack, IsPlayed, IsPlayedFirst, IsPlayedSome, LendingFails, Lends, LendsAll, LendsFirst, ReadingFails, Replays, ReplaysFirst, ReplaysSome, SetUpLeaves}
+use Rattle.afs_top.specs.Top.{lends_of, AreKept, AtBankFault, EndsReplay, EndsRun, FailsBehind, GivesBack, IsPlayed, IsPlayedFirst, IsPlayedSome, LendingFails, Lends, LendsAll, LendsFirst, ReadingFails, Replays, ReplaysFirst, ReplaysSome, SetUpLeaves, WritesEntries}
 use Rattle.afs_top.specs.declared.statuses.Status.{Status}
 use Rattle.afs_top.specs.declared.statuses.Status.TheVariants as statuses
 use Rattle.afs_top.proofs.Counts.{counted, counts_lent, found_failed, found_no_less, grown, none_fell, one_grown, rose_once, rose_since, AtLeast}
@@ -87,6 +87,16 @@ whole_text : {D : Type 0} (seen : D → Option (List ℕ)) (may_leave : D → Li
 unfolding text
 whole_text {D} seen may_leave faults limit s w fs wire is read = ap (λ (t : List ℕ). t ++ final_text (map part fs)) (history_told wire w.wire w.history read is.safe.sent)
 
+-- that of its entries, whatever the disks tell
+pub entries_of : {D : Type 0} (seen : D → Option (List ℕ)) (may_leave : D → List ℕ → Type 0) (faults limit : D → ℕ) (s : Script) (w : WorldState D) (wire : Bool) (o : Outside) → IsWorld seen may_leave faults limit s w → Writes o (kept_history_text wire w.wire w.history) → WritesEntries wire o
+entries_of {D} seen may_leave faults limit s w wire o is written = record {
+  sent = w.wire;
+  entries = w.history;
+  all = is.safe.sent;
+  few = is.safe.entries;
+  written = written;
+}
+
 -- its history is that of its script, and what was read from its disks is what that leaves
 replays : {D : Type 0} (seen : D → Option (List ℕ)) (may_leave : D → List ℕ → Type 0) (faults limit : D → ℕ) (s : Script) (w : WorldState D) (fs : List (Left (Store D) D)) (wire : Bool) (Writes : List ℕ → Type 0) (excuse : Type 0) (o : Outside)
     → HasEnded seen may_leave faults limit s w → AreFound seen faults limit (lent_from 1 w.servers) fs → fault_in fs ≡ None → Writes (kept_history_text wire w.wire w.history ++ final_text (map part fs)) → GoesBack seen faults (kept_disks 1 fs) o
@@ -111,6 +121,7 @@ reading_fails {D} seen may_leave faults limit s w fs wire o is found failed writ
     let more = found_failed seen faults limit 1 (lent_from 1 w.servers) fs found failed in
     record {
       rose = rose_by 1 _ o.disk_faults back.counts (one_grown 0 _ _ less more (inl (omega (arith))));
+      written = entries_of seen may_leave faults limit s w wire o is.world written;
       told = λ p. failed_behind seen may_leave faults limit is.law s w wire o is.one is.world.safe.entries p.1 (rose_by _ _ o.disk_faults back.counts (one_grown _ _ _ less more (counts_lent faults _ 1 w.servers p.1.runs.counts)))
           (written_told seen may_leave faults limit s w wire o is.world p.1.runs.read written);
     }
@@ -141,7 +152,7 @@ ended {D} seen may_leave faults limit s w fs wire o statuses.WriteFault taken is
       told = λ p. replays seen may_leave faults limit s w fs wire (AppendsFront o.sink.before o.sink.after) (RoseBy 1 o.bank_faults) o is found tells.0 tells.1.0 back (excused o.bank_faults.before o.bank_faults.after back.never_falls back.gives) p;
     }
 ended {D} seen may_leave faults limit s w fs wire o statuses.BankFault taken is found tells all cause back = inr (inr (inl (reading_fails seen may_leave faults limit s w fs wire o is found tells.0 tells.1 back)))
-ended {D} seen may_leave faults limit s w fs wire o statuses.OutOfMemory taken is found tells all cause back = inr (λ p. reading_wants seen may_leave faults limit s w fs wire o is found tells back p)
+ended {D} seen may_leave faults limit s w fs wire o statuses.OutOfMemory taken is found tells all cause back = inr (record { written = entries_of seen may_leave faults limit s w wire o is.world tells; told = λ p. reading_wants seen may_leave faults limit s w fs wire o is found tells back p })
 ended {D} seen may_leave faults limit s w fs wire o statuses.Usage taken is found tells all cause back = absurd tells
 ended {D} seen may_leave faults limit s w fs wire o (statuses.Script line reason) taken is found tells all cause back = absurd tells
 ended {D} seen may_leave faults limit s w fs wire o statuses.ReadFault taken is found tells all cause back = absurd tells
@@ -251,6 +262,15 @@ writes_since : (o earlier : Outside) → Since o earlier → (t : List ℕ) → 
 writes_since o earlier since t w =
     subst (λ (x : Span (Option (List ℕ))). WritesText x earlier.sink_faults t) (sym since.sink) (subst (λ (x : Span ℕ). WritesText o.sink x t) (sym since.sink_faults) w)
 
+entries_since : (wire : Bool) (o earlier : Outside) → Since o earlier → WritesEntries wire o → WritesEntries wire earlier
+entries_since wire o earlier since w = record {
+  sent = w.sent;
+  entries = w.entries;
+  all = w.all;
+  few = w.few;
+  written = writes_since o earlier since (kept_history_text wire w.sent w.entries) w.written;
+}
+
 first_since : (s : Script) (wire : Bool) (a b : Type 0) (o earlier : Outside) → Since o earlier → (a → b) → ReplaysFirst s wire a o → ReplaysFirst s wire b earlier
 first_since s wire a b o earlier since f r = record {
   history = r.history;
@@ -295,7 +315,7 @@ bank_fault_since s wire tells tells_too left left_too unlent o earlier since t l
 bank_fault_since s wire tells tells_too left left_too unlent o earlier since t l (inr (inl h)) =
     inr (inl (record { rose = disks_since 1 o earlier since h.rose; written = unwritten_since o earlier since h.written; only_set_up = l h.only_set_up }))
 bank_fault_since s wire tells tells_too left left_too unlent o earlier since t l (inr (inr (inl h))) =
-    inr (inr (inl (record { rose = disks_since 1 o earlier since h.rose; told = λ x. behind_since s wire o earlier since (h.told (t x)) })))
+    inr (inr (inl (record { rose = disks_since 1 o earlier since h.rose; written = entries_since wire o earlier since h.written; told = λ x. behind_since s wire o earlier since (h.told (t x)) })))
 bank_fault_since s wire tells tells_too left left_too unlent o earlier since t l (inr (inr (inr h))) =
     inr (inr (inr (record { rose = bank_since o earlier since h.rose; told = λ x. replays_since s wire _ _ _ _ o earlier since (whole_since o earlier since) (bank_since o earlier since) (h.told (t x)) })))
 
@@ -308,7 +328,7 @@ ends_since s wire tells tells_too left left_too unlent o earlier statuses.WriteF
     }
 ends_since s wire tells tells_too left left_too unlent o earlier statuses.BankFault since t l h = bank_fault_since s wire tells tells_too left left_too unlent o earlier since t l h
 ends_since s wire tells tells_too left left_too unlent o earlier statuses.OutOfMemory since t l (inl h) = inl (unwritten_since o earlier since h)
-ends_since s wire tells tells_too left left_too unlent o earlier statuses.OutOfMemory since t l (inr h) = inr (λ x. some_since s wire o earlier since (h (t x)))
+ends_since s wire tells tells_too left left_too unlent o earlier statuses.OutOfMemory since t l (inr h) = inr (record { written = entries_since wire o earlier since h.written; told = λ x. some_since s wire o earlier since (h.told (t x)) })
 ends_since s wire tells tells_too left left_too unlent o earlier statuses.Limit since t l h = λ x. first_since s wire _ _ o earlier since (bank_since o earlier since) (h (t x))
 ends_since s wire tells tells_too left left_too unlent o earlier statuses.Usage since t l h = absurd h
 ends_since s wire tells tells_too left left_too unlent o earlier (statuses.Script line reason) since t l h = absurd h

@@ -1,6 +1,6 @@
 -- The end of a replay: its history is legal, what was read from the disks is what the history leaves, and so are the disks that were
 -- given back.
-use Rattle.std.specs.Prelude.{◌≡◌, ◌≤◌, ◌<◌, ◌⊎◌, ℕ, zero, suc, ◌+◌, List, [], ◌∷◌, ◌++◌, drop, map, length, Bool, false, Option, Some, None, IsSome}
+use Rattle.std.specs.Prelude.{◌≡◌, ◌≤◌, ◌⊎◌, ℕ, suc, ◌+◌, List, [], ◌∷◌, ◌++◌, drop, map, length, Bool, Option, Some, None, IsSome}
 use Rattle.std.proofs.Common.{refl, ap, sym, subst, ◌∙◌, inl, inr, append_assoc, arith}
 use Rattle.std.proofs.lemmas.List.{append-nil}
 use Rattle.afs_num.specs.Places.{at_place}
@@ -14,7 +14,7 @@ use Rattle.afs_journal.specs.Records.{whole_records}
 use Rattle.afs_records.specs.Durable.{fold_all, Durable}
 use Rattle.afs_records.specs.Stands.{Stands}
 use Rattle.afs_records.proofs.Forms.{some_is}
-use Rattle.afs_rows.specs.Runs.{Cell, RunsTo}
+use Rattle.afs_rows.specs.Runs.{Cell}
 use Rattle.afs_law.specs.Laws.{RunsAreLegal}
 use Rattle.afs_law.specs.OneServer.{IsOneServer}
 use Rattle.afs_text.specs.HistoryText.{history_text}
@@ -23,7 +23,7 @@ use Rattle.afs_volstore.specs.Stores.{Store}
 use Rattle.afs_cell.specs.Places.{Each}
 use Rattle.afs_cell.specs.Steps.{lent_from, AreStanding, HasPlayedAll, HasPlayedFirst, HasPlayedSome, MayBeRead}
 use Rattle.afs_cell.specs.Worlds.{most_entries, own_falls, seat_disk, AllTell, IsCell, ServerSeat, WorldState}
-use Rattle.afs_final.specs.Reading.{fault_in, kept_disk, part, AreFound, IsFound, IsRead}
+use Rattle.afs_final.specs.Reading.{fault_in, kept_disk, part, AreFound, IsRead}
 use Rattle.afs_final.specs.declared.reading.Left.{Left}
 use Rattle.afs_final.specs.declared.reading.Left.TheVariants as left
 use Rattle.afs_lending.specs.Lending.{kept_disks, GivesBackAll, GivesBackSome}

@@ -1,32 +1,30 @@
 -- Where a world that was played ends, by what its parts promise.
-use Rattle.std.specs.Prelude.{◌≡◌, ◌≤◌, ◌<◌, ◌⊎◌, ℕ, zero, suc, ◌+◌, List, [], ◌∷◌, ◌++◌, length, map, Bool, false, Option, Some, None, Result, Ok, Err, OnOk, OnErr}
-use Rattle.std.proofs.Common.{refl, ap, sym, subst, ◌∙◌, inl, inr, arith}
+use Rattle.std.specs.Prelude.{◌≡◌, ◌≤◌, ◌⊎◌, ℕ, zero, suc, ◌+◌, List, [], ◌∷◌, ◌++◌, length, map, Bool, false, Option, Result, Ok, Err, OnOk, OnErr}
+use Rattle.std.proofs.Common.{refl, ap, sym, subst, inl, inr, arith}
 use Rattle.afs_num.specs.Nodes.{IsNode}
 use Rattle.afs_num.specs.declared.devices.Failed as bank
 use Rattle.afs_num.specs.declared.types.Node.TheVariants.{Server}
 use Rattle.afs_history.specs.declared.scripts.Script.{Script}
 use Rattle.afs_disk.specs.Disk.{Rose}
 use Rattle.afs_disk.specs.declared.disks.Lent.{Lent}
-use Rattle.afs_grammar.specs.CellScripts.{IsCellScript}
 use Rattle.afs_law.specs.Laws.{RunsAreLegal}
 use Rattle.afs_law.specs.OneServer.{IsOneServer}
 use Rattle.afs_outside.specs.declared.outside.Failed.{Failed}
-use Rattle.afs_rows.specs.Runs.{Cell}
 use Rattle.afs_text.specs.FinalText.{final_text}
 use Rattle.afs_volstore.specs.Stores.{Store}
 use Rattle.afs_cell.specs.Since.{whole, StandsSince}
 use Rattle.afs_cell.specs.Steps.{lent_from, AreLent, AreStanding, HasPlayedAll, HasPlayedFirst, HasPlayedSome}
-use Rattle.afs_cell.specs.Worlds.{AllTell, HistoryTold, IsCell, IsWorld, ServerSeat, WorldState}
+use Rattle.afs_cell.specs.Worlds.{AllTell, HistoryTold, IsWorld, ServerSeat, WorldState}
 use Rattle.afs_final.specs.Reading.{fault_in, part, AreFound, AreReadable}
 use Rattle.afs_final.specs.declared.reading.Left.{Left}
 use Rattle.afs_lending.specs.Lending.{faults_of, kept_disks, with_faults, GivesBackAll, GivesBackSome}
 use Rattle.afs_top.specs.Outside.{Outside, Writes}
 use Rattle.afs_top.specs.Parts.{returned, TellsLeft}
 use Rattle.afs_top.specs.Playing.{world_text, IsWritten}
-use Rattle.afs_top.specs.Top.{EndsRun}
+use Rattle.afs_top.specs.Top.{EndsRun, WritesEntries}
 use Rattle.afs_top.specs.declared.statuses.Status.{Status}
 use Rattle.afs_top.specs.declared.statuses.Status.TheVariants as statuses
-use Rattle.afs_top.proofs.Ended.{all_wanted, ended, wanted, was_cut, GoesBack, HasEnded}
+use Rattle.afs_top.proofs.Ended.{all_wanted, ended, entries_of, wanted, was_cut, GoesBack, HasEnded}
 
 -- ---- the disks can be read
 
@@ -108,6 +106,9 @@ module _ {D : Type 0} (seen : D → Option (List ℕ)) (may_leave : D → List �
     gone_back : GoesBack seen faults (lent_from 1 w.servers) o
     gone_back = subst (λ (ls : List (Lent D)). GoesBack seen faults ls o) over.are (record { gives = gives; some = some; counts = counts; never_falls = never_falls })
 
+    entries : WritesEntries wire o
+    entries = entries_of seen may_leave faults limit w.script (whole gone w) wire o told.world writes
+
     -- its history was full before its end
     pub cut_of : w.is_lost ≡ false → result ≡ statuses.Limit → EndsRun w.script wire (AllTell seen w.servers × HasPlayedFirst seen may_leave faults limit w.script (whole gone w)) ⊥ ⊥ o result
     cut_of going are =
@@ -118,10 +119,10 @@ module _ {D : Type 0} (seen : D → Option (List ℕ)) (may_leave : D → List �
     pub wanted_of : result ≡ statuses.OutOfMemory → EndsRun w.script wire (AllTell seen w.servers × HasPlayedSome seen may_leave faults limit w.script (whole gone w)) ⊥ ⊥ o result
     wanted_of are =
         subst (λ (x : Status). EndsRun w.script wire (AllTell seen w.servers × HasPlayedSome seen may_leave faults limit w.script (whole gone w)) ⊥ ⊥ o x) (sym are)
-        (inr (λ p. wanted seen may_leave faults limit w.script (whole gone w) wire o (record { law = law; one = one; world = told.world }) writes gone_back p))
+        (inr (record { written = entries; told = λ p. wanted seen may_leave faults limit w.script (whole gone w) wire o (record { law = law; one = one; world = told.world }) writes gone_back p }))
 
     -- so it was for its disks
     pub unread_of : result ≡ statuses.OutOfMemory → EndsRun w.script wire (AllTell seen w.servers × HasPlayedAll seen may_leave faults limit w.script (whole gone w)) ⊥ ⊥ o result
     unread_of are =
         subst (λ (x : Status). EndsRun w.script wire (AllTell seen w.servers × HasPlayedAll seen may_leave faults limit w.script (whole gone w)) ⊥ ⊥ o x) (sym are)
-        (inr (λ p. wanted seen may_leave faults limit w.script (whole gone w) wire o (record { law = law; one = one; world = told.world }) writes gone_back (all_wanted seen may_leave faults limit w.script (whole gone w) p)))
+        (inr (record { written = entries; told = λ p. wanted seen may_leave faults limit w.script (whole gone w) wire o (record { law = law; one = one; world = told.world }) writes gone_back (all_wanted seen may_leave faults limit w.script (whole gone w) p) }))

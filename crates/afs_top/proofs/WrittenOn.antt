@@ -1,5 +1,5 @@
 -- A script is played, and its history is written as it goes.
-use Rattle.std.specs.Prelude.{◌≡◌, ◌≤◌, ◌<◌, ◌⊎◌, ℕ, ◌+◌, ◌-◌, List, [], ◌∷◌, ◌++◌, length, drop, Bool, Option, Result, Ok, Err, IsOk, IsErr}
+use Rattle.std.specs.Prelude.{◌≡◌, ◌≤◌, ◌<◌, ◌⊎◌, ℕ, ◌+◌, ◌-◌, List, [], ◌++◌, length, drop, Bool, Option, Result, Ok, Err, IsOk, IsErr}
 use Rattle.std.proofs.Common.{refl, ap, ap₂, sym, subst, ◌∙◌, inl, inr, append_assoc, append-nil, arith}
 use Rattle.std.proofs.Math.Seq.{drop-append-add}
 use Rattle.std.proofs.lemmas.List.{length-append}
@@ -24,7 +24,7 @@ use Rattle.afs_cell.specs.Worlds.{most_entries, none_gone, AllTell, HistoryTold,
 use Rattle.afs_cell.specs.declared.playing.Played.TheVariants as played
 use Rattle.afs_cell.proofs.UnderWay.{begins}
 use Rattle.afs_cell.proofs.Whole.{before_more, sent_by-append, whole_more, with_more}
-use Rattle.afs_top.specs.Playing.{world_text, EndsSo, IsTold, PlaysOn, PutsBehind}
+use Rattle.afs_top.specs.Playing.{world_text, IsTold, PlaysOn, PutsBehind}
 use Rattle.afs_top.specs.declared.playing.Ended.TheVariants as ended
 
 -- ---- what is written behind a text

@@ -1,9 +1,11 @@
 -- What the program promises: what it writes is the text of a legal history of the script that it read, and the disks that it
 -- gives back stand for what that history leaves.
-use Rattle.std.specs.Prelude.{◌≡◌, ◌≤◌, ◌<◌, ◌⊎◌, ℕ, ◌+◌, List, [], ◌∷◌, ◌++◌, length, Bool, Option, Some, None, Result, Ok, Err, map}
+use Rattle.std.specs.Prelude.{◌≡◌, ◌≤◌, ◌<◌, ◌⊎◌, ℕ, ◌+◌, List, [], ◌∷◌, ◌++◌, length, Bool, Option, Some, None, Ok, Err}
 use Rattle.std.specs.Option.{option_map}
 use Rattle.std.specs.Io.KnownBytes.{Appends, IsAtEnd}
 use Rattle.afs_num.specs.declared.scripts.Reason.{Reason}
+use Rattle.afs_num.specs.declared.types.Parcel.{Parcel}
+use Rattle.afs_history.specs.declared.lines.Entry as kept
 use Rattle.afs_history.specs.declared.scripts.Script.{Script}
 use Rattle.afs_disk.specs.declared.bank.Lend.{Lend}
 use Rattle.afs_disk.specs.declared.bank.Place.{Place}
@@ -15,6 +17,8 @@ use Rattle.afs_records.specs.Durable.{Durable}
 use Rattle.afs_records.specs.Stands.{Stands}
 use Rattle.afs_rows.specs.Runs.{start, Cell, Entry, Input, Leads}
 use Rattle.afs_text.specs.HistoryText.{history_text, text}
+use Rattle.afs_text.specs.KeptText.{kept_history_text}
+use Rattle.afs_text.specs.Telling.{sent_by}
 use Rattle.afs_schedule.specs.Schedules.{events_of, first_turn, AreFirst, AreInputs, IsHistoryOf, IsHistoryOfFirst}
 use Rattle.afs_cell.specs.Ends.{AreLeft}
 use Rattle.afs_cell.specs.Steps.{MayBeRead}
@@ -124,6 +128,15 @@ pub record ReplaysSome (s : Script) (wire : Bool) (o : Outside) : Type 0 where
   pub played : IsPlayedSome s o.disk_faults history
   pub written : Writes o (history_text wire history)
 
+-- Whatever the disks tell: the text of some entries was written, with all messages that they sent, or where the sink failed, a beginning
+-- of it. There are no more of them than a history may have. Nothing of the final part stands there.
+pub record WritesEntries (wire : Bool) (o : Outside) : Type 0 where
+  pub sent : List Parcel
+  pub entries : List kept.Entry
+  pub all : sent_by entries ≡ length sent
+  pub few : length entries ≤ most_entries
+  pub written : Writes o (kept_history_text wire sent entries)
+
 -- The script was played to its end, and disks failed by themselves in its history less often than is counted in the call. The text of the
 -- history was written, without the final part, or where the sink failed, a beginning of it.
 pub record FailsBehind (s : Script) (wire : Bool) (o : Outside) : Type 0 where
@@ -176,6 +189,7 @@ pub record SettingUpFails (left : Type 0) (o : Outside) : Type 0 where
 -- a disk failed while it was read for the final part: so there is a failure that is none of the history's
 pub record ReadingFails (s : Script) (wire : Bool) (tells : Type 0) (o : Outside) : Type 0 where
   pub rose : RoseBy 1 o.disk_faults
+  pub written : WritesEntries wire o
   pub told : tells → FailsBehind s wire o
 
 -- a disk wasn't taken back: all else is done
@@ -188,9 +202,14 @@ pub record ReturningFails (s : Script) (wire : Bool) (tells : Type 0) (o : Outsi
 abbrev pub AtBankFault : Script → Bool → Type 0 → Type 0 → Type 0 → Outside → Type 0
 AtBankFault s wire tells left unlent o = unlent ⊎ (SettingUpFails left o ⊎ (ReadingFails s wire tells o ⊎ ReturningFails s wire tells o))
 
--- memory was wanting: nothing was written, or what was is the text of the first events
+-- memory was wanting while the script was played, or for what its disks keep: the text of the first events was written
+pub record PlayingWants (s : Script) (wire : Bool) (tells : Type 0) (o : Outside) : Type 0 where
+  pub written : WritesEntries wire o
+  pub told : tells → ReplaysSome s wire o
+
+-- memory was wanting, before the first event or behind it
 abbrev pub AtOutOfMemory : Script → Bool → Type 0 → Outside → Type 0
-AtOutOfMemory s wire tells o = IsUnchanged o.sink ⊎ (tells → ReplaysSome s wire o)
+AtOutOfMemory s wire tells o = IsUnchanged o.sink ⊎ PlayingWants s wire tells o
 
 -- by its status, whatever was lent; no other comes of a replay
 abbrev pub EndsRun : Script → Bool → Type 0 → Type 0 → Type 0 → Outside → Status → Type 0

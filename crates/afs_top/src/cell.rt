@@ -17,8 +17,7 @@ use std::alloc::Global;
 
 /// Plays the script that the source holds and writes its text to the sink, over disks that the bank lends. The words are those
 /// behind the program's name: `replay`, with `--wire` where the bytes of each message are asked for, and `--disks DIR` where the disks
-/// are to be files of that folder. The text is written as the script is played; where writing fails
-/// the script is played on.
+/// are to be files of that folder. The text is written as the script is played; where writing fails, the script is played on.
 pub fn cell_main<S: Source, K: Sink, B: Bank<D: Drop>>(
     alloc: Global,
     words: &[String],

@@ -52,16 +52,6 @@ fn put_next<K: Sink, D: Disk>(
     )
 }
 
-fn told<W>(world: W, ended: Ended, written: Result<(), Failed>) -> Told<W>
-    ensures { result ≡ record { world = world; ended = ended; written = written } }
-{
-    Told {
-        world,
-        ended,
-        written,
-    }
-}
-
 /// Plays the schedule of a cell at set-up. Each entry is written as it comes; where that fails, the others aren't, and the script is
 /// played on.
 pub(crate) fn play<'a, K: Sink, D: Disk>(
@@ -82,9 +72,27 @@ pub(crate) fn play<'a, K: Sink, D: Disk>(
                 written = put_next(sink, &world, wire, written);
                 world.let_go(schedule.settled());
             }
-            Played::All => return told(world, Ended::All, written),
-            Played::Limit => return told(world, Ended::Limit, written),
-            Played::OutOfMemory => return told(world, Ended::OutOfMemory, written),
+            Played::All => {
+                return Told {
+                    world,
+                    ended: Ended::All,
+                    written,
+                };
+            }
+            Played::Limit => {
+                return Told {
+                    world,
+                    ended: Ended::Limit,
+                    written,
+                };
+            }
+            Played::OutOfMemory => {
+                return Told {
+                    world,
+                    ended: Ended::OutOfMemory,
+                    written,
+                };
+            }
         }
     }
 }

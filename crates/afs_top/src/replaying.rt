@@ -160,6 +160,7 @@ fn cut<K: Sink, B: Bank<D: Drop>>(
 {
     runs_are_legal();
     let disks = world.end();
+    // The status stands already; that the sink failed is counted.
     let _passed = put_no_more(sink, written);
     give_up(bank, disks, Status::Limit)
 }
@@ -179,6 +180,7 @@ fn give_in<K: Sink, B: Bank<D: Drop>>(
 {
     runs_are_legal();
     let disks = world.end();
+    // The status stands already; that the sink failed is counted.
     let _passed = put_no_more(sink, written);
     give_up(bank, disks, Status::OutOfMemory)
 }

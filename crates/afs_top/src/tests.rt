@@ -57,6 +57,29 @@ fn a_sink_that_is_full_holds_a_beginning(rt: HostRuntime) -> Result<(), Fail> {
     Ok(())
 }
 
+/// How the replay ends over a sink of so much room and a disk whose calls fail so, and how many calls came to the disk.
+fn ends_over(alloc: Global, room: usize, failing: &[u8]) -> Result<(Status, u64), Fail> {
+    let mut sink = MemSink::with_room(alloc, room, &[])?;
+    let mut bank = bank(alloc, &[], failing)?;
+    let status = replayed(alloc, &mut sink, &mut bank)?;
+    Ok((status, calls_of(&bank)))
+}
+
+// Behind a full sink the script is played on: its disk has all the calls that it would have had. What the disk keeps is read before
+// the final part is written, so a failure there is what is told.
+#[test]
+fn behind_a_full_sink_the_script_is_played_on(rt: HostRuntime) -> Result<(), Fail> {
+    let (status, steady) = ends_over(rt.alloc(), 10_000, &[])?;
+    assert_eq!(rt; status, Status::Done);
+    let (status, calls) = ends_over(rt.alloc(), 10, &[])?;
+    assert_eq!(rt; status, Status::WriteFault);
+    assert_eq!(rt; calls, steady);
+    let failing = fails_at(rt.alloc(), steady, 0)?;
+    let (status, _) = ends_over(rt.alloc(), 10, failing.as_slice())?;
+    assert_eq!(rt; status, Status::BankFault);
+    Ok(())
+}
+
 #[test]
 fn a_bank_whose_first_lend_fails_is_a_fault(rt: HostRuntime) -> Result<(), Fail> {
     let mut sink = MemSink::new(rt.alloc(), &[]);

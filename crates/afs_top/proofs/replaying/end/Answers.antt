@@ -1,4 +1,4 @@
-use Rattle.std.proofs.Common.{◌++◌, List, ℕ, map, subst, arith}
+use Rattle.std.proofs.Common.{ℕ, arith}
 use Rattle.afs_cell.specs.Since.{whole}
 use Rattle.afs_top.proofs.Returned.{end_of, few_left, readable, unread_of}
 use Rattle.afs_top.proofs.Written.{written_by}
@@ -8,8 +8,9 @@ pub left_of-requires : goal.left_of-requires
 left_of-requires g c = readable g.B.D.Disk.seen g.B.D.Disk.may_leave g.B.D.Disk.faults g.B.D.Disk.limit c.args.world.script (whole c.requires.world.before c.args.world) c.end-disks.result c.requires.world.world c.end-disks.ensures.disks c.end-disks.ensures.lent
 
 pub tell_left-status-requires : goal.tell_left-status-requires
-tell_left-status-requires g c =
-    rw (c.as_slice.ensures.value) (few_left g.B.D.Disk.seen g.B.D.Disk.may_leave g.B.D.Disk.faults g.B.D.Disk.limit c.args.world.script (whole c.requires.world.before c.args.world) c.end-disks.result c.in-Ok.left.items c.requires.world.world c.end-disks.ensures.disks c.in-Ok.ensures.found)
+tell_left-status-requires g c = record {
+  few = rw (c.as_slice.ensures.value) (few_left g.B.D.Disk.seen g.B.D.Disk.may_leave g.B.D.Disk.faults g.B.D.Disk.limit c.args.world.script (whole c.requires.world.before c.args.world) c.end-disks.result c.in-Ok.left.items c.requires.world.world c.end-disks.ensures.disks c.in-Ok.ensures.found);
+}
 
 pub give_back-taken-requires : goal.give_back-taken-requires
 give_back-taken-requires g c =
