@@ -157,14 +157,14 @@ impl Going {
 }
 
 /// What an act needs next: the body, the status, or the rights of this fid, or the status of each of these; this call; to
-/// give its promises back; or to answer.
+/// give its promises back; or to answer. A call is much longer than the others, and stands apart.
 #[derive(Drop)]
 pub enum Need {
     Body(Fid),
     Status(Fid),
     Statuses(Fids),
     Rights(Fid),
-    Call(FsCall),
+    Call(Box<FsCall>),
     GiveBack,
     Answer(u32),
 }

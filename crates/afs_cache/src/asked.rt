@@ -76,7 +76,7 @@ fn call_for(alloc: Global, need: Need, gifts: &[Gift]) -> Mem<FsCall>
         Need::Status(fid) => Ok(FsCall::FetchStatus { fid }),
         Need::Statuses(fids) => Ok(FsCall::BulkStatus { fids }),
         Need::Rights(fid) => Ok(FsCall::FetchAcl { fid }),
-        Need::Call(call) => Ok(call),
+        Need::Call(call) => Ok(Box::into_inner(call)),
         Need::GiveBack => gift_call(alloc, gift_batch(gifts)),
         Need::Answer(_) => Ok(FsCall::GetTime),
     }
@@ -145,7 +145,10 @@ impl Asked {
         ensures value { IfOk result (λ gs. gs.items ≡ behind_batch self.now.gifts) }
         ensures nodes { IfOk result (λ gs. All IsGift gs.items) }
     {
-        copy_gifts(alloc, self.held.gifts.split_at(batch_len(&self.held.gifts)).1)
+        copy_gifts(
+            alloc,
+            self.held.gifts.split_at(batch_len(&self.held.gifts)).1,
+        )
     }
 
     /// Its call: all calls of clients are of the interface of the file servers.

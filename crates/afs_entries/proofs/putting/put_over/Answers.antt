@@ -24,4 +24,4 @@ returns-clause-fits c =
     let new = ap (λ (m : LruCache Slot Entry). length m.entries) st.2 in
     let long = raised_long (slot_of f) st.0 (entry_joined true e st.0) es.entries st.1 in
     let few = c.requires.fits.few in
-    record { some = c.requires.fits.some; few = omega (arith, few, new, long); wide = ap (λ (m : LruCache Slot Entry). m.cap) st.2 ∙ c.requires.fits.wide; }
+    record { some = c.requires.fits.some; few = omega (arith, few, new, long); wide = ap (λ (m : LruCache Slot Entry). m.cap) st.2 ∙ c.requires.fits.wide }
