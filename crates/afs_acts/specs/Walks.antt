@@ -17,7 +17,7 @@ need_of (told.Body f) = going.reads f
 need_of (told.Status f) = going.reads_status f
 need_of (told.Statuses fs) = going.reads_statuses fs
 need_of (told.Rights f) = going.reads_rights f
-need_of (told.Call c) = going.asks_for c
+need_of (told.Call c) = going.asks_for c.value
 need_of told.GiveBack = going.gives_back
 need_of (told.Answer n) = going.answers n
 

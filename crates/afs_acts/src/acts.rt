@@ -2,7 +2,7 @@
 
 ghost use Rattle.std.specs.Prelude.{◌≡◌, ◌≤◌, IfOk, length, take};
 ghost use Rattle.afs_num.specs.declared.calls.FsCall.{FsCall};
-ghost use Rattle.afs_rows.specs.Going.{by_kind, is_root, mode_set, named_first, next, nothing_set, stored_whole};
+ghost use Rattle.afs_rows.specs.Going.{asks_for, by_kind, is_root, mode_set, named_first, next, nothing_set, stored_whole};
 ghost use Rattle.afs_history.specs.Written.{bytes_in};
 ghost use Rattle.afs_acts.specs.Acts.{FitsNeed, IsShortAct};
 ghost use Rattle.afs_acts.specs.Needs.{are_read, at_of, linked, moved, needed, needed_by, on_object, in_parent, rights_need, shown_need, status_need, statuses_need, statuses_seen, within_of};
@@ -43,6 +43,13 @@ fn set(mask: u32, mode: u32) -> AfsStoreStatus
         unix_mode_bits: mode,
         seg_size: 0,
     }
+}
+
+/// An act asks with this call.
+fn ask(alloc: Global, call: FsCall) -> Mem<Need>
+    ensures { IfOk result (λ n. need_of n ≡ asks_for call) }
+{
+    Ok(Need::Call(Box::new(alloc, call)?))
 }
 
 /// The answer by what the object is.
@@ -173,26 +180,36 @@ fn close(
     let at = reach!(object(home, operand, reads));
     let contents = bytes_in(alloc, contents)?;
     let length = contents.len() as i32;
-    Ok(Need::Call(FsCall::StoreData {
-        fid: at.fid,
-        status: set(0, 0),
-        position: 0,
-        length,
-        file_length: length,
-        contents,
-    }))
+    ask(
+        alloc,
+        FsCall::StoreData {
+            fid: at.fid,
+            status: set(0, 0),
+            position: 0,
+            length,
+            file_length: length,
+            contents,
+        },
+    )
 }
 
-fn set_mode(home: Option<u32>, operand: &Operand, mode: u32, reads: &[Shown]) -> Need
-    ensures { need_of result ≡ on_object home operand.now reads.now (λ f. FsCall.StoreStatus f (mode_set mode)) }
+fn set_mode(
+    alloc: Global,
+    home: Option<u32>,
+    operand: &Operand,
+    mode: u32,
+    reads: &[Shown],
+) -> Mem<Need>
+    ensures { IfOk result (λ n. need_of n ≡ on_object home operand.now reads.now (λ f. FsCall.StoreStatus f (mode_set mode))) }
 {
-    match object(home, operand, reads) {
-        Ok(at) => Need::Call(FsCall::StoreStatus {
+    let at = reach!(object(home, operand, reads));
+    ask(
+        alloc,
+        FsCall::StoreStatus {
             fid: at.fid,
             status: set(8, mode),
-        }),
-        Err(need) => need,
-    }
+        },
+    )
 }
 
 fn set_acl(
@@ -205,10 +222,13 @@ fn set_acl(
     ensures { IfOk result (λ n. need_of n ≡ on_object home operand.now reads.now (λ f. FsCall.StoreAcl f (bytes_in text.now))) }
 {
     let at = reach!(object(home, operand, reads));
-    Ok(Need::Call(FsCall::StoreAcl {
-        fid: at.fid,
-        acl: bytes_in(alloc, text)?,
-    }))
+    ask(
+        alloc,
+        FsCall::StoreAcl {
+            fid: at.fid,
+            acl: bytes_in(alloc, text)?,
+        },
+    )
 }
 
 /// A call with a name in a directory.
@@ -216,22 +236,28 @@ fn make(alloc: Global, home: Option<u32>, path: &Path, reads: &[Shown]) -> Mem<N
     ensures { IfOk result (λ n. need_of n ≡ in_parent home path.now.names reads.now (λ d name. FsCall.CreateFile d name nothing_set)) }
 {
     let within = reach!(parent(home, path.names.as_slice(), reads));
-    Ok(Need::Call(FsCall::CreateFile {
-        directory: within.directory,
-        name: within.name.copy(alloc)?,
-        status: set(0, 0),
-    }))
+    ask(
+        alloc,
+        FsCall::CreateFile {
+            directory: within.directory,
+            name: within.name.copy(alloc)?,
+            status: set(0, 0),
+        },
+    )
 }
 
 fn make_directory(alloc: Global, home: Option<u32>, path: &Path, reads: &[Shown]) -> Mem<Need>
     ensures { IfOk result (λ n. need_of n ≡ in_parent home path.now.names reads.now (λ d name. FsCall.MakeDir d name nothing_set)) }
 {
     let within = reach!(parent(home, path.names.as_slice(), reads));
-    Ok(Need::Call(FsCall::MakeDir {
-        directory: within.directory,
-        name: within.name.copy(alloc)?,
-        status: set(0, 0),
-    }))
+    ask(
+        alloc,
+        FsCall::MakeDir {
+            directory: within.directory,
+            name: within.name.copy(alloc)?,
+            status: set(0, 0),
+        },
+    )
 }
 
 fn symlink(
@@ -244,32 +270,41 @@ fn symlink(
     ensures { IfOk result (λ n. need_of n ≡ in_parent home path.now.names reads.now (λ d name. FsCall.Symlink d name (bytes_in target.now) nothing_set)) }
 {
     let within = reach!(parent(home, path.names.as_slice(), reads));
-    Ok(Need::Call(FsCall::Symlink {
-        directory: within.directory,
-        name: within.name.copy(alloc)?,
-        target: bytes_in(alloc, target)?,
-        status: set(0, 0),
-    }))
+    ask(
+        alloc,
+        FsCall::Symlink {
+            directory: within.directory,
+            name: within.name.copy(alloc)?,
+            target: bytes_in(alloc, target)?,
+            status: set(0, 0),
+        },
+    )
 }
 
 fn remove(alloc: Global, home: Option<u32>, path: &Path, reads: &[Shown]) -> Mem<Need>
     ensures { IfOk result (λ n. need_of n ≡ in_parent home path.now.names reads.now FsCall.RemoveFile) }
 {
     let within = reach!(parent(home, path.names.as_slice(), reads));
-    Ok(Need::Call(FsCall::RemoveFile {
-        directory: within.directory,
-        name: within.name.copy(alloc)?,
-    }))
+    ask(
+        alloc,
+        FsCall::RemoveFile {
+            directory: within.directory,
+            name: within.name.copy(alloc)?,
+        },
+    )
 }
 
 fn remove_directory(alloc: Global, home: Option<u32>, path: &Path, reads: &[Shown]) -> Mem<Need>
     ensures { IfOk result (λ n. need_of n ≡ in_parent home path.now.names reads.now FsCall.RemoveDir) }
 {
     let within = reach!(parent(home, path.names.as_slice(), reads));
-    Ok(Need::Call(FsCall::RemoveDir {
-        directory: within.directory,
-        name: within.name.copy(alloc)?,
-    }))
+    ask(
+        alloc,
+        FsCall::RemoveDir {
+            directory: within.directory,
+            name: within.name.copy(alloc)?,
+        },
+    )
 }
 
 fn is_root(path: &Path) -> bool
@@ -285,12 +320,15 @@ fn rename(alloc: Global, old: Within<'_, '_>, new: Within<'_, '_>) -> Mem<Need>
     if old.directory.volume != new.directory.volume {
         return Ok(Need::Answer(22));
     }
-    Ok(Need::Call(FsCall::Rename {
-        old_directory: old.directory,
-        old_name: old.name.copy(alloc)?,
-        new_directory: new.directory,
-        new_name: new.name.copy(alloc)?,
-    }))
+    ask(
+        alloc,
+        FsCall::Rename {
+            old_directory: old.directory,
+            old_name: old.name.copy(alloc)?,
+            new_directory: new.directory,
+            new_name: new.name.copy(alloc)?,
+        },
+    )
 }
 
 fn mv(alloc: Global, homes: &Homes, from: &Path, to: &Path, reads: &[Shown]) -> Mem<Need>
@@ -310,11 +348,14 @@ fn add_name(alloc: Global, target: At<'_>, new: Within<'_, '_>) -> Mem<Need>
     if target.fid.volume != new.directory.volume {
         return Ok(Need::Answer(22));
     }
-    Ok(Need::Call(FsCall::Link {
-        directory: new.directory,
-        name: new.name.copy(alloc)?,
-        existing: target.fid,
-    }))
+    ask(
+        alloc,
+        FsCall::Link {
+            directory: new.directory,
+            name: new.name.copy(alloc)?,
+            existing: target.fid,
+        },
+    )
 }
 
 fn link(alloc: Global, homes: &Homes, target: &Path, path: &Path, reads: &[Shown]) -> Mem<Need>
@@ -343,7 +384,7 @@ fn needed(alloc: Global, homes: &Homes, act: &Act, reads: &[Shown]) -> Mem<Need>
         Act::GetAccessList { operand } => Ok(rights(home, operand, reads)),
         Act::GiveUp => Ok(Need::GiveBack),
         Act::Close { operand, contents } => close(alloc, home, operand, contents, reads),
-        Act::SetMode { operand, mode } => Ok(set_mode(home, operand, *mode, reads)),
+        Act::SetMode { operand, mode } => set_mode(alloc, home, operand, *mode, reads),
         Act::SetAccessList { operand, text } => set_acl(alloc, home, operand, text, reads),
         Act::Make { path } => make(alloc, home, path, reads),
         Act::MakeDirectory { path } => make_directory(alloc, home, path, reads),

@@ -1,10 +1,11 @@
 //! What an act has read, and what it needs.
 
 ghost use Rattle.std.specs.Prelude.{◌≡◌, IfOk, OnErr, OnOk};
-ghost use Rattle.afs_rows.specs.Going.{began, with_read};
+ghost use Rattle.afs_rows.specs.Going.{began, reads_of, with_read};
 
 use crate::copies::{copy_act, copy_read};
 use crate::places::homes_of;
+use crate::reads::most_reads;
 use afs_history::acts::Act;
 use afs_num::calls::{Fids, FsCall};
 use afs_num::histories::ReadBody;
@@ -12,6 +13,7 @@ use afs_num::sequences::{Octets, Sequence};
 use afs_num::types::{Fid, Mem};
 use std::alloc::Global;
 use std::marker::Model;
+use std::sync::Arc;
 
 /// Where a volume is: its name, its number, and the number of its server.
 #[derive(Drop)]
@@ -65,20 +67,21 @@ impl Model for Shown {
 
 pub type Reads = Sequence<Shown>;
 
-/// An act that runs, and what it has read, the first first.
+/// An act that runs, and what it has read, the first first. Copies of it share the act.
 #[derive(Drop)]
 pub struct Going {
-    pub act: Act,
+    pub act: Arc<Act>,
     pub homes: Homes,
     pub reads: Reads,
 }
 
 impl Model for Going {
+    ghost use Rattle.std.specs.Arc.{arc_value};
     ghost use Rattle.afs_rows.specs.Going.{Going};
 
     ghost Value = { Going };
 
-    ghost view = { λ g. record { act = g.act; homes = g.homes; reads = g.reads } };
+    ghost view = { λ g. record { act = arc_value g.act; homes = g.homes; reads = g.reads } };
 }
 
 impl Shown {
@@ -92,14 +95,15 @@ impl Shown {
     }
 }
 
+/// A copy, with room for one read more: an act that goes on has read something.
 fn copy_reads(alloc: Global, reads: &Reads) -> Mem<Reads>
     ensures { IfOk result (λ c. c ≡ reads.now) }
 {
-    let mut copy = Sequence::new(alloc);
+    let mut copy = Vec::with_capacity(alloc, reads.len() + 1)?;
     for shown in reads.as_slice() {
         copy.push(shown.copy(alloc)?)?;
     }
-    Ok(copy)
+    Ok(Sequence::from_vec(copy))
 }
 
 impl Homes {
@@ -119,7 +123,7 @@ impl Going {
         ensures { IfOk result (λ g. g ≡ began table.now act.now) }
     {
         Ok(Going {
-            act: copy_act(alloc, act)?,
+            act: Arc::new(alloc, copy_act(alloc, act)?)?,
             homes: homes_of(table, act),
             reads: Sequence::new(alloc),
         })
@@ -130,10 +134,17 @@ impl Going {
         ensures { IfOk result (λ g. g ≡ self.now) }
     {
         Ok(Going {
-            act: copy_act(alloc, &self.act)?,
+            act: self.act.clone()?,
             homes: self.homes.copy(),
             reads: copy_reads(alloc, &self.reads)?,
         })
+    }
+
+    /// How many reads it takes from a cache at most.
+    pub fn most_reads(&self) -> u64
+        ensures { result ≡ reads_of self.now.act }
+    {
+        most_reads(&self.act)
     }
 
     /// Adds a read.
@@ -146,14 +157,14 @@ impl Going {
 }
 
 /// What an act needs next: the body, the status, or the rights of this fid, or the status of each of these; this call; to
-/// give its promises back; or to answer.
+/// give its promises back; or to answer. A call is much longer than the others, and stands apart.
 #[derive(Drop)]
 pub enum Need {
     Body(Fid),
     Status(Fid),
     Statuses(Fids),
     Rights(Fid),
-    Call(FsCall),
+    Call(Box<FsCall>),
     GiveBack,
     Answer(u32),
 }

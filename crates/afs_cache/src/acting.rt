@@ -2,7 +2,7 @@
 //!
 //! What a step does is planned first, while the client is as it was; what changes then takes no memory.
 
-ghost use Rattle.std.specs.Prelude.{◌≡◌, ◌+◌, ◌<◌, [], ◌++◌, ◌∷◌, map, Some, IfOk, OnErr, OnOk};
+ghost use Rattle.std.specs.Prelude.{◌≡◌, ◌+◌, ◌<◌, ◌^◌, [], ◌++◌, ◌∷◌, map, Some, IfOk, OnErr, OnOk};
 ghost use Rattle.std.specs.List.{All};
 ghost use Rattle.std.specs.Option.{option_copied};
 ghost use Rattle.afs_num.specs.Nodes.{IsNode};
@@ -57,6 +57,16 @@ pub struct Way {
 pub struct Dropping {
     pub fids: Vec<Fid>,
     pub lines: Lines,
+}
+
+/// These lines, with room for so many more and for the one that ends a step.
+fn with_room(lines: Lines, count: usize) -> Mem<Lines>
+    requires { count < 2 ^ 63 }
+    ensures { IfOk result (λ ls. ls ≡ lines) }
+{
+    let mut items = lines.into_vec();
+    items.reserve(count + 1)?;
+    Ok(Sequence::from_vec(items))
 }
 
 impl CacheManager {
@@ -343,10 +353,7 @@ impl CacheManager {
         ensures ok { OnOk result (self.new ≡ record self.old { state = record self.old.state { cache = put_entry self.old.state.capacity (entry_of fresh) self.old.state.cache } }) }
         ensures err { OnErr result (self.new ≡ self.old) }
     {
-        let mut all = Vec::new(self.alloc);
-        all.push(fresh)?;
-        self.cache.put_all(all)?;
-        Ok(())
+        self.cache.put(fresh)
     }
 
     /// One entry comes into the cache, and then some are used.
@@ -407,8 +414,8 @@ impl CacheManager {
     pub(crate) fn dropping(&self, drops: &Drops, lines: Lines) -> Mem<Dropping>
         ensures { IfOk result (IsDropping self.now.node self.now.state.cache drops.now lines) }
     {
-        let mut lines = lines;
         let fids = self.cache.listed(self.alloc, drops)?;
+        let mut lines = with_room(lines, fids.len())?;
         self.tell_dropped(&fids, &mut lines)?;
         Ok(Dropping { fids, lines })
     }

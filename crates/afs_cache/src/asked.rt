@@ -19,13 +19,20 @@ use afs_num::types::{Code, Mem};
 use std::alloc::Global;
 use std::marker::Model;
 
-/// The act that runs, what it gives back still, its unanswered call, and whether that gives promises back.
+/// What is kept of the act that runs: it, what it gives back still, its unanswered call, and whether that gives promises
+/// back.
 #[derive(Drop)]
-pub struct Asked {
+struct Held {
     going: Going,
     gifts: Vec<Gift>,
     call: Call,
     gives_back: bool,
+}
+
+/// The act that runs, with its unanswered call. It is moved from hand to hand, and what is kept of it stays where it is.
+#[derive(Drop)]
+pub struct Asked {
+    held: Box<Held>,
 }
 
 impl Model for Asked {
@@ -33,9 +40,9 @@ impl Model for Asked {
 
     ghost Value = { Asking };
 
-    ghost view = { λ a. record { going = a.going; gifts = a.gifts.items } };
+    ghost view = { λ a. record { going = a.held.value.going; gifts = a.held.value.gifts.items } };
 
-    ghost invariant = { λ a. IsAsked a.going a.gifts.items a.call a.gives_back };
+    ghost invariant = { λ a. IsAsked a.held.value.going a.held.value.gifts.items a.held.value.call a.held.value.gives_back };
 }
 
 /// The code with which an act is answered; it has none where it asks for something.
@@ -69,7 +76,7 @@ fn call_for(alloc: Global, need: Need, gifts: &[Gift]) -> Mem<FsCall>
         Need::Status(fid) => Ok(FsCall::FetchStatus { fid }),
         Need::Statuses(fids) => Ok(FsCall::BulkStatus { fids }),
         Need::Rights(fid) => Ok(FsCall::FetchAcl { fid }),
-        Need::Call(call) => Ok(call),
+        Need::Call(call) => Ok(Box::into_inner(call)),
         Need::GiveBack => gift_call(alloc, gift_batch(gifts)),
         Need::Answer(_) => Ok(FsCall::GetTime),
     }
@@ -85,11 +92,14 @@ impl Asked {
     {
         let gives_back = is_giving(&need);
         let call = Call::File(call_for(alloc, need, &gifts)?);
-        Ok(Asked {
+        let held = Held {
             going,
             gifts,
             call,
             gives_back,
+        };
+        Ok(Asked {
+            held: Box::new(alloc, held)?,
         })
     }
 
@@ -97,7 +107,7 @@ impl Asked {
     pub fn gives_back(&self) -> bool
         ensures { result ≡ is_giving (next self.now.going) }
     {
-        self.gives_back
+        self.held.gives_back
     }
 
     /// A copy of the act, and of what it has read.
@@ -105,21 +115,21 @@ impl Asked {
         ensures value { IfOk result (λ g. g ≡ self.now.going) }
         ensures short { IsShortAct self.now.going.act }
     {
-        self.going.copy(alloc)
+        self.held.going.copy(alloc)
     }
 
     pub fn gifts(&self) -> &[Gift]
         ensures value { result.now ≡ self.now.gifts }
         ensures nodes { All IsGift self.now.gifts }
     {
-        &self.gifts
+        &self.held.gifts
     }
 
     pub fn call(&self) -> &Call
         ensures value { result.now ≡ ask.File (call_by self.now.gifts (next self.now.going)) }
         ensures within { IsWithin cell_calls (ask.File (call_by self.now.gifts (next self.now.going))) }
     {
-        &self.call
+        &self.held.call
     }
 
     /// A copy of what it gives back still.
@@ -127,7 +137,7 @@ impl Asked {
         ensures value { IfOk result (λ gs. gs.items ≡ self.now.gifts) }
         ensures nodes { All IsGift self.now.gifts }
     {
-        copy_gifts(alloc, &self.gifts)
+        copy_gifts(alloc, &self.held.gifts)
     }
 
     /// What it gives back behind the batch that its call carries.
@@ -135,14 +145,17 @@ impl Asked {
         ensures value { IfOk result (λ gs. gs.items ≡ behind_batch self.now.gifts) }
         ensures nodes { IfOk result (λ gs. All IsGift gs.items) }
     {
-        copy_gifts(alloc, self.gifts.split_at(batch_len(&self.gifts)).1)
+        copy_gifts(
+            alloc,
+            self.held.gifts.split_at(batch_len(&self.held.gifts)).1,
+        )
     }
 
     /// Its call: all calls of clients are of the interface of the file servers.
     pub fn file_call(&self) -> &FsCall
         ensures { result.now ≡ call_by self.now.gifts (next self.now.going) }
     {
-        match &self.call {
+        match &self.held.call {
             Call::File(call) => call,
             _ => unreachable!(),
         }

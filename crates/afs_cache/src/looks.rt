@@ -10,7 +10,7 @@ ghost use Rattle.afs_acts.specs.Walks.{need_of};
 ghost use Rattle.afs_entries.specs.Cached.{entry_at, HasBody, in_sight};
 ghost use Rattle.afs_cache.specs.Looking.{fid_needed, found_by, HasWalked, look_of, Notes, Turns};
 
-use afs_acts::{Going, Need, copy_body, copy_read, most_reads, next};
+use afs_acts::{Going, Need, copy_body, copy_read, next};
 use afs_entries::{Entry, Sight};
 use afs_history::lines::{Line, Lines};
 use afs_num::histories::{ReadBody, ReadSource};
@@ -138,7 +138,7 @@ pub fn walk(
     requires body { HasBody (option_copied sight.fresh) }
     ensures { IfOk result (λ w. HasWalked node (in_sight sight.entry.cache.now (option_copied sight.entry.fresh)) (walked (most_reads going) now going (in_sight sight.entry.cache.now (option_copied sight.entry.fresh))) lines.old w lines.new) }
 {
-    let mut left = most_reads(&going.act);
+    let mut left = going.most_reads();
     let mut walked = Walked {
         going,
         need,

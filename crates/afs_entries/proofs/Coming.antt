@@ -30,7 +30,7 @@ body_by : (o : Option Body) (index : ℕ) (old : Entry) (f : Fid) → body_over 
 body_by (Some body) index old f = refl
 body_by None index old f = refl
 
-joined_is : (f : Fid) (e v : Entry) (o : Option CacheEntry) → o ≡ Some (entry_at f v) → entry_at f (entry_joined true e v) ≡ record (entry_at f e) { body = body_kept e.body e.index o }
+pub joined_is : (f : Fid) (e v : Entry) (o : Option CacheEntry) → o ≡ Some (entry_at f v) → entry_at f (entry_joined true e v) ≡ record (entry_at f e) { body = body_kept e.body e.index o }
 joined_is f e v o h = ap (λ (b : Option Body). entry_at f (record e { body = b })) (body_by e.body e.index v f ∙ ap (body_kept e.body e.index) (sym h))
 
 alone : (f : Fid) (e : Entry) (b : Option Body) (o : Option CacheEntry) → o ≡ None → e.body ≡ b → body_kept b e.index o ≡ b
@@ -71,7 +71,7 @@ module _ (f : Fid) (e v : Entry) (front tail : List (Slot × Entry)) (d : IsDist
   not_cached : lookup key front ≡ None → without f (map cached front) ≡ map cached front
   not_cached h = sym (popped f front d) ∙ ap (map cached) (all_left key front (no_entry key front h))
 
-  comes_alone : (capacity : ℕ) → lookup key front ≡ None → take capacity (entry_at f e ∷ map cached front) ≡ put_entry capacity (entry_at f e) (map cached front)
+  pub comes_alone : (capacity : ℕ) → lookup key front ≡ None → take capacity (entry_at f e ∷ map cached front) ≡ put_entry capacity (entry_at f e) (map cached front)
   comes_alone capacity h =
       let none : find_cached f (map cached front) ≡ None = sym (found f front) ∙ ap (option_map (entry_at f)) h in
       ap (λ (xs : List CacheEntry). take capacity (entry_at f e ∷ xs)) (sym (not_cached h)) ∙ ap (λ (x : CacheEntry). take capacity (x ∷ without f (map cached front))) (alone_is f e (find_cached f (map cached front)) none)

@@ -7,3 +7,4 @@ pub mod Batches
 pub mod Placing
 pub mod Behind
 pub mod Coming
+pub mod Alone

@@ -19,8 +19,10 @@ pub no_entry : (t : Slot → Bool) (es : List (Slot × Entry)) → lookup t es �
 no_entry t [] q = refl
 no_entry t (e ∷ es) q = no_entry_by (t e.0) e (lookup t es) (lookup_entry t es) (no_entry t es) q
 
+-- the place is the first
+pub placed_first : (s : Slot) (v : Entry) (es : List (Slot × Entry)) (n : ℕ) → lookup (same_slot s) es ≡ None → length es ≤ n - 1 → put_entries same_slot (lru_cache es n) s v ≡ (s, v) ∷ es
+placed_first s v es n q few = rw (no_entry (same_slot s) es q) (ap (λ (xs : List (Slot × Entry)). (s, v) ∷ xs) (whole (n - 1) es few))
+
 -- the place is the last
 pub placed_last : (s : Slot) (v : Entry) (es : List (Slot × Entry)) (n : ℕ) → lookup (same_slot s) es ≡ None → length es ≤ n - 1 → demoted (same_slot s) (put_entries same_slot (lru_cache es n) s v) ≡ es ++ (s, v) ∷ []
-placed_last s v es n q few =
-    let put : put_entries same_slot (lru_cache es n) s v ≡ (s, v) ∷ es = rw (no_entry (same_slot s) es q) (ap (λ (xs : List (Slot × Entry)). (s, v) ∷ xs) (whole (n - 1) es few)) in
-    ap (demoted (same_slot s)) put ∙ rw (same_refl s) refl
+placed_last s v es n q few = ap (demoted (same_slot s)) (placed_first s v es n q few) ∙ rw (same_refl s) refl

@@ -3,12 +3,12 @@
 ghost use Rattle.std.specs.Prelude.{◌≡◌, ◌<◌, [], Some, is_some, length, nat_lt, map, OnErr, OnOk, IfOk};
 ghost use Rattle.std.specs.Option.{option_copied, option_map};
 ghost use Rattle.afs_num.specs.Nodes.{IsNode};
-ghost use Rattle.afs_rows.specs.ClientRow.{find_cached, gift_of, is_trusted, put_entries, refreshed, trusted_in};
+ghost use Rattle.afs_rows.specs.ClientRow.{find_cached, gift_of, is_trusted, put_entries, put_entry, refreshed, trusted_in};
 ghost use Rattle.afs_entries.specs.Cached.{entry_at, entry_of, evicted, fid_dropped, fid_in, is_fid, IsSound, last_fid, left, listed, made_of, slot_of, taken_by, touched, touched_all, unlisted, without, without_all};
 
 use crate::drops::Drops;
 use crate::gifts::Gift;
-use crate::putting::put_fresh;
+use crate::putting::{put_alone, put_fresh};
 use crate::raw::{refresh_in, take_out, use_first};
 use afs_num::histories::{Body, ReadStatus};
 use afs_num::sequences::Octets;
@@ -225,6 +225,14 @@ impl Cache {
         ensures err { OnErr result (self.new ≡ self.old) }
     {
         put_fresh(&mut self.entries, self.capacity, fresh)
+    }
+
+    /// One entry takes the place of that of its fid, and stands first; where there are too many, the last one goes.
+    pub fn put(&mut self, fresh: Fresh) -> Mem<()>
+        ensures ok { OnOk result (self.new ≡ record self.old { entries = put_entry self.old.capacity (entry_of fresh) self.old.entries }) }
+        ensures err { OnErr result (self.new ≡ self.old) }
+    {
+        put_alone(&mut self.entries, self.capacity, fresh)
     }
 
     /// The fids of the entries that go, in order.

@@ -179,3 +179,59 @@ pub fn put_fresh(entries: &mut Entries, capacity: u16, fresh: Vec<Fresh>) -> Mem
         }
     }
 }
+
+/// A key that has no place gets the first one.
+fn add_first(entries: &mut Entries, slot: Slot, entry: Entry) -> Mem<()>
+    requires wide { entries.old.cap ≡ 18446744073709551615 }
+    requires missing { lookup (same_slot slot) entries.old.entries ≡ None }
+    ensures ok { OnOk result (entries.new ≡ lru_cache ((slot, entry) ∷ entries.old.entries) entries.old.cap) }
+    ensures err { OnErr result (entries.new ≡ entries.old) }
+{
+    let _count = entries.len();
+    match entries.put(slot, entry) {
+        Ok(_) => Ok(()),
+        Err(_) => Err(AllocError),
+    }
+}
+
+/// Puts an entry whose key has no place; where there are too many, the last one goes.
+fn put_new(entries: &mut Entries, capacity: u16, fresh: Fresh) -> Mem<()>
+    requires fits { FitsCache capacity entries.old }
+    requires missing { lookup (same_slot (slot_of fresh.fid)) entries.old.entries ≡ None }
+    ensures ok { OnOk result (map cached entries.new.entries ≡ put_entry capacity (entry_of fresh) (map cached entries.old.entries)) }
+    ensures fits { FitsCache capacity entries.new }
+    ensures err { OnErr result (entries.new ≡ entries.old) }
+{
+    let _count = entries.len();
+    let Fresh { fid, entry } = fresh;
+    add_first(entries, slot_for(&fid), entry)?;
+    shorten(entries, capacity as usize);
+    Ok(())
+}
+
+/// Puts an entry whose key has a place.
+fn put_over(entries: &mut Entries, capacity: u16, fresh: Fresh)
+    requires fits { FitsCache capacity entries.old }
+    requires key { HasKey (slot_of fresh.fid) entries.old }
+    ensures put { map cached entries.new.entries ≡ put_entry capacity (entry_of fresh) (map cached entries.old.entries) }
+    ensures fits { FitsCache capacity entries.new }
+{
+    let _capacity = capacity;
+    let _count = entries.len();
+    let Fresh { fid, entry } = fresh;
+    raise(entries, &slot_for(&fid), entry, true);
+}
+
+/// Puts an entry. That one is put alone which most replies bring: its key is looked for once.
+pub fn put_alone(entries: &mut Entries, capacity: u16, fresh: Fresh) -> Mem<()>
+    requires { FitsCache capacity entries.old }
+    ensures ok { OnOk result (map cached entries.new.entries ≡ put_entry capacity (entry_of fresh) (map cached entries.old.entries)) }
+    ensures fits { FitsCache capacity entries.new }
+    ensures err { OnErr result (entries.new ≡ entries.old) }
+{
+    if entries.contains(&slot_for(&fresh.fid)) {
+        put_over(entries, capacity, fresh);
+        return Ok(());
+    }
+    put_new(entries, capacity, fresh)
+}

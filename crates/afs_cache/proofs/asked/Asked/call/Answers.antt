@@ -9,4 +9,4 @@ use Rattle.afs_cache.proofs.Calling.{call_within}
 use Rattle.afs_cache.proofs.asked.Asked.call.Goals as goal
 
 pub returns-clause-within : goal.returns-clause-within
-returns-clause-within c = subst (λ (a : Asking). IsWithin cell_calls (ask.File (call_by a.gifts (next a.going)))) c.self.view_is (call_within c.self.inside.going c.self.inside.gifts.items c.self.invariant.short)
+returns-clause-within c = subst (λ (a : Asking). IsWithin cell_calls (ask.File (call_by a.gifts (next a.going)))) c.self.view_is (call_within c.self.inside.held.value.going c.self.inside.held.value.gifts.items c.self.invariant.short)
