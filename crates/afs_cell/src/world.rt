@@ -286,8 +286,8 @@ impl<'a, D: Disk> World<'a, D> {
         self.gone.entries + self.history.len() as u64 == MOST_ENTRIES
     }
 
-    /// Plays one event, which isn't a drain: its deliveries are events of their own. `Limit` where the history is as long as one
-    /// may be.
+    /// Plays one event, which isn't a drain: its deliveries are events of their own. A message that was let go can't be delivered any
+    /// more. `Limit` where the history is as long as one may be.
     pub fn step(&mut self, event: &Event) -> Result<(), WorldFault>
         requires world { IsWorldSince D.seen D.may_leave D.faults D.limit self.old }
         requires fits { FitsEvent (counts_of self.old.script) event.now }
