@@ -14,6 +14,9 @@ pub struct Form {
     pub level: u8,
 }
 
+/// The level from which on every act is built, with every operand.
+const ALL_ACTS: u8 = 6;
+
 pub const WHOLE: Form = Form { level: 10 };
 
 /// The level that brings lines of this word.
@@ -45,7 +48,7 @@ fn act_level(act: Option<ActWord>) -> u8
 fn is_unbuilt_task(level: u8, mut words: Parts<'_>) -> bool
     ensures { result ≡ is_unbuilt_task level words.entry }
 {
-    if words.part().is_none() {
+    if level >= ALL_ACTS || words.part().is_none() {
         return false;
     }
     match words.part() {

@@ -1,6 +1,8 @@
 //! Names, paths and operands.
 
 ghost use Rattle.std.specs.Prelude.{◌≡◌, ◌<◌, ◌++◌, [], ◌∷◌, ℕ, List, Some, None, length, IfSome, IfNone, IfOk, if◌then◌else◌};
+ghost use Rattle.std.specs.List.{list_all};
+ghost use Rattle.afs_num.specs.Names.{is_plain};
 ghost use Rattle.afs_words.specs.Words.{is_high_hex, high_value, is_escape, escaped_byte, unescaped_from, name_of, name_at, label_at, names_from, fit_in, path_in, path_of, path_at, is_fid, act_path_at, operand_of, operand_at};
 ghost use Rattle.afs_words.specs.Reads.{Reads, ReadsInMemory, Gives};
 
@@ -70,8 +72,8 @@ fn next_byte(spelled: &[u8]) -> Option<(u8, &[u8])>
     Some((byte, rest))
 }
 
-/// The bytes of a spelled name.
-fn unescaped(alloc: Global, spelled: &[u8]) -> Result<Option<Octets>, AllocError>
+/// The bytes of a spelled name that may have escapes.
+fn without_escapes(alloc: Global, spelled: &[u8]) -> Result<Option<Octets>, AllocError>
     ensures { IfOk result (λ name. name ≡ unescaped_from [] spelled.now) }
 {
     let mut name = Octets::new(alloc);
@@ -84,6 +86,25 @@ fn unescaped(alloc: Global, spelled: &[u8]) -> Result<Option<Octets>, AllocError
         Ok(Some(name))
     } else {
         Ok(None)
+    }
+}
+
+/// Whether a spelled name is its own spelling.
+fn are_plain(spelled: &[u8]) -> bool
+    ensures { result ≡ list_all is_plain spelled.now }
+{
+    spelled.iter().all(|byte| is_plain(*byte))
+}
+
+/// The bytes of a spelled name.
+#[tactic(auto, using(crate::proofs::Escapes::plain_stays))]
+fn unescaped(alloc: Global, spelled: &[u8]) -> Result<Option<Octets>, AllocError>
+    ensures { IfOk result (λ name. name ≡ unescaped_from [] spelled.now) }
+{
+    if are_plain(spelled) {
+        Ok(Some(Octets::from_slice(alloc, spelled)?))
+    } else {
+        without_escapes(alloc, spelled)
     }
 }
 
