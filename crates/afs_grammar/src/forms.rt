@@ -45,10 +45,14 @@ fn act_level(act: Option<ActWord>) -> u8
 }
 
 /// Whether the words of a task have an act, or an operand, that isn't built.
+#[tactic(auto, using(crate::proofs::Built::all_built))]
 fn is_unbuilt_task(level: u8, mut words: Parts<'_>) -> bool
     ensures { result ≡ is_unbuilt_task level words.entry }
 {
-    if level >= ALL_ACTS || words.part().is_none() {
+    if level >= ALL_ACTS {
+        return false;
+    }
+    if words.part().is_none() {
         return false;
     }
     match words.part() {
