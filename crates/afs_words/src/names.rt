@@ -23,6 +23,9 @@ const VOLUME_NAME: usize = 32;
 
 const NAME: usize = 256;
 
+/// Most paths have no more names below their volume.
+const USUAL_NAMES: usize = 4;
+
 fn high_value(digit: u8) -> Option<u8>
     ensures value { result ≡ (if is_high_hex digit then Some (high_value digit) else None) }
     ensures bound { IfSome result (λ n. n < 16) }
@@ -147,7 +150,7 @@ pub fn label<'a>(words: &mut Parts<'a>) -> Result<&'a [u8], Reason>
 fn names(alloc: Global, mut words: Parts<'_>) -> Result<Sequence<Octets>, LineFault>
     ensures { Gives (names_from [] words.entry) result }
 {
-    let mut names = Sequence::new(alloc);
+    let mut names = Sequence::from_vec(Vec::with_capacity(alloc, USUAL_NAMES)?);
     while let Some(word) = words.part() {
         let name = name_of(alloc, NAME, Reason::Path, word)?;
         names.push(name)?;
