@@ -30,16 +30,14 @@ pub fn told_alone(alloc: Global, line: Line) -> Mem<Outs>
 }
 
 /// These lines behind one that comes first, if there is one.
-fn with_front(alloc: Global, front: Option<Line>, lines: Lines) -> Mem<Lines>
+fn with_front(front: Option<Line>, lines: Lines) -> Mem<Lines>
     ensures { IfOk result (λ ls. ls ≡ front_lines front ++ lines) }
 {
     let Some(line) = front else {
         return Ok(lines);
     };
-    let mut behind = lines.into_vec();
-    let mut all = Vec::with_capacity(alloc, behind.len().saturating_add(1))?;
-    all.push(line)?;
-    all.append(&mut behind)?;
+    let mut all = lines.into_vec();
+    all.insert(0, line)?;
     Ok(Sequence::from_vec(all))
 }
 
@@ -59,7 +57,7 @@ pub fn tell(
     ensures err { OnErr result ((wire.new.messages ≡ wire.old.messages) × (history.new.items ≡ history.old.items)) }
 {
     let Outs { parcels, lines } = outs;
-    let lines = with_front(alloc, front, lines)?;
+    let lines = with_front(front, lines)?;
     wire.reserve(parcels.len())?;
     history.push(Entry {
         actor: Actor::Node(node),

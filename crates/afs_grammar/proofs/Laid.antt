@@ -8,6 +8,7 @@ use Rattle.afs_model.specs.ScriptWords.{◌>>=◌}
 use Rattle.afs_words.specs.Reads.{Gives}
 use Rattle.afs_words.specs.declared.faults.LineFault.{LineFault}
 use Rattle.afs_words.specs.declared.faults.LineFault.TheVariants as faults
+use Rattle.afs_grammar.specs.Heard.{Hears}
 use Rattle.afs_grammar.specs.Lines.{line_fits, line_fits_in, line_laid, line_laid_in, place_of, setup_accepted, setup_laid, with_line, LinesRead}
 
 there_by : (capacity place : ℕ) (x : SetupLine) (ls : List VolumeLine) (u : Unit {0}) (o : Option VolumeLine) → slice_get ls place ≡ o → line_fits_in capacity place x ls o ≡ Ok u → place < length ls
@@ -36,9 +37,9 @@ pub as_long : (place : ℕ) (x : SetupLine) (ls : List VolumeLine) → length (l
 as_long place x ls = as_long_by place x ls (slice_get ls place)
 
 -- a refusal is that of the line
-pub refused_as : (level : ℕ) (r : LinesRead) (name : List ℕ) (place : ℕ) (x : SetupLine) (e : LineFault) (res : Result LinesRead LineFault) → res ≡ Err e → place ≡ place_of name r.volumes → Gives (setup_accepted level r place x) (Err e) → Gives (setup_laid level r name x) res
+pub refused_as : (level : ℕ) (r new : LinesRead) (name : List ℕ) (place : ℕ) (x : SetupLine) (e : LineFault) (res : Result (Unit {0}) LineFault) → res ≡ Err e → place ≡ place_of name r.volumes → Gives (setup_accepted level r place x) (Err e) → Hears (setup_laid level r name x) new res
 unfolding setup_laid
-refused_as level r name place x (faults.Bad reason) res is at refused =
-    subst (λ (q : Result LinesRead LineFault). Gives (setup_laid level r name x) q) (sym is)
+refused_as level r new name place x (faults.Bad reason) res is at refused =
+    subst (λ (q : Result (Unit {0}) LineFault). Hears (setup_laid level r name x) new q) (sym is)
     (ap (λ (o : Result (Unit {0}) Reason). o >>= (λ (u : Unit {0}). Ok (record r { volumes = line_laid (place_of name r.volumes) x r.volumes }))) (ap (λ (k : ℕ). setup_accepted level r k x) (sym at) ∙ refused))
-refused_as level r name place x faults.OutOfMemory res is at refused = subst (λ (q : Result LinesRead LineFault). Gives (setup_laid level r name x) q) (sym is) tt
+refused_as level r new name place x faults.OutOfMemory res is at refused = subst (λ (q : Result (Unit {0}) LineFault). Hears (setup_laid level r name x) new q) (sym is) tt

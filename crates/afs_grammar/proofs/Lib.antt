@@ -1,4 +1,5 @@
 pub mod Acting
+pub mod Built
 pub mod CellScripts
 pub mod FirstBad
 pub mod Laid

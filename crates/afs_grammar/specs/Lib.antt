@@ -2,6 +2,7 @@ pub mod Spellings
 pub mod Turns
 pub mod Acts
 pub mod Forms
+pub mod Heard
 pub mod Lines
 pub mod Grounds
 pub mod CellScripts

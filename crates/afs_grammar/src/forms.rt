@@ -14,6 +14,9 @@ pub struct Form {
     pub level: u8,
 }
 
+/// The level from which on every act is built, with every operand.
+const ALL_ACTS: u8 = 6;
+
 pub const WHOLE: Form = Form { level: 10 };
 
 /// The level that brings lines of this word.
@@ -42,9 +45,13 @@ fn act_level(act: Option<ActWord>) -> u8
 }
 
 /// Whether the words of a task have an act, or an operand, that isn't built.
+#[tactic(auto, using(crate::proofs::Built::all_built))]
 fn is_unbuilt_task(level: u8, mut words: Parts<'_>) -> bool
     ensures { result ≡ is_unbuilt_task level words.entry }
 {
+    if level >= ALL_ACTS {
+        return false;
+    }
     if words.part().is_none() {
         return false;
     }

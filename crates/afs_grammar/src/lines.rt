@@ -1,12 +1,13 @@
 //! What the lines of a script tell, one function for each kind of line.
 
-ghost use Rattle.std.specs.Prelude.{◌≡◌, ◌≤◌, ◌<◌, ◌+◌, ◌++◌, ◌∷◌, ◌^◌, ℕ, [], length, nat_le, true, Ok, Err, IfOk, OnOk};
+ghost use Rattle.std.specs.Prelude.{◌≡◌, ◌≤◌, ◌<◌, ◌+◌, ◌++◌, ◌∷◌, ◌^◌, ℕ, [], length, nat_le, true, Ok, Err, Some, IfOk, OnErr, OnOk};
 ghost use Rattle.afs_num.specs.Names.{volume_name_ok};
 ghost use Rattle.afs_history.specs.declared.scripts.Task.TheVariants.{Client};
 ghost use Rattle.afs_model.specs.Script.{is_silent};
-ghost use Rattle.afs_grammar.specs.Lines.{nothing_read, cell_line, servers_line, clients_line, admins_line, cache_line, capacity_line, user_line, new_line, line_laid, volume_accepted, volume_added, volume_line, setup_accepted, setup_laid, dir_line, file_line, link_line, acl_line, is_file_here, is_operand_here, task_bounded, bounded_for, do_line, plan_line, schedule_line, event_told, event_line, end_line, line_told, line_by_word, first_of, line_of, line_at, script_in, last_at, ticks_of};
+ghost use Rattle.afs_grammar.specs.Lines.{nothing_read, cell_line, servers_line, clients_line, admins_line, cache_line, capacity_line, user_line, new_line, line_laid, volume_accepted, volume_added, volume_line, setup_accepted, setup_laid, dir_line, file_line, link_line, acl_line, is_file_here, is_operand_here, task_bounded, bounded_for, do_line, plan_line, schedule_line, schedule_so_far, event_told, event_line, end_line, line_told, line_by_word, first_of, line_of, line_at, script_in, last_at, ticks_of};
 ghost use Rattle.afs_grammar.specs.Grounds.{IsNext};
 ghost use Rattle.afs_words.specs.Reads.{Gives};
+ghost use Rattle.afs_grammar.specs.Heard.{Hears};
 
 use crate::acts::{plan, task};
 use crate::events;
@@ -116,6 +117,20 @@ fn bounded(form: Form, task: &Task) -> Result<(), Reason>
     }
 }
 
+/// The schedule with one more event; the first, where there is none yet.
+fn put_event(alloc: Global, schedule: &mut Option<Events>, event: Event) -> Result<(), AllocError>
+    ensures ok { OnOk result (schedule.new ≡ Some (schedule_so_far schedule.old ++ event ∷ [])) }
+    ensures err { OnErr result (schedule.new ≡ schedule.old) }
+{
+    if let Some(events) = schedule {
+        return events.push(event);
+    }
+    let mut events = Events::new(alloc);
+    events.push(event)?;
+    *schedule = Some(events);
+    Ok(())
+}
+
 impl LinesRead {
     /// Nothing is read yet.
     pub fn new(alloc: Global) -> Self
@@ -140,82 +155,82 @@ impl LinesRead {
     }
 
     #[tactic(auto, unfolding(crate::specs::Lines::cell_line))]
-    fn cell(self, words: &mut Parts<'_>) -> Result<LinesRead, LineFault>
-        ensures value { Gives (cell_line self words.old) result }
-        ensures stays { IfOk result (λ r. r.volumes ≡ self.volumes) }
+    fn cell(&mut self, words: &mut Parts<'_>) -> Result<(), LineFault>
+        ensures value { Hears (cell_line self.old words.old) self.new result }
+        ensures stays { OnOk result (self.new.volumes ≡ self.old.volumes) }
     {
         number(words, 1, 1)?;
         end(words)?;
-        Ok(self)
+        Ok(())
     }
 
     #[tactic(auto, unfolding(crate::specs::Lines::servers_line))]
-    fn servers(mut self, form: Form, words: &mut Parts<'_>) -> Result<LinesRead, LineFault>
-        ensures value { Gives (servers_line form.level self words.old) result }
-        ensures stays { IfOk result (λ r. r.volumes ≡ self.volumes) }
+    fn servers(&mut self, form: Form, words: &mut Parts<'_>) -> Result<(), LineFault>
+        ensures value { Hears (servers_line form.level self.old words.old) self.new result }
+        ensures stays { OnOk result (self.new.volumes ≡ self.old.volumes) }
     {
         let count = number(words, 1, 8)? as u8;
         end(words)?;
         must(form.level >= 7 || count == 1, Reason::Limit)?;
         self.counts.servers = count;
-        Ok(self)
+        Ok(())
     }
 
     #[tactic(auto, unfolding(crate::specs::Lines::clients_line))]
-    fn clients(mut self, form: Form, words: &mut Parts<'_>) -> Result<LinesRead, LineFault>
-        ensures value { Gives (clients_line form.level self words.old) result }
-        ensures stays { IfOk result (λ r. r.volumes ≡ self.volumes) }
+    fn clients(&mut self, form: Form, words: &mut Parts<'_>) -> Result<(), LineFault>
+        ensures value { Hears (clients_line form.level self.old words.old) self.new result }
+        ensures stays { OnOk result (self.new.volumes ≡ self.old.volumes) }
     {
         let count = number(words, 0, 16)? as u8;
         end(words)?;
         must(form.level >= 6 || count <= 1, Reason::Limit)?;
         self.counts.clients = count;
-        Ok(self)
+        Ok(())
     }
 
     #[tactic(auto, unfolding(crate::specs::Lines::admins_line))]
-    fn admins(mut self, words: &mut Parts<'_>) -> Result<LinesRead, LineFault>
-        ensures value { Gives (admins_line self words.old) result }
-        ensures stays { IfOk result (λ r. r.volumes ≡ self.volumes) }
+    fn admins(&mut self, words: &mut Parts<'_>) -> Result<(), LineFault>
+        ensures value { Hears (admins_line self.old words.old) self.new result }
+        ensures stays { OnOk result (self.new.volumes ≡ self.old.volumes) }
     {
         let count = number(words, 0, 4)? as u8;
         end(words)?;
         self.counts.admins = count;
-        Ok(self)
+        Ok(())
     }
 
     #[tactic(auto, unfolding(crate::specs::Lines::cache_line))]
-    fn cache(mut self, words: &mut Parts<'_>) -> Result<LinesRead, LineFault>
-        ensures value { Gives (cache_line self words.old) result }
-        ensures stays { IfOk result (λ r. r.volumes ≡ self.volumes) }
+    fn cache(&mut self, words: &mut Parts<'_>) -> Result<(), LineFault>
+        ensures value { Hears (cache_line self.old words.old) self.new result }
+        ensures stays { OnOk result (self.new.volumes ≡ self.old.volumes) }
     {
         let most = number(words, 1, 256)? as u32;
         end(words)?;
         self.cache = most;
-        Ok(self)
+        Ok(())
     }
 
     #[tactic(auto, unfolding(crate::specs::Lines::capacity_line))]
-    fn capacity(mut self, words: &mut Parts<'_>) -> Result<LinesRead, LineFault>
-        ensures value { Gives (capacity_line self words.old) result }
-        ensures stays { IfOk result (λ r. r.volumes ≡ self.volumes) }
+    fn capacity(&mut self, words: &mut Parts<'_>) -> Result<(), LineFault>
+        ensures value { Hears (capacity_line self.old words.old) self.new result }
+        ensures stays { OnOk result (self.new.volumes ≡ self.old.volumes) }
     {
         let bytes = number(words, 65_536, 268_435_456)? as u32;
         end(words)?;
         self.capacity = bytes;
-        Ok(self)
+        Ok(())
     }
 
     #[tactic(auto, unfolding(crate::specs::Lines::user_line))]
-    fn user(mut self, alloc: Global, words: &mut Parts<'_>) -> Result<LinesRead, LineFault>
-        ensures value { Gives (user_line self words.old) result }
-        ensures stays { IfOk result (λ r. r.volumes ≡ self.volumes) }
+    fn user(&mut self, alloc: Global, words: &mut Parts<'_>) -> Result<(), LineFault>
+        ensures value { Hears (user_line self.old words.old) self.new result }
+        ensures stays { OnOk result (self.new.volumes ≡ self.old.volumes) }
     {
         let client = one_of(words, b'c', self.counts.clients)?;
         let name = name(alloc, words, 64)?;
         end(words)?;
         self.users.push(UserLine { client, name })?;
-        Ok(self)
+        Ok(())
     }
 
     /// Lays a new volume.
@@ -244,40 +259,40 @@ impl LinesRead {
 
     #[tactic(auto, unfolding(crate::specs::Lines::volume_added))]
     fn with_volume<G: Ground>(
-        mut self,
+        &mut self,
         alloc: Global,
         form: Form,
         ground: &mut G,
         volume: VolumeLine,
-    ) -> Result<LinesRead, LineFault>
-        requires laid { G.lays ground.old self.volumes }
+    ) -> Result<(), LineFault>
+        requires laid { G.lays ground.old self.old.volumes }
         requires bare { volume.lines ≡ [] }
         requires name { volume_name_ok volume.name ≡ true }
-        requires next { IsNext volume self.volumes }
-        ensures value { Gives (volume_added form.level self volume) result }
-        ensures laid { IfOk result (λ r. G.lays ground.new r.volumes) }
-        ensures grows { IfOk result (λ r. length r.volumes ≡ length self.volumes + 1) }
+        requires next { IsNext volume self.old.volumes }
+        ensures value { Hears (volume_added form.level self.old volume) self.new result }
+        ensures laid { OnOk result (G.lays ground.new self.new.volumes) }
+        ensures grows { OnOk result (length self.new.volumes ≡ length self.old.volumes + 1) }
     {
         self.add(alloc, form, ground, &volume)?;
         match self.volumes.push(volume) {
-            Ok(()) => Ok(self),
+            Ok(()) => Ok(()),
             Err(_) => Err(LineFault::OutOfMemory),
         }
     }
 
     #[tactic(auto, unfolding(crate::specs::Lines::volume_line))]
     fn volume<G: Ground>(
-        self,
+        &mut self,
         alloc: Global,
         form: Form,
         ground: &mut G,
         words: &mut Parts<'_>,
-    ) -> Result<LinesRead, LineFault>
-        requires laid { G.lays ground.old self.volumes }
-        requires few { length self.volumes < 200000 }
-        ensures value { Gives (volume_line form.level self words.old) result }
-        ensures laid { IfOk result (λ r. G.lays ground.new r.volumes) }
-        ensures grows { IfOk result (λ r. length r.volumes ≡ length self.volumes + 1) }
+    ) -> Result<(), LineFault>
+        requires laid { G.lays ground.old self.old.volumes }
+        requires few { length self.old.volumes < 200000 }
+        ensures value { Hears (volume_line form.level self.old words.old) self.new result }
+        ensures laid { OnOk result (G.lays ground.new self.new.volumes) }
+        ensures grows { OnOk result (length self.new.volumes ≡ length self.old.volumes + 1) }
     {
         let name = label(words)?;
         must(!is_taken(name, self.volumes.as_slice()), Reason::Name)?;
@@ -317,46 +332,47 @@ impl LinesRead {
 
     /// The volume of this place has one more line.
     #[tactic(auto, using(crate::proofs::Laid::line_put))]
-    fn with_line(mut self, place: usize, line: SetupLine) -> Result<LinesRead, AllocError>
-        requires { place < length self.volumes }
-        ensures { IfOk result (λ r. r ≡ record self { volumes = line_laid place line self.volumes }) }
+    fn with_line(&mut self, place: usize, line: SetupLine) -> Result<(), AllocError>
+        requires { place < length self.old.volumes }
+        ensures { OnOk result (self.new ≡ record self.old { volumes = line_laid place line self.old.volumes }) }
     {
         self.volumes[place].lines.push(line)?;
-        Ok(self)
+        Ok(())
     }
 
     /// A line of set-up in the volume of this name.
     #[tactic(auto, unfolding(crate::specs::Lines::setup_laid), using(crate::proofs::Laid::as_long))]
     fn with_setup<G: Ground>(
-        self,
+        &mut self,
         alloc: Global,
         form: Form,
         ground: &mut G,
         name: &[u8],
         line: SetupLine,
-    ) -> Result<LinesRead, LineFault>
-        requires laid { G.lays ground.old self.volumes }
-        ensures value { Gives (setup_laid form.level self name.now line) result }
-        ensures laid { IfOk result (λ r. G.lays ground.new r.volumes) }
-        ensures stays { IfOk result (λ r. length r.volumes ≡ length self.volumes) }
+    ) -> Result<(), LineFault>
+        requires laid { G.lays ground.old self.old.volumes }
+        ensures value { Hears (setup_laid form.level self.old name.now line) self.new result }
+        ensures laid { OnOk result (G.lays ground.new self.new.volumes) }
+        ensures stays { OnOk result (length self.new.volumes ≡ length self.old.volumes) }
     {
         let place = place_of(name, self.volumes.as_slice());
         self.lay(alloc, form, ground, place, &line)?;
-        Ok(self.with_line(place, line)?)
+        self.with_line(place, line)?;
+        Ok(())
     }
 
     #[tactic(auto, unfolding(crate::specs::Lines::dir_line))]
     fn directory<G: Ground>(
-        self,
+        &mut self,
         alloc: Global,
         form: Form,
         ground: &mut G,
         words: &mut Parts<'_>,
-    ) -> Result<LinesRead, LineFault>
-        requires laid { G.lays ground.old self.volumes }
-        ensures value { Gives (dir_line form.level self words.old) result }
-        ensures laid { IfOk result (λ r. G.lays ground.new r.volumes) }
-        ensures stays { IfOk result (λ r. length r.volumes ≡ length self.volumes) }
+    ) -> Result<(), LineFault>
+        requires laid { G.lays ground.old self.old.volumes }
+        ensures value { Hears (dir_line form.level self.old words.old) self.new result }
+        ensures laid { OnOk result (G.lays ground.new self.new.volumes) }
+        ensures stays { OnOk result (length self.new.volumes ≡ length self.old.volumes) }
     {
         let Path { volume, names } = path(alloc, words)?;
         end(words)?;
@@ -366,16 +382,16 @@ impl LinesRead {
 
     #[tactic(auto, unfolding(crate::specs::Lines::file_line))]
     fn file<G: Ground>(
-        self,
+        &mut self,
         alloc: Global,
         form: Form,
         ground: &mut G,
         words: &mut Parts<'_>,
-    ) -> Result<LinesRead, LineFault>
-        requires laid { G.lays ground.old self.volumes }
-        ensures value { Gives (file_line form.level self words.old) result }
-        ensures laid { IfOk result (λ r. G.lays ground.new r.volumes) }
-        ensures stays { IfOk result (λ r. length r.volumes ≡ length self.volumes) }
+    ) -> Result<(), LineFault>
+        requires laid { G.lays ground.old self.old.volumes }
+        ensures value { Hears (file_line form.level self.old words.old) self.new result }
+        ensures laid { OnOk result (G.lays ground.new self.new.volumes) }
+        ensures stays { OnOk result (length self.new.volumes ≡ length self.old.volumes) }
     {
         let Path { volume, names } = path(alloc, words)?;
         let contents = written(alloc, words, CONTENTS)?;
@@ -389,16 +405,16 @@ impl LinesRead {
 
     #[tactic(auto, unfolding(crate::specs::Lines::link_line))]
     fn link<G: Ground>(
-        self,
+        &mut self,
         alloc: Global,
         form: Form,
         ground: &mut G,
         words: &mut Parts<'_>,
-    ) -> Result<LinesRead, LineFault>
-        requires laid { G.lays ground.old self.volumes }
-        ensures value { Gives (link_line form.level self words.old) result }
-        ensures laid { IfOk result (λ r. G.lays ground.new r.volumes) }
-        ensures stays { IfOk result (λ r. length r.volumes ≡ length self.volumes) }
+    ) -> Result<(), LineFault>
+        requires laid { G.lays ground.old self.old.volumes }
+        ensures value { Hears (link_line form.level self.old words.old) self.new result }
+        ensures laid { OnOk result (G.lays ground.new self.new.volumes) }
+        ensures stays { OnOk result (length self.new.volumes ≡ length self.old.volumes) }
     {
         let Path { volume, names } = path(alloc, words)?;
         let target = written(alloc, words, TEXT)?;
@@ -412,16 +428,16 @@ impl LinesRead {
 
     #[tactic(auto, unfolding(crate::specs::Lines::acl_line))]
     fn access_list<G: Ground>(
-        self,
+        &mut self,
         alloc: Global,
         form: Form,
         ground: &mut G,
         words: &mut Parts<'_>,
-    ) -> Result<LinesRead, LineFault>
-        requires laid { G.lays ground.old self.volumes }
-        ensures value { Gives (acl_line form.level self words.old) result }
-        ensures laid { IfOk result (λ r. G.lays ground.new r.volumes) }
-        ensures stays { IfOk result (λ r. length r.volumes ≡ length self.volumes) }
+    ) -> Result<(), LineFault>
+        requires laid { G.lays ground.old self.old.volumes }
+        ensures value { Hears (acl_line form.level self.old words.old) self.new result }
+        ensures laid { OnOk result (G.lays ground.new self.new.volumes) }
+        ensures stays { OnOk result (length self.new.volumes ≡ length self.old.volumes) }
     {
         let Path { volume, names } = path(alloc, words)?;
         let text = written(alloc, words, TEXT)?;
@@ -432,99 +448,94 @@ impl LinesRead {
 
     #[tactic(auto, unfolding(crate::specs::Lines::do_line, crate::specs::Acts::task_at))]
     fn task(
-        mut self,
+        &mut self,
         alloc: Global,
         form: Form,
         words: &mut Parts<'_>,
-    ) -> Result<LinesRead, LineFault>
-        ensures value { Gives (do_line form.level self words.old) result }
-        ensures stays { IfOk result (λ r. r.volumes ≡ self.volumes) }
+    ) -> Result<(), LineFault>
+        ensures value { Hears (do_line form.level self.old words.old) self.new result }
+        ensures stays { OnOk result (self.new.volumes ≡ self.old.volumes) }
     {
         let node = node(words, ACTORS, self.counts)?;
         let task = task(alloc, self.counts, node, words)?;
         bounded(form, &task)?;
         self.tasks.push(task)?;
-        Ok(self)
+        Ok(())
     }
 
     #[tactic(auto, unfolding(crate::specs::Lines::plan_line))]
-    fn plan(mut self, words: &mut Parts<'_>) -> Result<LinesRead, LineFault>
-        ensures value { Gives (plan_line self words.old) result }
-        ensures stays { IfOk result (λ r. r.volumes ≡ self.volumes) }
+    fn plan(&mut self, words: &mut Parts<'_>) -> Result<(), LineFault>
+        ensures value { Hears (plan_line self.old words.old) self.new result }
+        ensures stays { OnOk result (self.new.volumes ≡ self.old.volumes) }
     {
         let plan = plan(self.counts, words)?;
         self.plans.push(plan)?;
-        Ok(self)
+        Ok(())
     }
 
     #[tactic(auto, unfolding(crate::specs::Lines::schedule_line))]
-    fn schedule(mut self, alloc: Global, words: &mut Parts<'_>) -> Result<LinesRead, LineFault>
-        ensures value { Gives (schedule_line self words.old) result }
-        ensures stays { IfOk result (λ r. r.volumes ≡ self.volumes) }
+    fn schedule(&mut self, alloc: Global, words: &mut Parts<'_>) -> Result<(), LineFault>
+        ensures value { Hears (schedule_line self.old words.old) self.new result }
+        ensures stays { OnOk result (self.new.volumes ≡ self.old.volumes) }
     {
         end(words)?;
         self.schedule = Some(Events::new(alloc));
         self.ticks = 0;
-        Ok(self)
+        Ok(())
     }
 
     /// An event behind those that were told.
     #[tactic(auto, unfolding(crate::specs::Lines::event_told), using(crate::proofs::Ticks::ticks_behind))]
     fn with_event(
-        mut self,
+        &mut self,
         alloc: Global,
         event: Event,
         words: &mut Parts<'_>,
-    ) -> Result<LinesRead, LineFault>
-        ensures value { Gives (event_told self event words.old) result }
-        ensures stays { IfOk result (λ r. r.volumes ≡ self.volumes) }
+    ) -> Result<(), LineFault>
+        ensures value { Hears (event_told self.old event words.old) self.new result }
+        ensures stays { OnOk result (self.new.volumes ≡ self.old.volumes) }
     {
         end(words)?;
         let ticks = self.ticks + ticks_of(event);
         must(ticks <= TICKS, Reason::Limit)?;
-        let mut schedule = match self.schedule.take() {
-            Some(schedule) => schedule,
-            None => Events::new(alloc),
-        };
-        schedule.push(event)?;
-        self.schedule = Some(schedule);
+        put_event(alloc, &mut self.schedule, event)?;
         self.ticks = ticks;
-        Ok(self)
+        Ok(())
     }
 
     #[tactic(auto, unfolding(crate::specs::Lines::event_line))]
     fn event(
-        self,
+        &mut self,
         alloc: Global,
         first: FirstWord,
         words: &mut Parts<'_>,
-    ) -> Result<LinesRead, LineFault>
-        ensures value { Gives (event_line first self words.old) result }
-        ensures stays { IfOk result (λ r. r.volumes ≡ self.volumes) }
+    ) -> Result<(), LineFault>
+        ensures value { Hears (event_line first self.old words.old) self.new result }
+        ensures stays { OnOk result (self.new.volumes ≡ self.old.volumes) }
     {
         let event = events::event(first, self.counts, words)?;
         self.with_event(alloc, event, words)
     }
 
     #[tactic(auto, unfolding(crate::specs::Lines::end_line))]
-    fn end(self, words: &mut Parts<'_>) -> Result<LinesRead, LineFault>
-        ensures value { Gives (end_line self words.old) result }
-        ensures stays { IfOk result (λ r. r.volumes ≡ self.volumes) }
+    fn end(&mut self, words: &mut Parts<'_>) -> Result<(), LineFault>
+        ensures value { Hears (end_line self.old words.old) self.new result }
+        ensures stays { OnOk result (self.new.volumes ≡ self.old.volumes) }
     {
         end(words)?;
-        Ok(self)
+        Ok(())
     }
 
     /// A line that lays nothing.
     fn line_told(
-        self,
+        &mut self,
         alloc: Global,
         form: Form,
         first: FirstWord,
         words: &mut Parts<'_>,
-    ) -> Result<LinesRead, LineFault>
-        ensures value { Gives (line_told form.level first self words.old) result }
-        ensures stays { IfOk result (λ r. r.volumes ≡ self.volumes) }
+    ) -> Result<(), LineFault>
+        ensures value { Hears (line_told form.level first self.old words.old) self.new result }
+        ensures stays { OnOk result (self.new.volumes ≡ self.old.volumes) }
     {
         match first {
             FirstWord::Cell => self.cell(words),
@@ -543,18 +554,18 @@ impl LinesRead {
     }
 
     fn line_by_word<G: Ground>(
-        self,
+        &mut self,
         alloc: Global,
         form: Form,
         ground: &mut G,
         first: FirstWord,
         words: &mut Parts<'_>,
-    ) -> Result<LinesRead, LineFault>
-        requires laid { G.lays ground.old self.volumes }
-        requires few { length self.volumes < 200000 }
-        ensures value { Gives (line_by_word form.level first self words.old) result }
-        ensures laid { IfOk result (λ r. G.lays ground.new r.volumes) }
-        ensures grows { IfOk result (λ r. length r.volumes ≤ length self.volumes + 1) }
+    ) -> Result<(), LineFault>
+        requires laid { G.lays ground.old self.old.volumes }
+        requires few { length self.old.volumes < 200000 }
+        ensures value { Hears (line_by_word form.level first self.old words.old) self.new result }
+        ensures laid { OnOk result (G.lays ground.new self.new.volumes) }
+        ensures grows { OnOk result (length self.new.volumes ≤ length self.old.volumes + 1) }
     {
         match first {
             FirstWord::Volume => self.volume(alloc, form, ground, words),
@@ -568,17 +579,17 @@ impl LinesRead {
 
     #[tactic(auto, unfolding(crate::specs::Lines::line_of))]
     fn line_of<G: Ground>(
-        mut self,
+        &mut self,
         alloc: Global,
         form: Form,
         ground: &mut G,
         words: &mut Parts<'_>,
-    ) -> Result<LinesRead, LineFault>
-        requires laid { G.lays ground.old self.volumes }
-        requires few { length self.volumes < 200000 }
-        ensures value { Gives (line_of form.level self words.old) result }
-        ensures laid { IfOk result (λ r. G.lays ground.new r.volumes) }
-        ensures grows { IfOk result (λ r. length r.volumes ≤ length self.volumes + 1) }
+    ) -> Result<(), LineFault>
+        requires laid { G.lays ground.old self.old.volumes }
+        requires few { length self.old.volumes < 200000 }
+        ensures value { Hears (line_of form.level self.old words.old) self.new result }
+        ensures laid { OnOk result (G.lays ground.new self.new.volumes) }
+        ensures grows { OnOk result (length self.new.volumes ≤ length self.old.volumes + 1) }
     {
         let first = first_of(form, word(words)?)?;
         must(is_due(self.turn, first), Reason::Order)?;
@@ -590,19 +601,19 @@ impl LinesRead {
     /// The reading with one more line: its number, and how many bytes the script may have from its start on.
     #[tactic(auto, unfolding(crate::specs::Lines::line_at))]
     pub fn line<G: Ground>(
-        self,
+        &mut self,
         alloc: Global,
         form: Form,
         ground: &mut G,
         number: u32,
         room: usize,
         line: &[u8],
-    ) -> Result<LinesRead, LineFault>
-        requires laid { G.lays ground.old self.volumes }
-        requires few { length self.volumes < number }
-        ensures value { Gives (line_at form.level self number room line.now) result }
-        ensures laid { IfOk result (λ r. G.lays ground.new r.volumes) }
-        ensures grows { IfOk result (λ r. length r.volumes ≤ number) }
+    ) -> Result<(), LineFault>
+        requires laid { G.lays ground.old self.old.volumes }
+        requires few { length self.old.volumes < number }
+        ensures value { Hears (line_at form.level self.old number room line.now) self.new result }
+        ensures laid { OnOk result (G.lays ground.new self.new.volumes) }
+        ensures grows { OnOk result (length self.new.volumes ≤ number) }
         ensures within { OnOk result (length line.now < room) }
         ensures few { OnOk result (number ≤ 200000) }
     {
@@ -611,7 +622,7 @@ impl LinesRead {
         must(line.len() <= LINE_BYTES, Reason::Limit)?;
         must(self.turn != ENDED, Reason::Order)?;
         if is_silent(line) {
-            return Ok(self);
+            return Ok(());
         }
         self.line_of(alloc, form, ground, &mut Parts::new(line, b' '))
     }

@@ -4,6 +4,7 @@ ghost use Rattle.std.specs.Prelude.{◌≡◌, ◌<◌, ◌≤◌, [], length, I
 ghost use Rattle.afs_model.specs.Script.{at_line};
 ghost use Rattle.afs_grammar.specs.Lines.{line_at, lines_at, nothing_read, script_of};
 ghost use Rattle.afs_words.specs.Reads.{GivesAtLine, IsAtLine};
+ghost use Rattle.afs_grammar.specs.Heard.{HearsAtLine};
 
 use crate::forms::Form;
 use crate::ground::Ground;
@@ -28,21 +29,21 @@ fn at_line<T>(number: u32, outcome: Result<T, LineFault>) -> Result<T, ScriptFau
     }
 }
 
-/// The reading with one more line.
+/// One more line is read.
 fn read_line<G: Ground>(
-    reading: LinesRead,
+    reading: &mut LinesRead,
     alloc: Global,
     form: Form,
     ground: &mut G,
     number: u32,
     room: usize,
     line: &[u8],
-) -> Result<LinesRead, ScriptFault>
-    requires laid { G.lays ground.old reading.volumes }
-    requires few { length reading.volumes < number }
-    ensures value { GivesAtLine (at_line number (line_at form.level reading number room line.now)) result }
-    ensures laid { IfOk result (λ r. G.lays ground.new r.volumes) }
-    ensures grows { IfOk result (λ r. length r.volumes ≤ number) }
+) -> Result<(), ScriptFault>
+    requires laid { G.lays ground.old reading.old.volumes }
+    requires few { length reading.old.volumes < number }
+    ensures value { HearsAtLine (at_line number (line_at form.level reading.old number room line.now)) reading.new result }
+    ensures laid { OnOk result (G.lays ground.new reading.new.volumes) }
+    ensures grows { OnOk result (length reading.new.volumes ≤ number) }
     ensures within { OnOk result (length line.now < room) }
     ensures few { OnOk result (number ≤ 200000) }
 {
@@ -67,7 +68,7 @@ fn read_lines<G: Ground>(
     let mut room = BYTES;
     while let Some(line) = lines.closed_part() {
         number += 1;
-        reading = read_line(reading, alloc, form, ground, number, room, line)?;
+        read_line(&mut reading, alloc, form, ground, number, room, line)?;
         room -= line.len() + 1;
     }
     let Some(last) = lines.part() else {

@@ -40,6 +40,10 @@ impl Named {
         if place <= self.first {
             return Ok(());
         }
+        if self.above.is_empty() && place == self.first + 1 {
+            self.first = place;
+            return Ok(());
+        }
         self.above.insert(place)?;
         self.close_gap();
         Ok(())

@@ -1,1 +1,2 @@
+mod Forward
 mod Places

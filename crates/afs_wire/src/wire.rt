@@ -1,4 +1,4 @@
-ghost use Rattle.std.specs.Prelude.{◌≡◌, ◌+◌, ◌-◌, ◌≤◌, ◌<◌, ◌^◌, [], ◌∷◌, ◌++◌, drop, length, slice_get, IfOk, IsOk, OnOk, OnErr};
+ghost use Rattle.std.specs.Prelude.{◌≡◌, ◌+◌, ◌-◌, ◌≤◌, ◌<◌, ◌^◌, [], ◌∷◌, ◌++◌, drop, length, take, slice_get, IfOk, IsOk, OnOk, OnErr};
 ghost use Rattle.std.specs.Option.{option_copied};
 ghost use Rattle.afs_num.specs.Places.{at_place};
 ghost use Rattle.afs_wire.specs.Sent.{LetsGo};
@@ -33,6 +33,17 @@ fn nth(parcels: &[Parcel], n: usize) -> Option<&Parcel>
     ensures { option_copied result ≡ slice_get parcels.entry.now n }
 {
     parcels.get(n)
+}
+
+/// The messages behind the first so many come to the front, in their order.
+fn bring_forward(parcels: &mut [Parcel], first: usize)
+    requires { first ≤ length parcels.old }
+    ensures front { take (length parcels.old - first) parcels.new ≡ drop first parcels.old }
+    ensures len { length parcels.new ≡ length parcels.old }
+{
+    for i in 0..parcels.len() - first {
+        parcels.swap(i, i + first);
+    }
 }
 
 impl Wire {
@@ -110,7 +121,7 @@ impl Wire {
         if some < kept / 2 {
             return;
         }
-        self.parcels.rotate_left(some);
+        bring_forward(&mut self.parcels, some);
         self.parcels.truncate(kept - some);
         self.gone += some as u64;
     }

@@ -1,5 +1,7 @@
 -- A spelled name goes on behind its first byte.
-use Rattle.std.proofs.Common.{◌≡◌, ℕ, ◌<◌, Bool, true, false, List, [], ◌∷◌, ◌++◌, length, Some, None, if◌then◌else◌, refl, ap, ◌∙◌, arith}
+use Rattle.std.proofs.Common.{◌≡◌, ℕ, ◌<◌, Bool, true, false, List, [], ◌∷◌, ◌++◌, length, Some, None, if◌then◌else◌, refl, ap, sym, ◌∙◌, append_assoc, rules, arith}
+use Rattle.std.specs.Prelude.{◌&&◌}
+use Rattle.std.specs.List.{list_all}
 use Rattle.afs_num.specs.Names.{is_plain}
 use Rattle.afs_words.specs.Words.{unescaped_from, is_escape, escaped_byte}
 
@@ -25,3 +27,17 @@ escaped_on out a b c byte more plain e = by (is_escape a b c) refl e
     by : (t : Bool) → is_escape a b c ≡ t → Some byte ≡ (if t then Some (escaped_byte b c) else None) → unescaped_from out (a ∷ b ∷ c ∷ more) ≡ unescaped_from (out ++ byte ∷ []) more
     by true f e = escape_goes_on out a b c more plain f ∙ ap (λ (n : ℕ). unescaped_from (out ++ n ∷ []) more) (let same : escaped_byte b c ≡ byte = cc in same)
     by false f e = absurd cc
+
+both_by : (s t : Bool) → (s && t) ≡ true → (s ≡ true) × (t ≡ true)
+both_by true t e = (refl, e)
+both_by false t e = absurd cc
+
+all_stay : (out spelled : List ℕ) → list_all is_plain spelled ≡ true → unescaped_from out spelled ≡ Some (out ++ spelled)
+all_stay out [] all = ap Some (let end : out ≡ out ++ [] = search rules in end)
+all_stay out (a ∷ more) all =
+    let plain = both_by (is_plain a) (list_all is_plain more) all in
+    plain_goes_on out a more plain.0 ∙ (all_stay (out ++ a ∷ []) more plain.1 ∙ ap Some (append_assoc out (a ∷ []) more))
+
+-- plain bytes are their own spelling
+pub plain_stays : (spelled : List ℕ) → list_all is_plain spelled ≡ true → unescaped_from [] spelled ≡ Some spelled
+plain_stays spelled all = all_stay [] spelled all

@@ -1,6 +1,8 @@
 //! Names, paths and operands.
 
 ghost use Rattle.std.specs.Prelude.{◌≡◌, ◌<◌, ◌++◌, [], ◌∷◌, ℕ, List, Some, None, length, IfSome, IfNone, IfOk, if◌then◌else◌};
+ghost use Rattle.std.specs.List.{list_all};
+ghost use Rattle.afs_num.specs.Names.{is_plain};
 ghost use Rattle.afs_words.specs.Words.{is_high_hex, high_value, is_escape, escaped_byte, unescaped_from, name_of, name_at, label_at, names_from, fit_in, path_in, path_of, path_at, is_fid, act_path_at, operand_of, operand_at};
 ghost use Rattle.afs_words.specs.Reads.{Reads, ReadsInMemory, Gives};
 
@@ -20,6 +22,9 @@ const PATH: usize = 1024;
 const VOLUME_NAME: usize = 32;
 
 const NAME: usize = 256;
+
+/// Most paths have no more names below their volume.
+const USUAL_NAMES: usize = 4;
 
 fn high_value(digit: u8) -> Option<u8>
     ensures value { result ≡ (if is_high_hex digit then Some (high_value digit) else None) }
@@ -70,8 +75,8 @@ fn next_byte(spelled: &[u8]) -> Option<(u8, &[u8])>
     Some((byte, rest))
 }
 
-/// The bytes of a spelled name.
-fn unescaped(alloc: Global, spelled: &[u8]) -> Result<Option<Octets>, AllocError>
+/// The bytes of a spelled name that may have escapes.
+fn without_escapes(alloc: Global, spelled: &[u8]) -> Result<Option<Octets>, AllocError>
     ensures { IfOk result (λ name. name ≡ unescaped_from [] spelled.now) }
 {
     let mut name = Octets::new(alloc);
@@ -84,6 +89,25 @@ fn unescaped(alloc: Global, spelled: &[u8]) -> Result<Option<Octets>, AllocError
         Ok(Some(name))
     } else {
         Ok(None)
+    }
+}
+
+/// Whether a spelled name is its own spelling.
+fn are_plain(spelled: &[u8]) -> bool
+    ensures { result ≡ list_all is_plain spelled.now }
+{
+    spelled.iter().all(|byte| is_plain(*byte))
+}
+
+/// The bytes of a spelled name.
+#[tactic(auto, using(crate::proofs::Escapes::plain_stays))]
+fn unescaped(alloc: Global, spelled: &[u8]) -> Result<Option<Octets>, AllocError>
+    ensures { IfOk result (λ name. name ≡ unescaped_from [] spelled.now) }
+{
+    if are_plain(spelled) {
+        Ok(Some(Octets::from_slice(alloc, spelled)?))
+    } else {
+        without_escapes(alloc, spelled)
     }
 }
 
@@ -126,7 +150,7 @@ pub fn label<'a>(words: &mut Parts<'a>) -> Result<&'a [u8], Reason>
 fn names(alloc: Global, mut words: Parts<'_>) -> Result<Sequence<Octets>, LineFault>
     ensures { Gives (names_from [] words.entry) result }
 {
-    let mut names = Sequence::new(alloc);
+    let mut names = Sequence::from_vec(Vec::with_capacity(alloc, USUAL_NAMES)?);
     while let Some(word) = words.part() {
         let name = name_of(alloc, NAME, Reason::Path, word)?;
         names.push(name)?;

@@ -1,6 +1,6 @@
 use Rattle.std.proofs.Common.{◌≡◌, [], length}
 use Rattle.afs_words.specs.Words.{unescaped_from}
-use Rattle.afs_words.proofs.names.unescaped.Given as goal
+use Rattle.afs_words.proofs.names.without_escapes.Given as goal
 
 abbrev pub invariant-loop-byte : goal.invariant-loop-byte
 invariant-loop-byte l = unescaped_from l.name l.rest ≡ unescaped_from [] l.spelled
