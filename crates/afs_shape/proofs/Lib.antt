@@ -7,4 +7,3 @@ pub mod RowLaws
 pub mod BodyLaws
 pub mod MadeLaws
 pub mod InterfaceLaws
-pub mod Nexts

@@ -6,4 +6,3 @@ pub mod Rows
 pub mod Bodies
 pub mod Parts
 pub mod Taking
-pub mod Nexts

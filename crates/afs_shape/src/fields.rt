@@ -8,13 +8,12 @@ ghost use Rattle.std.specs.List.{AllByRecursion};
 ghost use Rattle.afs_shape.specs.Items.{entry_at};
 ghost use Rattle.afs_shape.specs.Parts.{field_of, field_size, opaque_size};
 ghost use Rattle.afs_shape.specs.Tables.{IsInRange};
-ghost use Rattle.afs_shape.specs.Reading.{ReadsField, signed_at};
-ghost use Rattle.afs_shape.specs.Nexts.{next_at};
+ghost use Rattle.afs_shape.specs.Reading.{ReadsField, signed_at, field_at};
 ghost use Rattle.std.specs.Int.{w32, cast_unsigned};
 
 use crate::faults::FieldFault;
 use crate::items::{Item, read_server, read_volume_kind};
-use crate::kinds::{Field, Fields, Kind, Part};
+use crate::kinds::{Field, Kind, Part};
 use crate::lists::{read_list, write_list};
 use afs_num::calls::{AfsCallBack, AfsFetchStatus, AfsStoreStatus, AfsVolSync};
 use afs_num::location_calls::LocEntry;
@@ -65,7 +64,7 @@ macro_rules! with_kinds {
 /// The arms of the reading.
 macro_rules! reading_arms {
     (
-        ($kind:expr, $alloc:expr, $r:expr, $fields:expr)
+        ($kind:expr, $alloc:expr, $r:expr)
         [$($fixed:ident($read:path, $write:path)),*]
         [$($owned:ident($read_owned:path, $write_owned:path)),*]
         [$($limited:ident($read_most:path, $write_all:path)),*]
@@ -74,18 +73,15 @@ macro_rules! reading_arms {
             Kind::Nothing => Err(FieldFault::Xdr(XdrFault::BadType)),
             $(Kind::$fixed => {
                 let value = $read($r)?;
-                $fields.push(Field::$fixed(value))?;
-                Ok(())
+                Ok(Field::$fixed(value))
             })*
             $(Kind::$owned => {
                 let value = $read_owned($alloc, $r)?;
-                $fields.push(Field::$owned(value))?;
-                Ok(())
+                Ok(Field::$owned(value))
             })*
             $(Kind::$limited(most) => {
                 let value = $read_most($alloc, $r, most)?;
-                $fields.push(Field::$limited(value))?;
-                Ok(())
+                Ok(Field::$limited(value))
             })*
         }
     };
@@ -195,18 +191,13 @@ fn size_of_opaque(bytes: &[u8]) -> usize
     4 + (bytes.len() + (4 - bytes.len() % 4) % 4)
 }
 
-/// Reads a field of this kind behind those before it, where it is to lie: a field of any kind is as large as the largest.
+/// Reads a field of this kind.
 #[tactic(auto, unfolding(crate::specs::Reading::field_at))]
-pub(crate) fn read_next(
-    alloc: Global,
-    kind: Kind,
-    r: &mut Reader,
-    fields: &mut Fields,
-) -> Result<(), FieldFault>
-    ensures value { ReadsField (next_at kind fields.old) (λ done. fields.new) r.old r.new result }
+pub fn read_field(alloc: Global, kind: Kind, r: &mut Reader) -> Result<Field, FieldFault>
+    ensures value { ReadsField (field_at kind) (λ f. f) r.old r.new result }
     ensures end { KeepsEnd r.old r.new }
 {
-    with_kinds!(reading_arms(kind, alloc, r, fields))
+    with_kinds!(reading_arms(kind, alloc, r))
 }
 
 /// Appends a field. After want of memory bytes of it may stand behind those from before.

@@ -11,7 +11,7 @@ ghost use Rattle.afs_shape.specs.Tables.{is_field, kinds_of, AreOf, AreInRange, 
 ghost use Rattle.afs_shape.specs.declared.faults.ShapeFault.TheVariants.{NoRow, OutOfMemory};
 
 use crate::faults::ShapeFault;
-use crate::fields::{read_next, size_of, write_part};
+use crate::fields::{read_field, size_of, write_part};
 use crate::kinds::{Field, Fields, Kind, Part};
 use afs_num::types::Mem;
 use afs_xdr::reading::Reader;
@@ -76,8 +76,11 @@ fn read_kinds(alloc: Global, kinds: &[Kind], r: &mut Reader) -> Result<Fields, S
     let mut fields = room_for(alloc, kinds.len())?;
     let mut place = 1;
     for kind in kinds {
-        match read_next(alloc, *kind, r, &mut fields) {
-            Ok(()) => {}
+        match read_field(alloc, *kind, r) {
+            Ok(field) => match fields.push(field) {
+                Ok(()) => {}
+                Err(_) => return Err(ShapeFault::OutOfMemory),
+            },
             Err(fault) => return Err(fault.at(place)),
         }
         place += 1;

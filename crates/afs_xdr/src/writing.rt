@@ -97,18 +97,11 @@ impl Writer {
         Ok(())
     }
 
-    /// The bytes. They are copied only where the room taken for them is larger.
+    /// The bytes, in a block of their size.
     pub fn into_vec(self) -> Result<Vec<u8>, AllocError>
         ensures { IfOk result (λ v. v.items ≡ self) }
     {
-        let Writer { bytes } = self;
-        if bytes.len() < bytes.capacity() {
-            return Vec::from_slice(*bytes.allocator(), bytes.as_slice());
-        }
-        match bytes.into_vec() {
-            Ok(vec) => Ok(vec),
-            Err(_) => Err(AllocError),
-        }
+        Vec::from_slice(*self.bytes.allocator(), self.bytes.as_slice())
     }
 }
 
