@@ -43,19 +43,31 @@ fn push_front(piece: &mut TextPiece, n: u64)
     }
 }
 
-/// Lays a number. Most are short, so that only longer ones need a further call.
+/// Lays a number. Most have no more than four digits.
 fn push_number(piece: &mut TextPiece, n: u64)
+    requires { length piece.old + length (decimal n) ≤ 512 }
+    ensures { piece.new ≡ piece.old ++ decimal n }
+{
+    if n < 100 {
+        push_front(piece, n);
+    } else if n < 10_000 {
+        push_front(piece, n / 100);
+        push_pair(piece, n % 100);
+    } else {
+        push_long_number(piece, n);
+    }
+}
+
+/// Lays a number, two digits behind those before them. It stands apart, so that a short number needs no stack.
+#[inline(never)]
+fn push_long_number(piece: &mut TextPiece, n: u64)
     requires { length piece.old + length (decimal n) ≤ 512 }
     ensures { piece.new ≡ piece.old ++ decimal n }
 {
     if n < 100 {
         return push_front(piece, n);
     }
-    if n < 10_000 {
-        push_front(piece, n / 100);
-    } else {
-        push_number(piece, n / 100);
-    }
+    push_long_number(piece, n / 100);
     push_pair(piece, n % 100);
 }
 
@@ -125,8 +137,13 @@ impl Short for u8 {
 
     ghost most = { λ _. 3 };
 
+    #[inline(always)]
     fn lay(&self, piece: &mut TextPiece) {
-        push_number(piece, *self as u64);
+        if *self < 10 {
+            piece.push(b'0' + *self);
+        } else {
+            push_number(piece, *self as u64);
+        }
     }
 }
 
