@@ -3,12 +3,11 @@
 ghost use Rattle.std.specs.Prelude.{◌≡◌, ◌+◌, ◌-◌, ◌<◌, ◌≤◌, [], ◌++◌, length, take, drop, min, IfOk, OnOk, OnErr};
 ghost use Rattle.std.specs.Io.{WritesAtMost};
 ghost use Rattle.std.specs.Io.KnownBytes.{Appends, Keeps, WriteAppends};
-ghost use Rattle.arrayvec.specs.ArrayVec.{array_vec_len};
 ghost use Rattle.afs_outside.specs.Buffered.{given_to, Gathers, PassesAll, PassesSome};
 ghost use Rattle.afs_outside.specs.Outside.{HasCause};
 
 use crate::outside::{Failed, Sink};
-use arrayvec::ArrayVec;
+use crate::piece::Piece;
 use std::marker::Model;
 
 /// How many bytes are gathered.
@@ -19,7 +18,7 @@ const ROOM: usize = 8192;
 #[derive(Drop)]
 pub struct BufferedSink<K> {
     inner: K,
-    waiting: ArrayVec<u8, ROOM>,
+    waiting: Piece<ROOM>,
 }
 
 impl<K> Model for BufferedSink<K> {
@@ -27,7 +26,7 @@ impl<K> Model for BufferedSink<K> {
 
     ghost Value = { Gathered K };
 
-    ghost view = { λ s. record { inner = s.inner; waiting = s.waiting.items } };
+    ghost view = { λ s. record { inner = s.inner; waiting = s.waiting } };
 }
 
 /// Puts these bytes as far as the sink takes them, and says how far that was.
@@ -47,16 +46,6 @@ fn put_front<K: Sink>(sink: &mut K, bytes: &[u8]) -> (usize, Result<(), Failed>)
     (written, Ok(()))
 }
 
-/// Forgets so many bytes at the front.
-fn remove_front(bytes: &mut ArrayVec<u8, ROOM>, n: usize)
-    requires { n ≤ array_vec_len bytes.old }
-    ensures { bytes.new.items ≡ drop n bytes.old.items }
-{
-    let len = bytes.len();
-    bytes.as_mut_slice().copy_within(n..len, 0);
-    bytes.truncate(len - n);
-}
-
 impl<K: Sink> BufferedSink<K> {
     pub fn new(inner: K) -> BufferedSink<K>
         ensures inner { result.inner ≡ inner }
@@ -64,7 +53,7 @@ impl<K: Sink> BufferedSink<K> {
     {
         BufferedSink {
             inner,
-            waiting: ArrayVec::new(),
+            waiting: Piece::new(),
         }
     }
 
@@ -84,7 +73,7 @@ impl<K: Sink> BufferedSink<K> {
         ensures cause { HasCause (K.faults self.old.inner) (K.faults self.new.inner) result }
     {
         let (passed, result) = put_front(&mut self.inner, self.waiting.as_slice());
-        remove_front(&mut self.waiting, passed);
+        self.waiting.remove_front(passed);
         result
     }
 
@@ -101,9 +90,7 @@ impl<K: Sink> BufferedSink<K> {
     {
         self.pass_waiting()?;
         let (front, _rest) = bytes.split_at(bytes.len().min(ROOM));
-        let Ok(()) = self.waiting.try_extend_from_slice(front) else {
-            unreachable!()
-        };
+        self.waiting.push_bytes(front);
         Ok(front.len())
     }
 }
@@ -132,10 +119,11 @@ impl<K: Sink> Sink for BufferedSink<K> {
         // What the sink behind didn't take waits on, and none of the bytes were taken.
         ensures left { OnErr result (PassesSome K.held self.old self.new) }
     {
-        match self.waiting.try_extend_from_slice(bytes) {
-            Ok(()) => Ok(bytes.len()),
-            Err(_) => self.write_behind(bytes),
+        if bytes.len() <= self.waiting.room() {
+            self.waiting.push_bytes(bytes);
+            return Ok(bytes.len());
         }
+        self.write_behind(bytes)
     }
 
     fn flush(&mut self) -> Result<(), Failed>

@@ -4,3 +4,4 @@
 pub mod buffered;
 pub mod memory;
 pub mod outside;
+pub mod piece;

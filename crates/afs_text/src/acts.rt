@@ -1,11 +1,13 @@
 //! Acts, as a script writes them.
 
-ghost use Rattle.std.specs.Prelude.{◌≡◌, ◌<◌, ◌++◌};
+ghost use Rattle.std.specs.Prelude.{◌≡◌, ◌<◌, ◌++◌, codes};
 ghost use Rattle.afs_outside.specs.Outside.{Puts};
 ghost use Rattle.afs_model.specs.LineText.{hex_byte};
+ghost use Rattle.afs_text.specs.Laying.{Lays};
 ghost use Rattle.afs_text.specs.ActText.{act_text, begin_text, names_text, octal, operand_text, path_text, step_text, written_text};
 
 use crate::bytes::{Hex, Name};
+use crate::laying::{TextPiece, lay_short, put_piece};
 use crate::pieces::Print;
 use afs_history::acts::{Act, Operand, Path, Written};
 use afs_num::sequences::Octets;
@@ -133,10 +135,24 @@ impl<'a> Print for &'a Act {
     }
 }
 
-/// Writes the line with which an act begins.
-#[tactic(auto, unfolding(crate::specs::ActText::begin_text))]
-pub fn put_begin<K: Sink>(sink: &mut K, node: Node, act: &Act) -> Result<(), Failed>
-    ensures { Puts (begin_text node act.now) (K.held sink.old) (K.held sink.new) (K.faults sink.old) (K.faults sink.new) result }
+/// Lays an act, and the line's end: what the piece holds is put, and then these.
+fn lay_act<K: Sink>(sink: &mut K, piece: &mut TextPiece, act: &Act) -> Result<(), Failed>
+    ensures { Lays (act_text act.now ++ codes "\n") piece.old piece.new (K.held sink.old) (K.held sink.new) (K.faults sink.old) (K.faults sink.new) result }
 {
-    row!("begin ", node, " ", act, "\n").print(sink)
+    put_piece(sink, piece)?;
+    row!(act, "\n").print(sink)
+}
+
+/// Lays the line with which an act begins.
+#[tactic(auto, unfolding(crate::specs::ActText::begin_text))]
+pub fn lay_begin<K: Sink>(
+    sink: &mut K,
+    piece: &mut TextPiece,
+    node: Node,
+    act: &Act,
+) -> Result<(), Failed>
+    ensures { Lays (begin_text node act.now) piece.old piece.new (K.held sink.old) (K.held sink.new) (K.faults sink.old) (K.faults sink.new) result }
+{
+    lay_short(sink, piece, &row!("begin ", node, " "))?;
+    lay_act(sink, piece, act)
 }

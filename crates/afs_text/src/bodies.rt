@@ -3,52 +3,27 @@
 ghost use Rattle.std.specs.Prelude.{◌+◌, ◌*◌, ◌≤◌, ◌++◌, codes, length};
 ghost use Rattle.afs_outside.specs.Outside.{Puts};
 ghost use Rattle.afs_text.specs.Laying.{Lays};
-ghost use Rattle.afs_model.specs.LineText.{entry_name_text, more_names_text, directory_text, body_text, status_text, read_body_text, source_text, owed_text};
+ghost use Rattle.afs_model.specs.LineText.{entry_name_text, hex_text, name_text, more_names_text, directory_text, body_text, status_text, read_body_text, source_text, owed_text};
 
-use crate::bytes::{Hex, Name};
-use crate::laying::{Piece, Short, make_room, put_short};
+use crate::bytes::{Name, lay_hex};
+use crate::laying::{Short, TextPiece, lay_short, make_room, put_piece};
 use crate::pieces::Print;
 use afs_num::directories;
 use afs_num::histories::{Body, ReadBody, ReadSource, ReadStatus};
 use afs_num::types::Fid;
 use afs_outside::outside::{Failed, Sink, put_bytes};
+use afs_outside::piece::Piece;
 
-impl<'a> Print for &'a Body {
-    ghost text = { λ body. body_text body.now };
-
-    #[tactic(auto, unfolding(afs_model::specs::LineText::body_text))]
-    fn print<K: Sink>(&self, sink: &mut K) -> Result<(), Failed> {
-        match *self {
-            Body::File(contents) => row!("f:", Hex(contents.as_slice())).print(sink),
-            Body::Dir(names) => row!("d:", Directory(names.as_slice())).print(sink),
-            Body::Link(target) => row!("l:", Hex(target.as_slice())).print(sink),
-            Body::Gone => "gone".print(sink),
-        }
-    }
-}
-
-/// The longest name that is put together with its numbers.
+/// The longest name that is laid together with its numbers.
 const SHORT_NAME: usize = 64;
-
-impl<'a> Print for &'a directories::Name {
-    ghost text = { λ name. entry_name_text name.now };
-
-    fn print<K: Sink>(&self, sink: &mut K) -> Result<(), Failed> {
-        let name = self.name.as_slice();
-        if name.len() <= SHORT_NAME {
-            return put_short(sink, self);
-        }
-        Name(name).print(sink)?;
-        put_short(sink, &row!("=", self.vnode, ".", self.unique))
-    }
-}
 
 impl<'a> Short for &'a directories::Name {
     ghost text = { λ name. entry_name_text name.now };
 
     ghost most = { λ name. 3 * length name.now.name + 22 };
 
-    fn lay(&self, piece: &mut Piece) {
+    #[inline(always)]
+    fn lay(&self, piece: &mut TextPiece) {
         row!(
             Name(self.name.as_slice()),
             "=",
@@ -60,11 +35,36 @@ impl<'a> Short for &'a directories::Name {
     }
 }
 
-/// Lays a comma and a name in a directory behind what the piece holds, which is put before where there is no room for them.
-/// Each byte of the name may need three, the comma and the numbers need 23. A long name isn't laid, but put behind the piece.
+/// Lays a name in a directory. A long name is put, and then its numbers are laid.
+fn lay_name<K: Sink>(
+    sink: &mut K,
+    piece: &mut TextPiece,
+    name: &directories::Name,
+) -> Result<(), Failed>
+    ensures { Lays (entry_name_text name.now) piece.old piece.new (K.held sink.old) (K.held sink.new) (K.faults sink.old) (K.faults sink.new) result }
+{
+    let bytes = name.name.as_slice();
+    if bytes.len() <= SHORT_NAME {
+        make_room(sink, piece, 3 * bytes.len() + 22)?;
+        name.lay(piece);
+        return Ok(());
+    }
+    lay_long_name(sink, piece, bytes)?;
+    lay_short(sink, piece, &row!("=", name.vnode, ".", name.unique))
+}
+
+/// Puts what the piece holds, and then a name.
+fn lay_long_name<K: Sink>(sink: &mut K, piece: &mut TextPiece, name: &[u8]) -> Result<(), Failed>
+    ensures { Lays (name_text name.now) piece.old piece.new (K.held sink.old) (K.held sink.new) (K.faults sink.old) (K.faults sink.new) result }
+{
+    put_piece(sink, piece)?;
+    Name(name).print(sink)
+}
+
+/// Lays a comma and a name in a directory. Each byte of the name may need three, the comma and the numbers need 23.
 fn lay_next_name<K: Sink>(
     sink: &mut K,
-    piece: &mut Piece,
+    piece: &mut TextPiece,
     name: &directories::Name,
 ) -> Result<(), Failed>
     ensures { Lays (codes "," ++ entry_name_text name.now) piece.old piece.new (K.held sink.old) (K.held sink.new) (K.faults sink.old) (K.faults sink.new) result }
@@ -75,48 +75,84 @@ fn lay_next_name<K: Sink>(
         row!(",", name).lay(piece);
         return Ok(());
     }
-    put_bytes(sink, piece.as_slice())?;
-    piece.clear();
-    row!(",", name).print(sink)
+    lay_short(sink, piece, &",")?;
+    lay_name(sink, piece, name)
 }
 
-/// Writes names in a directory, each behind a comma.
+/// Lays names in a directory, each behind a comma.
 #[tactic(auto, unfolding(afs_model::specs::LineText::more_names_text))]
-fn put_more_names<K: Sink>(sink: &mut K, names: &[directories::Name]) -> Result<(), Failed>
-    ensures { Puts (more_names_text names.now) (K.held sink.old) (K.held sink.new) (K.faults sink.old) (K.faults sink.new) result }
+fn lay_more_names<K: Sink>(
+    sink: &mut K,
+    piece: &mut TextPiece,
+    names: &[directories::Name],
+) -> Result<(), Failed>
+    ensures { Lays (more_names_text names.now) piece.old piece.new (K.held sink.old) (K.held sink.new) (K.faults sink.old) (K.faults sink.new) result }
 {
-    let mut piece = Piece::new();
     for name in names {
-        lay_next_name(sink, &mut piece, name)?;
+        lay_next_name(sink, piece, name)?;
     }
-    put_bytes(sink, piece.as_slice())
+    Ok(())
 }
 
-/// Names in a directory behind others.
-#[derive(Drop)]
-struct MoreNames<'a>(&'a [directories::Name]);
-
-impl<'a> Print for MoreNames<'a> {
-    ghost text = { λ names. more_names_text names.0.now };
-
-    fn print<K: Sink>(&self, sink: &mut K) -> Result<(), Failed> {
-        put_more_names(sink, self.0)
-    }
-}
-
-/// The names of a directory.
-#[derive(Drop)]
-struct Directory<'a>(&'a [directories::Name]);
-
-impl<'a> Print for Directory<'a> {
-    ghost text = { λ directory. directory_text directory.0.now };
-
-    #[tactic(auto, unfolding(afs_model::specs::LineText::directory_text))]
-    fn print<K: Sink>(&self, sink: &mut K) -> Result<(), Failed> {
-        match self.0 {
-            [] => "".print(sink),
-            [first, rest @ ..] => row!(first, MoreNames(rest)).print(sink),
+/// Lays the names of a directory.
+#[tactic(auto, unfolding(afs_model::specs::LineText::directory_text))]
+fn lay_directory<K: Sink>(
+    sink: &mut K,
+    piece: &mut TextPiece,
+    names: &[directories::Name],
+) -> Result<(), Failed>
+    ensures { Lays (directory_text names.now) piece.old piece.new (K.held sink.old) (K.held sink.new) (K.faults sink.old) (K.faults sink.new) result }
+{
+    match names {
+        [] => lay_short(sink, piece, &""),
+        [first, rest @ ..] => {
+            lay_name(sink, piece, first)?;
+            lay_more_names(sink, piece, rest)
         }
+    }
+}
+
+/// Lays a kind of contents, and then these as hexadecimal digits.
+fn lay_contents<K: Sink>(
+    sink: &mut K,
+    piece: &mut TextPiece,
+    kind: &str,
+    bytes: &[u8],
+) -> Result<(), Failed>
+    requires { length kind.now ≤ 128 }
+    ensures { Lays (kind.now ++ hex_text bytes.now) piece.old piece.new (K.held sink.old) (K.held sink.new) (K.faults sink.old) (K.faults sink.new) result }
+{
+    lay_short(sink, piece, &kind)?;
+    lay_hex(sink, piece, bytes)
+}
+
+/// Lays what a version holds.
+#[tactic(auto, unfolding(afs_model::specs::LineText::body_text))]
+pub(crate) fn lay_body<K: Sink>(
+    sink: &mut K,
+    piece: &mut TextPiece,
+    body: &Body,
+) -> Result<(), Failed>
+    ensures { Lays (body_text body.now) piece.old piece.new (K.held sink.old) (K.held sink.new) (K.faults sink.old) (K.faults sink.new) result }
+{
+    match body {
+        Body::File(contents) => lay_contents(sink, piece, "f:", contents.as_slice()),
+        Body::Dir(names) => {
+            lay_short(sink, piece, &"d:")?;
+            lay_directory(sink, piece, names.as_slice())
+        }
+        Body::Link(target) => lay_contents(sink, piece, "l:", target.as_slice()),
+        Body::Gone => lay_short(sink, piece, &"gone"),
+    }
+}
+
+impl<'a> Print for &'a Body {
+    ghost text = { λ body. body_text body.now };
+
+    fn print<K: Sink>(&self, sink: &mut K) -> Result<(), Failed> {
+        let mut piece = Piece::new();
+        lay_body(sink, &mut piece, self)?;
+        put_bytes(sink, piece.as_slice())
     }
 }
 
@@ -126,7 +162,7 @@ impl Short for ReadStatus {
     ghost most = { λ _. 55 };
 
     #[tactic(auto, unfolding(afs_model::specs::LineText::status_text))]
-    fn lay(&self, piece: &mut Piece) {
+    fn lay(&self, piece: &mut TextPiece) {
         row!(
             "s:",
             self.kind,
@@ -141,16 +177,19 @@ impl Short for ReadStatus {
     }
 }
 
-impl<'a> Print for &'a ReadBody {
-    ghost text = { λ body. read_body_text body.now };
-
-    #[tactic(auto, unfolding(afs_model::specs::LineText::read_body_text))]
-    fn print<K: Sink>(&self, sink: &mut K) -> Result<(), Failed> {
-        match *self {
-            ReadBody::Contents(body) => body.print(sink),
-            ReadBody::Status(status) => put_short(sink, status),
-            ReadBody::AccessList(text) => row!("a:", Hex(text.as_slice())).print(sink),
-        }
+/// Lays what a read shows.
+#[tactic(auto, unfolding(afs_model::specs::LineText::read_body_text))]
+pub(crate) fn lay_read_body<K: Sink>(
+    sink: &mut K,
+    piece: &mut TextPiece,
+    body: &ReadBody,
+) -> Result<(), Failed>
+    ensures { Lays (read_body_text body.now) piece.old piece.new (K.held sink.old) (K.held sink.new) (K.faults sink.old) (K.faults sink.new) result }
+{
+    match body {
+        ReadBody::Contents(body) => lay_body(sink, piece, body),
+        ReadBody::Status(status) => lay_short(sink, piece, status),
+        ReadBody::AccessList(text) => lay_contents(sink, piece, "a:", text.as_slice()),
     }
 }
 
@@ -159,7 +198,7 @@ impl Short for ReadSource {
 
     ghost most = { λ _. 7 };
 
-    fn lay(&self, piece: &mut Piece) {
+    fn lay(&self, piece: &mut TextPiece) {
         match self {
             ReadSource::Cached => "cached".lay(piece),
             ReadSource::Fetched => "fetched".lay(piece),
@@ -176,7 +215,7 @@ impl Short for Owed {
 
     ghost most = { λ _. 32 };
 
-    fn lay(&self, piece: &mut Piece) {
+    fn lay(&self, piece: &mut TextPiece) {
         match self.0 {
             Some(fid) => fid.lay(piece),
             None => "all".lay(piece),

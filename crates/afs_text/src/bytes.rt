@@ -4,9 +4,10 @@ ghost use Rattle.std.specs.Prelude.{◌≡◌, ◌+◌, ◌*◌, ◌<◌, ◌≤
 ghost use Rattle.std.specs.Fmt.{digit_glyph};
 ghost use Rattle.std.specs.List.{list_all};
 ghost use Rattle.afs_outside.specs.Outside.{Puts};
+ghost use Rattle.afs_text.specs.Laying.{Lays};
 ghost use Rattle.afs_model.specs.LineText.{hex_byte, hex_text, is_plain, name_byte, name_text};
 
-use crate::laying::{Piece, Short};
+use crate::laying::{Short, TextPiece, put_piece};
 use crate::pieces::Print;
 use afs_outside::outside::{Failed, Sink, put_bytes};
 
@@ -67,11 +68,24 @@ impl<'a> Print for Hex<'a> {
     }
 }
 
+/// Puts what the piece holds, and then bytes as hexadecimal digits.
+pub(crate) fn lay_hex<K: Sink>(
+    sink: &mut K,
+    piece: &mut TextPiece,
+    bytes: &[u8],
+) -> Result<(), Failed>
+    ensures { Lays (hex_text bytes.now) piece.old piece.new (K.held sink.old) (K.held sink.new) (K.faults sink.old) (K.faults sink.new) result }
+{
+    put_piece(sink, piece)?;
+    Hex(bytes).print(sink)
+}
+
 /// Whether a byte stands in a name as itself.
+#[inline(always)]
 fn is_plain(b: u8) -> bool
     ensures { result ≡ is_plain b }
 {
-    matches!(b, b'a'..=b'z' | b'A'..=b'Z' | b'0'..=b'9' | b'.' | b'_' | b'-')
+    b.is_ascii_lowercase() || b.is_ascii_digit() || matches!(b, b'A'..=b'Z' | b'.' | b'_' | b'-')
 }
 
 fn put_name_byte<K: Sink>(sink: &mut K, b: u8) -> Result<(), Failed>
@@ -122,8 +136,9 @@ impl<'a> Print for Name<'a> {
 }
 
 /// Lays a byte of a name.
-fn lay_name_byte(piece: &mut Piece, b: u8)
-    requires { length piece.old + 3 ≤ 256 }
+#[inline(always)]
+fn lay_name_byte(piece: &mut TextPiece, b: u8)
+    requires { length piece.old + 3 ≤ 512 }
     ensures { piece.new ≡ piece.old ++ name_byte b }
 {
     if is_plain(b) {
@@ -141,7 +156,7 @@ impl<'a> Short for Name<'a> {
     ghost most = { λ name. 3 * length name.0.now };
 
     #[tactic(auto, unfolding(afs_model::specs::LineText::name_text))]
-    fn lay(&self, piece: &mut Piece) {
+    fn lay(&self, piece: &mut TextPiece) {
         for b in self.0 {
             lay_name_byte(piece, *b);
         }

@@ -1,42 +1,44 @@
 //! The history of a run whose clients take every act: its entries, each with its lines and the messages that it sent.
 
-ghost use Rattle.std.specs.Prelude.{◌≡◌, ◌+◌, ◌<◌, ◌≤◌, ◌^◌, ◌++◌, length};
+ghost use Rattle.std.specs.Prelude.{◌≡◌, ◌+◌, ◌<◌, ◌≤◌, ◌^◌, length};
 ghost use Rattle.afs_outside.specs.Outside.{Puts};
-ghost use Rattle.afs_model.specs.Text.{step_text};
+ghost use Rattle.afs_text.specs.Laying.{Lays};
 ghost use Rattle.afs_text.specs.KeptText.{kept_entries_text, kept_entry_text, kept_history_text, parcels_text};
 ghost use Rattle.afs_text.specs.RunText.{lines_text};
 ghost use Rattle.afs_text.specs.Telling.{sent_by};
 
-use crate::pieces::{Each, Print};
-use crate::printing::{Step, put_parcel};
-use afs_history::lines::Entry;
+use crate::laying::TextPiece;
+use crate::printing::{lay_parcel, lay_step};
+use crate::run_lines::lay_line;
+use afs_history::lines::{Entry, Line};
 use afs_num::types::Parcel;
-use afs_outside::outside::{Failed, Sink};
+use afs_outside::outside::{Failed, Sink, put_bytes};
+use afs_outside::piece::Piece;
 
-/// The number of an entry, whose it is, and its lines.
+/// Lays these lines.
 #[tactic(auto, unfolding(crate::specs::RunText::lines_text))]
-fn put_lines<K: Sink>(sink: &mut K, number: u64, entry: &Entry) -> Result<(), Failed>
-    ensures { Puts (step_text number entry.now.actor ++ lines_text entry.now.lines) (K.held sink.old) (K.held sink.new) (K.faults sink.old) (K.faults sink.new) result }
+fn lay_lines<K: Sink>(sink: &mut K, piece: &mut TextPiece, lines: &[Line]) -> Result<(), Failed>
+    ensures { Lays (lines_text lines.now) piece.old piece.new (K.held sink.old) (K.held sink.new) (K.faults sink.old) (K.faults sink.new) result }
 {
-    let step = Step {
-        number,
-        actor: entry.actor,
-    };
-    row!(step, Each(entry.lines.as_slice())).print(sink)
+    for line in lines {
+        lay_line(sink, piece, line)?;
+    }
+    Ok(())
 }
 
-/// Writes the lines of these parcels, the first of which has this place.
-fn put_sent<K: Sink>(
+/// Lays the lines of these parcels, the first of which has this place.
+fn lay_sent<K: Sink>(
     sink: &mut K,
+    piece: &mut TextPiece,
     first_place: u64,
     sent: &[Parcel],
     wire: bool,
 ) -> Result<(), Failed>
     requires places { first_place + length sent.now ≤ 2 ^ 64 }
-    ensures { Puts (parcels_text wire first_place sent.now) (K.held sink.old) (K.held sink.new) (K.faults sink.old) (K.faults sink.new) result }
+    ensures { Lays (parcels_text wire first_place sent.now) piece.old piece.new (K.held sink.old) (K.held sink.new) (K.faults sink.old) (K.faults sink.new) result }
 {
     for (i, parcel) in sent.iter().enumerate() {
-        put_parcel(sink, first_place + i as u64, parcel, wire)?;
+        lay_parcel(sink, piece, first_place + i as u64, parcel, wire)?;
     }
     Ok(())
 }
@@ -55,8 +57,11 @@ pub fn print_entry<K: Sink>(
     requires places { first_place + length sent.now ≤ 2 ^ 64 }
     ensures { Puts (kept_entry_text wire number first_place sent.now entry.now) (K.held sink.old) (K.held sink.new) (K.faults sink.old) (K.faults sink.new) result }
 {
-    put_lines(sink, number, entry)?;
-    put_sent(sink, first_place, sent, wire)
+    let mut piece = Piece::new();
+    lay_step(sink, &mut piece, number, entry.actor)?;
+    lay_lines(sink, &mut piece, entry.lines.as_slice())?;
+    lay_sent(sink, &mut piece, first_place, sent, wire)?;
+    put_bytes(sink, piece.as_slice())
 }
 
 /// Writes these entries, the first of which has this number, with these parcels, the first of which has this place. It takes no

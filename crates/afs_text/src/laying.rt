@@ -1,105 +1,77 @@
-//! Short texts: they are laid one behind another in a piece, and put at once.
+//! Short texts: they are laid one behind another in a piece, which is put where it has no room for the next.
 
-ghost use Rattle.std.specs.Prelude.{◌≡◌, ◌+◌, ◌<◌, ◌≤◌, [], ◌∷◌, ◌++◌, List, ℕ, length, OnOk};
+ghost use Rattle.std.specs.Prelude.{◌≡◌, ◌+◌, ◌/◌, ◌%◌, ◌<◌, ◌≤◌, [], ◌∷◌, ◌++◌, List, ℕ, length, OnOk};
 ghost use Rattle.std.specs.Fmt.{decimal};
 ghost use Rattle.afs_outside.specs.Outside.{Puts};
 ghost use Rattle.afs_text.specs.Laying.{Lays};
 
 use afs_outside::outside::{Failed, Sink, put_bytes};
-use itoa::write_digits;
-use std::marker::Model;
+use afs_outside::piece::Piece;
 
-/// How many bytes a piece has room for.
-pub(crate) const ROOM: usize = 256;
+/// How many bytes a piece of text has room for.
+const ROOM: usize = 512;
 
-/// A part of a text, which is put at once.
-#[derive(Drop)]
-pub(crate) struct Piece {
-    bytes: [u8; ROOM],
-    len: usize,
-}
+pub(crate) type TextPiece = Piece<ROOM>;
 
-impl Model for Piece {
-    ghost use Rattle.std.specs.Prelude.{◌≤◌, List, ℕ, take};
+/// How many bytes a short text has at most.
+const SHORT: usize = 128;
 
-    ghost Value = { List ℕ };
+// ---- numbers
 
-    ghost view = { λ p. take p.len p.bytes };
-
-    ghost invariant = { λ p. p.len ≤ 256 };
-}
-
-/// How many digits a number has.
-fn count_digits(n: u64) -> usize
-    ensures { result ≡ length (decimal n) }
+/// Lays two digits.
+#[inline(always)]
+fn push_pair(piece: &mut TextPiece, n: u64)
+    requires small { n < 100 }
+    requires room { length piece.old + 2 ≤ 512 }
+    ensures { piece.new ≡ piece.old ++ (48 + n / 10) ∷ (48 + n % 10) ∷ [] }
 {
-    let mut left = n;
-    let mut count = 1;
-    while left >= 10 {
-        left /= 10;
-        count += 1;
-    }
-    count
+    piece.push(b'0' + (n / 10) as u8);
+    piece.push(b'0' + (n % 10) as u8);
 }
 
-impl Piece {
-    pub(crate) fn new() -> Piece
-        ensures { result ≡ [] }
-    {
-        Piece {
-            bytes: [0; ROOM],
-            len: 0,
-        }
-    }
-
-    pub(crate) fn as_slice(&self) -> &[u8]
-        ensures { result.now ≡ self.now }
-    {
-        self.bytes.split_at(self.len).0
-    }
-
-    /// How many bytes more it has room for.
-    pub(crate) fn room(&self) -> usize
-        ensures { result + length self.now ≡ 256 }
-    {
-        ROOM - self.len
-    }
-
-    pub(crate) fn clear(&mut self)
-        ensures { self.new ≡ [] }
-    {
-        self.len = 0;
-    }
-
-    /// Lays a byte behind what it holds.
-    pub(crate) fn push(&mut self, byte: u8)
-        requires { length self.old < 256 }
-        ensures { self.new ≡ self.old ++ byte ∷ [] }
-    {
-        self.bytes[self.len] = byte;
-        self.len += 1;
-    }
-
-    /// Lays these bytes behind what it holds.
-    pub(crate) fn push_bytes(&mut self, bytes: &[u8])
-        requires { length self.old + length bytes.now ≤ 256 }
-        ensures { self.new ≡ self.old ++ bytes.now }
-    {
-        let end = self.len + bytes.len();
-        self.bytes[self.len..end].copy_from_slice(bytes);
-        self.len = end;
-    }
-
-    /// Lays a number behind what it holds.
-    pub(crate) fn push_number(&mut self, n: u64)
-        requires { length self.old + length (decimal n) ≤ 256 }
-        ensures { self.new ≡ self.old ++ decimal n }
-    {
-        let end = self.len + count_digits(n);
-        write_digits(n, &mut self.bytes, end);
-        self.len = end;
+/// Lays a number of one or two digits.
+#[inline(always)]
+fn push_front(piece: &mut TextPiece, n: u64)
+    requires small { n < 100 }
+    requires room { length piece.old + length (decimal n) ≤ 512 }
+    ensures { piece.new ≡ piece.old ++ decimal n }
+{
+    if n < 10 {
+        piece.push(b'0' + n as u8);
+    } else {
+        push_pair(piece, n);
     }
 }
+
+/// Lays a number. Most have no more than four digits.
+fn push_number(piece: &mut TextPiece, n: u64)
+    requires { length piece.old + length (decimal n) ≤ 512 }
+    ensures { piece.new ≡ piece.old ++ decimal n }
+{
+    if n < 100 {
+        push_front(piece, n);
+    } else if n < 10_000 {
+        push_front(piece, n / 100);
+        push_pair(piece, n % 100);
+    } else {
+        push_long_number(piece, n);
+    }
+}
+
+/// Lays a number, two digits behind those before them. It stands apart, so that a short number needs no stack.
+#[inline(never)]
+fn push_long_number(piece: &mut TextPiece, n: u64)
+    requires { length piece.old + length (decimal n) ≤ 512 }
+    ensures { piece.new ≡ piece.old ++ decimal n }
+{
+    if n < 100 {
+        return push_front(piece, n);
+    }
+    push_long_number(piece, n / 100);
+    push_pair(piece, n % 100);
+}
+
+// ---- short texts
 
 /// What has a short text.
 pub(crate) trait Short {
@@ -110,33 +82,10 @@ pub(crate) trait Short {
     ghost most: { Self → ℕ };
 
     /// Lays its text behind what the piece holds.
-    fn lay(&self, piece: &mut Piece)
-        requires { length piece.old + most self.now ≤ 256 }
+    fn lay(&self, piece: &mut TextPiece)
+        requires { length piece.old + most self.now ≤ 512 }
         ensures laid { piece.new ≡ piece.old ++ text self.now }
         ensures short { length (text self.now) ≤ most self.now };
-}
-
-/// Writes a short text at once.
-pub(crate) fn put_short<T: Short, K: Sink>(sink: &mut K, item: &T) -> Result<(), Failed>
-    requires { T.most item.now ≤ 256 }
-    ensures { Puts (T.text item.now) (K.held sink.old) (K.held sink.new) (K.faults sink.old) (K.faults sink.new) result }
-{
-    let mut piece = Piece::new();
-    item.lay(&mut piece);
-    put_bytes(sink, piece.as_slice())
-}
-
-/// Puts what the piece holds where it has no room for so many bytes more.
-pub(crate) fn make_room<K: Sink>(sink: &mut K, piece: &mut Piece, most: usize) -> Result<(), Failed>
-    requires { most ≤ 256 }
-    ensures laid { Lays [] piece.old piece.new (K.held sink.old) (K.held sink.new) (K.faults sink.old) (K.faults sink.new) result }
-    ensures room { OnOk result (length piece.new + most ≤ 256) }
-{
-    if piece.room() < most {
-        put_bytes(sink, piece.as_slice())?;
-        piece.clear();
-    }
-    Ok(())
 }
 
 /// One behind the other.
@@ -146,7 +95,7 @@ impl<A: Short, B: Short> Short for (A, B) {
     ghost most = { λ p. A.most p.0 + B.most p.1 };
 
     #[inline(always)]
-    fn lay(&self, piece: &mut Piece) {
+    fn lay(&self, piece: &mut TextPiece) {
         self.0.lay(piece);
         self.1.lay(piece);
     }
@@ -158,7 +107,7 @@ impl<'a> Short for &'a str {
     ghost most = { λ s. length s.now };
 
     #[inline(always)]
-    fn lay(&self, piece: &mut Piece) {
+    fn lay(&self, piece: &mut TextPiece) {
         piece.push_bytes(self.as_bytes());
     }
 }
@@ -168,8 +117,8 @@ impl Short for u64 {
 
     ghost most = { λ _. 20 };
 
-    fn lay(&self, piece: &mut Piece) {
-        piece.push_number(*self);
+    fn lay(&self, piece: &mut TextPiece) {
+        push_number(piece, *self);
     }
 }
 
@@ -178,8 +127,8 @@ impl Short for u32 {
 
     ghost most = { λ _. 10 };
 
-    fn lay(&self, piece: &mut Piece) {
-        piece.push_number(*self as u64);
+    fn lay(&self, piece: &mut TextPiece) {
+        push_number(piece, *self as u64);
     }
 }
 
@@ -188,7 +137,68 @@ impl Short for u8 {
 
     ghost most = { λ _. 3 };
 
-    fn lay(&self, piece: &mut Piece) {
-        piece.push_number(*self as u64);
+    #[inline(always)]
+    fn lay(&self, piece: &mut TextPiece) {
+        if *self < 10 {
+            piece.push(b'0' + *self);
+        } else {
+            push_number(piece, *self as u64);
+        }
     }
+}
+
+/// Writes a short text at once.
+pub(crate) fn put_short<T: Short, K: Sink>(sink: &mut K, item: &T) -> Result<(), Failed>
+    requires { T.most item.now ≤ 512 }
+    ensures { Puts (T.text item.now) (K.held sink.old) (K.held sink.new) (K.faults sink.old) (K.faults sink.new) result }
+{
+    let mut piece = Piece::new();
+    item.lay(&mut piece);
+    put_bytes(sink, piece.as_slice())
+}
+
+// ---- texts behind others
+
+/// Puts what the piece holds.
+#[cold]
+#[inline(never)]
+pub(crate) fn put_piece<K: Sink>(sink: &mut K, piece: &mut TextPiece) -> Result<(), Failed>
+    ensures put { Puts piece.old (K.held sink.old) (K.held sink.new) (K.faults sink.old) (K.faults sink.new) result }
+    ensures empty { OnOk result (piece.new ≡ []) }
+{
+    put_bytes(sink, piece.as_slice())?;
+    piece.clear();
+    Ok(())
+}
+
+/// Puts what the piece holds where it has no room for so many bytes more.
+#[inline(always)]
+pub(crate) fn make_room<K: Sink>(
+    sink: &mut K,
+    piece: &mut TextPiece,
+    most: usize,
+) -> Result<(), Failed>
+    requires { most ≤ 512 }
+    ensures laid { Lays [] piece.old piece.new (K.held sink.old) (K.held sink.new) (K.faults sink.old) (K.faults sink.new) result }
+    ensures room { OnOk result (length piece.new + most ≤ 512) }
+{
+    if piece.room() < most {
+        return put_piece(sink, piece);
+    }
+    Ok(())
+}
+
+/// Lays a short text behind what the piece holds, which is put before where there is no room for it.
+#[inline(always)]
+pub(crate) fn lay_short<T: Short, K: Sink>(
+    sink: &mut K,
+    piece: &mut TextPiece,
+    item: &T,
+) -> Result<(), Failed>
+    requires { T.most item.now ≤ 128 }
+    ensures { Lays (T.text item.now) piece.old piece.new (K.held sink.old) (K.held sink.new) (K.faults sink.old) (K.faults sink.new) result }
+{
+    make_room(sink, piece, SHORT)?;
+    item.lay(piece);
+    Ok(())
 }

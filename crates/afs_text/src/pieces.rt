@@ -6,7 +6,7 @@ ghost use Rattle.std.specs.Fmt.{decimal, signed_decimal};
 ghost use Rattle.afs_num.specs.Texts.{node_text, fid_text, key_text};
 ghost use Rattle.afs_outside.specs.Outside.{Puts};
 
-use crate::laying::{Piece, Short, put_short};
+use crate::laying::{Short, TextPiece, put_short};
 use afs_num::types::{Code, Fid, Key, Node};
 use afs_outside::outside::{Failed, Sink, put_bytes};
 use itoa::Buffer;
@@ -100,7 +100,7 @@ impl Short for Code {
 
     ghost most = { λ _. 11 };
 
-    fn lay(&self, piece: &mut Piece) {
+    fn lay(&self, piece: &mut TextPiece) {
         let mut buffer = Buffer::new();
         piece.push_bytes(buffer.format(self.0).as_bytes());
     }
@@ -119,7 +119,7 @@ impl Short for Node {
 
     ghost most = { λ _. 4 };
 
-    fn lay(&self, piece: &mut Piece) {
+    fn lay(&self, piece: &mut TextPiece) {
         match *self {
             Node::Loc => "loc".lay(piece),
             Node::Server(i) => row!("s", i).lay(piece),
@@ -142,7 +142,7 @@ impl Short for Fid {
 
     ghost most = { λ _. 32 };
 
-    fn lay(&self, piece: &mut Piece) {
+    fn lay(&self, piece: &mut TextPiece) {
         row!(self.volume, ".", self.vnode, ".", self.unique).lay(piece);
     }
 }
@@ -160,7 +160,7 @@ impl Short for Key {
 
     ghost most = { λ _. 26 };
 
-    fn lay(&self, piece: &mut Piece) {
+    fn lay(&self, piece: &mut TextPiece) {
         row!(self.node, ".", self.epoch, ".", self.number).lay(piece);
     }
 }

@@ -1,13 +1,12 @@
 //! The text of a message that was sent, and of the line that begins an entry.
 
 ghost use Rattle.std.specs.Prelude.{◌≡◌};
-ghost use Rattle.afs_outside.specs.Outside.{Puts};
 ghost use Rattle.afs_model.specs.Text.{half_word, head_text, code_text, tail_text, sent_text, actor_text, step_text};
 ghost use Rattle.afs_model.specs.Telling.{code_at};
+ghost use Rattle.afs_text.specs.Laying.{Lays};
 
-use crate::bytes::Hex;
-use crate::laying::{Piece, Short, put_short};
-use crate::pieces::Print;
+use crate::bytes::lay_hex;
+use crate::laying::{Short, TextPiece, lay_short};
 use afs_num::histories::Actor;
 use afs_num::types::{Code, Half, Head, Parcel};
 use afs_outside::outside::{Failed, Sink};
@@ -37,7 +36,7 @@ impl Short for Half {
 
     ghost most = { λ _. 6 };
 
-    fn lay(&self, piece: &mut Piece) {
+    fn lay(&self, piece: &mut TextPiece) {
         match self {
             Half::Call => "call ".lay(piece),
             Half::Reply => "reply ".lay(piece),
@@ -52,7 +51,7 @@ impl Short for Head {
     ghost most = { λ _. 48 };
 
     #[tactic(auto, unfolding(afs_model::specs::Text::head_text))]
-    fn lay(&self, piece: &mut Piece) {
+    fn lay(&self, piece: &mut TextPiece) {
         row!(
             self.from,
             " ",
@@ -79,7 +78,7 @@ impl Short for HalfCode {
     ghost most = { λ _. 12 };
 
     #[tactic(auto, unfolding(afs_model::specs::Text::code_text))]
-    fn lay(&self, piece: &mut Piece) {
+    fn lay(&self, piece: &mut TextPiece) {
         match self.0 {
             Half::Reply => row!(" ", self.1).lay(piece),
             Half::Call | Half::Boot => {}
@@ -87,22 +86,33 @@ impl Short for HalfCode {
     }
 }
 
+/// Lays the line of a message.
 #[tactic(auto, unfolding(afs_model::specs::Text::sent_text, afs_model::specs::Text::tail_text))]
-pub(crate) fn put_parcel<K: Sink>(
+pub(crate) fn lay_parcel<K: Sink>(
     sink: &mut K,
+    piece: &mut TextPiece,
     place: u64,
     parcel: &Parcel,
     wire: bool,
 ) -> Result<(), Failed>
-    ensures { Puts (sent_text wire place parcel.now.head (code_at parcel.now.bytes) parcel.now.bytes) (K.held sink.old) (K.held sink.new) (K.faults sink.old) (K.faults sink.new) result }
+    ensures { Lays (sent_text wire place parcel.now.head (code_at parcel.now.bytes) parcel.now.bytes) piece.old piece.new (K.held sink.old) (K.held sink.new) (K.faults sink.old) (K.faults sink.new) result }
 {
     let bytes = parcel.bytes.as_slice();
     let code = HalfCode(parcel.head.half, code_of(bytes));
     if wire {
-        put_short(sink, &row!("sent ", place, " ", parcel.head, code, " "))?;
-        row!(Hex(bytes), "\n").print(sink)
+        lay_short(
+            sink,
+            piece,
+            &row!("sent ", place, " ", parcel.head, code, " "),
+        )?;
+        lay_hex(sink, piece, bytes)?;
+        lay_short(sink, piece, &"\n")
     } else {
-        put_short(sink, &row!("sent ", place, " ", parcel.head, code, "\n"))
+        lay_short(
+            sink,
+            piece,
+            &row!("sent ", place, " ", parcel.head, code, "\n"),
+        )
     }
 }
 
@@ -113,7 +123,7 @@ impl Short for Actor {
 
     ghost most = { λ _. 5 };
 
-    fn lay(&self, piece: &mut Piece) {
+    fn lay(&self, piece: &mut TextPiece) {
         match self {
             Actor::Node(node) => node.lay(piece),
             Actor::Clock => "clock".lay(piece),
@@ -122,18 +132,15 @@ impl Short for Actor {
     }
 }
 
-/// The number of an entry, and whose it is.
-#[derive(Drop)]
-pub(crate) struct Step {
-    pub(crate) number: u64,
-    pub(crate) actor: Actor,
-}
-
-impl Print for Step {
-    ghost text = { λ s. step_text s.number s.actor };
-
-    #[tactic(auto, unfolding(afs_model::specs::Text::step_text))]
-    fn print<K: Sink>(&self, sink: &mut K) -> Result<(), Failed> {
-        put_short(sink, &row!("entry ", self.number, " ", self.actor, "\n"))
-    }
+/// Lays the number of an entry, and whose it is.
+#[tactic(auto, unfolding(afs_model::specs::Text::step_text))]
+pub(crate) fn lay_step<K: Sink>(
+    sink: &mut K,
+    piece: &mut TextPiece,
+    number: u64,
+    actor: Actor,
+) -> Result<(), Failed>
+    ensures { Lays (step_text number actor) piece.old piece.new (K.held sink.old) (K.held sink.new) (K.faults sink.old) (K.faults sink.new) result }
+{
+    lay_short(sink, piece, &row!("entry ", number, " ", actor, "\n"))
 }

@@ -1,76 +1,91 @@
 //! The lines of a run whose clients take every act.
 
-ghost use Rattle.afs_outside.specs.Outside.{Puts};
+ghost use Rattle.afs_text.specs.Laying.{Lays};
 ghost use Rattle.afs_text.specs.RunText.{line_text};
 
-use crate::acts::put_begin;
+use crate::acts::lay_begin;
+use crate::laying::{TextPiece, lay_short};
 use crate::lines::{
-    put_answer, put_change, put_crash, put_drop, put_drop_all, put_fail, put_fault, put_full,
-    put_given, put_grant, put_owe, put_quit, put_read, put_restart, put_settle, put_stop, put_tick,
-    put_timeout, put_version,
+    lay_answer, lay_change, lay_crash, lay_drop, lay_drop_all, lay_fail, lay_fault, lay_full,
+    lay_given, lay_grant, lay_owe, lay_quit, lay_read, lay_restart, lay_settle, lay_stop, lay_tick,
+    lay_timeout, lay_version,
 };
 use crate::pieces::Print;
 use afs_history::lines::Line;
-use afs_outside::outside::{Failed, Sink};
+use afs_outside::outside::{Failed, Sink, put_bytes};
+use afs_outside::piece::Piece;
+
+/// Lays a line.
+#[tactic(auto, unfolding(crate::specs::RunText::line_text))]
+pub(crate) fn lay_line<K: Sink>(
+    sink: &mut K,
+    piece: &mut TextPiece,
+    line: &Line,
+) -> Result<(), Failed>
+    ensures { Lays (line_text line.now) piece.old piece.new (K.held sink.old) (K.held sink.new) (K.faults sink.old) (K.faults sink.new) result }
+{
+    match line {
+        Line::Begin { node, act } => lay_begin(sink, piece, *node, act),
+        Line::Given { place } => lay_given(sink, piece, *place),
+        Line::Grant {
+            server,
+            client,
+            fid,
+            index,
+            expiry,
+        } => lay_grant(sink, piece, *server, *client, *fid, *index, *expiry),
+        Line::Change { server, key, count } => lay_change(sink, piece, *server, *key, *count),
+        Line::Version { version } => lay_version(sink, piece, version),
+        Line::Read {
+            client,
+            fid,
+            index,
+            source,
+            body,
+        } => lay_read(sink, piece, *client, *fid, *index, *source, body),
+        Line::Answer { node, code } => lay_answer(sink, piece, *node, *code),
+        Line::Timeout {
+            caller,
+            callee,
+            epoch,
+            number,
+            count,
+        } => lay_timeout(sink, piece, *caller, *callee, *epoch, *number, *count),
+        Line::Tick { ticks } => lay_tick(sink, piece, *ticks),
+        Line::Stop { node, calls, pick } => lay_stop(sink, piece, *node, *calls, *pick),
+        Line::Fail { node, calls } => lay_fail(sink, piece, *node, *calls),
+        Line::Crash { node } => lay_crash(sink, piece, *node),
+        Line::Fault { node } => lay_fault(sink, piece, *node),
+        Line::Restart { node, boot } => lay_restart(sink, piece, *node, *boot),
+        Line::Full { node } => lay_full(sink, piece, *node),
+        Line::Drop { client, fid } => lay_drop(sink, piece, *client, *fid),
+        Line::DropAll { client, server } => lay_drop_all(sink, piece, *client, *server),
+        Line::Owe {
+            server,
+            client,
+            fid,
+            number,
+        } => lay_owe(sink, piece, *server, *client, *fid, *number),
+        Line::Settle {
+            server,
+            client,
+            number,
+        } => lay_settle(sink, piece, *server, *client, *number),
+        Line::Quit {
+            server,
+            client,
+            number,
+        } => lay_quit(sink, piece, *server, *client, *number),
+        Line::Void => lay_short(sink, piece, &"void\n"),
+    }
+}
 
 impl Print for Line {
     ghost text = { line_text };
 
-    #[tactic(auto, unfolding(crate::specs::RunText::line_text))]
     fn print<K: Sink>(&self, sink: &mut K) -> Result<(), Failed> {
-        match self {
-            Line::Begin { node, act } => put_begin(sink, *node, act),
-            Line::Given { place } => put_given(sink, *place),
-            Line::Grant {
-                server,
-                client,
-                fid,
-                index,
-                expiry,
-            } => put_grant(sink, *server, *client, *fid, *index, *expiry),
-            Line::Change { server, key, count } => put_change(sink, *server, *key, *count),
-            Line::Version { version } => put_version(sink, version),
-            Line::Read {
-                client,
-                fid,
-                index,
-                source,
-                body,
-            } => put_read(sink, *client, *fid, *index, *source, body),
-            Line::Answer { node, code } => put_answer(sink, *node, *code),
-            Line::Timeout {
-                caller,
-                callee,
-                epoch,
-                number,
-                count,
-            } => put_timeout(sink, *caller, *callee, *epoch, *number, *count),
-            Line::Tick { ticks } => put_tick(sink, *ticks),
-            Line::Stop { node, calls, pick } => put_stop(sink, *node, *calls, *pick),
-            Line::Fail { node, calls } => put_fail(sink, *node, *calls),
-            Line::Crash { node } => put_crash(sink, *node),
-            Line::Fault { node } => put_fault(sink, *node),
-            Line::Restart { node, boot } => put_restart(sink, *node, *boot),
-            Line::Full { node } => put_full(sink, *node),
-            Line::Drop { client, fid } => put_drop(sink, *client, *fid),
-            Line::DropAll { client, server } => put_drop_all(sink, *client, *server),
-            Line::Owe {
-                server,
-                client,
-                fid,
-                number,
-            } => put_owe(sink, *server, *client, *fid, *number),
-            Line::Settle {
-                server,
-                client,
-                number,
-            } => put_settle(sink, *server, *client, *number),
-            Line::Quit {
-                server,
-                client,
-                number,
-            } => put_quit(sink, *server, *client, *number),
-            Line::Void => "void\n".print(sink),
-        }
+        let mut piece = Piece::new();
+        lay_line(sink, &mut piece, self)?;
+        put_bytes(sink, piece.as_slice())
     }
 }

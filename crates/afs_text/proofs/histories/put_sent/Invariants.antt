@@ -1,7 +1,0 @@
-use Rattle.std.proofs.Common.{◌+◌, drop}
-use Rattle.afs_outside.proofs.Puts.{Completes}
-use Rattle.afs_text.specs.KeptText.{parcels_text}
-use Rattle.afs_text.proofs.histories.put_sent.Given as goal
-
-abbrev pub invariant-loop-i : goal.invariant-loop-i
-invariant-loop-i g l = Completes (parcels_text l.wire (l.first_place + l.i) (drop l.i l.sent)) (parcels_text l.wire l.first_place l.sent) (g.K.Sink.held l.fn.sink) (g.K.Sink.held l.sink) (g.K.Sink.faults l.fn.sink) (g.K.Sink.faults l.sink)
