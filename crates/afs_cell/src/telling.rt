@@ -44,7 +44,6 @@ fn with_front(front: Option<Line>, lines: Lines) -> Mem<Lines>
 /// Tells a node's step: its messages are sent, and its entry says how many they are. Where memory is wanting nothing is told
 /// or sent.
 pub fn tell(
-    alloc: Global,
     wire: &mut Wire,
     history: &mut Vec<Entry>,
     node: Node,

@@ -113,7 +113,6 @@ impl<'a, D: Disk> World<'a, D> {
         ensures { Settles node (given_line place) (happened.Step outs) self.old self.new result }
     {
         match tell(
-            self.alloc,
             &mut self.wire,
             &mut self.history,
             node,

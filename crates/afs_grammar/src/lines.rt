@@ -447,12 +447,7 @@ impl LinesRead {
     }
 
     #[tactic(auto, unfolding(crate::specs::Lines::do_line, crate::specs::Acts::task_at))]
-    fn task(
-        &mut self,
-        alloc: Global,
-        form: Form,
-        words: &mut Parts<'_>,
-    ) -> Result<(), LineFault>
+    fn task(&mut self, alloc: Global, form: Form, words: &mut Parts<'_>) -> Result<(), LineFault>
         ensures value { Hears (do_line form.level self.old words.old) self.new result }
         ensures stays { OnOk result (self.new.volumes ≡ self.old.volumes) }
     {

@@ -1,4 +1,4 @@
-use Rattle.std.proofs.Common.{◌-◌, arith}
+use Rattle.std.proofs.Common.{arith}
 use Rattle.afs_wire.proofs.Forward.{came_forward}
 use Rattle.afs_wire.proofs.wire.bring_forward.Goals as goal
 
