@@ -1,5 +1,5 @@
 -- The last two digits stand behind those before them.
-use Rattle.std.proofs.Common.{ℕ, List, ◌∷◌, [], ◌++◌, ◌/◌, ◌%◌, ◌+◌, ap, sym, ◌∙◌, append_assoc, arith, length-append, length}
+use Rattle.std.proofs.Common.{ℕ, List, ◌++◌, ◌/◌, ◌%◌, ap, sym, ◌∙◌, append_assoc, arith, length-append, length}
 use Rattle.std.specs.Fmt.{decimal}
 use Rattle.itoa.proofs.Decimal.{decimal_pair, length_pair, pair}
 use Rattle.afs_text.proofs.laying.+push_long_number.Goals as goal
