@@ -63,6 +63,17 @@ impl<const N: usize> Piece<N> {
     }
 
     #[inline(always)]
+    pub fn push_two(&mut self, first: u8, second: u8)
+        requires { length self.old + 2 ≤ N }
+        ensures { self.new ≡ self.old ++ first ∷ second ∷ [] }
+    {
+        let len = self.len;
+        self.bytes[len] = first;
+        self.bytes[len + 1] = second;
+        self.len = len + 2;
+    }
+
+    #[inline(always)]
     pub fn push_bytes(&mut self, bytes: &[u8])
         requires { length self.old + length bytes.now ≤ N }
         ensures { self.new ≡ self.old ++ bytes.now }

@@ -1,11 +1,11 @@
 -- Entries that are written with their parcels, one behind another; and what that says of a history, where the parcels are messages.
-use Rattle.std.proofs.Common.{◌≡◌, ℕ, zero, suc, ◌+◌, ◌≤◌, ◌<◌, List, [], ◌∷◌, ◌++◌, length, take, drop, refl, ap, sym, ◌∙◌, subst, Bool, Option, arith, length-drop}
+use Rattle.std.proofs.Common.{◌≡◌, ℕ, ◌+◌, ◌≤◌, ◌<◌, List, [], ◌∷◌, ◌++◌, length, take, drop, refl, ap, sym, ◌∙◌, Bool, Option, arith, length-drop}
 use Rattle.std.proofs.Math.ListN.{get_or}
 use Rattle.afs_num.specs.declared.types.Parcel.{Parcel}
 use Rattle.afs_history.specs.declared.lines.Entry as kept
 use Rattle.afs_model.specs.Telling.{code_at}
 use Rattle.afs_model.specs.Text.{messages_text, sent_text, step_text}
-use Rattle.afs_outside.proofs.Puts.{at_end, at_item, Completes}
+use Rattle.afs_outside.proofs.Puts.{at_item, Completes}
 use Rattle.afs_text.specs.HistoryText.{entries_text, entry_text, history_text}
 use Rattle.afs_text.specs.KeptText.{kept_entries_text, kept_entry_text, kept_history_text, parcels_text}
 use Rattle.afs_text.specs.RunText.{lines_text}

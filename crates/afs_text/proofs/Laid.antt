@@ -96,25 +96,27 @@ lays_put_stop x start a b f g e r none failed p = puts_fail x a b f g e r failed
 -- ---- in a loop
 
 -- so far as the text was laid, laying the rest of it lays the whole
-abbrev pub LaysAll : (rest whole start piece : List ℕ) (a b : Option (List ℕ)) (f g : ℕ) → Type 0
-LaysAll rest whole start piece a b f g =
-    (after : List ℕ) (c : Option (List ℕ)) (h : ℕ) (r : Result (Unit {0}) Failed) → Lays rest piece after b c g h r → Lays whole start after a c f h r
+pub record LaysAll (rest whole start piece : List ℕ) (a b : Option (List ℕ)) (f g : ℕ) : Type 0 where
+  pub goes : (after : List ℕ) (c : Option (List ℕ)) (h : ℕ) (r : Result (Unit {0}) Failed) → Lays rest piece after b c g h r → Lays whole start after a c f h r
 
 -- at the beginning all is left
 pub lays_itself : (whole piece : List ℕ) (a : Option (List ℕ)) (f : ℕ) → LaysAll whole whole piece piece a a f f
-lays_itself whole piece a f after c h r p = p
+lays_itself whole piece a f = record { goes = λ after c h r p. p }
+
+pub lays_from : (rest whole piece : List ℕ) (a : Option (List ℕ)) (f : ℕ) → rest ≡ whole → LaysAll rest whole piece piece a a f f
+lays_from rest whole piece a f same = subst (λ (t : List ℕ). LaysAll t whole piece piece a a f f) (sym same) (lays_itself whole piece a f)
 
 -- the next text was laid
 pub lays_more : (x rest whole start piece between : List ℕ) (a b c : Option (List ℕ)) (f g h : ℕ) (u : Unit {0}) → LaysAll (x ++ rest) whole start piece a b f g → Lays x piece between b c g h (Ok u) → LaysAll rest whole start between a c f h
-lays_more x rest whole start piece between a b c f g h u left p after new k r q = left after new k r (lays_then x rest piece between after b c new g h k u r p q)
+lays_more x rest whole start piece between a b c f g h u left p = record { goes = λ after new k r q. left.goes after new k r (lays_then x rest piece between after b c new g h k u r p q) }
 
 -- the next text failed
 pub lays_no_more : (x rest whole start piece after : List ℕ) (a b c : Option (List ℕ)) (f g h : ℕ) (e : Failed) (r : Result (Unit {0}) Failed) → LaysAll (x ++ rest) whole start piece a b f g → IsErr r → Lays {T = Unit {0}} x piece piece b c g h (Err e) → Lays whole start after a c f h r
-lays_no_more x rest whole start piece after a b c f g h e r left failed p = left after c h r (lays_stop x rest piece after b c g h e r failed p)
+lays_no_more x rest whole start piece after a b c f g h e r left failed p = left.goes after c h r (lays_stop x rest piece after b c g h e r failed p)
 
 -- nothing is left
 pub lays_end : (whole start piece : List ℕ) (a b : Option (List ℕ)) (f g : ℕ) (u : Unit {0}) → LaysAll [] whole start piece a b f g → Lays whole start piece a b f g (Ok u)
-lays_end whole start piece a b f g u left = left piece b g (Ok u) (lays_here [] piece piece b g u (sym (append-nil piece)))
+lays_end whole start piece a b f g u left = left.goes piece b g (Ok u) (lays_here [] piece piece b g u (sym (append-nil piece)))
 
 -- the item that is at hand is the next, and the others are behind it
 pub lays_item : {X : Type 0} (F : List X → List ℕ) (whole start piece : List ℕ) (a b : Option (List ℕ)) (f g : ℕ) (xs : List X) (i : ℕ) (d x : X) → i < length xs → x ≡ get_or xs i d

@@ -94,9 +94,22 @@ fn lay_more_names<K: Sink>(
     Ok(())
 }
 
+/// Lays the first name in a directory, and the others.
+fn lay_names<K: Sink>(
+    sink: &mut K,
+    piece: &mut TextPiece,
+    first: &directories::Name,
+    others: &[directories::Name],
+) -> Result<(), Failed>
+    ensures { Lays (entry_name_text first.now ++ more_names_text others.now) piece.old piece.new (K.held sink.old) (K.held sink.new) (K.faults sink.old) (K.faults sink.new) result }
+{
+    lay_name(sink, piece, first)?;
+    lay_more_names(sink, piece, others)
+}
+
 /// Lays the names of a directory.
 #[tactic(auto, unfolding(afs_model::specs::LineText::directory_text))]
-fn lay_directory<K: Sink>(
+fn lay_all_names<K: Sink>(
     sink: &mut K,
     piece: &mut TextPiece,
     names: &[directories::Name],
@@ -105,11 +118,20 @@ fn lay_directory<K: Sink>(
 {
     match names {
         [] => lay_short(sink, piece, &""),
-        [first, rest @ ..] => {
-            lay_name(sink, piece, first)?;
-            lay_more_names(sink, piece, rest)
-        }
+        [first, others @ ..] => lay_names(sink, piece, first, others),
     }
+}
+
+/// Lays a directory.
+fn lay_directory<K: Sink>(
+    sink: &mut K,
+    piece: &mut TextPiece,
+    names: &[directories::Name],
+) -> Result<(), Failed>
+    ensures { Lays (codes "d:" ++ directory_text names.now) piece.old piece.new (K.held sink.old) (K.held sink.new) (K.faults sink.old) (K.faults sink.new) result }
+{
+    lay_short(sink, piece, &"d:")?;
+    lay_all_names(sink, piece, names)
 }
 
 /// Lays a kind of contents, and then these as hexadecimal digits.
@@ -137,10 +159,7 @@ pub(crate) fn lay_body<K: Sink>(
 {
     match body {
         Body::File(contents) => lay_contents(sink, piece, "f:", contents.as_slice()),
-        Body::Dir(names) => {
-            lay_short(sink, piece, &"d:")?;
-            lay_directory(sink, piece, names.as_slice())
-        }
+        Body::Dir(names) => lay_directory(sink, piece, names.as_slice()),
         Body::Link(target) => lay_contents(sink, piece, "l:", target.as_slice()),
         Body::Gone => lay_short(sink, piece, &"gone"),
     }

@@ -25,8 +25,7 @@ fn push_pair(piece: &mut TextPiece, n: u64)
     requires room { length piece.old + 2 ≤ 512 }
     ensures { piece.new ≡ piece.old ++ (48 + n / 10) ∷ (48 + n % 10) ∷ [] }
 {
-    piece.push(b'0' + (n / 10) as u8);
-    piece.push(b'0' + (n % 10) as u8);
+    piece.push_two(b'0' + (n / 10) as u8, b'0' + (n % 10) as u8);
 }
 
 /// Lays a number of one or two digits.
@@ -43,32 +42,44 @@ fn push_front(piece: &mut TextPiece, n: u64)
     }
 }
 
-/// Lays a number. Most have no more than four digits.
-fn push_number(piece: &mut TextPiece, n: u64)
-    requires { length piece.old + length (decimal n) ≤ 512 }
-    ensures { piece.new ≡ piece.old ++ decimal n }
-{
-    if n < 100 {
-        push_front(piece, n);
-    } else if n < 10_000 {
-        push_front(piece, n / 100);
-        push_pair(piece, n % 100);
-    } else {
-        push_long_number(piece, n);
-    }
-}
-
-/// Lays a number, two digits behind those before them. It stands apart, so that a short number needs no stack.
-#[inline(never)]
-fn push_long_number(piece: &mut TextPiece, n: u64)
-    requires { length piece.old + length (decimal n) ≤ 512 }
+/// Lays a number of at most four digits.
+#[inline(always)]
+fn push_short_number(piece: &mut TextPiece, n: u64)
+    requires small { n < 10000 }
+    requires room { length piece.old + length (decimal n) ≤ 512 }
     ensures { piece.new ≡ piece.old ++ decimal n }
 {
     if n < 100 {
         return push_front(piece, n);
     }
-    push_long_number(piece, n / 100);
+    push_front(piece, n / 100);
     push_pair(piece, n % 100);
+}
+
+/// Lays a number. Most have no more than four digits.
+fn push_number(piece: &mut TextPiece, n: u64)
+    requires { length piece.old + length (decimal n) ≤ 512 }
+    ensures { piece.new ≡ piece.old ++ decimal n }
+{
+    if n < 10_000 {
+        push_short_number(piece, n);
+    } else {
+        push_long_number(piece, n);
+    }
+}
+
+/// Lays a number, four digits behind those before them. It stands apart, so that a short number needs no stack.
+#[inline(never)]
+fn push_long_number(piece: &mut TextPiece, n: u64)
+    requires { length piece.old + length (decimal n) ≤ 512 }
+    ensures { piece.new ≡ piece.old ++ decimal n }
+{
+    if n < 10_000 {
+        return push_short_number(piece, n);
+    }
+    push_long_number(piece, n / 10_000);
+    push_pair(piece, n % 10_000 / 100);
+    push_pair(piece, n % 10_000 % 100);
 }
 
 // ---- short texts

@@ -3,11 +3,14 @@ use Rattle.std.proofs.Common.{ℕ, ◌++◌, List, codes}
 use Rattle.std.specs.List.{flat_map}
 use Rattle.afs_num.specs.declared.directories.Name.{Name}
 use Rattle.afs_model.specs.LineText.{entry_name_text, more_names_text}
-use Rattle.afs_text.proofs.Laid.{lays_end, lays_item, lays_last, lays_more, lays_no_more}
+use Rattle.afs_text.proofs.Laid.{lays_end, lays_item, lays_itself, lays_last, lays_more, lays_no_more}
 use Rattle.afs_text.proofs.bodies.lay_more_names.Goals as goal
 
 abbrev more : List Name → List ℕ
 more ns = flat_map (λ (n : Name). codes "," ++ entry_name_text n) ns
+
+pub loop-name-init : goal.loop-name-init
+loop-name-init g c = lays_itself _ _ _ _
 
 pub loop-name-preserved : goal.loop-name-preserved
 loop-name-preserved g c =

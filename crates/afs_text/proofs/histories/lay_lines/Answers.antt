@@ -1,8 +1,11 @@
 -- Each goes on behind those before it.
 use Rattle.std.specs.List.{flat_map}
 use Rattle.afs_text.specs.RunText.{line_text, lines_text}
-use Rattle.afs_text.proofs.Laid.{lays_end, lays_item, lays_last, lays_more, lays_no_more}
+use Rattle.afs_text.proofs.Laid.{lays_end, lays_item, lays_itself, lays_last, lays_more, lays_no_more}
 use Rattle.afs_text.proofs.histories.lay_lines.Goals as goal
+
+pub loop-line-init : goal.loop-line-init
+loop-line-init g c = lays_itself _ _ _ _
 
 pub loop-line-preserved : goal.loop-line-preserved
 loop-line-preserved g c =

@@ -1,10 +1,13 @@
 -- The line of each parcel goes on behind those before it.
-use Rattle.std.proofs.Common.{◌+◌, arith}
-use Rattle.afs_model.specs.Telling.{code_at}
-use Rattle.afs_model.specs.Text.{sent_text}
+use Rattle.std.proofs.Common.{◌≡◌, ℕ, ◌+◌, ap, arith}
 use Rattle.afs_text.specs.KeptText.{parcels_text}
-use Rattle.afs_text.proofs.Laid.{lays_end, lays_last, lays_more, lays_no_more, parcels_left}
+use Rattle.afs_text.proofs.Laid.{lays_end, lays_from, lays_last, lays_more, lays_no_more, parcels_left}
 use Rattle.afs_text.proofs.histories.lay_sent.Goals as goal
+
+pub loop-i-init : goal.loop-i-init
+loop-i-init g c =
+    let same : c.args.first_place + 0 ≡ c.args.first_place = omega (arith) in
+    lays_from _ _ _ _ _ (ap (λ (n : ℕ). parcels_text c.args.wire n c.args.sent.now) same)
 
 pub loop-i-preserved : goal.loop-i-preserved
 loop-i-preserved g c =

@@ -34,4 +34,4 @@ pub returns-in_ok-lay_hex : goal.returns-in_ok-lay_hex
 returns-in_ok-lay_hex g c =
     let a = c.args in
     let all = whole a.wire a.place a.parcel.now.head c.code_of.result.0 c.as_slice-bytes.result.now a.parcel.now.bytes c.if-wire.true c.code_of.ensures c.as_slice-bytes.ensures in
-    lays_as _ _ _ _ _ _ _ _ _ all (lays_then (start a.place a.parcel.now.head c.code_of.result.0) (rest c.as_slice-bytes.result.now) a.piece.now _ _ _ _ _ _ _ _ _ _ c.in_ok-lay_short.ensures (lays_then (hex_text c.as_slice-bytes.result.now) (codes "\n") c.lay_short.new.piece _ _ _ _ _ _ _ _ _ _ c.in_ok-lay_hex.ensures c.lay_short-2.ensures))
+    lays_as _ _ _ _ _ _ _ _ _ all (lays_then (start a.place a.parcel.now.head c.code_of.result.0) (rest c.as_slice-bytes.result.now) a.piece.now _ _ _ _ _ _ _ _ _ _ c.in_ok-lay_short.ensures (lays_then (hex_text c.as_slice-bytes.result.now) (codes "\n") c.lay_short.new.piece _ _ _ _ _ _ _ _ _ _ c.in_ok-lay_hex.ensures c.lay_short-then-wire.ensures))
