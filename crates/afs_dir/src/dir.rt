@@ -160,7 +160,7 @@ impl Dir {
         let mut bytes = Writer::new(self.alloc);
         bytes.word(self.names.len() as u32)?;
         write_names(&self.names, &mut bytes)?;
-        Ok(Octets::from_vec(bytes.into_vec()?))
+        Ok(Octets::from_vec(bytes.into_vec()))
     }
 
     /// The bytes that spell the directory with one more name, which it may have. What `bytes`, which spell the directory, have

@@ -4,3 +4,4 @@ pub mod Keyed
 pub mod Names
 pub mod Texts
 pub mod Places
+pub mod Octets

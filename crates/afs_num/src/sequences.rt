@@ -1,4 +1,6 @@
-ghost use Rattle.std.specs.Prelude.{◌≡◌, ◌<◌, ◌^◌, ◌==◌, [], ◌∷◌, ◌++◌, length, IfOk, OnOk, OnErr};
+ghost use Rattle.std.specs.Prelude.{◌≡◌, ◌<◌, ◌^◌, ◌==◌, [], ◌∷◌, ◌++◌, length, OnOk, OnErr};
+
+pub use crate::octets::Octets;
 
 use std::alloc::{AllocError, Global};
 use std::marker::Model;
@@ -77,27 +79,6 @@ impl<T: Drop> Sequence<T> {
         }
     }
 }
-
-impl Sequence<u8> {
-    /// A copy of these bytes.
-    pub fn from_slice(alloc: Global, bytes: &[u8]) -> Result<Self, AllocError>
-        ensures { IfOk result (λ s. s ≡ bytes.now) }
-    {
-        Ok(Sequence {
-            items: Vec::from_slice(alloc, bytes)?,
-        })
-    }
-
-    /// A copy.
-    pub fn copy(&self, alloc: Global) -> Result<Self, AllocError>
-        ensures { IfOk result (λ s. s ≡ self.now) }
-    {
-        Sequence::from_slice(alloc, self.as_slice())
-    }
-}
-
-/// Bytes.
-pub type Octets = Sequence<u8>;
 
 /// The records of a journal, each as its bytes.
 pub type Records = Sequence<Octets>;

@@ -16,18 +16,20 @@ use afs_xdr::reading::Reader;
 use afs_xdr::writing::Writer;
 use std::alloc::Global;
 
+/// How many bytes a record has room for from the start. Few records are longer, and those grow.
+const USUAL_RECORD: usize = 1024;
+
 /// The one spelling of a record.
 #[tactic(auto, unfolding(afs_records::specs::Records::record_bytes))]
 pub fn encode_record(alloc: Global, rec: &StoreRecord) -> Mem<Octets>
     requires { FitsRecord rec.now }
     ensures { IfOk result (λ bytes. bytes ≡ record_bytes rec.now) }
 {
-    let mut w = Writer::new(alloc);
+    let mut w = Writer::with_capacity(alloc, USUAL_RECORD)?;
     w.word(number_of(&rec.body))?;
     write_head(&rec.head, &mut w)?;
     write_body(&rec.body, &mut w)?;
-    let bytes = w.into_vec()?;
-    Ok(Octets::from_vec(bytes))
+    Ok(Octets::from_vec(w.into_vec()))
 }
 
 /// The record that these bytes are, as it is read.

@@ -104,8 +104,7 @@ pub fn spell_call<M: Messages>(
     write_head(head, &mut w)?;
     w.opaque(user)?;
     write_parts(&parts, &mut w)?;
-    let bytes = w.into_vec()?;
-    Ok(Octets::from_vec(bytes))
+    Ok(Octets::from_vec(w.into_vec()))
 }
 
 /// The one spelling of a call.

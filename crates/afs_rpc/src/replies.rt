@@ -146,8 +146,7 @@ pub fn spell_reply<M: Messages>(
     write_head(head, &mut w)?;
     w.word(code.0.cast_unsigned())?;
     write_parts(&parts, &mut w)?;
-    let bytes = w.into_vec()?;
-    Ok(Octets::from_vec(bytes))
+    Ok(Octets::from_vec(w.into_vec()))
 }
 
 /// The one spelling of a reply. A refusal may answer a call whose opcode has no row; it is then spelled, and

@@ -1,0 +1,126 @@
+//! Bytes.
+
+ghost use Rattle.std.specs.Prelude.{◌≡◌, ◌<◌, ◌^◌, ◌==◌, [], ◌∷◌, ◌++◌, length, IfOk, OnOk, OnErr};
+
+use crate::short::Short;
+use std::alloc::{AllocError, Global};
+use std::marker::Model;
+
+/// Where bytes lie: few of them in the value itself, so that a name takes no memory.
+#[derive(Debug, Drop)]
+enum Held {
+    Few(Short),
+    Many(Vec<u8>),
+}
+
+/// Bytes; contracts see them as a list.
+#[derive(Debug, Drop)]
+pub struct Octets {
+    alloc: Global,
+    held: Held,
+}
+
+impl Model for Octets {
+    ghost use Rattle.std.specs.Prelude.{List, ℕ};
+    ghost use Rattle.afs_num.specs.Octets.{bytes_held};
+
+    ghost Value = { List ℕ };
+
+    ghost view = { λ o. bytes_held o.held };
+}
+
+impl Octets {
+    /// No bytes. It takes no memory.
+    pub fn new(alloc: Global) -> Octets
+        ensures { result ≡ [] }
+    {
+        Octets {
+            alloc,
+            held: Held::Few(Short::new()),
+        }
+    }
+
+    /// The bytes of a `Vec`, without a copy and without memory.
+    pub fn from_vec(bytes: Vec<u8>) -> Octets
+        ensures { result ≡ bytes.items }
+    {
+        Octets {
+            alloc: *bytes.allocator(),
+            held: Held::Many(bytes),
+        }
+    }
+
+    /// A copy of these bytes. 30 of them and fewer take no memory.
+    pub fn from_slice(alloc: Global, bytes: &[u8]) -> Result<Octets, AllocError>
+        ensures { IfOk result (λ o. o ≡ bytes.now) }
+    {
+        let held = match Short::of(bytes) {
+            Some(short) => Held::Few(short),
+            None => Held::Many(Vec::from_slice(alloc, bytes)?),
+        };
+        Ok(Octets { alloc, held })
+    }
+
+    /// The bytes. It takes no memory.
+    #[inline]
+    pub fn as_slice(&self) -> &[u8]
+        ensures { result.now ≡ self.now }
+    {
+        match &self.held {
+            Held::Few(short) => short.as_slice(),
+            Held::Many(bytes) => bytes.as_slice(),
+        }
+    }
+
+    /// How many bytes there are.
+    #[inline]
+    pub fn len(&self) -> usize
+        ensures value { result ≡ length self.now }
+        ensures small { length self.now < 2 ^ 63 }
+    {
+        self.as_slice().len()
+    }
+
+    /// Whether there are no bytes.
+    #[inline]
+    pub fn is_empty(&self) -> bool
+        ensures { result ≡ (length self.now == 0) }
+    {
+        self.as_slice().is_empty()
+    }
+
+    /// A copy.
+    pub fn copy(&self, alloc: Global) -> Result<Octets, AllocError>
+        ensures { IfOk result (λ o. o ≡ self.now) }
+    {
+        let held = match &self.held {
+            Held::Few(short) => Held::Few(short.copy()),
+            Held::Many(bytes) => Held::Many(Vec::from_slice(alloc, bytes.as_slice())?),
+        };
+        Ok(Octets { alloc, held })
+    }
+
+    /// Appends one byte.
+    pub fn push(&mut self, byte: u8) -> Result<(), AllocError>
+        ensures ok { OnOk result (self.new ≡ self.old ++ byte ∷ []) }
+        ensures err { OnErr result (self.new ≡ self.old) }
+    {
+        match &mut self.held {
+            Held::Few(short) if !short.is_full() => {
+                short.push(byte);
+                Ok(())
+            }
+            Held::Few(short) => {
+                let mut bytes = Vec::with_capacity(self.alloc, 2 * short.as_slice().len())?;
+                bytes.extend_from_slice(short.as_slice())?;
+                bytes.push(byte)?;
+                self.held = Held::Many(bytes);
+                Ok(())
+            }
+            Held::Many(bytes) => match bytes.push(byte) {
+                Ok(()) => Ok(()),
+                Err(_) => Err(AllocError),
+            },
+        }
+    }
+}
