@@ -6,12 +6,11 @@ ghost use Rattle.afs_model.proofs.FsMade.{calls_sound, replies_sound};
 use afs_num::calls::{FsCall, FsReply};
 use afs_num::types::Mem;
 use afs_shape::faults::ShapeFault;
-use afs_shape::kinds::Part;
 use afs_shape::messages::Messages;
 use afs_shape::tables::{Shape, Table};
 use afs_shape::taking::Taking;
-use afs_shape::{message_from, parts_of, shape_of, table_of};
-use std::alloc::Global;
+use afs_shape::{message_from, room_of, shape_of, table_of, written_of};
+use afs_xdr::writing::Writer;
 
 /// A file's contents on the wire, in bytes.
 pub const CONTENTS_LIMIT: u32 = 2_097_152;
@@ -112,8 +111,13 @@ impl Messages for FsCalls {
         with_calls!(message_from(opcode, fields, FsCall))
     }
 
-    fn parts<'a>(alloc: Global, call: &'a FsCall) -> Mem<Vec<Part<'a>>> {
-        with_calls!(parts_of(call, alloc, FsCall))
+    fn room(call: &FsCall) -> usize {
+        with_calls!(room_of(call, FsCall))
+    }
+
+    #[tactic(auto, using(afs_shape::proofs::Spellable::parts_spellable))]
+    fn write(call: &FsCall, w: &mut Writer) -> Mem<()> {
+        with_calls!(written_of(call, w, FsCall))
     }
 }
 
@@ -135,7 +139,12 @@ impl Messages for FsReplies {
         with_replies!(message_from(opcode, fields, FsReply))
     }
 
-    fn parts<'a>(alloc: Global, reply: &'a FsReply) -> Mem<Vec<Part<'a>>> {
-        with_replies!(parts_of(reply, alloc, FsReply))
+    fn room(reply: &FsReply) -> usize {
+        with_replies!(room_of(reply, FsReply))
+    }
+
+    #[tactic(auto, using(afs_shape::proofs::Spellable::parts_spellable))]
+    fn write(reply: &FsReply, w: &mut Writer) -> Mem<()> {
+        with_replies!(written_of(reply, w, FsReply))
     }
 }

@@ -7,13 +7,12 @@ use afs_fsrpc::tables::{FsCalls, FsReplies};
 use afs_num::messages::{Call, Reply};
 use afs_num::types::Mem;
 use afs_shape::faults::ShapeFault;
-use afs_shape::kinds::Part;
 use afs_shape::messages::Messages;
 use afs_shape::tables::Shape;
 use afs_shape::taking::Taking;
 use afs_vlrpc::tables::{LocCalls, LocReplies};
 use afs_volrpc::tables::{VolCalls, VolReplies};
-use std::alloc::Global;
+use afs_xdr::writing::Writer;
 
 /// The calls of the cell.
 pub struct CellCalls;
@@ -54,11 +53,19 @@ impl Messages for CellCalls {
         }
     }
 
-    fn parts<'a>(alloc: Global, call: &'a Call) -> Mem<Vec<Part<'a>>> {
+    fn room(call: &Call) -> usize {
         match call {
-            Call::File(call) => FsCalls::parts(alloc, call),
-            Call::Volume(call) => VolCalls::parts(alloc, call),
-            Call::Location(call) => LocCalls::parts(alloc, call),
+            Call::File(call) => FsCalls::room(call),
+            Call::Volume(call) => VolCalls::room(call),
+            Call::Location(call) => LocCalls::room(call),
+        }
+    }
+
+    fn write(call: &Call, w: &mut Writer) -> Mem<()> {
+        match call {
+            Call::File(call) => FsCalls::write(call, w),
+            Call::Volume(call) => VolCalls::write(call, w),
+            Call::Location(call) => LocCalls::write(call, w),
         }
     }
 }
@@ -102,11 +109,19 @@ impl Messages for CellReplies {
         }
     }
 
-    fn parts<'a>(alloc: Global, reply: &'a Reply) -> Mem<Vec<Part<'a>>> {
+    fn room(reply: &Reply) -> usize {
         match reply {
-            Reply::File(reply) => FsReplies::parts(alloc, reply),
-            Reply::Volume(reply) => VolReplies::parts(alloc, reply),
-            Reply::Location(reply) => LocReplies::parts(alloc, reply),
+            Reply::File(reply) => FsReplies::room(reply),
+            Reply::Volume(reply) => VolReplies::room(reply),
+            Reply::Location(reply) => LocReplies::room(reply),
+        }
+    }
+
+    fn write(reply: &Reply, w: &mut Writer) -> Mem<()> {
+        match reply {
+            Reply::File(reply) => FsReplies::write(reply, w),
+            Reply::Volume(reply) => VolReplies::write(reply, w),
+            Reply::Location(reply) => LocReplies::write(reply, w),
         }
     }
 }

@@ -14,10 +14,7 @@ use crate::heads::{head_of_half, write_head};
 use afs_num::sequences::Octets;
 use afs_num::types::{Half, Head, Mem};
 use afs_shape::faults::ShapeFault;
-use afs_shape::fields::size_of;
-use afs_shape::kinds::Part;
 use afs_shape::messages::{Messages, read_body};
-use afs_shape::tables::{size_of_all, write_parts};
 use afs_xdr::reading::Reader;
 use afs_xdr::writing::Writer;
 use std::alloc::Global;
@@ -98,12 +95,11 @@ pub fn spell_call<M: Messages>(
     // What the types of its numbers keep, for who says that it is read again.
     ensures fits { OnOk result (AreWords (head_words head.now) × AreInRange (M.table.row call.now).fields) }
 {
-    let parts = M::parts(alloc, call)?;
-    let size = 32 + size_of(Part::Opaque(user)) + size_of_all(&parts);
-    let mut w = Writer::with_capacity(alloc, size)?;
+    let room = M::room(call).saturating_add(user.len()).saturating_add(40);
+    let mut w = Writer::with_capacity(alloc, room)?;
     write_head(head, &mut w)?;
     w.opaque(user)?;
-    write_parts(&parts, &mut w)?;
+    M::write(call, &mut w)?;
     Ok(Octets::from_vec(w.into_vec()))
 }
 

@@ -1,12 +1,13 @@
 //! Replies: a header, the code in place 0 and, exactly where that is 0, the reply's fields from place 1 on.
 
-ghost use Rattle.std.specs.Prelude.{◌≡◌, ◌≤◌, length, List, [], ℤ, Option, IfOk, OnOk, FitsSigned};
+ghost use Rattle.std.specs.Prelude.{◌≡◌, ◌++◌, List, [], ℤ, Option, IfOk, OnOk, FitsSigned};
 ghost use Rattle.std.specs.Int.{w32};
+ghost use Rattle.std.specs.List.{AllByRecursion};
 ghost use Rattle.std.specs.Option.{option_copied};
 ghost use Rattle.afs_num.specs.declared.types.Half.TheVariants as halves;
 ghost use Rattle.afs_num.specs.declared.types.Head.{Head};
 ghost use Rattle.afs_xdr.specs.Words.{AreWords};
-ghost use Rattle.afs_shape.specs.Parts.{fields_of};
+ghost use Rattle.afs_shape.specs.Spelling.{fields_spelled, IsSpellable};
 ghost use Rattle.afs_shape.specs.Reading.{in_place, signed_at, fields_to_end_at, ReadsShape, GivesShape};
 ghost use Rattle.afs_shape.specs.Tables.{AreInRange};
 ghost use Rattle.afs_model.specs.Heads.{is_zero, head_words};
@@ -16,9 +17,8 @@ use crate::heads::{head_of_half, write_head};
 use afs_num::sequences::Octets;
 use afs_num::types::{Code, Half, Head, Mem};
 use afs_shape::faults::ShapeFault;
-use afs_shape::kinds::{Fields, Part};
+use afs_shape::kinds::Fields;
 use afs_shape::messages::{Messages, read_body};
-use afs_shape::tables::{size_of_all, write_parts};
 use afs_xdr::reading::Reader;
 use afs_xdr::writing::Writer;
 use std::alloc::Global;
@@ -117,14 +117,23 @@ pub fn decode_reply<M: Messages>(
     read_reply::<M>(alloc, bytes)
 }
 
-/// The fields of an answer, where they lie; at most eight.
-fn answer_parts<'a, M: Messages>(alloc: Global, reply: Option<&'a M::Message>) -> Mem<Vec<Part<'a>>>
-    ensures parts { IfOk result (λ v. fields_of v.items ≡ answer_fields M.table (option_copied reply.entry)) }
-    ensures few { IfOk result (λ v. length v.items ≤ 8) }
+/// How many bytes the fields of an answer take, or more.
+fn answer_room<M: Messages>(reply: Option<&M::Message>) -> usize {
+    match reply {
+        Some(reply) => M::room(reply),
+        None => 0,
+    }
+}
+
+/// Appends the fields of an answer. After want of memory bytes of them may stand behind those from before.
+fn write_answer<M: Messages>(reply: Option<&M::Message>, w: &mut Writer) -> Mem<()>
+    requires { AllByRecursion IsSpellable (answer_fields M.table (option_copied reply)) }
+    ensures ok { OnOk result (w.new ≡ w.old ++ fields_spelled (answer_fields M.table (option_copied reply.entry))) }
+    ensures fits { OnOk result (AreInRange (answer_fields M.table (option_copied reply.entry))) }
 {
     match reply {
-        Some(reply) => M::parts(alloc, reply),
-        None => Ok(Vec::new(alloc)),
+        Some(reply) => M::write(reply, w),
+        None => Ok(()),
     }
 }
 
@@ -140,12 +149,11 @@ pub fn spell_reply<M: Messages>(
     // What the types of its numbers keep, for who says that it is read again.
     ensures fits { OnOk result (AreWords (head_words head.now) × FitsSigned w32 code.0 × AreInRange (answer_fields M.table (option_copied reply.entry))) }
 {
-    let parts = answer_parts::<M>(alloc, reply)?;
-    let size = 36 + size_of_all(&parts);
-    let mut w = Writer::with_capacity(alloc, size)?;
+    let room = answer_room::<M>(reply).saturating_add(36);
+    let mut w = Writer::with_capacity(alloc, room)?;
     write_head(head, &mut w)?;
     w.word(code.0.cast_unsigned())?;
-    write_parts(&parts, &mut w)?;
+    write_answer::<M>(reply, &mut w)?;
     Ok(Octets::from_vec(w.into_vec()))
 }
 

@@ -6,7 +6,7 @@ ghost use Rattle.afs_xdr.specs.Words.{word, opaque, opaque_at, AreWords};
 ghost use Rattle.afs_shape.specs.Spelling.{field_spelled, entry, entry_words, site_words, Extends, IsSpellable};
 ghost use Rattle.std.specs.List.{AllByRecursion};
 ghost use Rattle.afs_shape.specs.Items.{entry_at};
-ghost use Rattle.afs_shape.specs.Parts.{field_of, field_size, opaque_size};
+ghost use Rattle.afs_shape.specs.Parts.{field_of};
 ghost use Rattle.afs_shape.specs.Tables.{IsInRange};
 ghost use Rattle.afs_shape.specs.Reading.{ReadsField, signed_at, field_at};
 ghost use Rattle.std.specs.Int.{w32, cast_unsigned};
@@ -182,15 +182,6 @@ fn write_entry(e: &LocEntry, w: &mut Writer) -> Mem<()>
     write_list(e.sites.as_slice(), w)
 }
 
-/// How many bytes an opaque takes.
-fn size_of_opaque(bytes: &[u8]) -> usize
-    requires { length bytes.now < 2 ^ 32 }
-    ensures value { result ≡ opaque_size bytes.now }
-    ensures small { result < 2 ^ 33 }
-{
-    4 + (bytes.len() + (4 - bytes.len() % 4) % 4)
-}
-
 /// Reads a field of this kind.
 #[tactic(auto, unfolding(crate::specs::Reading::field_at))]
 pub fn read_field(alloc: Global, kind: Kind, r: &mut Reader) -> Result<Field, FieldFault>
@@ -208,24 +199,4 @@ pub fn write_part(part: Part, w: &mut Writer) -> Mem<()>
     ensures err { OnErr result (Extends w.old w.new) }
 {
     with_kinds!(writing_arms(part, w))
-}
-
-/// How many bytes a field takes.
-pub fn size_of(part: Part) -> usize
-    requires { IsSpellable (field_of part) }
-    ensures value { result ≡ field_size (field_of part.entry) }
-    ensures small { result < 2 ^ 40 }
-{
-    match part {
-        Part::Word(_) | Part::Signed(_) | Part::VolumeKind(_) | Part::Server(_) => 4,
-        Part::Fid(_) | Part::CallBack(_) => 12,
-        Part::StoreStatus(_) | Part::VolSync(_) => 24,
-        Part::FetchStatus(_) => 84,
-        Part::Entry(e) => size_of_opaque(e.name.as_slice()) + (20 + e.sites.len() * 8),
-        Part::Opaque(bytes) => size_of_opaque(bytes),
-        Part::Fids(fids) => 4 + fids.len() * 12,
-        Part::CallBacks(callbacks) => 4 + callbacks.len() * 12,
-        Part::Statuses(statuses) => 4 + statuses.len() * 84,
-        Part::Volumes(volumes) => 4 + volumes.len() * 16,
-    }
 }

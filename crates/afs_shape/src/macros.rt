@@ -78,15 +78,48 @@ macro_rules! part_of {
     ($kind:ident $value:ident) => { $crate::kinds::Part::$kind($value) };
 }
 
-/// The parts of a message of this enum, where they lie.
+/// Appends the fields of a message of this enum.
 #[macro_export]
-macro_rules! parts_of {
+macro_rules! written_of {
     (
-        ($message:ident, $alloc:ident, $enum:ident)
+        ($message:ident, $w:ident, $enum:ident)
         [$($opcode:literal $name:ident { $($field:ident: $kind:ident $([$most:expr])?),* }),*]
     ) => {
         match $message {
-            $($enum::$name { $($field),* } => Vec::from_slice($alloc, &[$($crate::part_of!($kind $field)),*]),)*
+            $($enum::$name { $($field),* } => $crate::tables::write_parts(&[$($crate::part_of!($kind $field)),*], $w),)*
+        }
+    };
+}
+
+/// How many bytes a field takes that lies there, or more.
+#[macro_export]
+macro_rules! room_for {
+    (Word $value:ident) => { 4usize };
+    (Signed $value:ident) => { 4usize };
+    (VolumeKind $value:ident) => { 4usize };
+    (Server $value:ident) => { 4usize };
+    (Fid $value:ident) => { 12usize };
+    (StoreStatus $value:ident) => { 24usize };
+    (FetchStatus $value:ident) => { 84usize };
+    (CallBack $value:ident) => { 12usize };
+    (VolSync $value:ident) => { 24usize };
+    (Entry $value:ident) => { 192usize };
+    (Opaque $value:ident) => { $value.len().saturating_add(8) };
+    (Fids $value:ident) => { $value.len().saturating_mul(12).saturating_add(4) };
+    (CallBacks $value:ident) => { $value.len().saturating_mul(12).saturating_add(4) };
+    (Statuses $value:ident) => { $value.len().saturating_mul(84).saturating_add(4) };
+    (Volumes $value:ident) => { $value.len().saturating_mul(16).saturating_add(4) };
+}
+
+/// How many bytes the fields of a message of this enum take, or more.
+#[macro_export]
+macro_rules! room_of {
+    (
+        ($message:ident, $enum:ident)
+        [$($opcode:literal $name:ident { $($field:ident: $kind:ident $([$most:expr])?),* }),*]
+    ) => {
+        match $message {
+            $($enum::$name { $($field),* } => 0usize$(.saturating_add($crate::room_for!($kind $field)))*,)*
         }
     };
 }

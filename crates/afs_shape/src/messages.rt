@@ -1,19 +1,21 @@
 //! The messages of any interface, by the rows of their table.
 
-ghost use Rattle.std.specs.Prelude.{◌≡◌, ◌≤◌, length, Ok, Err, IfOk, IfErr};
-ghost use Rattle.afs_shape.specs.Parts.{fields_of};
-ghost use Rattle.afs_shape.specs.Tables.{kinds_of};
+ghost use Rattle.std.specs.Prelude.{◌≡◌, ◌++◌, Ok, Err, IfOk, IfErr, OnOk, OnErr};
+ghost use Rattle.std.specs.List.{AllByRecursion};
+ghost use Rattle.afs_shape.specs.Spelling.{fields_spelled, Extends, IsSpellable};
+ghost use Rattle.afs_shape.specs.Tables.{kinds_of, AreInRange};
 ghost use Rattle.afs_shape.specs.Reading.{GivesShape, fields_to_end_at};
 ghost use Rattle.afs_shape.specs.Rows.{message_of, IsSoundTable};
 ghost use Rattle.afs_shape.specs.Bodies.{row_at, body_at};
 ghost use Rattle.afs_shape.specs.declared.faults.ShapeFault.TheVariants.{NoRow};
 
 use crate::faults::ShapeFault;
-use crate::kinds::{Fields, Part};
+use crate::kinds::Fields;
 use crate::tables::Shape;
 use crate::taking::Taking;
 use afs_num::types::Mem;
 use afs_xdr::reading::Reader;
+use afs_xdr::writing::Writer;
 use std::alloc::Global;
 
 /// The calls of an interface, or its replies.
@@ -33,10 +35,15 @@ pub trait Messages {
     fn from_fields(opcode: u32, fields: Taking) -> Option<Self::Message>
         ensures { result ≡ message_of table opcode fields };
 
-    /// The fields of a message where they lie, at most eight.
-    fn parts<'a>(alloc: Global, message: &'a Self::Message) -> Mem<Vec<Part<'a>>>
-        ensures parts { IfOk result (λ v. fields_of v.items ≡ (table.row message.now).fields) }
-        ensures few { IfOk result (λ v. length v.items ≤ 8) };
+    /// How many bytes the fields of a message take, or more. It is asked for room before they are appended.
+    fn room(message: &Self::Message) -> usize;
+
+    /// Appends the fields of a message. After want of memory bytes of them may stand behind those from before.
+    fn write(message: &Self::Message, w: &mut Writer) -> Mem<()>
+        requires { AllByRecursion IsSpellable (table.row message.now).fields }
+        ensures ok { OnOk result (w.new ≡ w.old ++ fields_spelled (table.row message.now).fields) }
+        ensures fits { OnOk result (AreInRange (table.row message.now).fields) }
+        ensures err { OnErr result (Extends w.old w.new) };
 
     ghost is_sound: { IsSoundTable table };
 }

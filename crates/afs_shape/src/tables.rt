@@ -1,17 +1,17 @@
 //! Shapes, and tables of them by opcode.
 
-ghost use Rattle.std.specs.Prelude.{◌≡◌, ◌++◌, ◌<◌, ◌≤◌, ◌^◌, ◌+◌, [], length, All, List, OnOk, OnErr, IfOk, IfErr, Some, None, option_map};
+ghost use Rattle.std.specs.Prelude.{◌≡◌, ◌++◌, ◌<◌, ◌≤◌, ◌^◌, [], length, All, List, OnOk, OnErr, IfOk, IfErr, Some, None, option_map};
 ghost use Rattle.std.specs.Option.{option_copied};
-ghost use Rattle.std.specs.List.{prefix_len, sum_by};
+ghost use Rattle.std.specs.List.{prefix_len};
 ghost use Rattle.afs_xdr.specs.Reading.{KeepsEnd};
 ghost use Rattle.afs_shape.specs.Spelling.{fields_spelled, Extends, IsSpellable};
-ghost use Rattle.afs_shape.specs.Parts.{field_of, fields_of, field_size};
+ghost use Rattle.afs_shape.specs.Parts.{field_of, fields_of};
 ghost use Rattle.afs_shape.specs.Reading.{ReadsShape, fields_at};
 ghost use Rattle.afs_shape.specs.Tables.{is_field, kinds_of, AreOf, AreInRange, find_row, rows_of, kinds_in};
 ghost use Rattle.afs_shape.specs.declared.faults.ShapeFault.TheVariants.{NoRow, OutOfMemory};
 
 use crate::faults::ShapeFault;
-use crate::fields::{read_field, size_of, write_part};
+use crate::fields::{read_field, write_part};
 use crate::kinds::{Field, Fields, Kind, Part};
 use afs_num::types::Mem;
 use afs_xdr::reading::Reader;
@@ -112,20 +112,6 @@ pub fn write_parts(parts: &[Part], w: &mut Writer) -> Mem<()>
         write_part(*part, w)?;
     }
     Ok(())
-}
-
-/// How many bytes the fields take.
-pub fn size_of_all(parts: &[Part]) -> usize
-    requires few { length parts.now ≤ 8 }
-    requires spellable { All (λ p. IsSpellable (field_of p)) parts.now }
-    ensures value { result ≡ sum_by field_size (fields_of parts.now) }
-    ensures small { result ≤ 2 ^ 43 }
-{
-    let mut size = 0;
-    for part in parts {
-        size += size_of(*part);
-    }
-    size
 }
 
 /// The row of an opcode.

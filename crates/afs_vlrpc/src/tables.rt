@@ -6,12 +6,11 @@ ghost use Rattle.afs_model.proofs.LocMade.{calls_sound, replies_sound};
 use afs_num::location_calls::{LocCall, LocReply};
 use afs_num::types::Mem;
 use afs_shape::faults::ShapeFault;
-use afs_shape::kinds::Part;
 use afs_shape::messages::Messages;
 use afs_shape::tables::{Shape, Table};
 use afs_shape::taking::Taking;
-use afs_shape::{message_from, parts_of, shape_of, table_of};
-use std::alloc::Global;
+use afs_shape::{message_from, room_of, shape_of, table_of, written_of};
+use afs_xdr::writing::Writer;
 
 /// The name of a volume, in bytes.
 pub const NAME_LIMIT: u32 = 32;
@@ -78,8 +77,13 @@ impl Messages for LocCalls {
         with_calls!(message_from(opcode, fields, LocCall))
     }
 
-    fn parts<'a>(alloc: Global, call: &'a LocCall) -> Mem<Vec<Part<'a>>> {
-        with_calls!(parts_of(call, alloc, LocCall))
+    fn room(call: &LocCall) -> usize {
+        with_calls!(room_of(call, LocCall))
+    }
+
+    #[tactic(auto, using(afs_shape::proofs::Spellable::parts_spellable))]
+    fn write(call: &LocCall, w: &mut Writer) -> Mem<()> {
+        with_calls!(written_of(call, w, LocCall))
     }
 }
 
@@ -101,7 +105,12 @@ impl Messages for LocReplies {
         with_replies!(message_from(opcode, fields, LocReply))
     }
 
-    fn parts<'a>(alloc: Global, reply: &'a LocReply) -> Mem<Vec<Part<'a>>> {
-        with_replies!(parts_of(reply, alloc, LocReply))
+    fn room(reply: &LocReply) -> usize {
+        with_replies!(room_of(reply, LocReply))
+    }
+
+    #[tactic(auto, using(afs_shape::proofs::Spellable::parts_spellable))]
+    fn write(reply: &LocReply, w: &mut Writer) -> Mem<()> {
+        with_replies!(written_of(reply, w, LocReply))
     }
 }

@@ -6,12 +6,11 @@ ghost use Rattle.afs_model.proofs.VolMade.{calls_sound, replies_sound};
 use afs_num::types::Mem;
 use afs_num::volume_calls::{VolCall, VolReply};
 use afs_shape::faults::ShapeFault;
-use afs_shape::kinds::Part;
 use afs_shape::messages::Messages;
 use afs_shape::tables::{Shape, Table};
 use afs_shape::taking::Taking;
-use afs_shape::{message_from, parts_of, shape_of, table_of};
-use std::alloc::Global;
+use afs_shape::{message_from, room_of, shape_of, table_of, written_of};
+use afs_xdr::writing::Writer;
 
 /// A piece of a dump, in bytes.
 pub const PIECE_LIMIT: u32 = 33_554_432;
@@ -94,8 +93,13 @@ impl Messages for VolCalls {
         with_calls!(message_from(opcode, fields, VolCall))
     }
 
-    fn parts<'a>(alloc: Global, call: &'a VolCall) -> Mem<Vec<Part<'a>>> {
-        with_calls!(parts_of(call, alloc, VolCall))
+    fn room(call: &VolCall) -> usize {
+        with_calls!(room_of(call, VolCall))
+    }
+
+    #[tactic(auto, using(afs_shape::proofs::Spellable::parts_spellable))]
+    fn write(call: &VolCall, w: &mut Writer) -> Mem<()> {
+        with_calls!(written_of(call, w, VolCall))
     }
 }
 
@@ -117,7 +121,12 @@ impl Messages for VolReplies {
         with_replies!(message_from(opcode, fields, VolReply))
     }
 
-    fn parts<'a>(alloc: Global, reply: &'a VolReply) -> Mem<Vec<Part<'a>>> {
-        with_replies!(parts_of(reply, alloc, VolReply))
+    fn room(reply: &VolReply) -> usize {
+        with_replies!(room_of(reply, VolReply))
+    }
+
+    #[tactic(auto, using(afs_shape::proofs::Spellable::parts_spellable))]
+    fn write(reply: &VolReply, w: &mut Writer) -> Mem<()> {
+        with_replies!(written_of(reply, w, VolReply))
     }
 }
