@@ -402,6 +402,6 @@ pub fn next(alloc: Global, going: &Going) -> Mem<Need>
     ensures value { IfOk result (λ n. need_of n ≡ next going.now) }
     ensures fits { FitsNeed (next going.now) }
 {
-    let need = needed(alloc, &going.homes, &going.act, going.reads.as_slice())?;
+    let need = needed(alloc, &going.homes, going.act.get(), going.reads.as_slice())?;
     Ok(need)
 }

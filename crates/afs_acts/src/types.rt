@@ -3,17 +3,16 @@
 ghost use Rattle.std.specs.Prelude.{◌≡◌, IfOk, OnErr, OnOk};
 ghost use Rattle.afs_rows.specs.Going.{began, reads_of, with_read};
 
-use crate::copies::{copy_act, copy_read};
+use crate::copies::copy_read;
 use crate::places::homes_of;
 use crate::reads::most_reads;
-use afs_history::acts::Act;
+use afs_history::acts::SharedAct;
 use afs_num::calls::{Fids, FsCall};
 use afs_num::histories::ReadBody;
 use afs_num::sequences::{Octets, Sequence};
 use afs_num::types::{Fid, Mem};
 use std::alloc::Global;
 use std::marker::Model;
-use std::sync::Arc;
 
 /// Where a volume is: its name, its number, and the number of its server.
 #[derive(Drop)]
@@ -70,18 +69,17 @@ pub type Reads = Sequence<Shown>;
 /// An act that runs, and what it has read, the first first. Copies of it share the act.
 #[derive(Drop)]
 pub struct Going {
-    pub act: Arc<Act>,
+    pub act: SharedAct,
     pub homes: Homes,
     pub reads: Reads,
 }
 
 impl Model for Going {
-    ghost use Rattle.std.specs.Arc.{arc_value};
     ghost use Rattle.afs_rows.specs.Going.{Going};
 
     ghost Value = { Going };
 
-    ghost view = { λ g. record { act = arc_value g.act; homes = g.homes; reads = g.reads } };
+    ghost view = { λ g. record { act = g.act; homes = g.homes; reads = g.reads } };
 }
 
 impl Shown {
@@ -119,12 +117,12 @@ impl Homes {
 
 impl Going {
     /// An act that begins.
-    pub fn began(alloc: Global, table: &[Location], act: &Act) -> Mem<Going>
+    pub fn began(alloc: Global, table: &[Location], act: &SharedAct) -> Mem<Going>
         ensures { IfOk result (λ g. g ≡ began table.now act.now) }
     {
         Ok(Going {
-            act: Arc::new(alloc, copy_act(alloc, act)?)?,
-            homes: homes_of(table, act),
+            act: act.copy()?,
+            homes: homes_of(table, act.get()),
             reads: Sequence::new(alloc),
         })
     }
@@ -134,7 +132,7 @@ impl Going {
         ensures { IfOk result (λ g. g ≡ self.now) }
     {
         Ok(Going {
-            act: self.act.clone()?,
+            act: self.act.copy()?,
             homes: self.homes.copy(),
             reads: copy_reads(alloc, &self.reads)?,
         })
@@ -144,7 +142,7 @@ impl Going {
     pub fn most_reads(&self) -> u64
         ensures { result ≡ reads_of self.now.act }
     {
-        most_reads(&self.act)
+        most_reads(self.act.get())
     }
 
     /// Adds a read.

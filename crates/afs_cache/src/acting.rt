@@ -24,7 +24,7 @@ use crate::messages::{outs_calling, quiet};
 use crate::node::CacheManager;
 use afs_acts::{Going, Need, copy_act, next, opcode, server_at, volume_asked};
 use afs_entries::{Drops, Fresh, Gift, Sight, first_server_of, in_order};
-use afs_history::acts::Act;
+use afs_history::acts::{Act, SharedAct};
 use afs_history::lines::{Line, Lines, Outs};
 use afs_num::sequences::Sequence;
 use afs_num::types::{Code, Fid, Half, Head, Mem, Node};
@@ -444,19 +444,19 @@ impl CacheManager {
     }
 
     /// The line of an act that begins.
-    fn begin_lines(&self, act: &Act) -> Mem<Lines>
+    fn begin_lines(&self, act: &SharedAct) -> Mem<Lines>
         ensures { IfOk result (λ ls. ls ≡ told.Begin self.now.node act.now ∷ []) }
     {
         let mut lines = Sequence::new(self.alloc);
         lines.push(Line::Begin {
             node: self.node,
-            act: copy_act(self.alloc, act)?,
+            act: act.copy()?,
         })?;
         Ok(lines)
     }
 
     /// An act that has read nothing yet.
-    fn began(&self, act: &Act) -> Mem<Going>
+    fn began(&self, act: &SharedAct) -> Mem<Going>
         requires { IsShortAct act.now }
         ensures value { IfOk result (λ g. g ≡ began self.now.state.table act.now) }
         ensures short { IfOk result (λ g. IsShortAct g.act) }
@@ -485,8 +485,9 @@ impl CacheManager {
         requires last { self.old.state.last < number_limit }
         ensures { Answers (begin_row self.old.node self.old.state now act.now) self.old self.new result }
     {
-        let lines = self.begin_lines(act)?;
-        let going = self.began(act)?;
+        let act = SharedAct::new(self.alloc, copy_act(self.alloc, act)?)?;
+        let lines = self.begin_lines(&act)?;
+        let going = self.began(&act)?;
         self.begin_going(going, lines, now)
     }
 }

@@ -1,7 +1,12 @@
 //! The acts of clients: what a user asks of a cache manager.
 
+ghost use Rattle.std.specs.Prelude.{◌≡◌, IfOk};
+
 use afs_num::sequences::{Octets, Sequence};
-use afs_num::types::Fid;
+use afs_num::types::{Fid, Mem};
+use std::alloc::Global;
+use std::marker::Model;
+use std::sync::Arc;
 
 /// A volume's name, as the script writes it, and names from the volume's root.
 #[derive(Drop)]
@@ -61,4 +66,45 @@ pub enum Act {
     GetAccessList { operand: Operand },
     /// All that the client trusts is given up, and its servers are told so.
     GiveUp,
+}
+
+/// An act that several hold. A copy shares it.
+#[derive(Drop)]
+pub struct SharedAct {
+    act: Arc<Act>,
+}
+
+impl Model for SharedAct {
+    ghost use Rattle.std.specs.Arc.{arc_value};
+    ghost use Rattle.afs_history.specs.declared.acts.Act.{Act};
+
+    ghost Value = { Act };
+
+    ghost view = { λ s. arc_value s.act };
+}
+
+impl SharedAct {
+    pub fn new(alloc: Global, act: Act) -> Mem<SharedAct>
+        ensures { IfOk result (λ s. s ≡ act) }
+    {
+        Ok(SharedAct {
+            act: Arc::new(alloc, act)?,
+        })
+    }
+
+    /// The act. It takes no memory.
+    pub fn get(&self) -> &Act
+        ensures { result.now ≡ self.now }
+    {
+        &self.act
+    }
+
+    /// A copy. It is refused where the act has as many copies as can be counted.
+    pub fn copy(&self) -> Mem<SharedAct>
+        ensures { IfOk result (λ s. s ≡ self.now) }
+    {
+        Ok(SharedAct {
+            act: self.act.clone()?,
+        })
+    }
 }

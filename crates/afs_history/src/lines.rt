@@ -1,6 +1,6 @@
 //! What is told of a run.
 
-use crate::acts::Act;
+use crate::acts::SharedAct;
 use afs_num::histories::{Actor, ReadBody, ReadSource, Version};
 use afs_num::sequences::Sequence;
 use afs_num::types::{Code, Fid, Key, Node, Parcels};
@@ -11,7 +11,7 @@ pub enum Line {
     /// An act begins.
     Begin {
         node: Node,
-        act: Act,
+        act: SharedAct,
     },
     /// The node is given the message of this place.
     Given {

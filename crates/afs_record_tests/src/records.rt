@@ -12,7 +12,7 @@ fn fault(alloc: Global, bytes: &[u8]) -> Option<RecordFault> {
 // A record that was read, as it is written.
 fn again(alloc: Global, bytes: &[u8]) -> Result<Vec<u8>, RecordFault> {
     let record = decode_record(alloc, bytes)?;
-    Ok(encode_record(alloc, &record)?.into_vec())
+    Ok(Vec::from_slice(alloc, encode_record(alloc, &record)?.as_slice())?)
 }
 
 // Each record of the other program.

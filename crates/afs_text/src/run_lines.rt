@@ -25,7 +25,7 @@ pub(crate) fn lay_line<K: Sink>(
     ensures { Lays (line_text line.now) piece.old piece.new (K.held sink.old) (K.held sink.new) (K.faults sink.old) (K.faults sink.new) result }
 {
     match line {
-        Line::Begin { node, act } => lay_begin(sink, piece, *node, act),
+        Line::Begin { node, act } => lay_begin(sink, piece, *node, act.get()),
         Line::Given { place } => lay_given(sink, piece, *place),
         Line::Grant {
             server,

@@ -1,6 +1,6 @@
 //! The text of acts: each is told as a script writes it.
 
-use afs_history::acts::{Act, Operand, Path, Written};
+use afs_history::acts::{Act, Operand, Path, SharedAct, Written};
 use afs_history::lines::Line;
 use afs_num::sequences::{Octets, Sequence};
 use afs_num::types::{Fid, Mem, Node};
@@ -44,7 +44,7 @@ fn root(alloc: Global) -> Mem<Path> {
 fn begun(alloc: Global, act: Act) -> Mem<MemSink<'static>> {
     let line = Line::Begin {
         node: Node::Client(1),
-        act,
+        act: SharedAct::new(alloc, act)?,
     };
     let mut sink = MemSink::new(alloc, &[]);
     let _ = line.print(&mut sink);

@@ -45,12 +45,12 @@ const NUMBER: usize = SECOND + 19;
 const COUNT: usize = 31;
 
 /// Bytes with another one in a place.
-fn with(bytes: Octets, place: usize, byte: u8) -> Octets {
-    let mut changed = bytes.into_vec();
+fn with(alloc: Global, bytes: &Octets, place: usize, byte: u8) -> Mem<Octets> {
+    let mut changed = Vec::from_slice(alloc, bytes.as_slice())?;
     if let Some(one) = changed.get_mut(place) {
         *one = byte;
     }
-    Octets::from_vec(changed)
+    Ok(Octets::from_vec(changed))
 }
 
 /// Bytes from one place up to another, as far as there are any.
@@ -84,8 +84,8 @@ fn bytes_of(alloc: Global, rec: Rec) -> Mem<Octets> {
         Rec::Boot => boot(alloc),
         Rec::Create => create(alloc),
         Rec::Short => short(alloc),
-        Rec::FirstWith(place, byte) => Ok(with(first(alloc)?, place, byte)),
-        Rec::ChangeWith(place, byte) => Ok(with(change(alloc)?, place, byte)),
+        Rec::FirstWith(place, byte) => with(alloc, &first(alloc)?, place, byte),
+        Rec::ChangeWith(place, byte) => with(alloc, &change(alloc)?, place, byte),
         Rec::Many(count) => many(alloc, first(alloc)?.as_slice(), count),
         Rec::Full => full(alloc),
         Rec::OneMore => one_more(alloc),
