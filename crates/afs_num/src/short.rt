@@ -1,6 +1,6 @@
 //! Few bytes, which lie in the value itself.
 
-ghost use Rattle.std.specs.Prelude.{◌≡◌, ◌<◌, ◌≤◌, ◌==◌, [], ◌∷◌, ◌++◌, length, IfSome, IfNone};
+ghost use Rattle.std.specs.Prelude.{◌≡◌, ◌<◌, ◌≤◌, ◌==◌, [], ◌∷◌, ◌++◌, length, false, IfSome, IfNone};
 
 use std::marker::Model;
 
@@ -74,7 +74,8 @@ impl Short {
 
     #[inline]
     pub fn is_full(&self) -> bool
-        ensures { result ≡ (length self.now == 30) }
+        ensures value { result ≡ (length self.now == 30) }
+        ensures room { result ≡ false → length self.now < 30 }
     {
         self.len as usize == MOST
     }
