@@ -4,7 +4,7 @@ ghost use Rattle.std.specs.Prelude.{◌≡◌, IfOk, replicate};
 ghost use Rattle.afs_history.specs.Written.{bytes_in};
 
 use crate::acts::Written;
-use afs_num::sequences::{Octets, Sequence};
+use afs_num::sequences::Octets;
 use afs_num::types::Mem;
 use std::alloc::Global;
 
@@ -23,5 +23,5 @@ fn filled(alloc: Global, count: u32, byte: u8) -> Mem<Octets>
 {
     let mut bytes = Vec::new(alloc);
     bytes.resize(count as usize, byte)?;
-    Ok(Sequence::from_vec(bytes))
+    Ok(Octets::from_vec(bytes))
 }

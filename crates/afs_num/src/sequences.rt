@@ -1,7 +1,6 @@
 ghost use Rattle.std.specs.Prelude.{◌≡◌, ◌<◌, ◌^◌, ◌==◌, [], ◌∷◌, ◌++◌, length, OnOk, OnErr};
 
 pub use crate::octets::Octets;
-
 use std::alloc::{AllocError, Global};
 use std::marker::Model;
 
