@@ -107,7 +107,7 @@ impl Messages for FsCalls {
         with_calls!(shape_of(opcode))
     }
 
-    fn from_fields(opcode: u32, fields: Taking) -> Option<FsCall> {
+    fn from_fields(opcode: u32, fields: &mut Taking) -> Option<FsCall> {
         with_calls!(message_from(opcode, fields, FsCall))
     }
 
@@ -135,7 +135,7 @@ impl Messages for FsReplies {
         with_replies!(shape_of(opcode))
     }
 
-    fn from_fields(opcode: u32, fields: Taking) -> Option<FsReply> {
+    fn from_fields(opcode: u32, fields: &mut Taking) -> Option<FsReply> {
         with_replies!(message_from(opcode, fields, FsReply))
     }
 

@@ -34,7 +34,7 @@ impl Messages for CellCalls {
         }
     }
 
-    fn from_fields(opcode: u32, fields: Taking) -> Option<Call> {
+    fn from_fields(opcode: u32, fields: &mut Taking) -> Option<Call> {
         match FsCalls::shape(opcode) {
             Ok(_) => {
                 let call = FsCalls::from_fields(opcode, fields)?;
@@ -90,7 +90,7 @@ impl Messages for CellReplies {
         }
     }
 
-    fn from_fields(opcode: u32, fields: Taking) -> Option<Reply> {
+    fn from_fields(opcode: u32, fields: &mut Taking) -> Option<Reply> {
         match FsReplies::shape(opcode) {
             Ok(_) => {
                 let reply = FsReplies::from_fields(opcode, fields)?;

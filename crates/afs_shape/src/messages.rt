@@ -32,8 +32,8 @@ pub trait Messages {
         ensures none { IfErr result (λ e. (e ≡ NoRow opcode) × (row_at table opcode ≡ Err (NoRow opcode))) };
 
     /// The message of this opcode with these fields; `None` where they are those of no such message.
-    fn from_fields(opcode: u32, fields: Taking) -> Option<Self::Message>
-        ensures { result ≡ message_of table opcode fields };
+    fn from_fields(opcode: u32, fields: &mut Taking) -> Option<Self::Message>
+        ensures { result ≡ message_of table opcode fields.old };
 
     /// How many bytes the fields of a message take, or more. It is asked for room before they are appended.
     fn room(message: &Self::Message) -> usize;
@@ -70,8 +70,8 @@ pub fn read_body<M: Messages>(
 ) -> Result<M::Message, ShapeFault>
     ensures { GivesShape (λ m. m) (body_at M.table opcode (kinds_of shape.now.kinds) r.old.left) result }
 {
-    let fields = read_to_end(alloc, shape, r)?;
-    match M::from_fields(opcode, Taking::new(fields)) {
+    let mut fields = Taking::new(read_to_end(alloc, shape, r)?);
+    match M::from_fields(opcode, &mut fields) {
         Some(message) => Ok(message),
         None => Err(ShapeFault::NoRow(opcode)),
     }

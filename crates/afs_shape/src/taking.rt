@@ -63,8 +63,8 @@ pub trait Slots {
     ghost taken: { List Field → Option Self.Values };
 
     /// Their values, each beside those behind it; `None` where these fields are others.
-    fn take(fields: Taking) -> Option<Self::Values>
-        ensures { result ≡ taken fields };
+    fn take(fields: &mut Taking) -> Option<Self::Values>
+        ensures { result ≡ taken fields.old };
 }
 
 /// No field.
@@ -75,7 +75,7 @@ impl Slots for End {
 
     ghost taken = { no_more };
 
-    fn take(mut fields: Taking) -> Option<()> {
+    fn take(fields: &mut Taking) -> Option<()> {
         match fields.next() {
             Some(_) => None,
             None => Some(()),
@@ -95,8 +95,8 @@ impl<A: Slot, B: Slots> Slots for Then<A, B> {
     ghost taken = { taken_behind A.first B.taken };
 
     #[tactic(auto, unfolding(crate::specs::Taking::taken_behind))]
-    fn take(mut fields: Taking) -> Option<(A::Value, B::Values)> {
-        let first = A::first(&mut fields)?;
+    fn take(fields: &mut Taking) -> Option<(A::Value, B::Values)> {
+        let first = A::first(fields)?;
         let rest = B::take(fields)?;
         Some((first, rest))
     }

@@ -73,7 +73,7 @@ impl Messages for LocCalls {
         with_calls!(shape_of(opcode))
     }
 
-    fn from_fields(opcode: u32, fields: Taking) -> Option<LocCall> {
+    fn from_fields(opcode: u32, fields: &mut Taking) -> Option<LocCall> {
         with_calls!(message_from(opcode, fields, LocCall))
     }
 
@@ -101,7 +101,7 @@ impl Messages for LocReplies {
         with_replies!(shape_of(opcode))
     }
 
-    fn from_fields(opcode: u32, fields: Taking) -> Option<LocReply> {
+    fn from_fields(opcode: u32, fields: &mut Taking) -> Option<LocReply> {
         with_replies!(message_from(opcode, fields, LocReply))
     }
 

@@ -89,7 +89,7 @@ impl Messages for VolCalls {
         with_calls!(shape_of(opcode))
     }
 
-    fn from_fields(opcode: u32, fields: Taking) -> Option<VolCall> {
+    fn from_fields(opcode: u32, fields: &mut Taking) -> Option<VolCall> {
         with_calls!(message_from(opcode, fields, VolCall))
     }
 
@@ -117,7 +117,7 @@ impl Messages for VolReplies {
         with_replies!(shape_of(opcode))
     }
 
-    fn from_fields(opcode: u32, fields: Taking) -> Option<VolReply> {
+    fn from_fields(opcode: u32, fields: &mut Taking) -> Option<VolReply> {
         with_replies!(message_from(opcode, fields, VolReply))
     }
 
