@@ -4,6 +4,7 @@ ghost use Rattle.afs_xdr.specs.Words.{word, words, opaque, AreWords};
 use crate::reading::pad_of;
 use std::alloc::{AllocError, Global};
 use std::marker::Model;
+use std::mem;
 
 /// Appends fields one after another. Want of memory leaves it as it was.
 #[derive(Drop)]
@@ -55,7 +56,9 @@ impl Writer {
         ensures err { OnErr result (self.new ≡ self.old) }
     {
         self.bytes.reserve(4 * ns.len())?;
-        put_words(&mut self.bytes, ns);
+        let mut out = taken(&mut self.bytes);
+        put_words(&mut out, ns);
+        self.bytes = out;
         Ok(())
     }
 
@@ -89,9 +92,11 @@ impl Writer {
     {
         let pad = pad_of(bytes.len());
         self.bytes.reserve(4 + bytes.len() + pad)?;
-        put_word(&mut self.bytes, bytes.len() as u32);
-        put(&mut self.bytes, bytes);
-        put_zeros(&mut self.bytes, pad);
+        let mut out = taken(&mut self.bytes);
+        put_word(&mut out, bytes.len() as u32);
+        put(&mut out, bytes);
+        put_zeros(&mut out, pad);
+        self.bytes = out;
         Ok(())
     }
 
@@ -102,6 +107,16 @@ impl Writer {
         let Writer { bytes } = self;
         bytes
     }
+}
+
+/// The bytes so far, out of their place: while they stand in a local of their own, their place and their count stay in
+/// registers.
+#[inline]
+fn taken(bytes: &mut Vec<u8>) -> Vec<u8>
+    ensures { result ≡ bytes.old }
+{
+    let none = Vec::new(*bytes.allocator());
+    mem::replace(bytes, none)
 }
 
 /// Appends bytes where there is room for them.
