@@ -8,9 +8,10 @@ use afs_num::types::Mem;
 use afs_shape::faults::ShapeFault;
 use afs_shape::messages::Messages;
 use afs_shape::tables::{Shape, Table};
-use afs_shape::taking::Taking;
-use afs_shape::{message_from, room_of, shape_of, table_of, written_of};
+use afs_shape::{message_read, room_of, shape_of, table_of, written_of};
+use afs_xdr::reading::Reader;
 use afs_xdr::writing::Writer;
+use std::alloc::Global;
 
 /// A file's contents on the wire, in bytes.
 pub const CONTENTS_LIMIT: u32 = 2_097_152;
@@ -107,8 +108,8 @@ impl Messages for FsCalls {
         with_calls!(shape_of(opcode))
     }
 
-    fn from_fields(opcode: u32, fields: &mut Taking) -> Option<FsCall> {
-        with_calls!(message_from(opcode, fields, FsCall))
+    fn read(alloc: Global, opcode: u32, r: &mut Reader) -> Result<FsCall, ShapeFault> {
+        with_calls!(message_read(opcode, alloc, r, FsCall))
     }
 
     fn room(call: &FsCall) -> usize {
@@ -135,8 +136,8 @@ impl Messages for FsReplies {
         with_replies!(shape_of(opcode))
     }
 
-    fn from_fields(opcode: u32, fields: &mut Taking) -> Option<FsReply> {
-        with_replies!(message_from(opcode, fields, FsReply))
+    fn read(alloc: Global, opcode: u32, r: &mut Reader) -> Result<FsReply, ShapeFault> {
+        with_replies!(message_read(opcode, alloc, r, FsReply))
     }
 
     fn room(reply: &FsReply) -> usize {

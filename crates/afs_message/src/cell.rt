@@ -9,10 +9,11 @@ use afs_num::types::Mem;
 use afs_shape::faults::ShapeFault;
 use afs_shape::messages::Messages;
 use afs_shape::tables::Shape;
-use afs_shape::taking::Taking;
 use afs_vlrpc::tables::{LocCalls, LocReplies};
 use afs_volrpc::tables::{VolCalls, VolReplies};
+use afs_xdr::reading::Reader;
 use afs_xdr::writing::Writer;
+use std::alloc::Global;
 
 /// The calls of the cell.
 pub struct CellCalls;
@@ -34,20 +35,20 @@ impl Messages for CellCalls {
         }
     }
 
-    fn from_fields(opcode: u32, fields: &mut Taking) -> Option<Call> {
+    fn read(alloc: Global, opcode: u32, r: &mut Reader) -> Result<Call, ShapeFault> {
         match FsCalls::shape(opcode) {
             Ok(_) => {
-                let call = FsCalls::from_fields(opcode, fields)?;
-                Some(Call::File(call))
+                let call = FsCalls::read(alloc, opcode, r)?;
+                Ok(Call::File(call))
             }
             Err(_) => match VolCalls::shape(opcode) {
                 Ok(_) => {
-                    let call = VolCalls::from_fields(opcode, fields)?;
-                    Some(Call::Volume(call))
+                    let call = VolCalls::read(alloc, opcode, r)?;
+                    Ok(Call::Volume(call))
                 }
                 Err(_) => {
-                    let call = LocCalls::from_fields(opcode, fields)?;
-                    Some(Call::Location(call))
+                    let call = LocCalls::read(alloc, opcode, r)?;
+                    Ok(Call::Location(call))
                 }
             },
         }
@@ -90,20 +91,20 @@ impl Messages for CellReplies {
         }
     }
 
-    fn from_fields(opcode: u32, fields: &mut Taking) -> Option<Reply> {
+    fn read(alloc: Global, opcode: u32, r: &mut Reader) -> Result<Reply, ShapeFault> {
         match FsReplies::shape(opcode) {
             Ok(_) => {
-                let reply = FsReplies::from_fields(opcode, fields)?;
-                Some(Reply::File(reply))
+                let reply = FsReplies::read(alloc, opcode, r)?;
+                Ok(Reply::File(reply))
             }
             Err(_) => match VolReplies::shape(opcode) {
                 Ok(_) => {
-                    let reply = VolReplies::from_fields(opcode, fields)?;
-                    Some(Reply::Volume(reply))
+                    let reply = VolReplies::read(alloc, opcode, r)?;
+                    Ok(Reply::Volume(reply))
                 }
                 Err(_) => {
-                    let reply = LocReplies::from_fields(opcode, fields)?;
-                    Some(Reply::Location(reply))
+                    let reply = LocReplies::read(alloc, opcode, r)?;
+                    Ok(Reply::Location(reply))
                 }
             },
         }

@@ -14,7 +14,7 @@ use crate::heads::{head_of_half, write_head};
 use afs_num::sequences::Octets;
 use afs_num::types::{Half, Head, Mem};
 use afs_shape::faults::ShapeFault;
-use afs_shape::messages::{Messages, read_body};
+use afs_shape::messages::Messages;
 use afs_xdr::reading::Reader;
 use afs_xdr::writing::Writer;
 use std::alloc::Global;
@@ -37,7 +37,7 @@ fn read_user(alloc: Global, r: &mut Reader) -> Result<Octets, ShapeFault>
 
 /// Reads a call of this opcode behind its header: its user and its fields. `NoRow` where the opcode has none, then
 /// `Field` with the first bad one.
-#[tactic(auto, unfolding(afs_model::specs::Rpc::asked_at))]
+#[tactic(auto, unfolding(afs_model::specs::Rpc::asked_at), using(afs_shape::proofs::TakenLaws::is_body))]
 pub fn read_asked<M: Messages>(
     alloc: Global,
     opcode: u32,
@@ -45,9 +45,9 @@ pub fn read_asked<M: Messages>(
 ) -> Result<(Octets, M::Message), ShapeFault>
     ensures { GivesShape (λ c. c) (asked_at M.table opcode r.old.left) result }
 {
-    let shape = M::shape(opcode)?;
+    let _shape = M::shape(opcode)?;
     let user = read_user(alloc, r)?;
-    let call = read_body::<M>(alloc, opcode, &shape, r)?;
+    let call = M::read(alloc, opcode, r)?;
     Ok((user, call))
 }
 

@@ -18,7 +18,7 @@ use afs_num::sequences::Octets;
 use afs_num::types::{Code, Half, Head, Mem};
 use afs_shape::faults::ShapeFault;
 use afs_shape::kinds::Fields;
-use afs_shape::messages::{Messages, read_body};
+use afs_shape::messages::Messages;
 use afs_xdr::reading::Reader;
 use afs_xdr::writing::Writer;
 use std::alloc::Global;
@@ -52,7 +52,7 @@ pub fn no_fields(alloc: Global, r: &Reader) -> Result<Fields, ShapeFault>
 }
 
 /// What stands behind a code: the reply to a call of this opcode, or nothing.
-#[tactic(auto, unfolding(afs_model::specs::Rpc::answer_at))]
+#[tactic(auto, unfolding(afs_model::specs::Rpc::answer_at), using(afs_shape::proofs::TakenLaws::is_body))]
 fn read_answer<M: Messages>(
     alloc: Global,
     opcode: u32,
@@ -62,8 +62,8 @@ fn read_answer<M: Messages>(
     ensures { GivesShape (λ x. x) (answer_at M.table opcode done r.old.left) result }
 {
     if done {
-        let shape = M::shape(opcode)?;
-        let reply = read_body::<M>(alloc, opcode, &shape, r)?;
+        let _shape = M::shape(opcode)?;
+        let reply = M::read(alloc, opcode, r)?;
         Ok(Some(reply))
     } else {
         let _nothing = no_fields(alloc, r)?;

@@ -7,3 +7,5 @@ pub mod RowLaws
 pub mod BodyLaws
 pub mod MadeLaws
 pub mod InterfaceLaws
+pub mod TakenLaws
+pub mod Firsts

@@ -6,3 +6,4 @@ pub mod Rows
 pub mod Bodies
 pub mod Parts
 pub mod Taking
+pub mod Taken

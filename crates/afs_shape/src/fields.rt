@@ -105,7 +105,7 @@ macro_rules! writing_arms {
 
 /// Reads a signed word.
 #[tactic(auto, unfolding(crate::specs::Reading::signed_at))]
-fn read_signed(r: &mut Reader) -> Result<i32, XdrFault>
+pub(crate) fn read_signed(r: &mut Reader) -> Result<i32, XdrFault>
     ensures value { Reads signed_at (λ z. z) r.old r.new result }
     ensures end { KeepsEnd r.old r.new }
 {
@@ -114,7 +114,7 @@ fn read_signed(r: &mut Reader) -> Result<i32, XdrFault>
 }
 
 /// Reads an opaque, and copies it.
-fn read_octets(alloc: Global, r: &mut Reader, most: u32) -> Result<Octets, FieldFault>
+pub(crate) fn read_octets(alloc: Global, r: &mut Reader, most: u32) -> Result<Octets, FieldFault>
     ensures value { ReadsField (opaque_at most) (λ s. s) r.old r.new result }
     ensures end { KeepsEnd r.old r.new }
 {
@@ -125,7 +125,7 @@ fn read_octets(alloc: Global, r: &mut Reader, most: u32) -> Result<Octets, Field
 
 /// Reads a location entry.
 #[tactic(auto, unfolding(crate::specs::Items::entry_at))]
-fn read_entry(alloc: Global, r: &mut Reader) -> Result<LocEntry, FieldFault>
+pub(crate) fn read_entry(alloc: Global, r: &mut Reader) -> Result<LocEntry, FieldFault>
     ensures value { ReadsField entry_at (λ e. e) r.old r.new result }
     ensures end { KeepsEnd r.old r.new }
 {

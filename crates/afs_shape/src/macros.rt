@@ -1,5 +1,5 @@
 //! What an interface's list of messages is made into: the table of their shapes, the parts that one is written from,
-//! and the message that fields make. A list has a line a row: `136 RemoveFile { directory: Fid, name: Opaque[256] }`.
+//! and how one is read. A list has a line a row: `136 RemoveFile { directory: Fid, name: Opaque[256] }`.
 
 /// The first eight kinds.
 #[macro_export]
@@ -128,26 +128,26 @@ macro_rules! room_of {
 #[macro_export]
 macro_rules! slots_of {
     () => { $crate::taking::End };
-    ($kind:ident $($more:ident)*) => {
-        $crate::taking::Then<$crate::slots::$kind, $crate::slots_of!($($more)*)>
+    ($kind:ident $([$most:expr])? $(, $more:ident $([$further:expr])?)*) => {
+        $crate::taking::Then<$crate::slots::$kind $(<{ $most }>)?, $crate::slots_of!($($more $([$further])?),*)>
     };
 }
 
-/// The message of this enum and opcode with these fields.
+/// Reads the message of this enum and opcode.
 #[macro_export]
-macro_rules! message_from {
+macro_rules! message_read {
     (
-        ($opcode:ident, $fields:ident, $enum:ident)
+        ($opcode:ident, $alloc:ident, $r:ident, $enum:ident)
         [$($number:literal $name:ident { $($field:ident: $kind:ident $([$most:expr])?),* }),*]
     ) => {
         match $opcode {
             $($number => {
-                let rest = <$crate::slots_of!($($kind)*) as $crate::taking::Slots>::take($fields)?;
+                let rest = $crate::taking::read_values::<$crate::slots_of!($($kind $([$most])?),*)>($alloc, $r)?;
                 $(let ($field, rest) = rest;)*
                 let () = rest;
-                Some($enum::$name { $($field),* })
+                Ok($enum::$name { $($field),* })
             })*
-            _ => None,
+            _ => Err($crate::faults::ShapeFault::NoRow($opcode)),
         }
     };
 }

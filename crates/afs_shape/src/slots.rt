@@ -1,9 +1,15 @@
-//! The kinds of fields, as who takes them names them.
+//! The kinds of fields, as who reads them names them.
 
+ghost use Rattle.afs_shape.specs.declared.kinds.Kind.TheVariants as kinds;
+ghost use Rattle.afs_shape.specs.declared.kinds.Field.TheVariants as fields;
 ghost use Rattle.afs_shape.specs.Taking.{word_first, signed_first, volume_kind_first, server_first, fid_first, store_status_first, status_first, callback_first, sync_first, entry_first, octets_first, fids_first, callbacks_first, statuses_first, volumes_first};
+ghost use Rattle.afs_shape.proofs.Firsts as firsts;
 
-use crate::kinds::Field;
-use crate::taking::{Slot, Taking};
+use crate::faults::FieldFault;
+use crate::fields::{read_entry, read_octets, read_signed};
+use crate::items::{Item, read_server, read_volume_kind};
+use crate::lists::read_list;
+use crate::taking::Slot;
 use afs_num::calls::{
     AfsCallBack, AfsFetchStatus, AfsStoreStatus, AfsVolSync, CallBacks as CallBackList,
     Fids as FidList, Statuses as StatusList,
@@ -12,19 +18,27 @@ use afs_num::location_calls::LocEntry;
 use afs_num::sequences::Octets;
 use afs_num::types::Fid as AfsFid;
 use afs_num::volume_calls::ListedVolumes;
+use afs_xdr::reading::Reader;
+use std::alloc::Global;
 
 pub struct Word;
 
 impl Slot for Word {
     type Value = u32;
 
+    ghost kind = { kinds.Word };
+
+    ghost field = { fields.Word };
+
     ghost first = { word_first };
 
-    fn first(fields: &mut Taking) -> Option<u32> {
-        match fields.next() {
-            Some(Field::Word(value)) => Some(value),
-            _ => None,
-        }
+    ghost is_first = { firsts.word };
+
+    #[inline]
+    #[tactic(auto, unfolding(crate::specs::Reading::field_at))]
+    fn read(_: Global, r: &mut Reader) -> Result<u32, FieldFault> {
+        let value = r.word()?;
+        Ok(value)
     }
 }
 
@@ -33,13 +47,19 @@ pub struct Signed;
 impl Slot for Signed {
     type Value = i32;
 
+    ghost kind = { kinds.Signed };
+
+    ghost field = { fields.Signed };
+
     ghost first = { signed_first };
 
-    fn first(fields: &mut Taking) -> Option<i32> {
-        match fields.next() {
-            Some(Field::Signed(value)) => Some(value),
-            _ => None,
-        }
+    ghost is_first = { firsts.signed };
+
+    #[inline]
+    #[tactic(auto, unfolding(crate::specs::Reading::field_at))]
+    fn read(_: Global, r: &mut Reader) -> Result<i32, FieldFault> {
+        let value = read_signed(r)?;
+        Ok(value)
     }
 }
 
@@ -48,13 +68,19 @@ pub struct VolumeKind;
 impl Slot for VolumeKind {
     type Value = u32;
 
+    ghost kind = { kinds.VolumeKind };
+
+    ghost field = { fields.VolumeKind };
+
     ghost first = { volume_kind_first };
 
-    fn first(fields: &mut Taking) -> Option<u32> {
-        match fields.next() {
-            Some(Field::VolumeKind(value)) => Some(value),
-            _ => None,
-        }
+    ghost is_first = { firsts.volume_kind };
+
+    #[inline]
+    #[tactic(auto, unfolding(crate::specs::Reading::field_at))]
+    fn read(_: Global, r: &mut Reader) -> Result<u32, FieldFault> {
+        let value = read_volume_kind(r)?;
+        Ok(value)
     }
 }
 
@@ -63,13 +89,19 @@ pub struct Server;
 impl Slot for Server {
     type Value = u32;
 
+    ghost kind = { kinds.Server };
+
+    ghost field = { fields.Server };
+
     ghost first = { server_first };
 
-    fn first(fields: &mut Taking) -> Option<u32> {
-        match fields.next() {
-            Some(Field::Server(value)) => Some(value),
-            _ => None,
-        }
+    ghost is_first = { firsts.server };
+
+    #[inline]
+    #[tactic(auto, unfolding(crate::specs::Reading::field_at))]
+    fn read(_: Global, r: &mut Reader) -> Result<u32, FieldFault> {
+        let value = read_server(r)?;
+        Ok(value)
     }
 }
 
@@ -78,13 +110,19 @@ pub struct Fid;
 impl Slot for Fid {
     type Value = AfsFid;
 
+    ghost kind = { kinds.Fid };
+
+    ghost field = { fields.Fid };
+
     ghost first = { fid_first };
 
-    fn first(fields: &mut Taking) -> Option<AfsFid> {
-        match fields.next() {
-            Some(Field::Fid(value)) => Some(value),
-            _ => None,
-        }
+    ghost is_first = { firsts.fid };
+
+    #[inline]
+    #[tactic(auto, unfolding(crate::specs::Reading::field_at))]
+    fn read(_: Global, r: &mut Reader) -> Result<AfsFid, FieldFault> {
+        let value = AfsFid::read(r)?;
+        Ok(value)
     }
 }
 
@@ -93,13 +131,19 @@ pub struct StoreStatus;
 impl Slot for StoreStatus {
     type Value = AfsStoreStatus;
 
+    ghost kind = { kinds.StoreStatus };
+
+    ghost field = { fields.StoreStatus };
+
     ghost first = { store_status_first };
 
-    fn first(fields: &mut Taking) -> Option<AfsStoreStatus> {
-        match fields.next() {
-            Some(Field::StoreStatus(value)) => Some(value),
-            _ => None,
-        }
+    ghost is_first = { firsts.store_status };
+
+    #[inline]
+    #[tactic(auto, unfolding(crate::specs::Reading::field_at))]
+    fn read(_: Global, r: &mut Reader) -> Result<AfsStoreStatus, FieldFault> {
+        let value = AfsStoreStatus::read(r)?;
+        Ok(value)
     }
 }
 
@@ -108,13 +152,19 @@ pub struct FetchStatus;
 impl Slot for FetchStatus {
     type Value = AfsFetchStatus;
 
+    ghost kind = { kinds.FetchStatus };
+
+    ghost field = { fields.FetchStatus };
+
     ghost first = { status_first };
 
-    fn first(fields: &mut Taking) -> Option<AfsFetchStatus> {
-        match fields.next() {
-            Some(Field::FetchStatus(value)) => Some(value),
-            _ => None,
-        }
+    ghost is_first = { firsts.status };
+
+    #[inline]
+    #[tactic(auto, unfolding(crate::specs::Reading::field_at))]
+    fn read(_: Global, r: &mut Reader) -> Result<AfsFetchStatus, FieldFault> {
+        let value = AfsFetchStatus::read(r)?;
+        Ok(value)
     }
 }
 
@@ -123,13 +173,19 @@ pub struct CallBack;
 impl Slot for CallBack {
     type Value = AfsCallBack;
 
+    ghost kind = { kinds.CallBack };
+
+    ghost field = { fields.CallBack };
+
     ghost first = { callback_first };
 
-    fn first(fields: &mut Taking) -> Option<AfsCallBack> {
-        match fields.next() {
-            Some(Field::CallBack(value)) => Some(value),
-            _ => None,
-        }
+    ghost is_first = { firsts.callback };
+
+    #[inline]
+    #[tactic(auto, unfolding(crate::specs::Reading::field_at))]
+    fn read(_: Global, r: &mut Reader) -> Result<AfsCallBack, FieldFault> {
+        let value = AfsCallBack::read(r)?;
+        Ok(value)
     }
 }
 
@@ -138,13 +194,19 @@ pub struct VolSync;
 impl Slot for VolSync {
     type Value = AfsVolSync;
 
+    ghost kind = { kinds.VolSync };
+
+    ghost field = { fields.VolSync };
+
     ghost first = { sync_first };
 
-    fn first(fields: &mut Taking) -> Option<AfsVolSync> {
-        match fields.next() {
-            Some(Field::VolSync(value)) => Some(value),
-            _ => None,
-        }
+    ghost is_first = { firsts.sync };
+
+    #[inline]
+    #[tactic(auto, unfolding(crate::specs::Reading::field_at))]
+    fn read(_: Global, r: &mut Reader) -> Result<AfsVolSync, FieldFault> {
+        let value = AfsVolSync::read(r)?;
+        Ok(value)
     }
 }
 
@@ -153,87 +215,123 @@ pub struct Entry;
 impl Slot for Entry {
     type Value = LocEntry;
 
+    ghost kind = { kinds.Entry };
+
+    ghost field = { fields.Entry };
+
     ghost first = { entry_first };
 
-    fn first(fields: &mut Taking) -> Option<LocEntry> {
-        match fields.next() {
-            Some(Field::Entry(value)) => Some(value),
-            _ => None,
-        }
+    ghost is_first = { firsts.entry };
+
+    #[inline]
+    #[tactic(auto, unfolding(crate::specs::Reading::field_at))]
+    fn read(alloc: Global, r: &mut Reader) -> Result<LocEntry, FieldFault> {
+        let value = read_entry(alloc, r)?;
+        Ok(value)
     }
 }
 
-pub struct Opaque;
+pub struct Opaque<const MOST: u32>;
 
-impl Slot for Opaque {
+impl<const MOST: u32> Slot for Opaque<MOST> {
     type Value = Octets;
+
+    ghost kind = { kinds.Opaque MOST };
+
+    ghost field = { fields.Opaque };
 
     ghost first = { octets_first };
 
-    fn first(fields: &mut Taking) -> Option<Octets> {
-        match fields.next() {
-            Some(Field::Opaque(value)) => Some(value),
-            _ => None,
-        }
+    ghost is_first = { firsts.octets };
+
+    #[inline]
+    #[tactic(auto, unfolding(crate::specs::Reading::field_at))]
+    fn read(alloc: Global, r: &mut Reader) -> Result<Octets, FieldFault> {
+        let value = read_octets(alloc, r, MOST)?;
+        Ok(value)
     }
 }
 
-pub struct Fids;
+pub struct Fids<const MOST: u32>;
 
-impl Slot for Fids {
+impl<const MOST: u32> Slot for Fids<MOST> {
     type Value = FidList;
+
+    ghost kind = { kinds.Fids MOST };
+
+    ghost field = { fields.Fids };
 
     ghost first = { fids_first };
 
-    fn first(fields: &mut Taking) -> Option<FidList> {
-        match fields.next() {
-            Some(Field::Fids(value)) => Some(value),
-            _ => None,
-        }
+    ghost is_first = { firsts.fids };
+
+    #[inline]
+    #[tactic(auto, unfolding(crate::specs::Reading::field_at))]
+    fn read(alloc: Global, r: &mut Reader) -> Result<FidList, FieldFault> {
+        let value = read_list(alloc, r, MOST)?;
+        Ok(value)
     }
 }
 
-pub struct CallBacks;
+pub struct CallBacks<const MOST: u32>;
 
-impl Slot for CallBacks {
+impl<const MOST: u32> Slot for CallBacks<MOST> {
     type Value = CallBackList;
+
+    ghost kind = { kinds.CallBacks MOST };
+
+    ghost field = { fields.CallBacks };
 
     ghost first = { callbacks_first };
 
-    fn first(fields: &mut Taking) -> Option<CallBackList> {
-        match fields.next() {
-            Some(Field::CallBacks(value)) => Some(value),
-            _ => None,
-        }
+    ghost is_first = { firsts.callbacks };
+
+    #[inline]
+    #[tactic(auto, unfolding(crate::specs::Reading::field_at))]
+    fn read(alloc: Global, r: &mut Reader) -> Result<CallBackList, FieldFault> {
+        let value = read_list(alloc, r, MOST)?;
+        Ok(value)
     }
 }
 
-pub struct Statuses;
+pub struct Statuses<const MOST: u32>;
 
-impl Slot for Statuses {
+impl<const MOST: u32> Slot for Statuses<MOST> {
     type Value = StatusList;
+
+    ghost kind = { kinds.Statuses MOST };
+
+    ghost field = { fields.Statuses };
 
     ghost first = { statuses_first };
 
-    fn first(fields: &mut Taking) -> Option<StatusList> {
-        match fields.next() {
-            Some(Field::Statuses(value)) => Some(value),
-            _ => None,
-        }
+    ghost is_first = { firsts.statuses };
+
+    #[inline]
+    #[tactic(auto, unfolding(crate::specs::Reading::field_at))]
+    fn read(alloc: Global, r: &mut Reader) -> Result<StatusList, FieldFault> {
+        let value = read_list(alloc, r, MOST)?;
+        Ok(value)
     }
 }
 
-pub struct Volumes;
+pub struct Volumes<const MOST: u32>;
 
-impl Slot for Volumes {
+impl<const MOST: u32> Slot for Volumes<MOST> {
     type Value = ListedVolumes;
+
+    ghost kind = { kinds.Volumes MOST };
+
+    ghost field = { fields.Volumes };
 
     ghost first = { volumes_first };
 
-    fn first(fields: &mut Taking) -> Option<ListedVolumes> {
-        match fields.next() {
-            Some(Field::Volumes(value)) => Some(value),
-            _ => None,
-        }
+    ghost is_first = { firsts.volumes };
+
+    #[inline]
+    #[tactic(auto, unfolding(crate::specs::Reading::field_at))]
+    fn read(alloc: Global, r: &mut Reader) -> Result<ListedVolumes, FieldFault> {
+        let value = read_list(alloc, r, MOST)?;
+        Ok(value)
     }
 }

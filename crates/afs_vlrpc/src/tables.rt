@@ -8,9 +8,10 @@ use afs_num::types::Mem;
 use afs_shape::faults::ShapeFault;
 use afs_shape::messages::Messages;
 use afs_shape::tables::{Shape, Table};
-use afs_shape::taking::Taking;
-use afs_shape::{message_from, room_of, shape_of, table_of, written_of};
+use afs_shape::{message_read, room_of, shape_of, table_of, written_of};
+use afs_xdr::reading::Reader;
 use afs_xdr::writing::Writer;
+use std::alloc::Global;
 
 /// The name of a volume, in bytes.
 pub const NAME_LIMIT: u32 = 32;
@@ -73,8 +74,8 @@ impl Messages for LocCalls {
         with_calls!(shape_of(opcode))
     }
 
-    fn from_fields(opcode: u32, fields: &mut Taking) -> Option<LocCall> {
-        with_calls!(message_from(opcode, fields, LocCall))
+    fn read(alloc: Global, opcode: u32, r: &mut Reader) -> Result<LocCall, ShapeFault> {
+        with_calls!(message_read(opcode, alloc, r, LocCall))
     }
 
     fn room(call: &LocCall) -> usize {
@@ -101,8 +102,8 @@ impl Messages for LocReplies {
         with_replies!(shape_of(opcode))
     }
 
-    fn from_fields(opcode: u32, fields: &mut Taking) -> Option<LocReply> {
-        with_replies!(message_from(opcode, fields, LocReply))
+    fn read(alloc: Global, opcode: u32, r: &mut Reader) -> Result<LocReply, ShapeFault> {
+        with_replies!(message_read(opcode, alloc, r, LocReply))
     }
 
     fn room(reply: &LocReply) -> usize {

@@ -8,9 +8,10 @@ use afs_num::volume_calls::{VolCall, VolReply};
 use afs_shape::faults::ShapeFault;
 use afs_shape::messages::Messages;
 use afs_shape::tables::{Shape, Table};
-use afs_shape::taking::Taking;
-use afs_shape::{message_from, room_of, shape_of, table_of, written_of};
+use afs_shape::{message_read, room_of, shape_of, table_of, written_of};
+use afs_xdr::reading::Reader;
 use afs_xdr::writing::Writer;
+use std::alloc::Global;
 
 /// A piece of a dump, in bytes.
 pub const PIECE_LIMIT: u32 = 33_554_432;
@@ -89,8 +90,8 @@ impl Messages for VolCalls {
         with_calls!(shape_of(opcode))
     }
 
-    fn from_fields(opcode: u32, fields: &mut Taking) -> Option<VolCall> {
-        with_calls!(message_from(opcode, fields, VolCall))
+    fn read(alloc: Global, opcode: u32, r: &mut Reader) -> Result<VolCall, ShapeFault> {
+        with_calls!(message_read(opcode, alloc, r, VolCall))
     }
 
     fn room(call: &VolCall) -> usize {
@@ -117,8 +118,8 @@ impl Messages for VolReplies {
         with_replies!(shape_of(opcode))
     }
 
-    fn from_fields(opcode: u32, fields: &mut Taking) -> Option<VolReply> {
-        with_replies!(message_from(opcode, fields, VolReply))
+    fn read(alloc: Global, opcode: u32, r: &mut Reader) -> Result<VolReply, ShapeFault> {
+        with_replies!(message_read(opcode, alloc, r, VolReply))
     }
 
     fn room(reply: &VolReply) -> usize {
