@@ -1,5 +1,5 @@
 -- Fields that are read one after the other, and taken as they are read.
-use Rattle.std.proofs.Common.{◌≡◌, ℕ, suc, ◌+◌, List, [], ◌∷◌, length, Option, Some, None, Unit, Result, Ok, Err, refl, sym, ap, ◌∙◌, arith}
+use Rattle.std.proofs.Common.{◌≡◌, ℕ, suc, ◌+◌, List, [], ◌∷◌, length, Option, Some, None, Result, Ok, Err, refl, sym, ap, ◌∙◌, arith}
 use Rattle.afs_xdr.specs.declared.faults.XdrFault.{XdrFault}
 use Rattle.afs_xdr.specs.Words.{end_at}
 use Rattle.afs_shape.specs.declared.faults.FieldFault.{FieldFault}
@@ -24,8 +24,11 @@ last : (f : Field) (fs : List Field) (r : Result (Unit {0}) ShapeFault) → (r >
 last f fs (Ok u) = refl
 last f fs (Err e) = refl
 
+abbrev put_first : Field → List Field × List ℕ → Result (List Field × List ℕ) ShapeFault
+put_first f o = Ok (f ∷ o.0, o.1)
+
 shifted : (f : Field) (place : ℕ) (r : Result (List Field × List ℕ) ShapeFault)
-    → ((r >>= λ o. Ok (f ∷ o.0, o.1)) >>= λ fs. in_place (length fs.0 + place) (end_at fs.1) >>= λ nothing. Ok fs.0) ≡ with_first f (r >>= λ fs. in_place (length fs.0 + (place + 1)) (end_at fs.1) >>= λ nothing. Ok fs.0)
+    → ((r >>= put_first f) >>= λ fs. in_place (length fs.0 + place) (end_at fs.1) >>= λ nothing. Ok fs.0) ≡ with_first f (r >>= λ fs. in_place (length fs.0 + (place + 1)) (end_at fs.1) >>= λ nothing. Ok fs.0)
 shifted f place (Ok o) =
     let n : suc (length o.0) + place ≡ length o.0 + (place + 1) = omega arith in
     rw n (last f o.0 (in_place (length o.0 + (place + 1)) (end_at o.1)))
@@ -49,7 +52,7 @@ both first taken f fs x v e h = rw (e, h) refl
 pub goes_on : {A V : Type 0} (field : A → Field) (first : List Field → Option (A × List Field)) (taken : List Field → Option V) (place : ℕ) (k : Kind) (ks : List Kind) (bytes after : List ℕ) (x : A) (v : V) → IsFirst field first → field_at k bytes ≡ Ok (field x, after)
     → TakesRead taken (fields_from_at (place + 1) ks after) (Ok v) → TakesRead (taken_behind first taken) (fields_from_at place (k ∷ ks) bytes) (Ok (x, v))
 goes_on field first taken place k ks bytes after x v is e h =
-    (field x ∷ h.0, (in_front place k ks bytes after (field x) e ∙ ap (with_first (field x)) h.1, both first taken (field x) h.0 x v (is x h.0) h.2))
+    (field x ∷ h.0, in_front place k ks bytes after (field x) e ∙ ap (with_first (field x)) h.1, both first taken (field x) h.0 x v (is x h.0) h.2)
 
 failed : (f : Field) (r : Result (List Field) ShapeFault) (e : ShapeFault) → r ≡ Err e → with_first f r ≡ Err e
 failed f (Ok fs) e h = absurd cc
@@ -67,7 +70,7 @@ fails field taken all place k ks bytes after x (faults.Field i f) e h = in_front
 
 pub ends : (place : ℕ) (bytes : List ℕ) → end_at bytes ≡ Ok tt → TakesRead no_more (fields_from_at place [] bytes) (Ok tt)
 unfolding fields_from_at fields_at
-ends place bytes e = ([], (rw e refl, refl))
+ends place bytes e = ([], rw e refl, refl)
 
 pub more : (place : ℕ) (bytes : List ℕ) (f : XdrFault) → end_at bytes ≡ Err f → fields_from_at place [] bytes ≡ Err (faults.Field place f)
 unfolding fields_from_at fields_at

@@ -1,5 +1,5 @@
 -- What is taken from the fields of a message while they are read.
-use Rattle.std.specs.Prelude.{◌≡◌, ℕ, ◌+◌, List, ◌∷◌, length, Option, Some, Unit, Result, Ok, Err}
+use Rattle.std.specs.Prelude.{◌≡◌, ℕ, ◌+◌, List, ◌∷◌, length, Option, Some, Result, Ok, Err}
 use Rattle.afs_xdr.specs.Words.{end_at}
 use Rattle.afs_shape.specs.declared.faults.ShapeFault.{ShapeFault}
 use Rattle.afs_shape.specs.declared.faults.ShapeFault.TheVariants as faults
