@@ -8,4 +8,3 @@ pub mod BodyLaws
 pub mod MadeLaws
 pub mod InterfaceLaws
 pub mod TakenLaws
-pub mod Firsts

@@ -7,3 +7,4 @@ pub mod Bodies
 pub mod Parts
 pub mod Taking
 pub mod Taken
+pub mod Firsts

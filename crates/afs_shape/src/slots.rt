@@ -3,7 +3,7 @@
 ghost use Rattle.afs_shape.specs.declared.kinds.Kind.TheVariants as kinds;
 ghost use Rattle.afs_shape.specs.declared.kinds.Field.TheVariants as fields;
 ghost use Rattle.afs_shape.specs.Taking.{word_first, signed_first, volume_kind_first, server_first, fid_first, store_status_first, status_first, callback_first, sync_first, entry_first, octets_first, fids_first, callbacks_first, statuses_first, volumes_first};
-ghost use Rattle.afs_shape.proofs.Firsts as firsts;
+ghost use Rattle.afs_shape.specs.Firsts as firsts;
 
 use crate::faults::FieldFault;
 use crate::fields::{read_entry, read_octets, read_signed};

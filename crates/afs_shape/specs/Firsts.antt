@@ -1,5 +1,5 @@
 -- The value of a field that stands first is what is taken first.
-use Rattle.std.proofs.Common.{refl}
+use Rattle.std.specs.Prelude.{refl}
 use Rattle.afs_shape.specs.declared.kinds.Field.TheVariants as fields
 use Rattle.afs_shape.specs.Taking.{word_first, signed_first, volume_kind_first, server_first, fid_first, store_status_first, status_first, callback_first, sync_first, entry_first, octets_first, fids_first, callbacks_first, statuses_first, volumes_first}
 use Rattle.afs_shape.specs.Taken.{IsFirst}
