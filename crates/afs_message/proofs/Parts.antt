@@ -4,11 +4,14 @@ use Rattle.std.specs.Prelude.{nat_eq, ◌==◌, find, map}
 use Rattle.std.specs.Option.{option_map}
 use Rattle.std.proofs.lemmas.Bool.{eqb-true, eqb-false, eq-eqb, ne_eqb}
 use Rattle.afs_shape.specs.declared.faults.ShapeFault.{ShapeFault}
+use Rattle.afs_shape.specs.declared.faults.ShapeFault.TheVariants as faults
 use Rattle.afs_shape.specs.declared.kinds.Kind.{Kind}
 use Rattle.afs_shape.specs.declared.kinds.Field.{Field}
 use Rattle.afs_shape.specs.Tables.{kinds_in}
 use Rattle.afs_shape.specs.Rows.{MessageTable, table_rows, made_in, message_of, in_interface}
 use Rattle.afs_shape.specs.Bodies.{found_row, row_at}
+use Rattle.afs_shape.specs.Reading.{◌>>=◌, fields_to_end_at}
+use Rattle.afs_shape.specs.Taken.{row_fields_at, TakesRead}
 use Rattle.afs_shape.proofs.BodyLaws.{row_ok, row_again}
 
 abbrev Rows : Type 0
@@ -133,3 +136,48 @@ third_made {X} {Y} {Z} {W} {first} {second} {third} {whole} {a} {b} {c} is n fs 
     ap (λ (ws : List W). made_in n fs (map whole.row ws)) is.each
     ∙ (made_past first whole a is.in_first n fs first.each _ (row_none n (kinds_in n (table_rows first)) f none)
     ∙ (made_past second whole b is.in_second n fs second.each _ (row_none n (kinds_in n (table_rows second)) g no_more) ∙ made_last third whole c is.in_third n fs third.each))
+
+-- ---- what is taken while it is read
+
+taken_as : {X W : Type 0} (part : X → W) (one : List Field → Option X) (all : List Field → Option W) (read whole : Result (List Field) ShapeFault) (x : X) → whole ≡ read → ((fs : List Field) → all fs ≡ option_map part (one fs)) → TakesRead one read (Ok x)
+    → TakesRead all whole (Ok (part x))
+taken_as part one all read whole x e same h = (h.0, e ∙ h.1, same h.0 ∙ ap (option_map part) h.2)
+
+failed_as : {X W : Type 0} (one : List Field → Option X) (all : List Field → Option W) (read whole : Result (List Field) ShapeFault) (f : ShapeFault) → whole ≡ read → TakesRead one read (Err f) → TakesRead all whole (Err f)
+failed_as one all read whole faults.OutOfMemory e h = tt
+failed_as one all read whole (faults.Head f) e h = e ∙ h
+failed_as one all read whole (faults.NoRow n) e h = e ∙ h
+failed_as one all read whole (faults.Field i f) e h = e ∙ h
+
+same_fields : {X W : Type 0} (table : MessageTable X) (whole : MessageTable W) (n : ℕ) (bytes : List ℕ) (r : Result (List Kind) ShapeFault) → row_at table n ≡ r → row_at whole n ≡ r → row_fields_at whole n bytes ≡ row_fields_at table n bytes
+same_fields table whole n bytes r e f = ap (λ (o : Result (List Kind) ShapeFault). o >>= λ ks. fields_to_end_at ks bytes) (f ∙ sym e)
+
+pub first_taken : {X Y Z W : Type 0} {first : MessageTable X} {second : MessageTable Y} {third : MessageTable Z} {whole : MessageTable W} {a : X → W} {b : Y → W} {c : Z → W} → IsOfThree first second third whole a b c
+    → (n : ℕ) (ks : List Kind) (bytes : List ℕ) (x : X) → row_at first n ≡ Ok ks → TakesRead (message_of first n) (row_fields_at first n bytes) (Ok x) → TakesRead (message_of whole n) (row_fields_at whole n bytes) (Ok (a x))
+first_taken {X} {Y} {Z} {W} {first} {second} {third} {whole} {a} {b} {c} is n ks bytes x e h =
+    taken_as a (message_of first n) (message_of whole n) (row_fields_at first n bytes) (row_fields_at whole n bytes) x (same_fields first whole n bytes (Ok ks) e (first_row is n ks e)) (λ fs. first_made is n fs ks e) h
+
+pub first_failed : {X Y Z W : Type 0} {first : MessageTable X} {second : MessageTable Y} {third : MessageTable Z} {whole : MessageTable W} {a : X → W} {b : Y → W} {c : Z → W} → IsOfThree first second third whole a b c
+    → (n : ℕ) (ks : List Kind) (bytes : List ℕ) (f : ShapeFault) → row_at first n ≡ Ok ks → TakesRead (message_of first n) (row_fields_at first n bytes) (Err f) → TakesRead (message_of whole n) (row_fields_at whole n bytes) (Err f)
+first_failed {X} {Y} {Z} {W} {first} {second} {third} {whole} {a} {b} {c} is n ks bytes f e h =
+    failed_as (message_of first n) (message_of whole n) (row_fields_at first n bytes) (row_fields_at whole n bytes) f (same_fields first whole n bytes (Ok ks) e (first_row is n ks e)) h
+
+pub second_taken : {X Y Z W : Type 0} {first : MessageTable X} {second : MessageTable Y} {third : MessageTable Z} {whole : MessageTable W} {a : X → W} {b : Y → W} {c : Z → W} → IsOfThree first second third whole a b c
+    → (n : ℕ) (ks : List Kind) (g : ShapeFault) (bytes : List ℕ) (y : Y) → row_at first n ≡ Err g → row_at second n ≡ Ok ks → TakesRead (message_of second n) (row_fields_at second n bytes) (Ok y) → TakesRead (message_of whole n) (row_fields_at whole n bytes) (Ok (b y))
+second_taken {X} {Y} {Z} {W} {first} {second} {third} {whole} {a} {b} {c} is n ks g bytes y none e h =
+    taken_as b (message_of second n) (message_of whole n) (row_fields_at second n bytes) (row_fields_at whole n bytes) y (same_fields second whole n bytes (Ok ks) e (second_row is n ks g none e)) (λ fs. second_made is n fs ks g none e) h
+
+pub second_failed : {X Y Z W : Type 0} {first : MessageTable X} {second : MessageTable Y} {third : MessageTable Z} {whole : MessageTable W} {a : X → W} {b : Y → W} {c : Z → W} → IsOfThree first second third whole a b c
+    → (n : ℕ) (ks : List Kind) (g : ShapeFault) (bytes : List ℕ) (f : ShapeFault) → row_at first n ≡ Err g → row_at second n ≡ Ok ks → TakesRead (message_of second n) (row_fields_at second n bytes) (Err f) → TakesRead (message_of whole n) (row_fields_at whole n bytes) (Err f)
+second_failed {X} {Y} {Z} {W} {first} {second} {third} {whole} {a} {b} {c} is n ks g bytes f none e h =
+    failed_as (message_of second n) (message_of whole n) (row_fields_at second n bytes) (row_fields_at whole n bytes) f (same_fields second whole n bytes (Ok ks) e (second_row is n ks g none e)) h
+
+pub third_taken : {X Y Z W : Type 0} {first : MessageTable X} {second : MessageTable Y} {third : MessageTable Z} {whole : MessageTable W} {a : X → W} {b : Y → W} {c : Z → W} → IsOfThree first second third whole a b c
+    → (n : ℕ) (g k : ShapeFault) (bytes : List ℕ) (z : Z) → row_at first n ≡ Err g → row_at second n ≡ Err k → TakesRead (message_of third n) (row_fields_at third n bytes) (Ok z) → TakesRead (message_of whole n) (row_fields_at whole n bytes) (Ok (c z))
+third_taken {X} {Y} {Z} {W} {first} {second} {third} {whole} {a} {b} {c} is n g k bytes z none no_more h =
+    taken_as c (message_of third n) (message_of whole n) (row_fields_at third n bytes) (row_fields_at whole n bytes) z (same_fields third whole n bytes (row_at third n) refl (third_row is n g k none no_more)) (λ fs. third_made is n fs g k none no_more) h
+
+pub third_failed : {X Y Z W : Type 0} {first : MessageTable X} {second : MessageTable Y} {third : MessageTable Z} {whole : MessageTable W} {a : X → W} {b : Y → W} {c : Z → W} → IsOfThree first second third whole a b c
+    → (n : ℕ) (g k : ShapeFault) (bytes : List ℕ) (f : ShapeFault) → row_at first n ≡ Err g → row_at second n ≡ Err k → TakesRead (message_of third n) (row_fields_at third n bytes) (Err f) → TakesRead (message_of whole n) (row_fields_at whole n bytes) (Err f)
+third_failed {X} {Y} {Z} {W} {first} {second} {third} {whole} {a} {b} {c} is n g k bytes f none no_more h =
+    failed_as (message_of third n) (message_of whole n) (row_fields_at third n bytes) (row_fields_at whole n bytes) f (same_fields third whole n bytes (row_at third n) refl (third_row is n g k none no_more)) h
