@@ -2,13 +2,11 @@
 use Rattle.std.proofs.Common.{◌≡◌, ℕ, suc, ◌+◌, List, [], ◌∷◌, length, Option, Some, None, Result, Ok, Err, refl, sym, ap, ◌∙◌, arith}
 use Rattle.afs_xdr.specs.declared.faults.XdrFault.{XdrFault}
 use Rattle.afs_xdr.specs.Words.{end_at}
-use Rattle.afs_shape.specs.declared.faults.FieldFault.{FieldFault}
 use Rattle.afs_shape.specs.declared.faults.ShapeFault.{ShapeFault}
 use Rattle.afs_shape.specs.declared.faults.ShapeFault.TheVariants as faults
 use Rattle.afs_shape.specs.declared.kinds.Kind.{Kind}
 use Rattle.afs_shape.specs.declared.kinds.Field.{Field}
 use Rattle.afs_shape.specs.Reading.{◌>>=◌, in_place, field_at, fields_at, fields_to_end_at, GivesShape}
-use Rattle.afs_shape.specs.Taking as taking
 use Rattle.afs_shape.specs.Taking.{no_more, taken_behind}
 use Rattle.afs_shape.specs.Taken.{IsFirst, fields_from_at, row_fields_at, TakesRead}
 use Rattle.afs_shape.specs.Rows.{MessageTable, message_of}
