@@ -84,7 +84,11 @@ impl<A: Slot, B: Slots> Slots for Then<A, B> {
 
     #[inline]
     #[tactic(auto, using(crate::proofs::TakenLaws::goes_on, crate::proofs::TakenLaws::fails, crate::proofs::TakenLaws::stops))]
-    fn read(alloc: Global, place: u32, r: &mut Reader) -> Result<(A::Value, B::Values), ShapeFault> {
+    fn read(
+        alloc: Global,
+        place: u32,
+        r: &mut Reader,
+    ) -> Result<(A::Value, B::Values), ShapeFault> {
         let first = match A::read(alloc, r) {
             Ok(first) => first,
             Err(fault) => return Err(fault.at(place)),
