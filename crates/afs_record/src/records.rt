@@ -8,7 +8,7 @@ ghost use Rattle.afs_record.specs.Reading.{GivesForm};
 use crate::faults::RecordFault;
 use crate::heads::{read_head, write_head};
 use crate::tables::{number_of, read_body, write_body};
-use afs_num::records::StoreRecord;
+use afs_num::records::{RecordBody, StoreRecord};
 use afs_num::sequences::Octets;
 use afs_num::types::Mem;
 use afs_records::laws::read_records_are_spelled;
@@ -16,8 +16,21 @@ use afs_xdr::reading::Reader;
 use afs_xdr::writing::Writer;
 use std::alloc::Global;
 
-/// How many bytes a record has room for from the start. Few records are longer, and those grow.
-const USUAL_RECORD: usize = 1024;
+/// More bytes than a record takes without its reply and its vnodes, and more than a vnode takes without its contents and
+/// its access list.
+const USUAL_ROOM: usize = 160;
+
+/// How many bytes most records take, or more. It is asked for room before they are written.
+fn room_for(rec: &StoreRecord) -> usize {
+    let mut room = rec.head.reply.len().saturating_add(USUAL_ROOM);
+    if let RecordBody::Change { vnodes, .. } = &rec.body {
+        for vnode in vnodes.as_slice() {
+            let bytes = vnode.contents.len().saturating_add(vnode.acl.len());
+            room = room.saturating_add(bytes).saturating_add(USUAL_ROOM);
+        }
+    }
+    room
+}
 
 /// The one spelling of a record.
 #[tactic(auto, unfolding(afs_records::specs::Records::record_bytes))]
@@ -25,7 +38,7 @@ pub fn encode_record(alloc: Global, rec: &StoreRecord) -> Mem<Octets>
     requires { FitsRecord rec.now }
     ensures { IfOk result (λ bytes. bytes ≡ record_bytes rec.now) }
 {
-    let mut w = Writer::with_capacity(alloc, USUAL_RECORD)?;
+    let mut w = Writer::with_capacity(alloc, room_for(rec))?;
     w.word(number_of(&rec.body))?;
     write_head(&rec.head, &mut w)?;
     write_body(&rec.body, &mut w)?;
