@@ -83,7 +83,7 @@ impl<A: Slot, B: Slots> Slots for Then<A, B> {
     ghost taken = { taken_behind A.first B.taken };
 
     #[inline]
-    #[tactic(auto, using(crate::proofs::TakenLaws::goes_on, crate::proofs::TakenLaws::fails, crate::proofs::TakenLaws::stops))]
+    #[tactic(auto, using(crate::proofs::TakenLaws::stops))]
     fn read(
         alloc: Global,
         place: u32,
