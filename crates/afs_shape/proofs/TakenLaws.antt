@@ -1,5 +1,5 @@
 -- Fields that are read one after the other, and taken as they are read.
-use Rattle.std.proofs.Common.{◌≡◌, ℕ, suc, ◌+◌, List, [], ◌∷◌, length, Option, Some, None, Result, Ok, Err, refl, sym, ap, ◌∙◌, arith}
+use Rattle.std.proofs.Common.{◌≡◌, ℕ, suc, ◌+◌, List, [], ◌∷◌, length, Option, Some, None, Result, Ok, Err, refl, sym, ap, subst, ◌∙◌, arith}
 use Rattle.afs_xdr.specs.declared.faults.XdrFault.{XdrFault}
 use Rattle.afs_xdr.specs.Words.{end_at}
 use Rattle.afs_shape.specs.declared.faults.ShapeFault.{ShapeFault}
@@ -63,6 +63,11 @@ fails field taken all place k ks bytes after x faults.OutOfMemory e h = tt
 fails field taken all place k ks bytes after x (faults.Head f) e h = in_front place k ks bytes after (field x) e ∙ failed (field x) (fields_from_at (place + 1) ks after) (faults.Head f) h
 fails field taken all place k ks bytes after x (faults.NoRow n) e h = in_front place k ks bytes after (field x) e ∙ failed (field x) (fields_from_at (place + 1) ks after) (faults.NoRow n) h
 fails field taken all place k ks bytes after x (faults.Field i f) e h = in_front place k ks bytes after (field x) e ∙ failed (field x) (fields_from_at (place + 1) ks after) (faults.Field i f) h
+
+pub fails_with : {A V W : Type 0} (field : A → Field) (taken : List Field → Option V) (all : List Field → Option W) (place : ℕ) (k : Kind) (ks : List Kind) (bytes after : List ℕ) (x : A) (e : ShapeFault) (r : Result W ShapeFault) → r ≡ Err e
+    → field_at k bytes ≡ Ok (field x, after) → TakesRead taken (fields_from_at (place + 1) ks after) (Err e) → TakesRead all (fields_from_at place (k ∷ ks) bytes) r
+fails_with {A} {V} {W} field taken all place k ks bytes after x e r is read h =
+    subst (λ (o : Result W ShapeFault). TakesRead all (fields_from_at place (k ∷ ks) bytes) o) (sym is) (fails field taken all place k ks bytes after x e read h)
 
 -- ---- no field
 
