@@ -10,4 +10,4 @@ returns-in_err-rest g c =
 
 pub returns : goal.returns
 returns g c =
-    goes_on g.A.Slot.field g.A.Slot.first g.B.Slots.taken c.args.place g.A.Slot.kind g.B.Slots.kinds c.args.r.now.left c.read.new.r.left c.in-Ok.first c.in_ok-rest.rest g.met.A.Slot.is_first c.in-Ok.ensures c.in_ok-rest.ensures
+    goes_on g.A.Slot.field g.A.Slot.first g.B.Slots.taken c.args.place g.A.Slot.kind g.B.Slots.kinds c.args.r.now.left c.read.new.r.left c.in-Ok.first c.in_ok-rest.rest g.A.Slot.is_first c.in-Ok.ensures c.in_ok-rest.ensures
