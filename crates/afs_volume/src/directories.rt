@@ -1,6 +1,6 @@
 //! The names of the directories of a volume, by the numbers of their vnodes.
 
-ghost use Rattle.std.specs.Prelude.{◌≡◌, ◌≤◌, ◌<◌, ◌+◌, ℕ, Some, None, map, nat_eq, take, IfOk, IsOk, OnOk, if◌then◌else◌};
+ghost use Rattle.std.specs.Prelude.{◌≡◌, ◌≤◌, ◌<◌, ◌+◌, ℕ, Some, None, nat_eq, take, IfOk, IsOk, OnOk, if◌then◌else◌};
 ghost use Rattle.std.specs.Option.{option_copied};
 ghost use Rattle.indexmap.specs.IndexMap as maps;
 ghost use Rattle.afs_ideal.specs.Tables.{AscendsFrom};
@@ -23,7 +23,7 @@ pub struct Directories {
 
 /// The names of a vnode; it has some where it is a directory.
 #[tactic(auto, unfolding(crate::specs::Seen::seen))]
-fn listed_as(alloc: Global, x: &Vnode) -> Mem<Option<Dir>>
+pub fn listed_as(alloc: Global, x: &Vnode) -> Mem<Option<Dir>>
     ensures { IfOk result (λ names. names ≡ listed_as x.now) }
 {
     if is_directory(x) {
@@ -31,17 +31,6 @@ fn listed_as(alloc: Global, x: &Vnode) -> Mem<Option<Dir>>
     } else {
         Ok(None)
     }
-}
-
-/// The names of each vnode; it has some where it is a directory.
-pub fn all_listed(alloc: Global, vnodes: &[Vnode]) -> Mem<Vec<Option<Dir>>>
-    ensures { IfOk result (λ names. names.items ≡ map listed_as vnodes.now) }
-{
-    let mut names = Vec::new(alloc);
-    for x in vnodes {
-        names.push(listed_as(alloc, x)?)?;
-    }
-    Ok(names)
 }
 
 impl Directories {

@@ -12,6 +12,7 @@ ghost use Rattle.afs_volume.specs.declared.faults.AssembleFault.TheVariants.{Not
 
 use crate::faults::AssembleFault;
 use crate::finding::{DIRECTORY, FILE, LINK};
+use crate::listed::ReadyNames;
 use crate::operations::is_acl;
 use afs_dir::{Dir, DirFault};
 use afs_num::directories::Name;
@@ -20,23 +21,29 @@ use afs_num::volumes::Change;
 use std::alloc::Global;
 use std::marker::Model;
 
-/// A change, and the names of each vnode that it gives, where that is a directory: a volume takes it in without memory.
+/// A change whose vnodes can be read, and the names of each of them, where that is a directory: a volume takes it in without
+/// memory.
 #[derive(Drop)]
 pub struct ReadyChange {
     change: Change,
-    names: Vec<Option<Dir>>,
+    names: ReadyNames,
 }
 
 impl Model for ReadyChange {
     ghost use Rattle.std.specs.Prelude.{◌≡◌, map};
+    ghost use Rattle.std.specs.List.{AllByRecursion};
     ghost use Rattle.afs_num.specs.declared.volumes.Change.{Change};
     ghost use Rattle.afs_volume.specs.Listed.{listed_as};
+    ghost use Rattle.afs_volume.specs.Seen.{IsReadable};
 
     ghost Value = { Change };
 
     ghost view = { λ r. r.change };
 
-    ghost invariant = { λ r. r.names.items ≡ map listed_as r.change.vnodes };
+    ghost invariant = { λ r. record {
+      named : r.names ≡ map listed_as r.change.vnodes;
+      readable : AllByRecursion IsReadable r.change.vnodes;
+    } };
 }
 
 /// The names that bytes spell.
@@ -89,12 +96,12 @@ fn read_vnode(alloc: Global, x: &Vnode) -> Result<Option<Dir>, AssembleFault>
 }
 
 /// The names of each vnode, where all can be read.
-fn read_all(alloc: Global, vnodes: &[Vnode]) -> Result<Vec<Option<Dir>>, AssembleFault>
-    ensures names { IfOk result (λ names. names.items ≡ map listed_as vnodes.now) }
+fn read_all(alloc: Global, vnodes: &[Vnode]) -> Result<ReadyNames, AssembleFault>
+    ensures names { IfOk result (λ names. names ≡ map listed_as vnodes.now) }
     ensures readable { OnOk result (AllByRecursion IsReadable vnodes.now) }
     ensures not_sound { result ≡ Err NotSound → list_all can_be_read vnodes.now ≡ false }
 {
-    let mut names = Vec::new(alloc);
+    let mut names = ReadyNames::new(alloc);
     for x in vnodes {
         names.push(read_vnode(alloc, x)?)?;
     }
@@ -135,7 +142,16 @@ impl ReadyChange {
         ensures memory { AllByRecursion IsReadable c.vnodes → IfErr result (λ e. e ≡ OutOfMemory) }
     {
         let names = read_all(alloc, c.vnodes.as_slice())?;
-        Ok(ReadyChange { change: c, names })
+        Ok(ReadyChange::named(c, names))
+    }
+
+    /// A change whose vnodes can be read, with these names, which are theirs. It takes no memory, and reads nothing.
+    pub fn named(change: Change, names: ReadyNames) -> ReadyChange
+        requires named { names ≡ map listed_as change.vnodes }
+        requires readable { AllByRecursion IsReadable change.vnodes }
+        ensures { result ≡ change }
+    {
+        ReadyChange { change, names }
     }
 
     /// The change.
@@ -160,10 +176,11 @@ impl ReadyChange {
         self.into_parts().0
     }
 
-    /// The change, and the names of the directories that it gives. It takes no memory.
-    pub(crate) fn into_parts(self) -> (Change, Vec<Option<Dir>>)
+    /// The change, whose vnodes can be read, and the names of those that are directories. It takes no memory.
+    pub fn into_parts(self) -> (Change, ReadyNames)
         ensures change { result.0 ≡ self }
-        ensures names { result.1.items ≡ map listed_as self.vnodes }
+        ensures names { result.1 ≡ map listed_as self.vnodes }
+        ensures readable { AllByRecursion IsReadable self.vnodes }
     {
         let ReadyChange { change, names } = self;
         (change, names)

@@ -235,6 +235,6 @@ impl Volume {
             unique,
             ..
         } = change;
-        self.take(vnodes, names, removed, counter, unique);
+        self.take(vnodes, names.into_vec(), removed, counter, unique);
     }
 }
