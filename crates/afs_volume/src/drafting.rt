@@ -17,7 +17,7 @@ use crate::drawing::{amended, made};
 use crate::edits::{Amend, Edit, New};
 use crate::finding::LINK;
 use crate::listed::ReadyNames;
-use afs_dir::Dir;
+use crate::listing::Listing;
 use afs_num::histories::{Body, Version, Versions};
 use afs_num::types::{Fid, Mem};
 use afs_num::vnodes::{Vnode, VnodeNumbers, Vnodes};
@@ -35,12 +35,12 @@ pub struct Draft {
 
 /// What the version of a vnode with these names holds.
 #[tactic(auto, unfolding(crate::specs::Seen::seen))]
-fn body_of(alloc: Global, x: &Vnode, names: &Option<Dir>) -> Mem<Body>
+fn body_of(alloc: Global, x: &Vnode, names: &Option<Listing>) -> Mem<Body>
     requires { names.now ≡ listed_as x.now }
     ensures { IfOk result (λ b. b ≡ body_of (seen x.now)) }
 {
     match names {
-        Some(names) => Ok(Body::Dir(names.list()?)),
+        Some(names) => Ok(Body::Dir(names.share()?)),
         None if x.kind == LINK => Ok(Body::Link(x.contents.copy(alloc)?)),
         None => Ok(Body::File(x.contents.copy(alloc)?)),
     }
@@ -64,7 +64,7 @@ impl Draft {
     }
 
     /// A vnode is left, with its version and its names.
-    fn push_left(&mut self, version: Version, x: Vnode, names: Option<Dir>) -> Mem<()>
+    fn push_left(&mut self, version: Version, x: Vnode, names: Option<Listing>) -> Mem<()>
         requires left { IsLeft self.old.time x }
         requires named { names ≡ listed_as x }
         ensures { OnOk result (Draws (version ∷ []) (numbered x ∷ []) [] self.old self.new) }
@@ -99,7 +99,7 @@ impl Volume {
 
     /// The version that a vnode with this image and these names has in the volume, or would have.
     #[tactic(auto, unfolding(crate::specs::Seen::seen))]
-    fn version_named(&self, x: &Vnode, names: &Option<Dir>) -> Mem<Version>
+    fn version_named(&self, x: &Vnode, names: &Option<Listing>) -> Mem<Version>
         requires { names.now ≡ listed_as x.now }
         ensures { IfOk result (λ v. v ≡ version_at self.now.head.id x.now.vnode (seen x.now)) }
     {

@@ -3,7 +3,7 @@
 ghost use Rattle.std.specs.Prelude.{◌≡◌, ◌==◌, length, pos, true, ◌<◌, ◌≤◌, ◌^◌, None, Some, IfOk, IfSome, Ok, is_ok, is_some};
 ghost use Rattle.std.specs.Option.{option_copied, option_map};
 ghost use Rattle.afs_ideal.specs.AccessLists.{acl_at};
-ghost use Rattle.afs_ideal.specs.Directories.{directory_of, named};
+ghost use Rattle.afs_ideal.specs.Directories.{directory_of, named, IsDirectory};
 ghost use Rattle.afs_ideal.specs.Operations.{is_directory, is_kind, is_empty, free_number, links_of, may_link, named_vnode, number_named};
 ghost use Rattle.afs_ideal.specs.Tables.{get};
 ghost use Rattle.afs_ideal.specs.VnodeImage.{most_acl, FitsImage};
@@ -14,6 +14,7 @@ ghost use Rattle.afs_volume.specs.Seen.{seen, names_spelled, list_spelled, kind_
 
 use crate::Volume;
 use crate::faults::OpFault;
+use crate::listing::Listing;
 use afs_dir::{Dir, DirFault};
 use afs_num::directories::Name;
 use afs_num::sequences::Octets;
@@ -31,6 +32,7 @@ pub const LINK: u32 = 3;
 #[tactic(auto, unfolding(crate::specs::Seen::names_spelled))]
 fn names_spelled(alloc: Global, bytes: &[u8]) -> Mem<Dir>
     ensures names { IfOk result (λ names. names ≡ names_spelled bytes.now) }
+    ensures directory { IfOk result (λ names. IsDirectory names) }
     ensures few { IfOk result (λ names. length names ≤ 1024) }
 {
     match Dir::from_bytes(alloc, bytes) {
@@ -45,6 +47,7 @@ fn names_spelled(alloc: Global, bytes: &[u8]) -> Mem<Dir>
 pub fn names_of(alloc: Global, d: &Vnode) -> Mem<Dir>
     requires { is_kind (seen d.now).kind a_directory ≡ true }
     ensures names { IfOk result (λ names. names ≡ (seen d.now).names) }
+    ensures directory { IfOk result (λ names. IsDirectory names) }
     ensures few { IfOk result (λ names. length names ≤ 1024) }
 {
     names_spelled(alloc, d.contents.as_slice())
@@ -120,14 +123,14 @@ pub fn may_link(d: &Fid, x: Option<&Vnode>) -> bool
 }
 
 /// A name is there.
-pub fn has_name(names: &Dir, name: &[u8]) -> bool
+pub fn has_name(names: &Listing, name: &[u8]) -> bool
     ensures { result ≡ is_some (named name.now names.now) }
 {
     names.find(name).is_some()
 }
 
 /// The number of the vnode that a name names, 0 where it isn't there.
-pub fn number_named(names: &Dir, name: &[u8]) -> u32
+pub fn number_named(names: &Listing, name: &[u8]) -> u32
     ensures { result ≡ number_named (named name.now names.now) }
 {
     match names.find(name) {
@@ -165,7 +168,7 @@ impl Volume {
     }
 
     /// The names of a directory. It takes no memory, and doesn't read the directory's contents.
-    pub(crate) fn names(&self, number: u32, d: &Vnode) -> &Dir
+    pub(crate) fn names(&self, number: u32, d: &Vnode) -> &Listing
         requires there { get number self.now.vnodes.table ≡ Some d.now }
         requires directory { is_kind (seen d.now).kind a_directory ≡ true }
         ensures names { result.now ≡ (seen d.now).names }
@@ -189,7 +192,7 @@ impl Volume {
     }
 
     /// The vnode that a name of a directory names.
-    pub(crate) fn named(&self, names: &Dir, name: &[u8]) -> Option<&Vnode>
+    pub(crate) fn named(&self, names: &Listing, name: &[u8]) -> Option<&Vnode>
         ensures seen { option_map seen (option_copied result) ≡ named_vnode (volume_of self.now) (named name.now names.now) }
         ensures number { IfSome result (λ x. x.now.vnode ≡ number_named (named name.now names.now)) }
         ensures value { IfSome result (λ x. get x.now.vnode self.now.vnodes.table ≡ Some x.now) }

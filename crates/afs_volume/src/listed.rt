@@ -2,7 +2,7 @@
 
 ghost use Rattle.std.specs.Prelude.{◌≡◌, ◌∷◌, ◌++◌, [], OnOk};
 
-use afs_dir::Dir;
+use crate::listing::Listing;
 use afs_num::types::Mem;
 use std::alloc::{AllocError, Global};
 use std::marker::Model;
@@ -10,7 +10,7 @@ use std::marker::Model;
 /// The names of vnodes, one after the other: each has some where it is a directory.
 #[derive(Drop)]
 pub struct ReadyNames {
-    names: Vec<Option<Dir>>,
+    names: Vec<Option<Listing>>,
 }
 
 impl Model for ReadyNames {
@@ -33,7 +33,7 @@ impl ReadyNames {
     }
 
     /// Those of one vnode more.
-    pub(crate) fn push(&mut self, names: Option<Dir>) -> Mem<()>
+    pub(crate) fn push(&mut self, names: Option<Listing>) -> Mem<()>
         ensures { OnOk result (self.new ≡ self.old ++ names ∷ []) }
     {
         match self.names.push(names) {
@@ -43,14 +43,14 @@ impl ReadyNames {
     }
 
     /// The names of each. It takes no memory.
-    pub(crate) fn as_slice(&self) -> &[Option<Dir>]
+    pub(crate) fn as_slice(&self) -> &[Option<Listing>]
         ensures { result.now ≡ self.now }
     {
         self.names.as_slice()
     }
 
     /// The names of each. It takes no memory.
-    pub(crate) fn into_vec(self) -> Vec<Option<Dir>>
+    pub(crate) fn into_vec(self) -> Vec<Option<Listing>>
         ensures { result.items ≡ self }
     {
         let ReadyNames { names } = self;

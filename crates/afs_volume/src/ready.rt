@@ -13,6 +13,7 @@ ghost use Rattle.afs_volume.specs.declared.faults.AssembleFault.TheVariants.{Not
 use crate::faults::AssembleFault;
 use crate::finding::{DIRECTORY, FILE, LINK};
 use crate::listed::ReadyNames;
+use crate::listing::Listing;
 use crate::operations::is_acl;
 use afs_dir::{Dir, DirFault};
 use afs_num::directories::Name;
@@ -48,14 +49,14 @@ impl Model for ReadyChange {
 
 /// The names that bytes spell.
 #[tactic(auto, unfolding(crate::specs::Seen::names_spelled))]
-fn read_names(alloc: Global, bytes: &[u8]) -> Result<Dir, AssembleFault>
+fn read_names(alloc: Global, bytes: &[u8]) -> Result<Listing, AssembleFault>
     ensures names { IfOk result (λ names. names ≡ names_spelled bytes.now) }
     ensures read { OnOk result (is_ok (directory_of bytes.now) ≡ true) }
     ensures spelled { OnOk result (directory_bytes (names_spelled bytes.now) ≡ bytes.now) }
     ensures not_sound { result ≡ Err NotSound → is_ok (directory_of bytes.now) ≡ false }
 {
     match Dir::from_bytes(alloc, bytes) {
-        Ok(names) => Ok(names),
+        Ok(names) => Ok(Listing::of(names)?),
         Err(DirFault::OutOfMemory) => Err(AssembleFault::OutOfMemory),
         Err(_) => Err(AssembleFault::NotSound),
     }
@@ -63,7 +64,7 @@ fn read_names(alloc: Global, bytes: &[u8]) -> Result<Dir, AssembleFault>
 
 /// The names of a directory, where they and its access list can be read.
 #[tactic(auto, unfolding(crate::specs::Seen::seen), using(crate::proofs::Readable::directory_read, crate::proofs::Readable::readable_directory))]
-fn read_directory(alloc: Global, x: &Vnode) -> Result<Dir, AssembleFault>
+fn read_directory(alloc: Global, x: &Vnode) -> Result<Listing, AssembleFault>
     requires { x.now.kind ≡ 2 }
     ensures names { IfOk result (λ names. listed_as x.now ≡ Some names) }
     ensures readable { OnOk result (IsReadable x.now) }
@@ -80,7 +81,7 @@ fn read_directory(alloc: Global, x: &Vnode) -> Result<Dir, AssembleFault>
 
 /// The names of a vnode that can be read; it has some where it is a directory.
 #[tactic(auto, unfolding(crate::specs::Seen::seen), using(crate::proofs::Readable::other_read, crate::proofs::Readable::readable_other))]
-fn read_vnode(alloc: Global, x: &Vnode) -> Result<Option<Dir>, AssembleFault>
+fn read_vnode(alloc: Global, x: &Vnode) -> Result<Option<Listing>, AssembleFault>
     ensures names { IfOk result (λ names. names ≡ listed_as x.now) }
     ensures readable { OnOk result (IsReadable x.now) }
     ensures read { OnOk result (can_be_read x.now ≡ true) }
@@ -109,7 +110,7 @@ fn read_all(alloc: Global, vnodes: &[Vnode]) -> Result<ReadyNames, AssembleFault
 }
 
 /// The names of a vnode that are ready; what is no directory has none.
-fn names_or_none(names: &Option<Dir>) -> &[Name]
+fn names_or_none(names: &Option<Listing>) -> &[Name]
     ensures { result.now ≡ names_or_none names.now }
 {
     match names {
@@ -119,7 +120,11 @@ fn names_or_none(names: &Option<Dir>) -> &[Name]
 }
 
 /// The names of the last of these vnodes that has the number.
-fn names_given<'a>(number: u32, vnodes: &[Vnode], ready: &'a [Option<Dir>]) -> Option<&'a [Name]>
+fn names_given<'a>(
+    number: u32,
+    vnodes: &[Vnode],
+    ready: &'a [Option<Listing>],
+) -> Option<&'a [Name]>
     requires { ready.now ≡ map listed_as vnodes.now }
     ensures { option_copied result ≡ names_given number vnodes.now }
 {
