@@ -15,7 +15,7 @@ use crate::Volume;
 use crate::directories::listed_as;
 use crate::drawing::{amended, made};
 use crate::edits::{Amend, Edit, New};
-use crate::finding::LINK;
+use crate::finding::{DIRECTORY, LINK};
 use crate::listed::ReadyNames;
 use crate::listing::Listing;
 use afs_num::histories::{Body, Version, Versions};
@@ -39,10 +39,13 @@ fn body_of(alloc: Global, x: &Vnode, names: &Option<Listing>) -> Mem<Body>
     requires { names.now ≡ listed_as x.now }
     ensures { IfOk result (λ b. b ≡ body_of (seen x.now)) }
 {
-    match names {
-        Some(names) => Ok(Body::Dir(names.share()?)),
-        None if x.kind == LINK => Ok(Body::Link(x.contents.copy(alloc)?)),
-        None => Ok(Body::File(x.contents.copy(alloc)?)),
+    match x.kind {
+        DIRECTORY => match names {
+            Some(names) => Ok(Body::Dir(names.share()?)),
+            None => unreachable!(),
+        },
+        LINK => Ok(Body::Link(x.contents.copy(alloc)?)),
+        _ => Ok(Body::File(x.contents.copy(alloc)?)),
     }
 }
 
