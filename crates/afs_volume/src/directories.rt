@@ -8,7 +8,7 @@ ghost use Rattle.afs_volume.specs.Listed.{listed_as, Lists};
 ghost use Rattle.afs_volume.specs.Seen.{all_seen};
 
 use crate::finding::{is_directory, names_of};
-use crate::listing::Listing;
+use afs_dir::Listing;
 use afs_num::types::Mem;
 use afs_num::vnodes::Vnode;
 use afs_vnode::store::VnodeStore;
@@ -27,7 +27,7 @@ pub fn listed_as(alloc: Global, x: &Vnode) -> Mem<Option<Listing>>
     ensures { IfOk result (λ names. names ≡ listed_as x.now) }
 {
     if is_directory(x) {
-        Ok(Some(Listing::of(names_of(alloc, x)?)?))
+        Ok(Some(names_of(alloc, x)?.into_listing()?))
     } else {
         Ok(None)
     }

@@ -17,7 +17,7 @@ use crate::drawing::{amended, made};
 use crate::edits::{Amend, Edit, New};
 use crate::finding::{DIRECTORY, LINK};
 use crate::listed::ReadyNames;
-use crate::listing::Listing;
+use afs_dir::Listing;
 use afs_num::histories::{Body, Version, Versions};
 use afs_num::types::{Fid, Mem};
 use afs_num::vnodes::{Vnode, VnodeNumbers, Vnodes};

@@ -3,7 +3,7 @@
 ghost use Rattle.std.specs.Prelude.{◌≡◌, ◌==◌, length, pos, true, ◌<◌, ◌≤◌, ◌^◌, None, Some, IfOk, IfSome, Ok, is_ok, is_some};
 ghost use Rattle.std.specs.Option.{option_copied, option_map};
 ghost use Rattle.afs_ideal.specs.AccessLists.{acl_at};
-ghost use Rattle.afs_ideal.specs.Directories.{directory_of, named, IsDirectory};
+ghost use Rattle.afs_ideal.specs.Directories.{directory_of, named};
 ghost use Rattle.afs_ideal.specs.Operations.{is_directory, is_kind, is_empty, free_number, links_of, may_link, named_vnode, number_named};
 ghost use Rattle.afs_ideal.specs.Tables.{get};
 ghost use Rattle.afs_ideal.specs.VnodeImage.{most_acl, FitsImage};
@@ -14,8 +14,7 @@ ghost use Rattle.afs_volume.specs.Seen.{seen, names_spelled, list_spelled, kind_
 
 use crate::Volume;
 use crate::faults::OpFault;
-use crate::listing::Listing;
-use afs_dir::{Dir, DirFault};
+use afs_dir::{Dir, DirFault, Listing};
 use afs_num::directories::Name;
 use afs_num::sequences::Octets;
 use afs_num::types::{Code, Fid, Mem};
@@ -32,7 +31,6 @@ pub const LINK: u32 = 3;
 #[tactic(auto, unfolding(crate::specs::Seen::names_spelled))]
 fn names_spelled(alloc: Global, bytes: &[u8]) -> Mem<Dir>
     ensures names { IfOk result (λ names. names ≡ names_spelled bytes.now) }
-    ensures directory { IfOk result (λ names. IsDirectory names) }
     ensures few { IfOk result (λ names. length names ≤ 1024) }
 {
     match Dir::from_bytes(alloc, bytes) {
@@ -47,7 +45,6 @@ fn names_spelled(alloc: Global, bytes: &[u8]) -> Mem<Dir>
 pub fn names_of(alloc: Global, d: &Vnode) -> Mem<Dir>
     requires { is_kind (seen d.now).kind a_directory ≡ true }
     ensures names { IfOk result (λ names. names ≡ (seen d.now).names) }
-    ensures directory { IfOk result (λ names. IsDirectory names) }
     ensures few { IfOk result (λ names. length names ≤ 1024) }
 {
     names_spelled(alloc, d.contents.as_slice())

@@ -2,7 +2,7 @@
 
 ghost use Rattle.std.specs.Prelude.{◌≡◌, ◌∷◌, ◌++◌, [], OnOk};
 
-use crate::listing::Listing;
+use afs_dir::Listing;
 use afs_num::types::Mem;
 use std::alloc::{AllocError, Global};
 use std::marker::Model;

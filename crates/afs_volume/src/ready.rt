@@ -13,9 +13,8 @@ ghost use Rattle.afs_volume.specs.declared.faults.AssembleFault.TheVariants.{Not
 use crate::faults::AssembleFault;
 use crate::finding::{DIRECTORY, FILE, LINK};
 use crate::listed::ReadyNames;
-use crate::listing::Listing;
 use crate::operations::is_acl;
-use afs_dir::{Dir, DirFault};
+use afs_dir::{Dir, DirFault, Listing};
 use afs_num::directories::Name;
 use afs_num::vnodes::Vnode;
 use afs_num::volumes::Change;
@@ -56,7 +55,7 @@ fn read_names(alloc: Global, bytes: &[u8]) -> Result<Listing, AssembleFault>
     ensures not_sound { result ≡ Err NotSound → is_ok (directory_of bytes.now) ≡ false }
 {
     match Dir::from_bytes(alloc, bytes) {
-        Ok(names) => Ok(Listing::of(names)?),
+        Ok(names) => Ok(names.into_listing()?),
         Err(DirFault::OutOfMemory) => Err(AssembleFault::OutOfMemory),
         Err(_) => Err(AssembleFault::NotSound),
     }

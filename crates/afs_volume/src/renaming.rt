@@ -19,9 +19,8 @@ use crate::faults::OpFault;
 use crate::finding::{
     has_name, is_directory, is_directory_there, links_of, names_of, number_named,
 };
-use crate::listing::Listing;
 use crate::naming::{MOST_NAMES, ascending, push_names, push_unlink, take_name};
-use afs_dir::{Dir, DirFault};
+use afs_dir::{Dir, DirFault, Listing};
 use afs_num::names::name_ok;
 use afs_num::sequences::Octets;
 use afs_num::types::{Code, Fid, Mem};

@@ -18,8 +18,8 @@ ghost use Rattle.afs_volume.specs.Taking.{is_among, put_but, stored_of, without_
 use crate::Volume;
 use crate::directories::Directories;
 use crate::limits::blocks_of;
-use crate::listing::Listing;
 use crate::ready::ReadyChange;
+use afs_dir::Listing;
 use afs_num::types::Mem;
 use afs_num::vnodes::{Vnode, VnodeNumbers, Vnodes};
 use afs_num::volumes::Change;

@@ -7,8 +7,3 @@ pub returns-in-Ok-clause-few : goal.returns-in-Ok-clause-few
 returns-in-Ok-clause-few c =
     let read : directory_of c.args.bytes.now ≡ Ok c.in-Ok.names = search rules in
     (read_is_spelled c.args.bytes.now c.in-Ok.names (λ i. omega (arith, c.type_inv.bytes i)) read).0.few
-
-pub returns-in-Ok-clause-directory : goal.returns-in-Ok-clause-directory
-returns-in-Ok-clause-directory c =
-    let read : directory_of c.args.bytes.now ≡ Ok c.in-Ok.names = search rules in
-    (read_is_spelled c.args.bytes.now c.in-Ok.names (λ i. omega (arith, c.type_inv.bytes i)) read).0

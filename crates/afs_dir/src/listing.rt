@@ -1,4 +1,4 @@
-//! The names of a directory as a volume keeps them: shared by all who keep them.
+//! The names of a directory, shared by all who keep them.
 
 ghost use Rattle.std.specs.Prelude.{◌≡◌, ◌≤◌, ◌==◌, [], true, length, is_some, IfOk, Ok, None};
 ghost use Rattle.std.specs.Option.{option_map};
@@ -7,7 +7,6 @@ ghost use Rattle.afs_dir.specs.Dirs.{vnode_named};
 
 use crate::places::search;
 use crate::splicing::{spelled_with, spelled_without};
-use afs_dir::Dir;
 use afs_num::directories::{Name, Names};
 use afs_num::sequences::Octets;
 use afs_num::types::Mem;
@@ -33,14 +32,12 @@ impl Model for Listing {
 }
 
 impl Listing {
-    /// The names of a directory, without a copy of them.
-    pub fn of(names: Dir) -> Mem<Listing>
+    /// These names of a directory.
+    pub(crate) fn of(names: Names) -> Listing
         requires { IsDirectory names }
-        ensures { IfOk result (λ l. l ≡ names) }
+        ensures { result ≡ names }
     {
-        Ok(Listing {
-            names: names.into_names()?,
-        })
+        Listing { names }
     }
 
     /// The names, which are shared. It is refused where they have as many copies as can be counted.

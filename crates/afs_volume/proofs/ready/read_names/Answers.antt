@@ -1,9 +1,0 @@
-use Rattle.std.proofs.Common.{◌≡◌, Ok, rules, arith}
-use Rattle.afs_ideal.specs.Directories.{directory_of}
-use Rattle.afs_ideal.proofs.DirectoryBytes.{read_is_spelled}
-use Rattle.afs_volume.proofs.ready.read_names.Goals as goal
-
-pub of-requires-in-Ok : goal.of-requires-in-Ok
-of-requires-in-Ok c =
-    let read : directory_of c.args.bytes.now ≡ Ok c.in-Ok.names = search rules in
-    (read_is_spelled c.args.bytes.now c.in-Ok.names (λ i. omega (arith, c.type_inv.bytes i)) read).0
