@@ -9,7 +9,7 @@ use crate::listing::Listing;
 use crate::places::search;
 use crate::reading::{Stop, read_whole};
 use crate::spelling::write_names;
-use afs_num::directories::{Name, NameBytes, Names};
+use afs_num::directories::{Name, Names};
 use afs_num::names::name_ok;
 use afs_num::sequences::Octets;
 use afs_num::types::{Code, Mem};
@@ -97,7 +97,7 @@ impl Dir {
         if self.names.len() >= MOST_NAMES as usize {
             return Err(DirFault::Code(Code(27)));
         }
-        let name = NameBytes::from_slice(self.alloc, name)?;
+        let name = Octets::from_slice(self.alloc, name)?;
         self.names.insert(
             place,
             Name {

@@ -10,8 +10,9 @@ ghost use Rattle.afs_dir.specs.declared.reading.Stop.TheVariants.{BadField, OutO
 
 use crate::MOST_NAMES;
 use crate::places::is_below;
-use afs_num::directories::{Name, NameBytes};
+use afs_num::directories::Name;
 use afs_num::names::name_ok;
+use afs_num::sequences::Octets;
 use afs_xdr::faults::XdrFault;
 use afs_xdr::reading::Reader;
 use std::alloc::{AllocError, AllocFailed, Global};
@@ -105,7 +106,7 @@ fn read_name(alloc: Global, reader: &mut Reader, last: &[u8]) -> Result<Name, St
     let vnode = reader.word()?;
     let unique = reader.word()?;
     Ok(Name {
-        name: NameBytes::from_slice(alloc, name)?,
+        name: Octets::from_slice(alloc, name)?,
         vnode,
         unique,
     })

@@ -1,62 +1,15 @@
-ghost use Rattle.std.specs.Prelude.{◌≡◌, ◌<◌, ◌^◌, length, IfOk};
+ghost use Rattle.std.specs.Prelude.{◌≡◌, IfOk};
 
+use crate::sequences::Octets;
 use crate::types::Mem;
-use smallvec::SmallVec;
 use std::alloc::Global;
 use std::marker::Model;
 use std::sync::ArcSlice;
 
-/// The bytes of a name. Up to 24 stand in the value itself, so that most names take no memory.
-#[derive(Drop)]
-pub struct NameBytes {
-    bytes: SmallVec<u8, 24>,
-}
-
-impl Model for NameBytes {
-    ghost use Rattle.std.specs.Prelude.{ℕ, List};
-
-    ghost Value = { List ℕ };
-
-    ghost view = { λ n. n.bytes.items };
-}
-
-impl NameBytes {
-    /// A copy of these bytes.
-    pub fn from_slice(alloc: Global, bytes: &[u8]) -> Mem<NameBytes>
-        ensures { IfOk result (λ n. n ≡ bytes.now) }
-    {
-        Ok(NameBytes {
-            bytes: SmallVec::from_slice(alloc, bytes)?,
-        })
-    }
-
-    /// The bytes. It takes no memory.
-    pub fn as_slice(&self) -> &[u8]
-        ensures { result.now ≡ self.now }
-    {
-        self.bytes.as_slice()
-    }
-
-    /// How many bytes there are.
-    pub fn len(&self) -> usize
-        ensures value { result ≡ length self.now }
-        ensures small { length self.now < 2 ^ 63 }
-    {
-        self.as_slice().len()
-    }
-
-    /// A copy.
-    pub fn copy(&self, alloc: Global) -> Mem<NameBytes>
-        ensures { IfOk result (λ n. n ≡ self.now) }
-    {
-        NameBytes::from_slice(alloc, self.as_slice())
-    }
-}
-
 /// A name in a directory, and what it names there: a vnode's number and its unique number.
 #[derive(Drop)]
 pub struct Name {
-    pub name: NameBytes,
+    pub name: Octets,
     pub vnode: u32,
     pub unique: u32,
 }

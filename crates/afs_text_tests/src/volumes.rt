@@ -1,7 +1,7 @@
 //! The lines of volumes and vnodes at the end of a run. The reference program tells a run's so, in which a directory was made
 //! and a file stored, the volume was released, and the making of another one stopped half way.
 
-use afs_num::directories::{Name, NameBytes, Names};
+use afs_num::directories::{Name, Names};
 use afs_num::histories::{Body, Version};
 use afs_num::sequences::Octets;
 use afs_num::types::{Fid, Mem, Node};
@@ -73,7 +73,7 @@ fn names(alloc: Global, entries: &[(&[u8], u32, u32)]) -> Mem<Body> {
     let mut names = Vec::new(alloc);
     for (name, vnode, unique) in entries {
         names.push(Name {
-            name: NameBytes::from_slice(alloc, name)?,
+            name: Octets::from_slice(alloc, name)?,
             vnode: *vnode,
             unique: *unique,
         })?;
