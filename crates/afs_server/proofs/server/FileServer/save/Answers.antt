@@ -35,17 +35,18 @@ prepare-requires-clause-fits g c = c.in_ok-planned.ensures.fits
 pub prepare-requires-clause-taken : goal.prepare-requires-clause-taken
 prepare-requires-clause-taken g c =
     let made = c.requires.made in
-    let plan = c.in_ok-planned.ensures in
-    is_taken c.args.id c.args.now c.args.head.now made.0 c.args.change c.in_ok-planned.planned.kept c.args.store.now.durable c.in_ok-planned.planned.rec made.1.0 made.1.1 (plan.rec ∙ ap (λ (x : Change). change_kept c.args.head.now c.args.id x c.in_ok-planned.planned.kept) c.into_parts.ensures.change)
+    let p = c.in_ok-planned.planned in
+    let kept : p.rec ≡ change_kept c.args.head.now c.args.id c.args.change p.kept = subst (λ (x : Change). p.rec ≡ change_kept c.args.head.now c.args.id x p.kept) c.into_parts-change.ensures.change c.in_ok-planned.ensures.rec in
+    is_taken c.args.id c.args.now c.args.head.now made.0 c.args.change c.in_ok-planned.planned.kept c.args.store.now.durable p.rec made.1.0 made.1.1 kept
 
 pub prepare-requires-clause-named : goal.prepare-requires-clause-named
 prepare-requires-clause-named g c =
     let p = c.in_ok-planned.planned in
-    let x = c.into_parts.result.0 in
-    let names = c.into_parts.result.1 in
+    let x = c.into_parts-change.result.0 in
+    let names = c.into_parts-change.result.1 in
     let body : p.rec.body ≡ (change_kept c.args.head.now c.args.id x p.kept).body = ap (λ (r : StoreRecord). r.body) c.in_ok-planned.ensures.rec in
-    let named : names ≡ map listed_as x.vnodes = c.into_parts.ensures.names ∙ ap (λ (y : Change). map listed_as y.vnodes) (sym c.into_parts.ensures.change) in
-    let readable : AllByRecursion IsReadable x.vnodes = subst (λ (y : Change). AllByRecursion IsReadable y.vnodes) (sym c.into_parts.ensures.change) c.into_parts.ensures.readable in
+    let named : names ≡ map listed_as x.vnodes = c.into_parts-change.ensures.names ∙ ap (λ (y : Change). map listed_as y.vnodes) (sym c.into_parts-change.ensures.change) in
+    let readable : AllByRecursion IsReadable x.vnodes = subst (λ (y : Change). AllByRecursion IsReadable y.vnodes) (sym c.into_parts-change.ensures.change) c.into_parts-change.ensures.readable in
     subst (λ (b : RecordBody). IsNamed b names) (sym body) (named, readable)
 
 pub put_or_refuse-requires-clause-serves : goal.put_or_refuse-requires-clause-serves
@@ -56,7 +57,7 @@ put_or_refuse-requires-clause-serves g c =
 
 pub put_or_refuse-requires-clause-draws : goal.put_or_refuse-requires-clause-draws
 put_or_refuse-requires-clause-draws g c =
-    let long = ap length (c.in_ok-planned.ensures.granted ∙ ap (λ (x : Change). fids_granted (new_grants x.reply)) c.into_parts.ensures.change) in
+    let long = ap length (c.in_ok-planned.ensures.granted ∙ ap (λ (x : Change). fids_granted (new_grants x.reply)) c.into_parts-change.ensures.change) in
     let few = few_granted c.args.change.reply in
     let draws = c.requires.draws.breaks in
     omega (arith, long, few, draws)
@@ -72,7 +73,7 @@ put_or_refuse-requires-clause-drawn g c =
     subst (λ (n : ℕ). IsPlanned s.node s.durable.boot n c.args.now c.args.head.now c.args.id c.args.change c.args.self.now p) last
     (subst (λ (n : ℕ). IsPlanned s.node n c.last_number.result c.args.now c.args.head.now c.args.id c.args.change c.args.self.now p) boot
     (subst (λ (n : Node). IsPlanned n c.boot_number.result c.last_number.result c.args.now c.args.head.now c.args.id c.args.change c.args.self.now p) node
-    (subst (λ (x : Change). IsPlanned c.node.result c.boot_number.result c.last_number.result c.args.now c.args.head.now c.args.id x c.args.self.now p) c.into_parts.ensures.change c.in_ok-planned.ensures))) in
+    (subst (λ (x : Change). IsPlanned c.node.result c.boot_number.result c.last_number.result c.args.now c.args.head.now c.args.id x c.args.self.now p) c.into_parts-change.ensures.change c.in_ok-planned.ensures))) in
     let mid = c.prepare.new.store in
     let besides = is_besides c.in_ok-planned.planned.rec c.args.store.now mid c.in_ok-room.room c.in_ok-room.ensures.prepares in
     let same = besides.1.1.0 in
@@ -90,7 +91,7 @@ put_or_refuse-requires-clause-spelling g c =
     subst (λ (n : ℕ). IsPlanned s.node s.durable.boot n c.args.now c.args.head.now c.args.id c.args.change c.args.self.now p) last
     (subst (λ (n : ℕ). IsPlanned s.node n c.last_number.result c.args.now c.args.head.now c.args.id c.args.change c.args.self.now p) boot
     (subst (λ (n : Node). IsPlanned n c.boot_number.result c.last_number.result c.args.now c.args.head.now c.args.id c.args.change c.args.self.now p) node
-    (subst (λ (x : Change). IsPlanned c.node.result c.boot_number.result c.last_number.result c.args.now c.args.head.now c.args.id x c.args.self.now p) c.into_parts.ensures.change c.in_ok-planned.ensures))) in
+    (subst (λ (x : Change). IsPlanned c.node.result c.boot_number.result c.last_number.result c.args.now c.args.head.now c.args.id x c.args.self.now p) c.into_parts-change.ensures.change c.in_ok-planned.ensures))) in
     (reply_told c.args.store.now.durable.boot c.args.head.now (c.args.now + 7200) c.args.change, plan.kept)
 
 pub put_or_refuse-requires-clause-up : goal.put_or_refuse-requires-clause-up
@@ -155,7 +156,7 @@ returns-clause-does g c =
     subst (λ (n : ℕ). IsPlanned s.node s.durable.boot n c.args.now c.args.head.now c.args.id c.args.change c.args.self.now p) last
     (subst (λ (n : ℕ). IsPlanned s.node n c.last_number.result c.args.now c.args.head.now c.args.id c.args.change c.args.self.now p) boot
     (subst (λ (n : Node). IsPlanned n c.boot_number.result c.last_number.result c.args.now c.args.head.now c.args.id c.args.change c.args.self.now p) node
-    (subst (λ (x : Change). IsPlanned c.node.result c.boot_number.result c.last_number.result c.args.now c.args.head.now c.args.id x c.args.self.now p) c.into_parts.ensures.change c.in_ok-planned.ensures))) in
+    (subst (λ (x : Change). IsPlanned c.node.result c.boot_number.result c.last_number.result c.args.now c.args.head.now c.args.id x c.args.self.now p) c.into_parts-change.ensures.change c.in_ok-planned.ensures))) in
     λ k there made.
     let mid = c.prepare.new.store in
     let node = c.requires.head.0 in
@@ -174,7 +175,7 @@ returns-clause-disk g c =
     subst (λ (n : ℕ). IsPlanned s.node s.durable.boot n c.args.now c.args.head.now c.args.id c.args.change c.args.self.now p) last
     (subst (λ (n : ℕ). IsPlanned s.node n c.last_number.result c.args.now c.args.head.now c.args.id c.args.change c.args.self.now p) boot
     (subst (λ (n : Node). IsPlanned n c.boot_number.result c.last_number.result c.args.now c.args.head.now c.args.id c.args.change c.args.self.now p) node
-    (subst (λ (x : Change). IsPlanned c.node.result c.boot_number.result c.last_number.result c.args.now c.args.head.now c.args.id x c.args.self.now p) c.into_parts.ensures.change c.in_ok-planned.ensures))) in
+    (subst (λ (x : Change). IsPlanned c.node.result c.boot_number.result c.last_number.result c.args.now c.args.head.now c.args.id x c.args.self.now p) c.into_parts-change.ensures.change c.in_ok-planned.ensures))) in
     λ k there made.
     let mid = c.prepare.new.store in
     let put = c.put_or_refuse.ensures in
