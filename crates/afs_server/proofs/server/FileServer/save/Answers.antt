@@ -35,9 +35,8 @@ prepare-requires-clause-fits g c = c.in_ok-planned.ensures.fits
 pub prepare-requires-clause-taken : goal.prepare-requires-clause-taken
 prepare-requires-clause-taken g c =
     let made = c.requires.made in
-    let p = c.in_ok-planned.planned in
-    let kept : p.rec ≡ change_kept c.args.head.now c.args.id c.args.change p.kept = subst (λ (x : Change). p.rec ≡ change_kept c.args.head.now c.args.id x p.kept) c.into_parts-change.ensures.change c.in_ok-planned.ensures.rec in
-    is_taken c.args.id c.args.now c.args.head.now made.0 c.args.change c.in_ok-planned.planned.kept c.args.store.now.durable p.rec made.1.0 made.1.1 kept
+    let plan = c.in_ok-planned.ensures in
+    is_taken c.args.id c.args.now c.args.head.now made.0 c.args.change c.in_ok-planned.planned.kept c.args.store.now.durable c.in_ok-planned.planned.rec made.1.0 made.1.1 (plan.rec ∙ ap (λ (x : Change). change_kept c.args.head.now c.args.id x c.in_ok-planned.planned.kept) c.into_parts-change.ensures.change)
 
 pub prepare-requires-clause-named : goal.prepare-requires-clause-named
 prepare-requires-clause-named g c =
