@@ -25,7 +25,7 @@ use afs_num::names::name_ok;
 use afs_num::sequences::Octets;
 use afs_num::types::{Code, Fid, Mem};
 use afs_num::vnodes::Vnode;
-use std::alloc::AllocError;
+use std::alloc::{AllocError, Global};
 
 /// What takes the place of another is no directory, or that is one too.
 fn takes_place(x: Option<&Vnode>, other: Option<&Vnode>) -> bool
@@ -81,10 +81,20 @@ fn put_name(names: &mut Dir, name: &[u8], vnode: u32, unique: u32) -> Mem<()>
 }
 
 /// Takes a name from a directory, which then has so many links.
-fn take_from(edits: &mut Edits, d: &Fid, names: Dir, old: &[u8], links: u64) -> Mem<()>
-    ensures { OnOk result (edits_seen edits.new ≡ edits_seen edits.old ++ amends d.now.vnode (record no_amend { names = Some (without_name old.now names); links = Some links }) ∷ []) }
+fn take_from(
+    alloc: Global,
+    edits: &mut Edits,
+    d: &Fid,
+    x: &Vnode,
+    names: &Listing,
+    old: &[u8],
+    links: u64,
+) -> Mem<()>
+    requires names { names.now ≡ (seen x.now).names }
+    requires directory { is_kind (seen x.now).kind a_directory ≡ true }
+    ensures { OnOk result (edits_seen edits.new ≡ edits_seen edits.old ++ amends d.now.vnode (record no_amend { names = Some (without_name old.now names.now); links = Some links }) ∷ []) }
 {
-    let mut left = names;
+    let mut left = names_of(alloc, x)?;
     take_name(&mut left, old);
     push_names(edits, d.vnode, &left, Some(links))
 }
@@ -110,20 +120,23 @@ fn put_in(
 /// Puts a name in the place of another of the same directory, which then has so many links.
 #[tactic(auto, using(crate::proofs::Renamed::room_within))]
 fn put_within(
+    alloc: Global,
     edits: &mut Edits,
     d: &Fid,
-    names: Dir,
+    x: &Vnode,
+    names: &Listing,
     old: &[u8],
     new: &[u8],
     moved: (u32, u32),
     links: u64,
 ) -> Mem<()>
     requires good { name_ok new.now ≡ true }
-    requires there { is_some (named old.now names) ≡ true }
-    requires few { length names ≤ 1024 }
-    ensures { OnOk result (edits_seen edits.new ≡ edits_seen edits.old ++ amends d.now.vnode (record no_amend { names = Some (with_name (name_of new.now moved.0 moved.1) (without_name new.now (without_name old.now names))); links = Some links }) ∷ []) }
+    requires names { names.now ≡ (seen x.now).names }
+    requires directory { is_kind (seen x.now).kind a_directory ≡ true }
+    requires there { is_some (named old.now names.now) ≡ true }
+    ensures { OnOk result (edits_seen edits.new ≡ edits_seen edits.old ++ amends d.now.vnode (record no_amend { names = Some (with_name (name_of new.now moved.0 moved.1) (without_name new.now (without_name old.now names.now))); links = Some links }) ∷ []) }
 {
-    let mut left = names;
+    let mut left = names_of(alloc, x)?;
     take_name(&mut left, old);
     put_in(edits, d, left, new, moved, links)
 }
@@ -131,19 +144,23 @@ fn put_within(
 /// Puts a name of another directory in one that has room for it, and which then has so many links.
 #[tactic(auto, using(crate::proofs::Renamed::room_across))]
 fn put_across(
+    alloc: Global,
     edits: &mut Edits,
     e: &Fid,
-    names: Dir,
+    y: &Vnode,
+    names: &Listing,
     new: &[u8],
     moved: (u32, u32),
     links: u64,
 ) -> Mem<()>
     requires good { name_ok new.now ≡ true }
-    requires few { length names ≤ 1024 }
-    requires room { (is_some (named new.now names) || nat_lt (length names) 1024) ≡ true }
-    ensures { OnOk result (edits_seen edits.new ≡ edits_seen edits.old ++ amends e.now.vnode (record no_amend { names = Some (with_name (name_of new.now moved.0 moved.1) (without_name new.now names)); links = Some links }) ∷ []) }
+    requires names { names.now ≡ (seen y.now).names }
+    requires directory { is_kind (seen y.now).kind a_directory ≡ true }
+    requires room { (is_some (named new.now names.now) || nat_lt (length names.now) 1024) ≡ true }
+    ensures { OnOk result (edits_seen edits.new ≡ edits_seen edits.old ++ amends e.now.vnode (record no_amend { names = Some (with_name (name_of new.now moved.0 moved.1) (without_name new.now names.now)); links = Some links }) ∷ []) }
 {
-    put_in(edits, e, names, new, moved, links)
+    let all = names_of(alloc, y)?;
+    put_in(edits, e, all, new, moved, links)
 }
 
 /// Nothing is added to a directory, or a name is replaced, or there is room for one more.
@@ -259,15 +276,20 @@ impl Volume {
         let replaced = is_directory_there(target);
         if d.vnode == e.vnode {
             let links = linked(false, replaced, links_of(x));
-            let all = names_of(self.alloc, x)?;
-            put_within(&mut edits, d, all, old, new, moved, links)?;
+            put_within(self.alloc, &mut edits, d, x, names, old, new, moved, links)?;
         } else {
             let moves = is_directory_there(self.named(names, old));
-            let left = names_of(self.alloc, x)?;
-            take_from(&mut edits, d, left, old, linked(false, moves, links_of(x)))?;
+            take_from(
+                self.alloc,
+                &mut edits,
+                d,
+                x,
+                names,
+                old,
+                linked(false, moves, links_of(x)),
+            )?;
             let links = linked(moves, replaced, links_of(y));
-            let all = names_of(self.alloc, y)?;
-            put_across(&mut edits, e, all, new, moved, links)?;
+            put_across(self.alloc, &mut edits, e, y, others, new, moved, links)?;
             edits.push(Edit::Amends(moved.0, Amend::with_parent(e.vnode, e.unique)))?;
         }
         push_unlink(&mut edits, number, target)?;
