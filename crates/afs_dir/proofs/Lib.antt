@@ -1,3 +1,4 @@
+pub mod Below
 pub mod Lengths
 pub mod Finding
 pub mod Reach

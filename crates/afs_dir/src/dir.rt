@@ -1,14 +1,14 @@
-ghost use Rattle.std.specs.Prelude.{◌≡◌, ◌≤◌, ◌==◌, [], length, is_some, true, IfOk, None, Ok, OnOk, OnErr};
+ghost use Rattle.std.specs.Prelude.{◌≡◌, ◌≤◌, ◌==◌, [], length, IfOk, None, Ok, OnOk, OnErr};
 ghost use Rattle.std.specs.Option.{option_map};
 ghost use Rattle.afs_ideal.specs.Directories.{named, with_name, without_name, add_refused, directory_bytes, directory_of};
 ghost use Rattle.afs_dir.specs.Dirs.{Answers, Reads, removal, vnode_named};
 
 use crate::MOST_NAMES;
 use crate::faults::DirFault;
+use crate::listing::Listing;
 use crate::places::search;
 use crate::reading::{Stop, read_whole};
 use crate::spelling::write_names;
-use crate::splicing::{spelled_with, spelled_without};
 use afs_num::directories::{Name, Names};
 use afs_num::names::name_ok;
 use afs_num::sequences::Octets;
@@ -122,24 +122,20 @@ impl Dir {
         Ok((removed.vnode, removed.unique))
     }
 
-    /// A copy.
-    pub fn copy(&self) -> Mem<Dir>
-        ensures same { IfOk result (λ d. d ≡ self.now) }
-        ensures few { OnOk result (length self.now ≤ 1024) }
-    {
-        let names = copies(self.alloc, &self.names)?;
-        Ok(Dir {
-            alloc: self.alloc,
-            names,
-        })
-    }
-
     /// The names in byte order, without a copy of them.
     pub fn into_names(self) -> Mem<Names>
         ensures { IfOk result (λ names. names ≡ self) }
     {
         let Dir { alloc: _, names } = self;
         Names::from_vec(names)
+    }
+
+    /// The names in byte order as they are kept where others share them, without a copy of them.
+    pub fn into_listing(self) -> Mem<Listing>
+        ensures { IfOk result (λ l. l ≡ self) }
+    {
+        let Dir { alloc: _, names } = self;
+        Ok(Listing::of(Names::from_vec(names)?))
     }
 
     /// A copy of the names, in byte order.
@@ -161,38 +157,6 @@ impl Dir {
         bytes.word(self.names.len() as u32)?;
         write_names(&self.names, &mut bytes)?;
         Ok(Octets::from_vec(bytes.into_vec()))
-    }
-
-    /// The bytes that spell the directory with one more name, which it may have. What `bytes`, which spell the directory, have
-    /// of its other names is copied as it is.
-    pub fn bytes_with(&self, bytes: &[u8], name: &[u8], vnode: u32, unique: u32) -> Mem<Octets>
-        requires added { add_refused name.now self.now ≡ None }
-        requires read { directory_of bytes.now ≡ Ok self.now }
-        ensures spelled { IfOk result (λ b. b ≡ directory_bytes (with_name (record { name = name.now; vnode = vnode; unique = unique }) self.now)) }
-        ensures read { IfOk result (λ b. directory_of b ≡ Ok (with_name (record { name = name.now; vnode = vnode; unique = unique }) self.now)) }
-        ensures short { IfOk result (λ b. length b ≤ 276484) }
-    {
-        let Err(place) = search(&self.names, name) else {
-            unreachable!()
-        };
-        let spelled = spelled_with(self.alloc, &self.names, bytes, place, name, vnode, unique)?;
-        Ok(spelled)
-    }
-
-    /// The bytes that spell the directory without a name, which is there. What `bytes`, which spell the directory, have of its
-    /// other names is copied as it is.
-    pub fn bytes_without(&self, bytes: &[u8], name: &[u8]) -> Mem<Octets>
-        requires there { is_some (named name.now self.now) ≡ true }
-        requires read { directory_of bytes.now ≡ Ok self.now }
-        ensures spelled { IfOk result (λ b. b ≡ directory_bytes (without_name name.now self.now)) }
-        ensures read { IfOk result (λ b. directory_of b ≡ Ok (without_name name.now self.now)) }
-        ensures short { IfOk result (λ b. length b ≤ 276484) }
-    {
-        let Ok(place) = search(&self.names, name) else {
-            unreachable!()
-        };
-        let spelled = spelled_without(self.alloc, &self.names, bytes, place)?;
-        Ok(spelled)
     }
 
     /// The directory that the bytes spell. Memory is taken once the count is known to be within its limit.

@@ -3,6 +3,7 @@
 
 mod dir;
 mod faults;
+mod listing;
 mod places;
 mod reading;
 mod spelling;
@@ -10,6 +11,7 @@ mod splicing;
 
 pub use dir::Dir;
 pub use faults::DirFault;
+pub use listing::Listing;
 
 /// How many names a directory has at most.
 pub(crate) const MOST_NAMES: u32 = 1024;

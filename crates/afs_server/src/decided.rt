@@ -2,13 +2,13 @@
 use afs_num::calls::FsReply;
 use afs_num::sequences::Sequence;
 use afs_num::types::Fid;
-use afs_num::volumes::Change;
 use afs_server_parts::spelled::SpelledMessage;
 use afs_server_parts::telling::Grant;
+use afs_volume::ReadyChange;
 
 /// What becomes of a call: no answer; its caller is told this server's boot number; its kept reply is sent again; it is refused
 /// with this code; it is told this, and granted these promises; its caller gives its promises on these fids up; or it changes the
-/// volume of this number, where there is room for the record.
+/// volume of this number, where there is room for the record, and these are the names of what it leaves.
 #[derive(Drop)]
 pub enum Decided {
     Drops,
@@ -17,5 +17,5 @@ pub enum Decided {
     Refuses(i32),
     Shows(FsReply, Sequence<Grant>),
     GivesUp(Sequence<Fid>),
-    Changes(u32, Change),
+    Changes(u32, ReadyChange),
 }

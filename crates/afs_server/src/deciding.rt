@@ -24,12 +24,11 @@ use afs_num::calls::{AfsFetchStatus, FsCall, FsReply};
 use afs_num::messages::{Call, Carried, Received};
 use afs_num::sequences::Sequence;
 use afs_num::types::{Fid, Head, Mem, Node};
-use afs_num::volumes::Change;
 use afs_server_parts::spelled::SpelledMessage;
 use afs_server_parts::telling::Grant;
 use afs_volstore::VolStore;
-use afs_volume::Volume;
 use afs_volume::faults::OpFault;
+use afs_volume::{ReadyChange, Volume};
 use std::alloc::{AllocError, Global};
 
 /// The calls that the server serves.
@@ -178,7 +177,7 @@ fn read_as(alloc: Global, call: &FsCall, read: Result<FsReply, OpFault>) -> Mem<
 }
 
 /// What is decided on a call whose change of the volume of this number is this.
-fn change_as(id: u32, applied: Result<Change, OpFault>) -> Mem<Decided>
+fn change_as(id: u32, applied: Result<ReadyChange, OpFault>) -> Mem<Decided>
     ensures { IfOk result (λ d. ChangesAs id applied d) }
 {
     match applied {
@@ -245,7 +244,7 @@ impl FileServer {
         let _ = store.boot_number();
         let _ = head.opcode;
         let _ = self.alloc;
-        let applied = volume.apply(call, user, now);
+        let applied = volume.apply_ready(call, user, now);
         let decided = change_as(volume.head().id, applied)?;
         Ok(decided)
     }

@@ -14,6 +14,7 @@ ghost use Rattle.afs_rows.specs.Callbacks.{turn_for};
 ghost use Rattle.afs_rows.specs.ServerRow as rows;
 ghost use Rattle.afs_rows.specs.ServerRow.{is_client, refusal, roomed};
 ghost use Rattle.afs_server_parts.specs.Kept.{IsSpelling};
+ghost use Rattle.afs_volstore.specs.Named.{IsNamed};
 ghost use Rattle.afs_server.specs.Answering.{answer_turn};
 ghost use Rattle.afs_server.specs.Deciding.{CanBeTold, CanBeWritten, IsMade};
 ghost use Rattle.afs_server.specs.Handling.{record_decided, server_seen, Answers};
@@ -32,8 +33,8 @@ use afs_history::lines::Outs;
 use afs_num::faults::StoreFault;
 use afs_num::records::StoreRecord;
 use afs_num::types::{Head, Mem};
-use afs_num::volumes::Change;
 use afs_volstore::VolStore;
+use afs_volume::{ReadyChange, ReadyNames};
 use std::alloc::AllocError;
 
 /// A promise lasts so many ticks.
@@ -42,17 +43,18 @@ const PROMISE_TICKS: u32 = 7200;
 /// The record doesn't fit.
 const NO_ROOM: i32 = 108;
 
-/// Prepares a record where there is room for it.
-fn prepare<D: Disk>(store: &mut VolStore<D>, rec: &StoreRecord) -> Mem<bool>
+/// Prepares the record of a change where there is room for it. The names of its vnodes come with it.
+fn prepare<D: Disk>(store: &mut VolStore<D>, rec: &StoreRecord, names: ReadyNames) -> Mem<bool>
     requires fits { FitsRecord rec.now }
     requires taken { IsSome (folded rec.now store.old.durable) }
     requires up { store.old.closed ≡ false }
+    requires named { IsNamed rec.now.body names }
     ensures room { IfOk result (λ b. b ≡ has_room store.old.durable rec.now) }
     ensures prepares { Prepares rec.now store.old store.new result }
     ensures disk { SameDisk D.seen D.left_by D.size D.may_leave D.moment D.left_since store.old.disk store.new.disk }
     ensures counts { SameCounts D.faults D.own_faults D.calls D.setting D.limit store.old.disk store.new.disk }
 {
-    match store.prepare(rec) {
+    match store.prepare_change(rec, names) {
         Ok(()) => Ok(true),
         Err(StoreFault::Full(..)) => Ok(false),
         Err(StoreFault::OutOfMemory) => Err(AllocError),
@@ -165,7 +167,7 @@ impl FileServer {
         store: &mut VolStore<D>,
         head: &Head,
         id: u32,
-        change: Change,
+        change: ReadyChange,
         now: u32,
     ) -> Result<Outs, NodeFault>
         requires serves { Serves store.old.node self.old store.old.durable }
@@ -183,6 +185,7 @@ impl FileServer {
         ensures disk { (c : rows.Change) → get id store.old.durable.volumes ≡ Some c.before → IsMade now id c change →
             OnDisk D.seen D.left_by D.size D.may_leave D.moment D.left_since D.faults D.own_faults D.calls D.setting D.limit (record_decided store.old.durable.boot now (roomed (server_seen self.old store.old) now head.now c)) store.old.durable store.old.disk store.new.disk result }
     {
+        let (change, names) = change.into_parts();
         let planned = self.plan_change(
             store.node(),
             store.boot_number(),
@@ -192,7 +195,7 @@ impl FileServer {
             change,
             now,
         )?;
-        let room = prepare(store, &planned.rec)?;
+        let room = prepare(store, &planned.rec, names)?;
         self.put_or_refuse(store, head, room, planned, now)
     }
 }

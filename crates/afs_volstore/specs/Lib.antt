@@ -2,6 +2,7 @@ pub mod Called
 pub mod Changing
 pub mod Folds
 pub mod Laying
+pub mod Named
 pub mod Numbered
 pub mod Opening
 pub mod Patching

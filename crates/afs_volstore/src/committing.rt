@@ -10,6 +10,7 @@ ghost use Rattle.afs_records.specs.Records.{record_bytes, FitsRecord};
 ghost use Rattle.afs_records.specs.Changes.{boot_record, can_boot};
 ghost use Rattle.afs_records.specs.Durable.{body_taken, effect_of, folded, has_room};
 ghost use Rattle.afs_records.specs.Laws.{started};
+ghost use Rattle.afs_volstore.specs.Named.{IsNamed};
 ghost use Rattle.afs_volstore.specs.Preparing.{HasPlaceOn, IsSpelledOut, IsTooLong};
 ghost use Rattle.afs_volstore.specs.Redoing.{KeepsStates};
 ghost use Rattle.afs_volstore.specs.Redos.{record_of};
@@ -19,7 +20,7 @@ ghost use Rattle.afs_volstore.specs.Stores.{IsEarly, IsFull, IsKept, LeftAround,
 use crate::faults::Unfit;
 use crate::memory::State;
 use crate::prepared::Prepared;
-use crate::readying::prepared;
+use crate::readying::{prepared, prepared_change};
 use crate::redo::Redo;
 use crate::setup::no_head;
 use crate::store::VolStore;
@@ -30,6 +31,7 @@ use afs_num::faults::{JournalFault, StoreFault};
 use afs_num::records::{RecordBody, RecordHead, StoreRecord};
 use afs_num::types::Mem;
 use afs_records::laws::{one_more_stands, starts_are_kept};
+use afs_volume::ReadyNames;
 use std::alloc::Global;
 use std::mem::replace;
 
@@ -62,6 +64,35 @@ fn make_room<D: Disk>(journal: &mut Journal<D>, state: &mut State, redo: &Redo, 
     Ok(())
 }
 
+/// Makes room on the disk and in memory for a record that is ready.
+fn place<D: Disk>(
+    journal: &mut Journal<D>,
+    state: &mut State,
+    prepared: Prepared,
+) -> Result<Prepared, StoreFault>
+    requires spelled { IsSpelledOut prepared }
+    ensures same_record { IfOk result (λ p. p ≡ prepared) }
+    ensures place { IfOk result (λ p. HasRoomFor p.redo state.new) }
+    ensures room { IfOk result (λ p. HasPlaceOn D.limit D.space (length p.bytes) journal.new) }
+    ensures parts { parts_of state.new ≡ parts_of state.old }
+    ensures keeps { KeepsStates state.old state.new }
+    ensures keeps_places { KeepsRoom D.limit D.space journal.old journal.new }
+    ensures same { Unchanged D.seen D.left_by D.size D.may_leave D.moment D.left_since journal.old journal.new }
+    ensures counts { SameCounts D.faults D.own_faults D.calls D.setting D.limit journal.old.disk journal.new.disk }
+    ensures full { (used capacity : ℕ) → IsErrOf result (faults.Full used capacity) → (journal.old.closed ≡ false) × ((used ≡ journal.old.gate + 1) × ((capacity ≡ D.limit journal.old.disk) × IsTooLong journal.old.gate (D.limit journal.old.disk) (record_of prepared.head prepared.redo))) }
+    ensures fitting { journal.old.closed ≡ false → IsTooLong journal.old.gate (D.limit journal.old.disk) (record_of prepared.head prepared.redo) → OnOk result ⊥ }
+    ensures refusals { IfErr result (λ e. (e ≡ faults.OutOfMemory) ⊎ (e ≡ faults.Full (journal.old.gate + 1) (D.limit journal.old.disk))) }
+{
+    let len = prepared.bytes.len() as u64;
+    if !journal.is_closed() && !journal.fits(len) {
+        return Err(StoreFault::Full(journal.len(), journal.capacity()));
+    }
+    match make_room(journal, state, &prepared.redo, len) {
+        Ok(()) => Ok(prepared),
+        Err(_) => Err(StoreFault::OutOfMemory),
+    }
+}
+
 /// Makes a record ready, and room for it on the disk and in memory.
 pub(crate) fn make_ready<D: Disk>(
     alloc: Global,
@@ -89,12 +120,34 @@ pub(crate) fn make_ready<D: Disk>(
         Err(Unfit::OutOfMemory) => return Err(StoreFault::OutOfMemory),
         Err(Unfit::Bad) => unreachable!(),
     };
-    let len = prepared.bytes.len() as u64;
-    if !journal.is_closed() && !journal.fits(len) {
-        return Err(StoreFault::Full(journal.len(), journal.capacity()));
-    }
-    match make_room(journal, state, &prepared.redo, len) {
-        Ok(()) => Ok(prepared),
+    place(journal, state, prepared)
+}
+
+/// Makes the record of a change ready, which comes with the names of its vnodes, and room for it on the disk and in memory.
+fn make_change_ready<D: Disk>(
+    alloc: Global,
+    journal: &mut Journal<D>,
+    state: &mut State,
+    rec: &StoreRecord,
+    names: ReadyNames,
+) -> Result<Prepared, StoreFault>
+    requires fits { FitsRecord rec.now }
+    requires named { IsNamed rec.now.body names }
+    ensures told { IfOk result (λ p. record_of p.head p.redo ≡ rec.now) }
+    ensures spelled { IfOk result (λ p. IsSpelledOut p) }
+    ensures place { IfOk result (λ p. HasRoomFor p.redo state.new) }
+    ensures room { IfOk result (λ p. HasPlaceOn D.limit D.space (length p.bytes) journal.new) }
+    ensures parts { parts_of state.new ≡ parts_of state.old }
+    ensures keeps { KeepsStates state.old state.new }
+    ensures keeps_places { KeepsRoom D.limit D.space journal.old journal.new }
+    ensures same { Unchanged D.seen D.left_by D.size D.may_leave D.moment D.left_since journal.old journal.new }
+    ensures counts { SameCounts D.faults D.own_faults D.calls D.setting D.limit journal.old.disk journal.new.disk }
+    ensures full { (used capacity : ℕ) → IsErrOf result (faults.Full used capacity) → (journal.old.closed ≡ false) × ((used ≡ journal.old.gate + 1) × ((capacity ≡ D.limit journal.old.disk) × IsTooLong journal.old.gate (D.limit journal.old.disk) rec.now)) }
+    ensures fitting { journal.old.closed ≡ false → IsTooLong journal.old.gate (D.limit journal.old.disk) rec.now → OnOk result ⊥ }
+    ensures refusals { IfErr result (λ e. (e ≡ faults.OutOfMemory) ⊎ (e ≡ faults.Full (journal.old.gate + 1) (D.limit journal.old.disk))) }
+{
+    match prepared_change(alloc, rec, names) {
+        Ok(prepared) => place(journal, state, prepared),
         Err(_) => Err(StoreFault::OutOfMemory),
     }
 }
@@ -166,6 +219,31 @@ impl<D: Disk> VolStore<D> {
         ensures counts { SameCounts D.faults D.own_faults D.calls D.setting D.limit self.old.disk self.new.disk }
     {
         let prepared = make_ready(self.alloc, &mut self.journal, &mut self.state, rec)?;
+        self.prepared = Some(prepared);
+        Ok(())
+    }
+
+    /// Takes all memory for one commit of this record of a change, as `prepare` does. The names of its vnodes come with it, so
+    /// that no directory is read.
+    pub fn prepare_change(&mut self, rec: &StoreRecord, names: ReadyNames) -> Result<(), StoreFault>
+        requires fits { FitsRecord rec.now }
+        requires taken { IsSome (folded rec.now self.old.durable) }
+        requires named { IsNamed rec.now.body names }
+        ensures ok { OnOk result (self.new ≡ record self.old { prepared = Some rec.now; disk = self.new.disk }) }
+        ensures err { OnErr result (SameBut self.old self.new) }
+        ensures full { (used capacity : ℕ) → IsErrOf result (faults.Full used capacity) → (self.old.closed ≡ false) × IsFull self.old.durable rec.now used capacity }
+        ensures room { self.old.closed ≡ false → has_room self.old.durable rec.now ≡ false → OnOk result ⊥ }
+        ensures refusals { IfErr result (λ e. (e ≡ faults.OutOfMemory) ⊎ IsErrOf result (faults.Full self.old.durable.journal self.old.durable.capacity)) }
+        ensures disk { SameDisk D.seen D.left_by D.size D.may_leave D.moment D.left_since self.old.disk self.new.disk }
+        ensures counts { SameCounts D.faults D.own_faults D.calls D.setting D.limit self.old.disk self.new.disk }
+    {
+        let prepared = make_change_ready(
+            self.alloc,
+            &mut self.journal,
+            &mut self.state,
+            rec,
+            names,
+        )?;
         self.prepared = Some(prepared);
         Ok(())
     }

@@ -4,6 +4,7 @@
 mod altering;
 mod attaching;
 mod committing;
+mod copying;
 mod creating;
 mod faults;
 mod fused;

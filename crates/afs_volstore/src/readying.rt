@@ -7,12 +7,15 @@ ghost use Rattle.afs_ideal.specs.VnodeMaps.{most_vnodes};
 ghost use Rattle.afs_records.specs.Durable.{Durable, body_taken, by_number, stored_of, with_volumes};
 ghost use Rattle.afs_records.specs.Records.{ascend_from, record_bytes, row, volume_form, FitsRecord};
 ghost use Rattle.afs_volume.specs.Assembling.{can_be_read};
+ghost use Rattle.afs_volume.specs.Listed.{listed_as};
 ghost use Rattle.afs_volume.specs.Seen.{IsReadable};
+ghost use Rattle.afs_volstore.specs.Named.{IsNamed};
 ghost use Rattle.afs_volstore.specs.Preparing.{IsSpelledOut};
 ghost use Rattle.afs_volstore.specs.Redoing.{FitsRedo};
 ghost use Rattle.afs_volstore.specs.Redos.{body_of, record_of, told, IsMadeAgain, IsReady};
 ghost use Rattle.afs_volstore.specs.declared.faults.Unfit.TheVariants.{Bad};
 
+use crate::copying::{copy_head, copy_numbers, copy_vnodes};
 use crate::faults::Unfit;
 use crate::prepared::Prepared;
 use crate::redo::Redo;
@@ -21,7 +24,7 @@ use afs_num::histories::Versions;
 use afs_num::records::{RecordBody, StoreRecord, StoredVolume, StoredVolumes};
 use afs_num::sequences::{Octets, Sequence};
 use afs_num::types::Mem;
-use afs_num::vnodes::{VnodeNumbers, Vnodes};
+use afs_num::vnodes::{Vnode, VnodeNumbers, Vnodes};
 use afs_num::volumes::Change;
 use afs_record::faults::RecordFault;
 use afs_record::records::{decode_record, encode_record};
@@ -29,7 +32,7 @@ use afs_records::laws::records_are_read_again;
 use afs_vnode::faults::VnodeFault;
 use afs_vnode::store::VnodeStore;
 use afs_volume::faults::AssembleFault;
-use afs_volume::{ReadyChange, Volume};
+use afs_volume::{ReadyChange, ReadyNames, Volume};
 use std::alloc::{AllocError, Global};
 
 /// The vnodes of a volume by their numbers.
@@ -154,5 +157,69 @@ pub(crate) fn prepared(alloc: Global, rec: &StoreRecord) -> Result<Prepared, Unf
 {
     let (bytes, StoreRecord { head, body }) = copied(alloc, rec)?;
     let redo = redo_of(alloc, body)?;
+    Ok(Prepared { bytes, head, redo })
+}
+
+/// A change as a record tells it, with the names of its vnodes. Nothing is read.
+fn change_named(
+    alloc: Global,
+    counter: u32,
+    unique: u32,
+    vnodes: &[Vnode],
+    removed: &[u32],
+    names: ReadyNames,
+) -> Mem<ReadyChange>
+    requires named { names ≡ map listed_as vnodes.now }
+    requires readable { AllByRecursion IsReadable vnodes.now }
+    ensures told { IfOk result (λ c. (c.counter ≡ counter) × ((c.unique ≡ unique) × ((c.vnodes ≡ vnodes.now) × (c.removed ≡ removed.now)))) }
+    ensures read { IfOk result (λ c. AllByRecursion IsReadable c.vnodes) }
+{
+    let change = Change {
+        versions: Versions::new(alloc),
+        vnodes: copy_vnodes(alloc, vnodes)?,
+        removed: copy_numbers(alloc, removed)?,
+        counter,
+        unique,
+        reply: FsReply::GiveUpCallBacks,
+    };
+    Ok(ReadyChange::named(change, names))
+}
+
+/// What the body of the record of a change says, with the names of its vnodes.
+fn redo_named(alloc: Global, body: &RecordBody, names: ReadyNames) -> Mem<Redo>
+    requires fits { (row body.now).Fits }
+    requires named { IsNamed body.now names }
+    ensures told { IfOk result (λ r. body_of r ≡ body.now) }
+    ensures ready { IfOk result (λ r. IsReady r) }
+    ensures images { IfOk result (λ r. FitsRedo r) }
+{
+    match body {
+        RecordBody::Change {
+            id,
+            counter,
+            unique,
+            vnodes,
+            removed,
+        } => {
+            let vnodes = vnodes.as_slice();
+            let removed = removed.as_slice();
+            let change = change_named(alloc, *counter, *unique, vnodes, removed, names)?;
+            Ok(Redo::Change(*id, change))
+        }
+        _ => unreachable!(),
+    }
+}
+
+/// The record of a change, which comes with the names of its vnodes, made ready for its commit. It is spelled and copied, and
+/// isn't read.
+pub(crate) fn prepared_change(alloc: Global, rec: &StoreRecord, names: ReadyNames) -> Mem<Prepared>
+    requires fits { FitsRecord rec.now }
+    requires named { IsNamed rec.now.body names }
+    ensures told { IfOk result (λ p. record_of p.head p.redo ≡ rec.now) }
+    ensures spelled { IfOk result (λ p. IsSpelledOut p) }
+{
+    let bytes = encode_record(alloc, rec)?;
+    let head = copy_head(alloc, &rec.head)?;
+    let redo = redo_named(alloc, &rec.body, names)?;
     Ok(Prepared { bytes, head, redo })
 }

@@ -4,6 +4,7 @@ use Rattle.std.specs.Prelude.{◌||◌}
 use Rattle.std.specs.List.{list_any, AllByRecursion}
 use Rattle.std.specs.Option.{option_map}
 use Rattle.std.proofs.lemmas.List.{map-append}
+use Rattle.afs_num.specs.declared.directories.Name.{Name}
 use Rattle.afs_num.specs.declared.vnodes.Vnode as image
 use Rattle.afs_num.specs.declared.volumes.VolumeHead.{VolumeHead}
 use Rattle.afs_ideal.specs.Images.{Image, acl_by, image_of, value_of}
@@ -20,6 +21,7 @@ use Rattle.afs_records.proofs.Tested.{passes}
 use Rattle.afs_volume.specs.Drawing.{makes_vnode, IsLeft}
 use Rattle.afs_volume.specs.Filled.{at_once, image_at_first, CanBeLaid}
 use Rattle.afs_volume.specs.Giving.{volume_of}
+use Rattle.afs_volume.specs.Listed.{listed_as}
 use Rattle.afs_volume.specs.Seen.{seen, IsReadable}
 use Rattle.afs_volume.specs.Taking.{stored_of, stored_with}
 use Rattle.afs_volume.specs.declared.drafting.Draft.{Draft}
@@ -161,3 +163,9 @@ each_readable (x ∷ xs) all = (all.0.readable, each_readable xs all.1)
 pub each_fits : (xs : List image.Vnode) → AllByRecursion (IsLeft 0) xs → AllByRecursion FitsImage (map image_at_first xs)
 each_fits [] all = tt
 each_fits (x ∷ xs) all = (record { acl = all.0.fits.acl; contents = all.0.fits.contents }, each_fits xs all.1)
+
+-- and it has the names that it had
+pub listed_first : (xs : List image.Vnode) → map listed_as (map image_at_first xs) ≡ map listed_as xs
+unfolding seen
+listed_first [] = refl
+listed_first (x ∷ xs) = ap (λ (ns : List (Option (List Name))). listed_as x ∷ ns) (listed_first xs)

@@ -1,5 +1,5 @@
 -- What is drafted of a change.
-use Rattle.std.specs.Prelude.{◌≡◌, ℕ, List, [], ◌∷◌, ◌++◌, is_some, true}
+use Rattle.std.specs.Prelude.{◌≡◌, ℕ, List, [], ◌∷◌, ◌++◌, is_some, map, true}
 use Rattle.std.specs.List.{AllByRecursion}
 use Rattle.afs_num.specs.declared.histories.Version.{Version}
 use Rattle.afs_num.specs.declared.calls.FsCall.{FsCall}
@@ -9,16 +9,18 @@ use Rattle.afs_ideal.specs.Volumes as ideal
 use Rattle.afs_ideal.specs.Volumes.{Vnode}
 use Rattle.afs_volume.specs.Drawing.{IsLeft, shown_by, with_left}
 use Rattle.afs_volume.specs.Giving.{volume_of}
+use Rattle.afs_volume.specs.Listed.{listed_as}
 use Rattle.afs_volume.specs.declared.drafting.Draft.{Draft}
 use Rattle.afs_volume.specs.declared.volume.Volume.{Volume}
 
--- more is drafted: versions that are told, vnodes that are left, numbers of those that are gone
+-- more is drafted: versions that are told, vnodes that are left, each with its names, numbers of those that are gone
 pub record Draws (told : List Version) (left : Table Vnode) (gone : List ℕ) (old new : Draft) : Type 0 where
   pub time : new.time ≡ old.time
   pub versions : new.versions ≡ old.versions ++ told
   pub vnodes : shown_by new.vnodes ≡ shown_by old.vnodes ++ left
   pub removed : new.removed ≡ old.removed ++ gone
   pub images : AllByRecursion (IsLeft old.time) old.vnodes → AllByRecursion (IsLeft new.time) new.vnodes
+  pub names : old.names ≡ map listed_as old.vnodes → new.names ≡ map listed_as new.vnodes
 
 -- the volume as the draft leaves it
 abbrev pub volume_drafted : Draft → Volume → ideal.Volume

@@ -45,6 +45,7 @@ impl Volume {
         let names = self.names(fid.vnode, d);
         let bytes = d.contents.as_slice();
         let names = spelled_with(
+            self.alloc,
             names,
             bytes,
             name,
@@ -144,6 +145,7 @@ impl Volume {
         check(self.may(caller, 4, d)?, 13)?;
         let good = is_here && may_link(fid, x);
         let names = spelled_with(
+            self.alloc,
             self.names(fid.vnode, d),
             d.contents.as_slice(),
             name.as_slice(),

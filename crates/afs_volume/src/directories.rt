@@ -1,6 +1,6 @@
 //! The names of the directories of a volume, by the numbers of their vnodes.
 
-ghost use Rattle.std.specs.Prelude.{◌≡◌, ◌≤◌, ◌<◌, ◌+◌, ℕ, Some, None, map, nat_eq, take, IfOk, IsOk, OnOk, if◌then◌else◌};
+ghost use Rattle.std.specs.Prelude.{◌≡◌, ◌≤◌, ◌<◌, ◌+◌, ℕ, Some, None, nat_eq, take, IfOk, IsOk, OnOk, if◌then◌else◌};
 ghost use Rattle.std.specs.Option.{option_copied};
 ghost use Rattle.indexmap.specs.IndexMap as maps;
 ghost use Rattle.afs_ideal.specs.Tables.{AscendsFrom};
@@ -8,7 +8,7 @@ ghost use Rattle.afs_volume.specs.Listed.{listed_as, Lists};
 ghost use Rattle.afs_volume.specs.Seen.{all_seen};
 
 use crate::finding::{is_directory, names_of};
-use afs_dir::Dir;
+use afs_dir::Listing;
 use afs_num::types::Mem;
 use afs_num::vnodes::Vnode;
 use afs_vnode::store::VnodeStore;
@@ -18,30 +18,19 @@ use std::alloc::{AllocError, Global};
 /// The names of directories by the numbers of their vnodes.
 #[derive(Drop)]
 pub struct Directories {
-    pub dirs: IndexMap<u32, Dir>,
+    pub dirs: IndexMap<u32, Listing>,
 }
 
 /// The names of a vnode; it has some where it is a directory.
 #[tactic(auto, unfolding(crate::specs::Seen::seen))]
-fn listed_as(alloc: Global, x: &Vnode) -> Mem<Option<Dir>>
+pub fn listed_as(alloc: Global, x: &Vnode) -> Mem<Option<Listing>>
     ensures { IfOk result (λ names. names ≡ listed_as x.now) }
 {
     if is_directory(x) {
-        Ok(Some(names_of(alloc, x)?))
+        Ok(Some(names_of(alloc, x)?.into_listing()?))
     } else {
         Ok(None)
     }
-}
-
-/// The names of each vnode; it has some where it is a directory.
-pub fn all_listed(alloc: Global, vnodes: &[Vnode]) -> Mem<Vec<Option<Dir>>>
-    ensures { IfOk result (λ names. names.items ≡ map listed_as vnodes.now) }
-{
-    let mut names = Vec::new(alloc);
-    for x in vnodes {
-        names.push(listed_as(alloc, x)?)?;
-    }
-    Ok(names)
 }
 
 impl Directories {
@@ -55,7 +44,7 @@ impl Directories {
     }
 
     /// The names of the directory of this number.
-    pub fn get(&self, number: u32) -> Option<&Dir>
+    pub fn get(&self, number: u32) -> Option<&Listing>
         ensures { option_copied result ≡ maps.get nat_eq self.now.dirs number }
     {
         self.dirs.get(&number)
@@ -71,7 +60,7 @@ impl Directories {
     }
 
     /// The names under a number, in place of those that were there. It takes no memory where there is room.
-    fn put(&mut self, number: u32, names: Dir) -> Mem<()>
+    fn put(&mut self, number: u32, names: Listing) -> Mem<()>
         ensures value { OnOk result ((n : ℕ) → maps.get nat_eq self.new.dirs n ≡ (if nat_eq number n then Some names else maps.get nat_eq self.old.dirs n)) }
         ensures succeeds { 0 < maps.spare self.old.dirs → IsOk result }
         ensures room { maps.spare self.old.dirs ≤ maps.spare self.new.dirs + 1 }
@@ -91,7 +80,7 @@ impl Directories {
     }
 
     /// These names under a number, or none. It takes no memory where there is room.
-    fn set(&mut self, number: u32, names: Option<Dir>) -> Mem<()>
+    fn set(&mut self, number: u32, names: Option<Listing>) -> Mem<()>
         ensures succeeds { 0 < maps.spare self.old.dirs → IsOk result }
         ensures room { maps.spare self.old.dirs ≤ maps.spare self.new.dirs + 1 }
         ensures value { OnOk result ((n : ℕ) → maps.get nat_eq self.new.dirs n ≡ (if nat_eq number n then names else maps.get nat_eq self.old.dirs n)) }
@@ -106,7 +95,7 @@ impl Directories {
     }
 
     /// These names under a number, or none, where there is room. It takes no memory.
-    pub fn set_within(&mut self, number: u32, names: Option<Dir>)
+    pub fn set_within(&mut self, number: u32, names: Option<Listing>)
         requires { 0 < maps.spare self.old.dirs }
         ensures room { maps.spare self.old.dirs ≤ maps.spare self.new.dirs + 1 }
         ensures value { (n : ℕ) → maps.get nat_eq self.new.dirs n ≡ (if nat_eq number n then names else maps.get nat_eq self.old.dirs n) }

@@ -1,6 +1,6 @@
 //! The draft of a change, edit by edit.
 
-ghost use Rattle.std.specs.Prelude.{◌≡◌, ◌∷◌, [], true, Some, IfOk, OnOk};
+ghost use Rattle.std.specs.Prelude.{◌≡◌, ◌∷◌, [], true, map, Some, IfOk, OnOk};
 ghost use Rattle.std.specs.List.{AllByRecursion};
 ghost use Rattle.afs_ideal.specs.Operations.{free_fits, is_kind};
 ghost use Rattle.afs_ideal.specs.VnodeImage.{FitsImage};
@@ -8,33 +8,42 @@ ghost use Rattle.afs_ideal.specs.Volumes.{amends, body_of, fid_of, frees, gone_a
 ghost use Rattle.afs_volume.specs.Drafts.{Draws};
 ghost use Rattle.afs_volume.specs.Drawing.{all_freed, all_left, all_told, freed_by, left_by, numbered, shown_by, told_by, CanBeDrawn, IsLeft};
 ghost use Rattle.afs_volume.specs.Giving.{amend_seen, edit_seen, edits_seen, volume_of};
+ghost use Rattle.afs_volume.specs.Listed.{listed_as};
 ghost use Rattle.afs_volume.specs.Seen.{seen, IsReadable};
 
 use crate::Volume;
+use crate::directories::listed_as;
 use crate::drawing::{amended, made};
 use crate::edits::{Amend, Edit, New};
-use crate::finding::{DIRECTORY, LINK, names_of};
+use crate::finding::{DIRECTORY, LINK};
+use crate::listed::ReadyNames;
+use afs_dir::Listing;
 use afs_num::histories::{Body, Version, Versions};
 use afs_num::types::{Fid, Mem};
 use afs_num::vnodes::{Vnode, VnodeNumbers, Vnodes};
 use std::alloc::Global;
 
-/// The time of a change, the versions that it tells, the vnodes that it leaves, and the numbers of those that go.
+/// The time of a change, the versions that it tells, the vnodes that it leaves with their names, and the numbers of those that go.
 #[derive(Drop)]
 pub struct Draft {
     pub time: u32,
     pub versions: Versions,
     pub vnodes: Vnodes,
+    pub names: ReadyNames,
     pub removed: VnodeNumbers,
 }
 
-/// What the version of a vnode holds.
+/// What the version of a vnode with these names holds.
 #[tactic(auto, unfolding(crate::specs::Seen::seen))]
-fn body_of(alloc: Global, x: &Vnode) -> Mem<Body>
+fn body_of(alloc: Global, x: &Vnode, names: &Option<Listing>) -> Mem<Body>
+    requires { names.now ≡ listed_as x.now }
     ensures { IfOk result (λ b. b ≡ body_of (seen x.now)) }
 {
     match x.kind {
-        DIRECTORY => Ok(Body::Dir(names_of(alloc, x)?.into_names()?)),
+        DIRECTORY => match names {
+            Some(names) => Ok(Body::Dir(names.share()?)),
+            None => unreachable!(),
+        },
         LINK => Ok(Body::Link(x.contents.copy(alloc)?)),
         _ => Ok(Body::File(x.contents.copy(alloc)?)),
     }
@@ -45,23 +54,27 @@ impl Draft {
         ensures time { result.time ≡ time }
         ensures versions { result.versions ≡ [] }
         ensures vnodes { result.vnodes ≡ [] }
+        ensures names { result.names ≡ [] }
         ensures removed { result.removed ≡ [] }
     {
         Draft {
             time,
             versions: Versions::new(alloc),
             vnodes: Vnodes::new(alloc),
+            names: ReadyNames::new(alloc),
             removed: VnodeNumbers::new(alloc),
         }
     }
 
-    /// A vnode is left, with its version.
-    fn push_left(&mut self, version: Version, x: Vnode) -> Mem<()>
-        requires { IsLeft self.old.time x }
+    /// A vnode is left, with its version and its names.
+    fn push_left(&mut self, version: Version, x: Vnode, names: Option<Listing>) -> Mem<()>
+        requires left { IsLeft self.old.time x }
+        requires named { names ≡ listed_as x }
         ensures { OnOk result (Draws (version ∷ []) (numbered x ∷ []) [] self.old self.new) }
     {
         self.versions.push(version)?;
         self.vnodes.push(x)?;
+        self.names.push(names)?;
         Ok(())
     }
 
@@ -87,17 +100,36 @@ impl Volume {
         }
     }
 
-    /// The version that a vnode with this image has in the volume, or would have.
+    /// The version that a vnode with this image and these names has in the volume, or would have.
     #[tactic(auto, unfolding(crate::specs::Seen::seen))]
-    pub fn version_of(&self, x: &Vnode) -> Mem<Version>
+    fn version_named(&self, x: &Vnode, names: &Option<Listing>) -> Mem<Version>
+        requires { names.now ≡ listed_as x.now }
         ensures { IfOk result (λ v. v ≡ version_at self.now.head.id x.now.vnode (seen x.now)) }
     {
         Ok(Version {
             fid: self.fid_of(x),
             index: x.index,
             data_version: x.data_version,
-            body: body_of(self.alloc, x)?,
+            body: body_of(self.alloc, x, names)?,
         })
+    }
+
+    /// The version that a vnode with this image has in the volume, or would have.
+    pub fn version_of(&self, x: &Vnode) -> Mem<Version>
+        ensures { IfOk result (λ v. v ≡ version_at self.now.head.id x.now.vnode (seen x.now)) }
+    {
+        let names = listed_as(self.alloc, x)?;
+        self.version_named(x, &names)
+    }
+
+    /// A vnode is left. Its names are read once, for its version and for the volume.
+    fn draw_left(&self, draft: &mut Draft, x: Vnode) -> Mem<()>
+        requires { IsLeft draft.old.time x }
+        ensures { OnOk result (Draws (version_at self.now.head.id x.vnode (seen x) ∷ []) (numbered x ∷ []) [] draft.old draft.new) }
+    {
+        let names = listed_as(self.alloc, &x)?;
+        let version = self.version_named(&x, &names)?;
+        draft.push_left(version, x, names)
     }
 
     /// The last version of a vnode that goes.
@@ -123,7 +155,7 @@ impl Volume {
             return Ok(());
         };
         let after = amended(self.alloc, x, amend, self.head.counter + 1, draft.time)?;
-        draft.push_left(self.version_of(&after)?, after)
+        self.draw_left(draft, after)
     }
 
     /// A vnode is made.
@@ -139,7 +171,7 @@ impl Volume {
             self.head.counter + 1,
             draft.time,
         )?;
-        draft.push_left(self.version_of(&after)?, after)
+        self.draw_left(draft, after)
     }
 
     /// A vnode is freed.
@@ -173,6 +205,7 @@ impl Volume {
         ensures vnodes { IfOk result (λ d. shown_by d.vnodes ≡ all_left (volume_of self.now) (edits_seen edits.now)) }
         ensures removed { IfOk result (λ d. d.removed ≡ all_freed (volume_of self.now) (edits_seen edits.now)) }
         ensures images { IfOk result (λ d. AllByRecursion (IsLeft time) d.vnodes) }
+        ensures names { IfOk result (λ d. d.names ≡ map listed_as d.vnodes) }
     {
         let mut draft = Draft::new(self.alloc, time);
         for edit in edits {

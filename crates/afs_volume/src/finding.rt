@@ -14,7 +14,7 @@ ghost use Rattle.afs_volume.specs.Seen.{seen, names_spelled, list_spelled, kind_
 
 use crate::Volume;
 use crate::faults::OpFault;
-use afs_dir::{Dir, DirFault};
+use afs_dir::{Dir, DirFault, Listing};
 use afs_num::directories::Name;
 use afs_num::sequences::Octets;
 use afs_num::types::{Code, Fid, Mem};
@@ -120,14 +120,14 @@ pub fn may_link(d: &Fid, x: Option<&Vnode>) -> bool
 }
 
 /// A name is there.
-pub fn has_name(names: &Dir, name: &[u8]) -> bool
+pub fn has_name(names: &Listing, name: &[u8]) -> bool
     ensures { result ≡ is_some (named name.now names.now) }
 {
     names.find(name).is_some()
 }
 
 /// The number of the vnode that a name names, 0 where it isn't there.
-pub fn number_named(names: &Dir, name: &[u8]) -> u32
+pub fn number_named(names: &Listing, name: &[u8]) -> u32
     ensures { result ≡ number_named (named name.now names.now) }
 {
     match names.find(name) {
@@ -165,7 +165,7 @@ impl Volume {
     }
 
     /// The names of a directory. It takes no memory, and doesn't read the directory's contents.
-    pub(crate) fn names(&self, number: u32, d: &Vnode) -> &Dir
+    pub(crate) fn names(&self, number: u32, d: &Vnode) -> &Listing
         requires there { get number self.now.vnodes.table ≡ Some d.now }
         requires directory { is_kind (seen d.now).kind a_directory ≡ true }
         ensures names { result.now ≡ (seen d.now).names }
@@ -189,7 +189,7 @@ impl Volume {
     }
 
     /// The vnode that a name of a directory names.
-    pub(crate) fn named(&self, names: &Dir, name: &[u8]) -> Option<&Vnode>
+    pub(crate) fn named(&self, names: &Listing, name: &[u8]) -> Option<&Vnode>
         ensures seen { option_map seen (option_copied result) ≡ named_vnode (volume_of self.now) (named name.now names.now) }
         ensures number { IfSome result (λ x. x.now.vnode ≡ number_named (named name.now names.now)) }
         ensures value { IfSome result (λ x. get x.now.vnode self.now.vnodes.table ≡ Some x.now) }

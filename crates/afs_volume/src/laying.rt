@@ -17,7 +17,6 @@ ghost use Rattle.afs_volume.specs.Taking.{IsAtSetUp};
 use crate::Volume;
 use crate::callers::Caller;
 use crate::checks::check;
-use crate::directories::all_listed;
 use crate::drafting::Draft;
 use crate::edits::{Edit, Edits};
 use crate::faults::OpFault;
@@ -188,13 +187,13 @@ impl Volume {
         let unique = self.unique_left(edits);
         let Draft {
             vnodes,
+            names,
             removed,
             ..
         } = draft;
         let vnodes = all_at_first(self.alloc, vnodes)?;
-        let names = all_listed(self.alloc, vnodes.as_slice())?;
         self.make_room(vnodes.len())?;
-        self.take(vnodes, names, removed, 1, unique);
+        self.take(vnodes, names.into_vec(), removed, 1, unique);
         Ok(())
     }
 

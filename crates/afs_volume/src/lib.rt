@@ -17,6 +17,7 @@ mod finding;
 mod laying;
 mod laying_calls;
 mod limits;
+mod listed;
 mod making;
 mod naming;
 mod new;
@@ -34,5 +35,6 @@ mod taking;
 mod volume;
 
 pub use assembling::can_be_read;
+pub use listed::ReadyNames;
 pub use ready::ReadyChange;
 pub use volume::Volume;

@@ -16,7 +16,7 @@ use crate::edits::{Amend, Edit, Edits, Plan};
 use crate::faults::OpFault;
 use crate::finding::{has_name, is_directory};
 use crate::making::spelled;
-use afs_dir::Dir;
+use afs_dir::{Dir, Listing};
 use afs_num::names::name_ok;
 use afs_num::sequences::Octets;
 use afs_num::types::Mem;
@@ -28,7 +28,7 @@ pub const MOST_NAMES: usize = 1_024;
 
 /// A name may be added: 22 where it is none or something else is bad, 17 where it is there, 27 where there are too many. It
 /// takes no memory.
-fn may_add(names: &Dir, name: &[u8], good: bool) -> Result<(), OpFault>
+fn may_add(names: &Listing, name: &[u8], good: bool) -> Result<(), OpFault>
     ensures { Passes (first_failing (adds_name name.now names.now good)) result }
 {
     check(good && name_ok(name), 22)?;
@@ -40,7 +40,8 @@ fn may_add(names: &Dir, name: &[u8], good: bool) -> Result<(), OpFault>
 /// there are too many. `bytes` spell the names as they are.
 #[tactic(auto, unfolding(crate::specs::Seen::names_spelled), using(crate::proofs::Spelled::may_be_added))]
 pub fn spelled_with(
-    names: &Dir,
+    alloc: Global,
+    names: &Listing,
     bytes: &[u8],
     name: &[u8],
     vnode: u32,
@@ -54,19 +55,19 @@ pub fn spelled_with(
     ensures short { IfOk result (λ bs. length bs ≤ most_contents) }
 {
     may_add(names, name, good)?;
-    Ok(names.bytes_with(bytes, name, vnode, unique)?)
+    Ok(names.bytes_with(alloc, bytes, name, vnode, unique)?)
 }
 
 /// The bytes that spell the names without this one, which is there. `bytes` spell all of them.
 #[tactic(auto, unfolding(crate::specs::Seen::names_spelled), using(crate::proofs::Spelled::may_be_added))]
-pub fn spelled_without(names: &Dir, bytes: &[u8], name: &[u8]) -> Mem<Octets>
+pub fn spelled_without(alloc: Global, names: &Listing, bytes: &[u8], name: &[u8]) -> Mem<Octets>
     requires there { is_some (named name.now names.now) ≡ true }
     requires read { directory_of bytes.now ≡ Ok names.now }
     ensures read { IfOk result (λ bs. names_spelled bs ≡ without_name name.now names.now) }
     ensures spelled { IfOk result (λ bs. SpellsNames (Some bs)) }
     ensures short { IfOk result (λ bs. length bs ≤ most_contents) }
 {
-    names.bytes_without(bytes, name)
+    names.bytes_without(alloc, bytes, name)
 }
 
 /// Takes a name away, where it is there.
@@ -78,16 +79,6 @@ pub fn take_name(names: &mut Dir, name: &[u8])
         Ok(_) => {}
         Err(_) => {}
     }
-}
-
-/// The names without this one, where it is there.
-pub fn names_without(names: &Dir, name: &[u8]) -> Mem<Dir>
-    ensures names { IfOk result (λ ns. ns ≡ without_name name.now names.now) }
-    ensures few { OnOk result (length names.now ≤ 1024) }
-{
-    let mut after = names.copy()?;
-    take_name(&mut after, name);
-    Ok(after)
 }
 
 fn is_before(edit: &Edit, number: u32) -> bool

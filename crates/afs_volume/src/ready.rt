@@ -12,43 +12,50 @@ ghost use Rattle.afs_volume.specs.declared.faults.AssembleFault.TheVariants.{Not
 
 use crate::faults::AssembleFault;
 use crate::finding::{DIRECTORY, FILE, LINK};
+use crate::listed::ReadyNames;
 use crate::operations::is_acl;
-use afs_dir::{Dir, DirFault};
+use afs_dir::{Dir, DirFault, Listing};
 use afs_num::directories::Name;
 use afs_num::vnodes::Vnode;
 use afs_num::volumes::Change;
 use std::alloc::Global;
 use std::marker::Model;
 
-/// A change, and the names of each vnode that it gives, where that is a directory: a volume takes it in without memory.
+/// A change whose vnodes can be read, and the names of each of them, where that is a directory: a volume takes it in without
+/// memory.
 #[derive(Drop)]
 pub struct ReadyChange {
     change: Change,
-    names: Vec<Option<Dir>>,
+    names: ReadyNames,
 }
 
 impl Model for ReadyChange {
     ghost use Rattle.std.specs.Prelude.{◌≡◌, map};
+    ghost use Rattle.std.specs.List.{AllByRecursion};
     ghost use Rattle.afs_num.specs.declared.volumes.Change.{Change};
     ghost use Rattle.afs_volume.specs.Listed.{listed_as};
+    ghost use Rattle.afs_volume.specs.Seen.{IsReadable};
 
     ghost Value = { Change };
 
     ghost view = { λ r. r.change };
 
-    ghost invariant = { λ r. r.names.items ≡ map listed_as r.change.vnodes };
+    ghost invariant = { λ r. record {
+      named : r.names ≡ map listed_as r.change.vnodes;
+      readable : AllByRecursion IsReadable r.change.vnodes;
+    } };
 }
 
 /// The names that bytes spell.
 #[tactic(auto, unfolding(crate::specs::Seen::names_spelled))]
-fn read_names(alloc: Global, bytes: &[u8]) -> Result<Dir, AssembleFault>
+fn read_names(alloc: Global, bytes: &[u8]) -> Result<Listing, AssembleFault>
     ensures names { IfOk result (λ names. names ≡ names_spelled bytes.now) }
     ensures read { OnOk result (is_ok (directory_of bytes.now) ≡ true) }
     ensures spelled { OnOk result (directory_bytes (names_spelled bytes.now) ≡ bytes.now) }
     ensures not_sound { result ≡ Err NotSound → is_ok (directory_of bytes.now) ≡ false }
 {
     match Dir::from_bytes(alloc, bytes) {
-        Ok(names) => Ok(names),
+        Ok(names) => Ok(names.into_listing()?),
         Err(DirFault::OutOfMemory) => Err(AssembleFault::OutOfMemory),
         Err(_) => Err(AssembleFault::NotSound),
     }
@@ -56,7 +63,7 @@ fn read_names(alloc: Global, bytes: &[u8]) -> Result<Dir, AssembleFault>
 
 /// The names of a directory, where they and its access list can be read.
 #[tactic(auto, unfolding(crate::specs::Seen::seen), using(crate::proofs::Readable::directory_read, crate::proofs::Readable::readable_directory))]
-fn read_directory(alloc: Global, x: &Vnode) -> Result<Dir, AssembleFault>
+fn read_directory(alloc: Global, x: &Vnode) -> Result<Listing, AssembleFault>
     requires { x.now.kind ≡ 2 }
     ensures names { IfOk result (λ names. listed_as x.now ≡ Some names) }
     ensures readable { OnOk result (IsReadable x.now) }
@@ -73,7 +80,7 @@ fn read_directory(alloc: Global, x: &Vnode) -> Result<Dir, AssembleFault>
 
 /// The names of a vnode that can be read; it has some where it is a directory.
 #[tactic(auto, unfolding(crate::specs::Seen::seen), using(crate::proofs::Readable::other_read, crate::proofs::Readable::readable_other))]
-fn read_vnode(alloc: Global, x: &Vnode) -> Result<Option<Dir>, AssembleFault>
+fn read_vnode(alloc: Global, x: &Vnode) -> Result<Option<Listing>, AssembleFault>
     ensures names { IfOk result (λ names. names ≡ listed_as x.now) }
     ensures readable { OnOk result (IsReadable x.now) }
     ensures read { OnOk result (can_be_read x.now ≡ true) }
@@ -89,12 +96,12 @@ fn read_vnode(alloc: Global, x: &Vnode) -> Result<Option<Dir>, AssembleFault>
 }
 
 /// The names of each vnode, where all can be read.
-fn read_all(alloc: Global, vnodes: &[Vnode]) -> Result<Vec<Option<Dir>>, AssembleFault>
-    ensures names { IfOk result (λ names. names.items ≡ map listed_as vnodes.now) }
+fn read_all(alloc: Global, vnodes: &[Vnode]) -> Result<ReadyNames, AssembleFault>
+    ensures names { IfOk result (λ names. names ≡ map listed_as vnodes.now) }
     ensures readable { OnOk result (AllByRecursion IsReadable vnodes.now) }
     ensures not_sound { result ≡ Err NotSound → list_all can_be_read vnodes.now ≡ false }
 {
-    let mut names = Vec::new(alloc);
+    let mut names = ReadyNames::new(alloc);
     for x in vnodes {
         names.push(read_vnode(alloc, x)?)?;
     }
@@ -102,7 +109,7 @@ fn read_all(alloc: Global, vnodes: &[Vnode]) -> Result<Vec<Option<Dir>>, Assembl
 }
 
 /// The names of a vnode that are ready; what is no directory has none.
-fn names_or_none(names: &Option<Dir>) -> &[Name]
+fn names_or_none(names: &Option<Listing>) -> &[Name]
     ensures { result.now ≡ names_or_none names.now }
 {
     match names {
@@ -112,7 +119,11 @@ fn names_or_none(names: &Option<Dir>) -> &[Name]
 }
 
 /// The names of the last of these vnodes that has the number.
-fn names_given<'a>(number: u32, vnodes: &[Vnode], ready: &'a [Option<Dir>]) -> Option<&'a [Name]>
+fn names_given<'a>(
+    number: u32,
+    vnodes: &[Vnode],
+    ready: &'a [Option<Listing>],
+) -> Option<&'a [Name]>
     requires { ready.now ≡ map listed_as vnodes.now }
     ensures { option_copied result ≡ names_given number vnodes.now }
 {
@@ -135,7 +146,16 @@ impl ReadyChange {
         ensures memory { AllByRecursion IsReadable c.vnodes → IfErr result (λ e. e ≡ OutOfMemory) }
     {
         let names = read_all(alloc, c.vnodes.as_slice())?;
-        Ok(ReadyChange { change: c, names })
+        Ok(ReadyChange::named(c, names))
+    }
+
+    /// A change whose vnodes can be read, with these names, which are theirs. It takes no memory, and reads nothing.
+    pub fn named(change: Change, names: ReadyNames) -> ReadyChange
+        requires named { names ≡ map listed_as change.vnodes }
+        requires readable { AllByRecursion IsReadable change.vnodes }
+        ensures { result ≡ change }
+    {
+        ReadyChange { change, names }
     }
 
     /// The change.
@@ -160,10 +180,11 @@ impl ReadyChange {
         self.into_parts().0
     }
 
-    /// The change, and the names of the directories that it gives. It takes no memory.
-    pub(crate) fn into_parts(self) -> (Change, Vec<Option<Dir>>)
+    /// The change, whose vnodes can be read, and the names of those that are directories. It takes no memory.
+    pub fn into_parts(self) -> (Change, ReadyNames)
         ensures change { result.0 ≡ self }
-        ensures names { result.1.items ≡ map listed_as self.vnodes }
+        ensures names { result.1 ≡ map listed_as self.vnodes }
+        ensures readable { AllByRecursion IsReadable self.vnodes }
     {
         let ReadyChange { change, names } = self;
         (change, names)

@@ -33,7 +33,7 @@ impl Volume {
         check(self.is_writable(), 30)?;
         check(self.may(caller, 16, d)?, 13)?;
         check(has_name(names, name.as_slice()), 2)?;
-        let left = spelled_without(names, d.contents.as_slice(), name.as_slice())?;
+        let left = spelled_without(self.alloc, names, d.contents.as_slice(), name.as_slice())?;
         let plan = removes(self.alloc, fid.vnode, left, None, number, target)?;
         Ok(plan)
     }
@@ -61,7 +61,7 @@ impl Volume {
         check(has_name(names, name.as_slice()), 2)?;
         check(self.is_empty(target), 39)?;
         let links = links_of(d).saturating_sub(1);
-        let left = spelled_without(names, d.contents.as_slice(), name.as_slice())?;
+        let left = spelled_without(self.alloc, names, d.contents.as_slice(), name.as_slice())?;
         let plan = removes(self.alloc, fid.vnode, left, Some(links), number, target)?;
         Ok(plan)
     }

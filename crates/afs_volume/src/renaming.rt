@@ -16,14 +16,16 @@ use crate::callers::Caller;
 use crate::checks::check;
 use crate::edits::{Amend, Edit, Edits, Plan};
 use crate::faults::OpFault;
-use crate::finding::{has_name, is_directory, is_directory_there, links_of, number_named};
-use crate::naming::{MOST_NAMES, ascending, names_without, push_names, push_unlink, take_name};
-use afs_dir::{Dir, DirFault};
+use crate::finding::{
+    has_name, is_directory, is_directory_there, links_of, names_of, number_named,
+};
+use crate::naming::{MOST_NAMES, ascending, push_names, push_unlink, take_name};
+use afs_dir::{Dir, DirFault, Listing};
 use afs_num::names::name_ok;
 use afs_num::sequences::Octets;
 use afs_num::types::{Code, Fid, Mem};
 use afs_num::vnodes::Vnode;
-use std::alloc::AllocError;
+use std::alloc::{AllocError, Global};
 
 /// What takes the place of another is no directory, or that is one too.
 fn takes_place(x: Option<&Vnode>, other: Option<&Vnode>) -> bool
@@ -42,7 +44,7 @@ fn is_same_name(d: &Fid, old: &[u8], e: &Fid, new: &[u8]) -> bool
 }
 
 /// Both names are there, and of one vnode.
-fn is_same_vnode(names: &Dir, old: &[u8], others: &Dir, new: &[u8]) -> bool
+fn is_same_vnode(names: &Listing, old: &[u8], others: &Listing, new: &[u8]) -> bool
     ensures { result ≡ same_vnode (named old.now names.now) (named new.now others.now) }
 {
     match (names.find(old), others.find(new)) {
@@ -79,10 +81,21 @@ fn put_name(names: &mut Dir, name: &[u8], vnode: u32, unique: u32) -> Mem<()>
 }
 
 /// Takes a name from a directory, which then has so many links.
-fn take_from(edits: &mut Edits, d: &Fid, names: &Dir, old: &[u8], links: u64) -> Mem<()>
+fn take_from(
+    alloc: Global,
+    edits: &mut Edits,
+    d: &Fid,
+    x: &Vnode,
+    names: &Listing,
+    old: &[u8],
+    links: u64,
+) -> Mem<()>
+    requires names { names.now ≡ (seen x.now).names }
+    requires directory { is_kind (seen x.now).kind a_directory ≡ true }
     ensures { OnOk result (edits_seen edits.new ≡ edits_seen edits.old ++ amends d.now.vnode (record no_amend { names = Some (without_name old.now names.now); links = Some links }) ∷ []) }
 {
-    let left = names_without(names, old)?;
+    let mut left = names_of(alloc, x)?;
+    take_name(&mut left, old);
     push_names(edits, d.vnode, &left, Some(links))
 }
 
@@ -107,41 +120,51 @@ fn put_in(
 /// Puts a name in the place of another of the same directory, which then has so many links.
 #[tactic(auto, using(crate::proofs::Renamed::room_within))]
 fn put_within(
+    alloc: Global,
     edits: &mut Edits,
     d: &Fid,
-    names: &Dir,
+    x: &Vnode,
+    names: &Listing,
     old: &[u8],
     new: &[u8],
     moved: (u32, u32),
     links: u64,
 ) -> Mem<()>
     requires good { name_ok new.now ≡ true }
+    requires names { names.now ≡ (seen x.now).names }
+    requires directory { is_kind (seen x.now).kind a_directory ≡ true }
     requires there { is_some (named old.now names.now) ≡ true }
     ensures { OnOk result (edits_seen edits.new ≡ edits_seen edits.old ++ amends d.now.vnode (record no_amend { names = Some (with_name (name_of new.now moved.0 moved.1) (without_name new.now (without_name old.now names.now))); links = Some links }) ∷ []) }
 {
-    let left = names_without(names, old)?;
+    let mut left = names_of(alloc, x)?;
+    take_name(&mut left, old);
     put_in(edits, d, left, new, moved, links)
 }
 
 /// Puts a name of another directory in one that has room for it, and which then has so many links.
 #[tactic(auto, using(crate::proofs::Renamed::room_across))]
 fn put_across(
+    alloc: Global,
     edits: &mut Edits,
     e: &Fid,
-    names: &Dir,
+    y: &Vnode,
+    names: &Listing,
     new: &[u8],
     moved: (u32, u32),
     links: u64,
 ) -> Mem<()>
     requires good { name_ok new.now ≡ true }
+    requires names { names.now ≡ (seen y.now).names }
+    requires directory { is_kind (seen y.now).kind a_directory ≡ true }
     requires room { (is_some (named new.now names.now) || nat_lt (length names.now) 1024) ≡ true }
     ensures { OnOk result (edits_seen edits.new ≡ edits_seen edits.old ++ amends e.now.vnode (record no_amend { names = Some (with_name (name_of new.now moved.0 moved.1) (without_name new.now names.now)); links = Some links }) ∷ []) }
 {
-    put_in(edits, e, names.copy()?, new, moved, links)
+    let all = names_of(alloc, y)?;
+    put_in(edits, e, all, new, moved, links)
 }
 
 /// Nothing is added to a directory, or a name is replaced, or there is room for one more.
-fn has_room_for(d: &Fid, e: &Fid, others: &Dir, new: &[u8]) -> bool
+fn has_room_for(d: &Fid, e: &Fid, others: &Listing, new: &[u8]) -> bool
     ensures { result ≡ (d.now.vnode == e.now.vnode || (is_some (named new.now others.now) || nat_lt (length others.now) 1024)) }
 {
     d.vnode == e.vnode || has_name(others, new) || others.len() < MOST_NAMES
@@ -182,7 +205,7 @@ impl Volume {
         x: &Vnode,
         e: &Fid,
         y: &Vnode,
-        others: &Dir,
+        others: &Listing,
         new: &[u8],
     ) -> Mem<bool>
         requires from { vnode_of d.now (volume_of self.now) ≡ Some (seen x.now) }
@@ -198,7 +221,15 @@ impl Volume {
 
     /// A directory doesn't move below itself, a file with more than one name stays in its directory, and no name takes
     /// the place of another of the same vnode.
-    fn may_move(&self, d: &Fid, old: &[u8], names: &Dir, e: &Fid, new: &[u8], others: &Dir) -> bool
+    fn may_move(
+        &self,
+        d: &Fid,
+        old: &[u8],
+        names: &Listing,
+        e: &Fid,
+        new: &[u8],
+        others: &Listing,
+    ) -> bool
         ensures { result ≡ may_move d.now e.now (named old.now names.now) (named new.now others.now) (volume_of self.now) (named_vnode (volume_of self.now) (named old.now names.now)) }
     {
         match self.named(names, old) {
@@ -220,16 +251,17 @@ impl Volume {
         &self,
         d: &Fid,
         x: &Vnode,
-        names: &Dir,
+        names: &Listing,
         old: &[u8],
         e: &Fid,
         y: &Vnode,
-        others: &Dir,
+        others: &Listing,
         new: &[u8],
     ) -> Mem<Edits>
         requires from { vnode_of d.now (volume_of self.now) ≡ Some (seen x.now) }
         requires to { vnode_of e.now (volume_of self.now) ≡ Some (seen y.now) }
         requires names { (names.now ≡ (seen x.now).names) × (others.now ≡ (seen y.now).names) }
+        requires kinds { (is_kind (seen x.now).kind a_directory ≡ true) × (is_kind (seen y.now).kind a_directory ≡ true) }
         requires good { name_ok new.now ≡ true }
         requires there { is_some (named old.now names.now) ≡ true }
         requires room { has_room_for d.now e.now new.now (volume_of self.now) ≡ true }
@@ -244,12 +276,20 @@ impl Volume {
         let replaced = is_directory_there(target);
         if d.vnode == e.vnode {
             let links = linked(false, replaced, links_of(x));
-            put_within(&mut edits, d, names, old, new, moved, links)?;
+            put_within(self.alloc, &mut edits, d, x, names, old, new, moved, links)?;
         } else {
             let moves = is_directory_there(self.named(names, old));
-            take_from(&mut edits, d, names, old, linked(false, moves, links_of(x)))?;
+            take_from(
+                self.alloc,
+                &mut edits,
+                d,
+                x,
+                names,
+                old,
+                linked(false, moves, links_of(x)),
+            )?;
             let links = linked(moves, replaced, links_of(y));
-            put_across(&mut edits, e, others, new, moved, links)?;
+            put_across(self.alloc, &mut edits, e, y, others, new, moved, links)?;
             edits.push(Edit::Amends(moved.0, Amend::with_parent(e.vnode, e.unique)))?;
         }
         push_unlink(&mut edits, number, target)?;
@@ -262,16 +302,17 @@ impl Volume {
         caller: &Caller,
         d: &Fid,
         x: &Vnode,
-        names: &Dir,
+        names: &Listing,
         old: &[u8],
         e: &Fid,
         y: &Vnode,
-        others: &Dir,
+        others: &Listing,
         new: &[u8],
     ) -> Result<Plan, OpFault>
         requires from { vnode_of d.now (volume_of self.now) ≡ Some (seen x.now) }
         requires to { vnode_of e.now (volume_of self.now) ≡ Some (seen y.now) }
         requires names { (names.now ≡ (seen x.now).names) × (others.now ≡ (seen y.now).names) }
+        requires kinds { (is_kind (seen x.now).kind a_directory ≡ true) × (is_kind (seen y.now).kind a_directory ≡ true) }
         ensures { Plans (by_tests (first_failing (move_tests (caller_seen caller.now) d.now old.now e.now new.now (volume_of self.now))) (effect (caller_seen caller.now) (calls.Rename d.now old.now e.now new.now) (volume_of self.now))) result }
     {
         check(self.may_rename(caller, d, x, e, y, others, new)?, 13)?;

@@ -19,7 +19,7 @@ use crate::Volume;
 use crate::directories::Directories;
 use crate::limits::blocks_of;
 use crate::ready::ReadyChange;
-use afs_dir::Dir;
+use afs_dir::Listing;
 use afs_num::types::Mem;
 use afs_num::vnodes::{Vnode, VnodeNumbers, Vnodes};
 use afs_num::volumes::Change;
@@ -50,7 +50,7 @@ fn put(
     dirs: &mut Directories,
     blocks: u32,
     x: Vnode,
-    names: Option<Dir>,
+    names: Option<Listing>,
 ) -> u32
     requires readable { AreReadable vnodes.old.table }
     requires counted { blocks ≡ blocks_in (all_seen vnodes.old.table) }
@@ -79,7 +79,7 @@ fn put(
 }
 
 /// The next of the names that are ready.
-fn next_ready(ready: &mut IntoIter<Option<Dir>>) -> Option<Dir>
+fn next_ready(ready: &mut IntoIter<Option<Listing>>) -> Option<Listing>
     requires { 0 < length (into_iter_items ready.old) }
     ensures { into_iter_items ready.old ≡ result ∷ into_iter_items ready.new }
 {
@@ -95,7 +95,7 @@ fn put_all(
     dirs: &mut Directories,
     before: u32,
     changed: Vnodes,
-    names: Vec<Option<Dir>>,
+    names: Vec<Option<Listing>>,
     removed: &[u32],
 ) -> u32
     requires readable { AreReadable vnodes.old.table }
@@ -200,7 +200,7 @@ impl Volume {
     pub(crate) fn take(
         &mut self,
         vnodes: Vnodes,
-        names: Vec<Option<Dir>>,
+        names: Vec<Option<Listing>>,
         removed: VnodeNumbers,
         counter: u32,
         unique: u32,
@@ -235,6 +235,6 @@ impl Volume {
             unique,
             ..
         } = change;
-        self.take(vnodes, names, removed, counter, unique);
+        self.take(vnodes, names.into_vec(), removed, counter, unique);
     }
 }

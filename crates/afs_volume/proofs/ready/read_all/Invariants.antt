@@ -7,7 +7,7 @@ use Rattle.afs_volume.proofs.ready.read_all.Given as goal
 
 abbrev pub invariant-loop-x : goal.invariant-loop-x
 invariant-loop-x l = record {
-  names : l.names.items ≡ map listed_as (take l.x-index l.vnodes);
+  names : l.names ≡ map listed_as (take l.x-index l.vnodes);
   rest : list_all can_be_read (drop l.x-index l.vnodes) ≡ list_all can_be_read l.vnodes;
   read : AllByRecursion IsReadable (drop l.x-index l.vnodes) → AllByRecursion IsReadable l.vnodes;
 }

@@ -5,23 +5,23 @@ use Rattle.afs_server.specs.Handling.{server_seen}
 use Rattle.afs_server.proofs.Decisions.{change_can_be_told, change_decides, change_fits, is_on}
 use Rattle.afs_server.proofs.server.FileServer.change_in.Goals as goal
 
-pub apply-applied-requires-clause-on : goal.apply-applied-requires-clause-on
-apply-applied-requires-clause-on g c = is_on c.args.call.now c.args.volume.now.head.id c.requires.on
+pub apply_ready-applied-requires-clause-on : goal.apply_ready-applied-requires-clause-on
+apply_ready-applied-requires-clause-on g c = is_on c.args.call.now c.args.volume.now.head.id c.requires.on
 
 pub returns-clause-decides : goal.returns-clause-decides
 returns-clause-decides g c =
     let decided = c.in_ok-decided.ensures in
-    let is : ChangesAs c.args.volume.now.head.id c.apply-applied.result c.in_ok-decided.decided = search (rules, decided) in
-    change_decides (server_seen c.args.self.now c.args.store.now) c.args.now c.args.head.now (the_user c.args.user.now) c.args.volume.now c.args.call.now c.apply-applied.result c.in_ok-decided.decided c.requires.on c.requires.there c.apply-applied.ensures.applies is
+    let is : ChangesAs c.args.volume.now.head.id c.apply_ready-applied.result c.in_ok-decided.decided = search (rules, decided) in
+    change_decides (server_seen c.args.self.now c.args.store.now) c.args.now c.args.head.now (the_user c.args.user.now) c.args.volume.now c.args.call.now c.apply_ready-applied.result c.in_ok-decided.decided c.requires.on c.requires.there c.apply_ready-applied.ensures.applies is
 
 pub returns-clause-told : goal.returns-clause-told
 returns-clause-told g c =
     let decided = c.in_ok-decided.ensures in
-    let is : ChangesAs c.args.volume.now.head.id c.apply-applied.result c.in_ok-decided.decided = search (rules, decided) in
-    change_can_be_told c.args.head.now.opcode c.args.now (the_user c.args.user.now) c.args.volume.now c.args.call.now c.apply-applied.result c.in_ok-decided.decided c.requires.opcode c.apply-applied.ensures.applies c.apply-applied.ensures.reply is
+    let is : ChangesAs c.args.volume.now.head.id c.apply_ready-applied.result c.in_ok-decided.decided = search (rules, decided) in
+    change_can_be_told c.args.head.now.opcode c.args.now (the_user c.args.user.now) c.args.volume.now c.args.call.now c.apply_ready-applied.result c.in_ok-decided.decided c.requires.opcode c.apply_ready-applied.ensures.applies c.apply_ready-applied.ensures.reply is
 
 pub returns-clause-fits : goal.returns-clause-fits
 returns-clause-fits g c =
     let decided = c.in_ok-decided.ensures in
-    let is : ChangesAs c.args.volume.now.head.id c.apply-applied.result c.in_ok-decided.decided = search (rules, decided) in
-    change_fits c.args.now (the_user c.args.user.now) c.args.volume.now c.args.call.now c.apply-applied.result c.in_ok-decided.decided c.requires.on c.apply-applied.ensures.applies c.apply-applied.ensures.fits is
+    let is : ChangesAs c.args.volume.now.head.id c.apply_ready-applied.result c.in_ok-decided.decided = search (rules, decided) in
+    change_fits c.args.now (the_user c.args.user.now) c.args.volume.now c.args.call.now c.apply_ready-applied.result c.in_ok-decided.decided c.requires.on c.apply_ready-applied.ensures.applies c.apply_ready-applied.ensures.fits is

@@ -1,18 +1,25 @@
 use Rattle.std.proofs.Common.{ℕ, ◌≡◌, ◌≤◌, ◌+◌, true, false, Some, length, rules, arith, refl, ap, sym, subst, ◌∙◌}
-use Rattle.std.specs.Prelude.{Result, Err}
+use Rattle.std.specs.List.{AllByRecursion}
+use Rattle.std.specs.Prelude.{Result, Err, map}
 use Rattle.afs_history.specs.declared.lines.Outs.{Outs}
 use Rattle.afs_num.specs.Nodes.{IsNode}
+use Rattle.afs_num.specs.declared.records.RecordBody.{RecordBody}
+use Rattle.afs_num.specs.declared.records.StoreRecord.{StoreRecord}
 use Rattle.afs_num.specs.declared.types.Node.{Node}
+use Rattle.afs_num.specs.declared.volumes.Change.{Change}
 use Rattle.afs_records.specs.Durable.{Durable}
 use Rattle.afs_rows.specs.Callbacks as row
 use Rattle.afs_rows.specs.Callbacks.{turn_for}
 use Rattle.afs_rows.specs.ServerRow.{roomed}
 use Rattle.afs_server.specs.Handling.{record_decided, server_seen}
-use Rattle.afs_server.specs.Saving.{reply_told, IsPlanned}
+use Rattle.afs_server.specs.Saving.{change_kept, fids_granted, new_grants, reply_told, IsPlanned}
 use Rattle.afs_server.specs.Seen.{Serves}
 use Rattle.afs_server.specs.declared.faults.NodeFault.{NodeFault}
 use Rattle.afs_server.specs.declared.faults.NodeFault.TheVariants as nodes
+use Rattle.afs_volstore.specs.Named.{IsNamed}
 use Rattle.afs_volstore.specs.Stores.{Store}
+use Rattle.afs_volume.specs.Listed.{listed_as}
+use Rattle.afs_volume.specs.Seen.{IsReadable}
 use Rattle.afs_server.proofs.Roomed.{disk_all}
 use Rattle.afs_server.proofs.Saves.{does_all, is_besides, is_taken, same_store, wanting, was_prepared}
 use Rattle.afs_server.proofs.Still.{is_still, same_counts, same_disk, OfDisk}
@@ -29,7 +36,17 @@ pub prepare-requires-clause-taken : goal.prepare-requires-clause-taken
 prepare-requires-clause-taken g c =
     let made = c.requires.made in
     let plan = c.in_ok-planned.ensures in
-    is_taken c.args.id c.args.now c.args.head.now made.0 c.args.change c.in_ok-planned.planned.kept c.args.store.now.durable c.in_ok-planned.planned.rec made.1.0 made.1.1 plan.rec
+    is_taken c.args.id c.args.now c.args.head.now made.0 c.args.change c.in_ok-planned.planned.kept c.args.store.now.durable c.in_ok-planned.planned.rec made.1.0 made.1.1 (plan.rec ∙ ap (λ (x : Change). change_kept c.args.head.now c.args.id x c.in_ok-planned.planned.kept) c.into_parts-change.ensures.change)
+
+pub prepare-requires-clause-named : goal.prepare-requires-clause-named
+prepare-requires-clause-named g c =
+    let p = c.in_ok-planned.planned in
+    let x = c.into_parts-change.result.0 in
+    let names = c.into_parts-change.result.1 in
+    let body : p.rec.body ≡ (change_kept c.args.head.now c.args.id x p.kept).body = ap (λ (r : StoreRecord). r.body) c.in_ok-planned.ensures.rec in
+    let named : names ≡ map listed_as x.vnodes = c.into_parts-change.ensures.names ∙ ap (λ (y : Change). map listed_as y.vnodes) (sym c.into_parts-change.ensures.change) in
+    let readable : AllByRecursion IsReadable x.vnodes = subst (λ (y : Change). AllByRecursion IsReadable y.vnodes) (sym c.into_parts-change.ensures.change) c.into_parts-change.ensures.readable in
+    subst (λ (b : RecordBody). IsNamed b names) (sym body) (named, readable)
 
 pub put_or_refuse-requires-clause-serves : goal.put_or_refuse-requires-clause-serves
 put_or_refuse-requires-clause-serves g c =
@@ -39,7 +56,7 @@ put_or_refuse-requires-clause-serves g c =
 
 pub put_or_refuse-requires-clause-draws : goal.put_or_refuse-requires-clause-draws
 put_or_refuse-requires-clause-draws g c =
-    let long = ap length c.in_ok-planned.ensures.granted in
+    let long = ap length (c.in_ok-planned.ensures.granted ∙ ap (λ (x : Change). fids_granted (new_grants x.reply)) c.into_parts-change.ensures.change) in
     let few = few_granted c.args.change.reply in
     let draws = c.requires.draws.breaks in
     omega (arith, long, few, draws)
@@ -54,7 +71,8 @@ put_or_refuse-requires-clause-drawn g c =
     let plan : IsPlanned s.node s.durable.boot s.drawn c.args.now c.args.head.now c.args.id c.args.change c.args.self.now p =
     subst (λ (n : ℕ). IsPlanned s.node s.durable.boot n c.args.now c.args.head.now c.args.id c.args.change c.args.self.now p) last
     (subst (λ (n : ℕ). IsPlanned s.node n c.last_number.result c.args.now c.args.head.now c.args.id c.args.change c.args.self.now p) boot
-    (subst (λ (n : Node). IsPlanned n c.boot_number.result c.last_number.result c.args.now c.args.head.now c.args.id c.args.change c.args.self.now p) node c.in_ok-planned.ensures)) in
+    (subst (λ (n : Node). IsPlanned n c.boot_number.result c.last_number.result c.args.now c.args.head.now c.args.id c.args.change c.args.self.now p) node
+    (subst (λ (x : Change). IsPlanned c.node.result c.boot_number.result c.last_number.result c.args.now c.args.head.now c.args.id x c.args.self.now p) c.into_parts-change.ensures.change c.in_ok-planned.ensures))) in
     let mid = c.prepare.new.store in
     let besides = is_besides c.in_ok-planned.planned.rec c.args.store.now mid c.in_ok-room.room c.in_ok-room.ensures.prepares in
     let same = besides.1.1.0 in
@@ -71,7 +89,8 @@ put_or_refuse-requires-clause-spelling g c =
     let plan : IsPlanned s.node s.durable.boot s.drawn c.args.now c.args.head.now c.args.id c.args.change c.args.self.now p =
     subst (λ (n : ℕ). IsPlanned s.node s.durable.boot n c.args.now c.args.head.now c.args.id c.args.change c.args.self.now p) last
     (subst (λ (n : ℕ). IsPlanned s.node n c.last_number.result c.args.now c.args.head.now c.args.id c.args.change c.args.self.now p) boot
-    (subst (λ (n : Node). IsPlanned n c.boot_number.result c.last_number.result c.args.now c.args.head.now c.args.id c.args.change c.args.self.now p) node c.in_ok-planned.ensures)) in
+    (subst (λ (n : Node). IsPlanned n c.boot_number.result c.last_number.result c.args.now c.args.head.now c.args.id c.args.change c.args.self.now p) node
+    (subst (λ (x : Change). IsPlanned c.node.result c.boot_number.result c.last_number.result c.args.now c.args.head.now c.args.id x c.args.self.now p) c.into_parts-change.ensures.change c.in_ok-planned.ensures))) in
     (reply_told c.args.store.now.durable.boot c.args.head.now (c.args.now + 7200) c.args.change, plan.kept)
 
 pub put_or_refuse-requires-clause-up : goal.put_or_refuse-requires-clause-up
@@ -135,7 +154,8 @@ returns-clause-does g c =
     let plan : IsPlanned s.node s.durable.boot s.drawn c.args.now c.args.head.now c.args.id c.args.change c.args.self.now p =
     subst (λ (n : ℕ). IsPlanned s.node s.durable.boot n c.args.now c.args.head.now c.args.id c.args.change c.args.self.now p) last
     (subst (λ (n : ℕ). IsPlanned s.node n c.last_number.result c.args.now c.args.head.now c.args.id c.args.change c.args.self.now p) boot
-    (subst (λ (n : Node). IsPlanned n c.boot_number.result c.last_number.result c.args.now c.args.head.now c.args.id c.args.change c.args.self.now p) node c.in_ok-planned.ensures)) in
+    (subst (λ (n : Node). IsPlanned n c.boot_number.result c.last_number.result c.args.now c.args.head.now c.args.id c.args.change c.args.self.now p) node
+    (subst (λ (x : Change). IsPlanned c.node.result c.boot_number.result c.last_number.result c.args.now c.args.head.now c.args.id x c.args.self.now p) c.into_parts-change.ensures.change c.in_ok-planned.ensures))) in
     λ k there made.
     let mid = c.prepare.new.store in
     let node = c.requires.head.0 in
@@ -153,7 +173,8 @@ returns-clause-disk g c =
     let plan : IsPlanned s.node s.durable.boot s.drawn c.args.now c.args.head.now c.args.id c.args.change c.args.self.now p =
     subst (λ (n : ℕ). IsPlanned s.node s.durable.boot n c.args.now c.args.head.now c.args.id c.args.change c.args.self.now p) last
     (subst (λ (n : ℕ). IsPlanned s.node n c.last_number.result c.args.now c.args.head.now c.args.id c.args.change c.args.self.now p) boot
-    (subst (λ (n : Node). IsPlanned n c.boot_number.result c.last_number.result c.args.now c.args.head.now c.args.id c.args.change c.args.self.now p) node c.in_ok-planned.ensures)) in
+    (subst (λ (n : Node). IsPlanned n c.boot_number.result c.last_number.result c.args.now c.args.head.now c.args.id c.args.change c.args.self.now p) node
+    (subst (λ (x : Change). IsPlanned c.node.result c.boot_number.result c.last_number.result c.args.now c.args.head.now c.args.id x c.args.self.now p) c.into_parts-change.ensures.change c.in_ok-planned.ensures))) in
     λ k there made.
     let mid = c.prepare.new.store in
     let put = c.put_or_refuse.ensures in

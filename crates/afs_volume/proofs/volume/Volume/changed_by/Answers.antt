@@ -27,8 +27,8 @@ unique_left-requires c =
     subst (λ (es : List Edit). list_any makes_vnode (edits_seen es) ≡ true → w.head.unique < last_count) (sym c.as_slice-edits.ensures)
     (unique_low w.head.id (caller_seen c.args.caller.now) c.args.call.now (volume_of w) (edits_seen c.args.plan.now.edits) c.args.plan.now.shown c.requires.planned)
 
-pub overflow_add-result : goal.overflow_add-result
-overflow_add-result c =
+pub overflow_add-change : goal.overflow_add-change
+overflow_add-change c =
     let w = c.args.self.now in
     let low = counter_low w.head.id (caller_seen c.args.caller.now) c.args.call.now (volume_of w) (edits_seen c.args.plan.now.edits) c.args.plan.now.shown c.requires.planned in
     omega (arith, low)

@@ -1,7 +1,8 @@
-use Rattle.std.proofs.Common.{◌≡◌, ◌++◌, drop}
+use Rattle.std.proofs.Common.{◌≡◌, ◌++◌, drop, map}
 use Rattle.std.specs.List.{AllByRecursion}
 use Rattle.afs_volume.specs.Drawing.{all_freed, all_left, all_told, shown_by, CanBeDrawn, IsLeft}
 use Rattle.afs_volume.specs.Giving.{edits_seen, volume_of}
+use Rattle.afs_volume.specs.Listed.{listed_as}
 use Rattle.afs_volume.proofs.volume.Volume.draft.Given as goal
 
 abbrev pub invariant-loop-edit : goal.invariant-loop-edit
@@ -11,5 +12,6 @@ invariant-loop-edit l = record {
   vnodes : shown_by l.draft.vnodes ++ all_left (volume_of l.self) (edits_seen (drop l.edit-index l.edits)) ≡ all_left (volume_of l.self) (edits_seen l.edits);
   removed : l.draft.removed ++ all_freed (volume_of l.self) (edits_seen (drop l.edit-index l.edits)) ≡ all_freed (volume_of l.self) (edits_seen l.edits);
   images : AllByRecursion (IsLeft l.draft.time) l.draft.vnodes;
+  names : l.draft.names ≡ map listed_as l.draft.vnodes;
   fit : AllByRecursion (CanBeDrawn (volume_of l.self)) (edits_seen (drop l.edit-index l.edits));
 }

@@ -1,9 +1,10 @@
-use Rattle.std.proofs.Common.{◌≡◌, Some, refl, sym, ◌∙◌}
+use Rattle.std.proofs.Common.{◌≡◌, Some, map, refl, sym, ap, ◌∙◌}
 use Rattle.afs_records.specs.Changes.{stored_between}
 use Rattle.afs_volume.specs.Filled.{at_once}
 use Rattle.afs_volume.specs.Giving.{edits_seen, volume_of}
+use Rattle.afs_volume.specs.Listed.{listed_as}
 use Rattle.afs_volume.specs.Taking.{stored_of}
-use Rattle.afs_volume.proofs.AtFirst.{each_fits, each_readable, laid_now, laid_volume}
+use Rattle.afs_volume.proofs.AtFirst.{each_fits, each_readable, laid_now, laid_volume, listed_first}
 use Rattle.afs_volume.proofs.AtSetUp.{laid_at_set_up}
 use Rattle.afs_volume.proofs.Changed.{next_low}
 use Rattle.afs_volume.proofs.volume.Volume.lay_edits.Goals as goal
@@ -25,6 +26,9 @@ take-requires-clause-read c = rw c.in_ok-vnodes.ensures (each_readable c.in_ok-d
 
 pub take-requires-clause-fits : goal.take-requires-clause-fits
 take-requires-clause-fits c = rw c.in_ok-vnodes.ensures (each_fits c.in_ok-draft.draft.vnodes c.in_ok-draft.ensures.images)
+
+pub take-requires-clause-names : goal.take-requires-clause-names
+take-requires-clause-names c = c.into_vec.ensures ∙ (c.in_ok-draft.ensures.names ∙ (sym (listed_first c.in_ok-draft.draft.vnodes) ∙ ap (map listed_as) (sym c.in_ok-vnodes.ensures)))
 
 kept : (c : goal.After-drop-draft-2) → Some (stored_between 0 (edits_seen c.args.edits.now) (at_once c.args.self.now.head.id (edits_seen c.args.edits.now) (volume_of c.args.self.now)) (stored_of c.args.self.now)) ≡ Some (stored_of c.take.new.self)
 kept c =

@@ -5,7 +5,7 @@ use Rattle.afs_ideal.proofs.Directories.{added_is_directory}
 use Rattle.afs_ideal.proofs.DirectoryBytes.{read_is_spelled}
 use Rattle.afs_dir.proofs.Fits.{read_with, stands_short}
 use Rattle.afs_dir.proofs.Lengths.{names_fit}
-use Rattle.afs_dir.proofs.dir.Dir.bytes_with.Goals as goal
+use Rattle.afs_dir.proofs.listing.Listing.bytes_with.Goals as goal
 
 pub spelled_with-requires-clause-spelled : goal.spelled_with-requires-clause-spelled
 spelled_with-requires-clause-spelled c =

@@ -4,7 +4,7 @@ use Rattle.afs_ideal.proofs.Directories.{removed_is_directory}
 use Rattle.afs_ideal.proofs.DirectoryBytes.{read_is_spelled}
 use Rattle.afs_dir.proofs.Fits.{read_without}
 use Rattle.afs_dir.proofs.Lengths.{names_fit}
-use Rattle.afs_dir.proofs.dir.Dir.bytes_without.Goals as goal
+use Rattle.afs_dir.proofs.listing.Listing.bytes_without.Goals as goal
 
 pub spelled_without-requires-clause-spelled : goal.spelled_without-requires-clause-spelled
 spelled_without-requires-clause-spelled c =
