@@ -176,6 +176,13 @@ among_more name (suc n) bytes =
     ap (λ (t : Bool). bytes_eq (name_of_line bytes) name || t) (among_more name n (behind_line bytes))
     ∙ or_joined (bytes_eq (name_of_line bytes) name) (is_among name n (behind_line bytes)) (bytes_eq (name_of_line (behind_lines n (behind_line bytes))) name)
 
+-- a line that has another name is passed over
+pub among_later : (name : List ℕ) (count n : ℕ) (lines : List ℕ) (among : Bool) → n < count → bytes_eq (name_of_line lines) name ≡ false →
+    is_among name (count - n) lines ≡ among → is_among name (count - (n + 1)) (behind_line lines) ≡ among
+among_later name count n lines among lt unlike told =
+    sym (ap (λ (t : Bool). t || is_among name (count - (n + 1)) (behind_line lines)) unlike)
+    ∙ (sym (ap (λ (k : ℕ). is_among name k lines) (let z : count - n ≡ suc (count - (n + 1)) = omega (arith, lt) in z)) ∙ told)
+
 named_more : (name : List ℕ) (others : List AclEntry) (e : AclEntry) → is_named name (others ++ e ∷ []) ≡ (is_named name others || bytes_eq e.name name)
 named_more name others e = list_any-append (λ (x : AclEntry). bytes_eq x.name name) others (e ∷ []) ∙ ap (λ (t : Bool). is_named name others || t) (or_false (bytes_eq e.name name))
 
