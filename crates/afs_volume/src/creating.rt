@@ -76,7 +76,7 @@ impl Volume {
         let d = self.found(fid)?;
         check(is_directory(d), 20)?;
         check(self.is_writable(), 30)?;
-        check(self.may(caller, 4, d)?, 13)?;
+        check(self.may(caller, 4, d), 13)?;
         self.creates(
             fid,
             d,
@@ -102,7 +102,7 @@ impl Volume {
         let d = self.found(fid)?;
         check(is_directory(d), 20)?;
         check(self.is_writable(), 30)?;
-        check(self.may(caller, 4, d)?, 13)?;
+        check(self.may(caller, 4, d), 13)?;
         let made = new_link(self.alloc, fid, target)?;
         self.creates(fid, d, name.as_slice(), status, None, made)
     }
@@ -120,7 +120,7 @@ impl Volume {
         let d = self.found(fid)?;
         check(is_directory(d), 20)?;
         check(self.is_writable(), 30)?;
-        check(self.may(caller, 4, d)?, 13)?;
+        check(self.may(caller, 4, d), 13)?;
         let made = new_directory(self.alloc, fid, list_of(d))?;
         self.creates(fid, d, name.as_slice(), status, Some(links_of(d) + 1), made)
     }
@@ -141,7 +141,7 @@ impl Volume {
         check(!is_here || x.is_some(), 102)?;
         check(is_directory(d), 20)?;
         check(self.is_writable(), 30)?;
-        check(self.may(caller, 4, d)?, 13)?;
+        check(self.may(caller, 4, d), 13)?;
         let good = is_here && may_link(fid, x);
         let names = spelled_with(
             self.names(fid.vnode, d),

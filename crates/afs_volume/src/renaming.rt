@@ -170,7 +170,7 @@ impl Volume {
         let x = self.found(d)?;
         check(is_directory(x), 20)?;
         check(self.is_writable(), 30)?;
-        check(self.may(caller, 16, x)?, 13)?;
+        check(self.may(caller, 16, x), 13)?;
         Err(OpFault::Code(Code(22)))
     }
 
@@ -190,9 +190,9 @@ impl Volume {
         requires names { others.now ≡ (seen y.now).names }
         ensures { IfOk result (λ b. b ≡ rename_rights (caller_seen caller.now) d.now e.now new.now (volume_of self.now)) }
     {
-        let takes = self.may(caller, 16, x)?;
-        let puts = self.may(caller, 4, y)?;
-        let may_replace = self.may(caller, 16, y)?;
+        let takes = self.may(caller, 16, x);
+        let puts = self.may(caller, 4, y);
+        let may_replace = self.may(caller, 16, y);
         Ok(takes && puts && (!has_name(others, new) || may_replace))
     }
 
