@@ -1,4 +1,5 @@
 mod Attached
+mod Beside
 mod Changed
 mod Created
 mod Folding

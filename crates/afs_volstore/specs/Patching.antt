@@ -52,6 +52,16 @@ others_named touched names = flat_map (other_named touched) names
 abbrev pub same_others : List ℕ → List Name → List Name → Bool
 same_others touched xs ys = bytes_eq (others_named touched xs) (others_named touched ys)
 
+-- the first of these names, where there is one, names what isn't touched
+abbrev pub BeginsWithOther : List ℕ → List Name → Type 0
+BeginsWithOther touched [] = Unit {0}
+BeginsWithOther touched (x ∷ xs) = is_among x.vnode touched ≡ false
+
+-- what follows the first of others, where that names the same vnode
+abbrev pub behind_same : Name → List Name → Option (List Name)
+behind_same x [] = None
+behind_same x (y ∷ ys) = if nat_eq x.vnode y.vnode && nat_eq x.unique y.unique then Some ys else None
+
 -- a vnode stays where it is, as far as a directory that isn't touched can tell
 abbrev pub keeps_place : List ℕ → Vnode → Vnode → Bool
 keeps_place touched x y = nat_eq x.unique y.unique && (is_among x.parent touched || (nat_eq x.parent y.parent && nat_eq x.parent_unique y.parent_unique))
