@@ -1,5 +1,4 @@
 mod Attached
-mod Beside
 mod Changed
 mod Created
 mod Folding

@@ -13,7 +13,7 @@ ghost use Rattle.afs_records.specs.Sound.{gives_one, is_named_in, is_root};
 ghost use Rattle.afs_volume.specs.Seen.{seen, IsReadable};
 ghost use Rattle.afs_volume.specs.Taking.{is_among, CanTakeIn};
 ghost use Rattle.afs_volstore.specs.Changing.{is_in};
-ghost use Rattle.afs_volstore.specs.Patching.{after, before, behind_same, image_left, is_right, is_unmoved, keeps_place, may_stand, new_among, others_named, passes, passes_by, reaches, same_others, same_parent, table_left, AreTouched, BeginsWithOther, IsPatch, StaysNamed};
+ghost use Rattle.afs_volstore.specs.Patching.{after, before, behind_same, gives_touched, image_left, is_right, is_unmoved, keeps_place, may_stand, new_among, others_named, passes, passes_by, reaches, same_others, same_parent, table_left, AreTouched, BeginsWithOther, IsPatch, KeepsOthers, StaysNamed};
 
 use crate::standing::{
     gives_held, has_links, has_names, is_directory, is_root, kind_is_right, names_of,
@@ -265,6 +265,37 @@ impl<'a> Patch<'a> {
         names.iter().all(|name| self.gives_one(number, d, name))
     }
 
+    /// A name of what is touched gives a vnode that the directory holds.
+    fn gives_where_touched(&self, number: u32, d: &Vnode, name: &Name) -> bool
+        ensures { result ≡ gives_touched self.now.touched.now (after self.now.volume.now self.now.change.now) number (seen d.now).unique name.now }
+    {
+        !self.is_touched(name.vnode) || self.gives_one(number, d, name)
+    }
+
+    /// Every name of what is touched gives a vnode that the directory holds.
+    fn gives_all_touched(&self, number: u32, d: &Vnode, names: &[Name]) -> bool
+        ensures { result ≡ list_all (gives_touched self.now.touched.now (after self.now.volume.now self.now.change.now) number (seen d.now).unique) names.now }
+    {
+        names
+            .iter()
+            .all(|name| self.gives_where_touched(number, d, name))
+    }
+
+    /// Every name of a directory gives a vnode that it holds. Where others are named as before, names of what is touched
+    /// alone are looked up.
+    fn gives_still(&self, number: u32, x: Option<&Vnode>, d: &Vnode, names: &[Name]) -> bool
+        requires touched { AreTouched self.now.touched.now self.now.change.now }
+        requires there { option_map seen (option_copied x) ≡ get number (before self.now.volume.now).vnodes }
+        requires kept { KeepsOthers self.now.touched.now (option_map seen (option_copied x)) (seen d.now) }
+        requires names { names.now ≡ (seen d.now).names }
+        ensures { result ≡ true → list_all (gives_one (after self.now.volume.now self.now.change.now) number (seen d.now).unique) names.now ≡ true }
+    {
+        match x {
+            Some(_) => self.gives_all_touched(number, d, names),
+            None => self.gives_all(number, d, names),
+        }
+    }
+
     /// A vnode has its names in its directory.
     #[tactic(auto, unfolding(afs_volume::specs::Seen::seen))]
     fn is_named(&self, number: u32, y: &Vnode) -> bool
@@ -317,6 +348,7 @@ impl<'a> Patch<'a> {
     fn is_right(&self, number: u32, x: Option<&Vnode>, y: &Vnode) -> bool
         requires touched { AreTouched self.now.touched.now self.now.change.now }
         requires there { option_map seen (option_copied x) ≡ get number (before self.now.volume.now).vnodes }
+        requires kept { KeepsOthers self.now.touched.now (option_map seen (option_copied x)) (seen y.now) }
         requires left { get number (table_left self.now.volume.now self.now.change.now) ≡ Some y.now }
         ensures { result ≡ true → is_right (after self.now.volume.now self.now.change.now) number (seen y.now) ≡ true }
     {
@@ -324,7 +356,7 @@ impl<'a> Patch<'a> {
         kind_is_right(number, y)
             && y.unique < self.change.unique
             && has_links(y, names)
-            && self.gives_all(number, y, names)
+            && self.gives_still(number, x, y, names)
             && self.is_placed(number, x, y)
     }
 
@@ -345,10 +377,9 @@ impl<'a> Patch<'a> {
         requires left { get number (table_left self.now.volume.now self.now.change.now) ≡ Some y.now }
         ensures { result ≡ true → passes_by self.now.touched.now (before self.now.volume.now) (after self.now.volume.now self.now.change.now) number (Some (seen x.now)) (Some (seen y.now)) ≡ true }
     {
-        let right = self.is_right(number, Some(x), y);
-        right
-            && self.keeps_place(x, y)
+        self.keeps_place(x, y)
             && self.keeps_names(number, x, y)
+            && self.is_right(number, Some(x), y)
             && self.may_stand(number, x, y)
     }
 
