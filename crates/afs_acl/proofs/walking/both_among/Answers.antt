@@ -1,4 +1,4 @@
-use Rattle.std.proofs.Common.{◌≡◌, sym, ◌∙◌}
+use Rattle.std.proofs.Common.{sym, ◌∙◌}
 use Rattle.afs_acl.specs.Walks.{entry_seen}
 use Rattle.afs_acl.proofs.Walked.{walk_goes_on, walk_meets_again, walk_stops}
 use Rattle.afs_acl.proofs.walking.both_among.Goals as goal

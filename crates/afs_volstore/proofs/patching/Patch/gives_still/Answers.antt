@@ -1,6 +1,5 @@
-use Rattle.std.proofs.Common.{List, ℕ, ap, sym, ◌∙◌}
+use Rattle.std.proofs.Common.{ap, sym, ◌∙◌}
 use Rattle.std.specs.List.{list_all}
-use Rattle.afs_num.specs.declared.directories.Name.{Name}
 use Rattle.afs_records.specs.Sound.{gives_one}
 use Rattle.afs_volume.specs.Seen.{seen}
 use Rattle.afs_volstore.specs.Patching.{after, gives_touched}
