@@ -485,13 +485,6 @@ impl<'a> Patch<'a> {
     }
 }
 
-/// Both name the same.
-fn is_same(name: &Name, other: &Name) -> bool {
-    name.vnode == other.vnode
-        && name.unique == other.unique
-        && name.name.as_slice() == other.name.as_slice()
-}
-
 /// The vnodes that these names name.
 fn add_all(touched: &mut Vec<u32>, names: &[Name]) -> Mem<()> {
     for name in names {
@@ -515,7 +508,7 @@ fn add_up_to<'a>(touched: &mut Vec<u32>, names: &'a [Name], name: &Name) -> Mem<
     let (below, above) = names.split_at(count_below(names, name));
     add_all(touched, below)?;
     match above.split_first() {
-        Some((other, rest)) if is_same(name, other) => Ok(rest),
+        Some((other, rest)) if is_of_same(name, other) => Ok(rest),
         _ => {
             touched.push(name.vnode)?;
             Ok(above)
@@ -523,13 +516,13 @@ fn add_up_to<'a>(touched: &mut Vec<u32>, names: &'a [Name], name: &Name) -> Mem<
     }
 }
 
-/// The vnodes that names name and others don't, or not the same, and those that others name and they don't. Both stand in
-/// byte order, so each is gone through once. What is missed here is found by the test.
+/// The vnodes that names name and others don't, and those that others name and they don't. Both stand in byte order, so each
+/// is gone through once. What is missed here is found by the test.
 fn add_renamed(touched: &mut Vec<u32>, names: &[Name], others: &[Name]) -> Mem<()> {
     let mut left = others;
     for name in names {
         left = match left.split_first() {
-            Some((other, rest)) if is_same(name, other) => rest,
+            Some((other, rest)) if is_of_same(name, other) => rest,
             _ => add_up_to(touched, left, name)?,
         };
     }
