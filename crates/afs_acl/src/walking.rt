@@ -25,15 +25,12 @@ struct Line<'a> {
     rights: u32,
 }
 
-/// The name of everyone.
-const ANYUSER: &[u8] = b"system:anyuser";
-
-/// Whether the entry speaks of everyone. A prefix whose length is known takes a tenth of what a comparison does.
+/// Whether the entry speaks of everyone.
 #[tactic(auto, using(crate::proofs::Matching::twice))]
 fn is_of_everyone(line: &Line<'_>) -> bool
     ensures { result ≡ matches anyuser (entry_seen line.now) }
 {
-    line.name.len() == ANYUSER.len() && line.name.starts_with(ANYUSER)
+    line.name == b"system:anyuser".as_slice()
 }
 
 /// Whether the entry speaks of the user, where it is known whether it speaks of everyone.
