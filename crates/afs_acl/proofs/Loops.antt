@@ -5,7 +5,7 @@ use Rattle.afs_shape.specs.Reading.{◌>>=◌}
 use Rattle.afs_ideal.specs.AccessLists.{Refusal, entry_at, entries_at}
 
 -- at least one is left to read
-one_left : (count counter : ℕ) (others : List AclEntry) (bytes : List ℕ) → counter < count → entries_at (count - counter) others bytes ≡ (entry_at others bytes >>= (λ e. entries_at (count - (counter + 1)) (others ++ e.0 ∷ []) e.1))
+pub one_left : (count counter : ℕ) (others : List AclEntry) (bytes : List ℕ) → counter < count → entries_at (count - counter) others bytes ≡ (entry_at others bytes >>= (λ e. entries_at (count - (counter + 1)) (others ++ e.0 ∷ []) e.1))
 one_left count counter others bytes lt = ap (λ (n : ℕ). entries_at n others bytes) (let z : count - counter ≡ suc (count - (counter + 1)) = omega (arith, lt) in z)
 
 pub goes_on : (count counter : ℕ) (others : List AclEntry) (bytes after : List ℕ) (e : AclEntry) (all : Result (List AclEntry × List ℕ) Refusal) →

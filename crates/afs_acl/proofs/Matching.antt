@@ -1,5 +1,5 @@
 -- Of which users an entry speaks.
-use Rattle.std.proofs.Common.{◌≡◌, ℕ, ◌||◌, Bool, true, false, List, refl, ap, sym, ◌∙◌}
+use Rattle.std.proofs.Common.{◌≡◌, ℕ, ◌||◌, Bool, true, false, List, refl, ap, ◌∙◌}
 use Rattle.std.specs.Str.{bytes_eq}
 use Rattle.afs_num.specs.declared.acls.AclEntry.{AclEntry}
 use Rattle.afs_ideal.specs.AccessLists.{anyuser, matches}

@@ -7,6 +7,13 @@ use Rattle.afs_acl.specs.declared.stops.Stop.TheVariants as stops
 use Rattle.afs_acl.specs.declared.faults.AclFault.{AclFault}
 use Rattle.afs_acl.specs.declared.faults.AclFault.TheVariants as faults
 
+-- the result, seen by view, is what was read, by a call that takes no memory
+abbrev pub Reads : {X Y : Type 0} → (X → Y) → Result Y Refusal → Result X Stop → Type 0
+Reads view read (Ok x) = read ≡ Ok (view x)
+Reads view read (Err (stops.BadFrom bytes)) = read ≡ Err (bad_from bytes.now)
+Reads view read (Err (stops.TooMany n)) = read ≡ Err (too_many n)
+Reads view read (Err stops.OutOfMemory) = ⊥
+
 -- the result, seen by view, is what was read, unless memory ran out
 abbrev pub Gives : {X Y : Type 0} → (X → Y) → Result Y Refusal → Result X Stop → Type 0
 Gives view read (Ok x) = read ≡ Ok (view x)

@@ -1,6 +1,6 @@
 ghost use Rattle.std.specs.Prelude.{◌≡◌, ◌++◌, IfOk, OnOk, Ok};
 ghost use Rattle.std.specs.List.{flat_map};
-ghost use Rattle.afs_ideal.specs.AccessLists.{acl_at, acl_text, anyuser, entry_text, number_line, matches, matching_rights, rights_of, without_rights};
+ghost use Rattle.afs_ideal.specs.AccessLists.{acl_at, acl_text, entry_text, number_line, matches, matching_rights, rights_of, without_rights};
 ghost use Rattle.afs_acl.specs.Reading.{Gives, GivesAcl};
 
 use crate::faults::AclFault;
@@ -63,20 +63,6 @@ impl Acl {
         let negative = matching_rights(self.list.negative.as_slice(), user);
         without_rights(positive, negative)
     }
-
-    /// The rights that a user has by the list, and those that everyone has. The list is gone through once. It takes no memory.
-    #[tactic(auto, unfolding(afs_ideal::specs::AccessLists::rights_of))]
-    pub fn rights_with_everyones(&self, user: &[u8]) -> (u32, u32)
-        ensures user { result.0 ≡ rights_of user.now self.now }
-        ensures everyone { result.1 ≡ rights_of anyuser self.now }
-    {
-        let positive = both_rights(self.list.positive.as_slice(), user);
-        let negative = both_rights(self.list.negative.as_slice(), user);
-        (
-            without_rights(positive.0, negative.0),
-            without_rights(positive.1, negative.1),
-        )
-    }
 }
 
 /// The access list that stands in a text.
@@ -114,44 +100,8 @@ fn matching_rights(entries: &[AclEntry], user: &[u8]) -> u32
     rights
 }
 
-/// Whether an entry speaks of everyone.
-#[tactic(auto, using(crate::proofs::Matching::twice))]
-fn is_of_everyone(entry: &AclEntry) -> bool
-    ensures { result ≡ matches anyuser entry.now }
-{
-    entry.name.as_slice() == b"system:anyuser".as_slice()
-}
-
-/// Whether an entry speaks of the user, where it is known whether it speaks of everyone.
-#[tactic(auto, using(crate::proofs::Matching::either_way))]
-fn matches_too(entry: &AclEntry, user: &[u8], everyone: bool) -> bool
-    requires { everyone ≡ matches anyuser entry.now }
-    ensures { result ≡ matches user.now entry.now }
-{
-    everyone || entry.name.as_slice() == user
-}
-
-/// The rights of the entries that speak of the user, and those of the entries that speak of everyone.
-fn both_rights(entries: &[AclEntry], user: &[u8]) -> (u32, u32)
-    ensures user { result.0 ≡ matching_rights user.now 0 entries.now }
-    ensures everyone { result.1 ≡ matching_rights anyuser 0 entries.now }
-{
-    let mut rights = 0;
-    let mut of_everyone = 0;
-    for entry in entries {
-        let everyone = is_of_everyone(entry);
-        if everyone {
-            of_everyone |= entry.rights;
-        }
-        if matches_too(entry, user, everyone) {
-            rights |= entry.rights;
-        }
-    }
-    (rights, of_everyone)
-}
-
 /// The rights that are none of the others.
-fn without_rights(rights: u32, others: u32) -> u32
+pub fn without_rights(rights: u32, others: u32) -> u32
     ensures { result ≡ without_rights rights others }
 {
     rights & !others

@@ -6,3 +6,4 @@ pub mod faults;
 pub mod laws;
 mod reading;
 mod stops;
+pub mod walking;

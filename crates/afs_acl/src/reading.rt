@@ -3,7 +3,7 @@
 ghost use Rattle.std.specs.Prelude.{◌≡◌, ◌≤◌, ◌+◌, ◌-◌, ◌*◌, [], length, Some, None, if◌then◌else◌};
 ghost use Rattle.std.specs.List.{prefix_len};
 ghost use Rattle.afs_ideal.specs.AccessLists.{goes_on, digits_at, line_number_at, count_at, is_acl_byte, is_named, name_length, named_at, name_at, entry_at, entries_at, must_be_few, must_end};
-ghost use Rattle.afs_acl.specs.Reading.{Gives};
+ghost use Rattle.afs_acl.specs.Reading.{Gives, Reads};
 
 use crate::stops::Stop;
 use afs_num::acls::{AclEntries, AclEntry};
@@ -27,7 +27,7 @@ fn appended(most: u32, n: u32, digit: u8) -> Option<u32>
 
 /// The number with the digits behind it, up to a newline, and what follows.
 fn digits(bytes: &[u8], most: u32, first: u32) -> Result<(u32, &[u8]), Stop<'_>>
-    ensures { Gives (λ r. (r.0, r.1.now)) (digits_at most first bytes.now) result }
+    ensures { Reads (λ r. (r.0, r.1.now)) (digits_at most first bytes.now) result }
 {
     let mut n = first;
     let mut rest = bytes;
@@ -46,8 +46,8 @@ fn digits(bytes: &[u8], most: u32, first: u32) -> Result<(u32, &[u8]), Stop<'_>>
 
 /// The number on the line that stands first, and what follows it.
 #[tactic(auto, unfolding(afs_ideal::specs::AccessLists::line_number_at))]
-fn line_number(bytes: &[u8], most: u32) -> Result<(u32, &[u8]), Stop<'_>>
-    ensures { Gives (λ r. (r.0, r.1.now)) (line_number_at most bytes.now) result }
+pub fn line_number(bytes: &[u8], most: u32) -> Result<(u32, &[u8]), Stop<'_>>
+    ensures { Reads (λ r. (r.0, r.1.now)) (line_number_at most bytes.now) result }
 {
     match bytes.split_first() {
         Some((digit, rest)) if digit.is_ascii_digit() => {
@@ -60,7 +60,7 @@ fn line_number(bytes: &[u8], most: u32) -> Result<(u32, &[u8]), Stop<'_>>
 /// A count of entries.
 #[tactic(auto, unfolding(afs_ideal::specs::AccessLists::count_at))]
 pub fn count(bytes: &[u8]) -> Result<(u32, &[u8]), Stop<'_>>
-    ensures { Gives (λ r. (r.0, r.1.now)) (count_at bytes.now) result }
+    ensures { Reads (λ r. (r.0, r.1.now)) (count_at bytes.now) result }
 {
     line_number(bytes, u32::MAX)
 }
@@ -80,7 +80,7 @@ fn line_length(bytes: &[u8]) -> usize
 }
 
 /// How many bytes may be a name's.
-fn name_length(bytes: &[u8]) -> usize
+pub fn name_length(bytes: &[u8]) -> usize
     ensures value { result ≡ name_length bytes.now }
     ensures bound { result ≤ length bytes.now }
 {
@@ -102,7 +102,7 @@ fn named<'a>(
     name: &'a [u8],
     bytes: &'a [u8],
 ) -> Result<(&'a [u8], &'a [u8]), Stop<'a>>
-    ensures { Gives (λ r. (r.0.now, r.1.now)) (named_at others.now name.entry.now bytes.entry.now) result }
+    ensures { Reads (λ r. (r.0.now, r.1.now)) (named_at others.now name.entry.now bytes.entry.now) result }
 {
     match bytes.split_first() {
         Some((b'\t', rest)) if !name.is_empty() && !is_named(others, name) => Ok((name, rest)),
@@ -112,8 +112,8 @@ fn named<'a>(
 
 /// A name that none of the others has, and what follows its tab.
 #[tactic(auto, unfolding(afs_ideal::specs::AccessLists::name_at))]
-fn name<'a>(others: &[AclEntry], bytes: &'a [u8]) -> Result<(&'a [u8], &'a [u8]), Stop<'a>>
-    ensures { Gives (λ r. (r.0.now, r.1.now)) (name_at others.now bytes.entry.now) result }
+pub fn name<'a>(others: &[AclEntry], bytes: &'a [u8]) -> Result<(&'a [u8], &'a [u8]), Stop<'a>>
+    ensures { Reads (λ r. (r.0.now, r.1.now)) (name_at others.now bytes.entry.now) result }
 {
     let (name, rest) = bytes.split_at(name_length(bytes));
     named(others, name, rest)
@@ -155,7 +155,7 @@ pub fn entries<'a>(
 
 /// Few enough entries, by the sum of their counts.
 pub fn must_be_few<'a>(count: u64) -> Result<(), Stop<'a>>
-    ensures { Gives (λ u. u) (must_be_few count) result }
+    ensures { Reads (λ u. u) (must_be_few count) result }
 {
     if count <= 20 {
         Ok(())
@@ -166,7 +166,7 @@ pub fn must_be_few<'a>(count: u64) -> Result<(), Stop<'a>>
 
 /// Nothing is left.
 pub fn must_end(bytes: &[u8]) -> Result<(), Stop<'_>>
-    ensures { Gives (λ u. u) (must_end bytes.now) result }
+    ensures { Reads (λ u. u) (must_end bytes.now) result }
 {
     if bytes.is_empty() {
         Ok(())

@@ -1,5 +1,6 @@
 use afs_acl::acl::Acl;
 use afs_acl::faults::AclFault;
+use afs_acl::walking::rights_spelled;
 use afs_num::sequences::Octets;
 use std::alloc::Global;
 use std::test::Fail;
@@ -47,6 +48,15 @@ fn negative_entries_take_rights(rt: HostRuntime) -> Result<(), Fail> {
         assert_eq!(rt; rights(rt.alloc(), text, user)?, want);
     }
     Ok(())
+}
+
+#[test]
+fn rights_are_found_in_the_text_itself(rt: HostRuntime) {
+    let text = b"3\n2\nsystem:anyuser\t9\nalice\t22\nbob\t64\nalice\t2\nsystem:anyuser\t1\n";
+    assert_eq!(rt; rights_spelled(text, b"alice"), Some((28, 8)));
+    assert_eq!(rt; rights_spelled(text, b"bob"), Some((72, 8)));
+    assert_eq!(rt; rights_spelled(b"1\n1\na\t8\na\t1\n", b"a"), Some((8, 0)));
+    assert_eq!(rt; rights_spelled(b"2\n0\na\t8\na\t1\n", b"a"), None);
 }
 
 #[test]

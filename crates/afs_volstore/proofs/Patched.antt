@@ -1,5 +1,5 @@
 -- A change leaves a sound volume sound where the vnodes that it touches pass the test.
-use Rattle.std.proofs.Common.{length, zero, ◌≡◌, ℕ, suc, ◌+◌, ◌%◌, ◌<◌, ◌≤◌, Bool, true, false, cond, eqb, not, List, [], ◌∷◌, ◌++◌, Option, Some, None, nat_eq, nat_lt, if◌then◌else◌, refl, sym, ap, subst, ◌∙◌, arith, eq-eqb, eqb-true, lt-ltb, ltb-true, le-ltb}
+use Rattle.std.proofs.Common.{zero, ◌≡◌, ℕ, suc, ◌+◌, ◌%◌, ◌<◌, ◌≤◌, Bool, true, false, cond, eqb, not, List, [], ◌∷◌, ◌++◌, Option, Some, None, nat_eq, nat_lt, if◌then◌else◌, refl, sym, ap, subst, ◌∙◌, arith, eq-eqb, eqb-true, lt-ltb, ltb-true, le-ltb}
 use Rattle.std.specs.Prelude.{◌&&◌, ◌||◌}
 use Rattle.std.specs.List.{list_all}
 use Rattle.std.proofs.lemmas.Bool.Decides.{nat_tests}
@@ -14,9 +14,9 @@ use Rattle.afs_ideal.proofs.Counts.{count_more, one_if}
 use Rattle.afs_ideal.proofs.Directories.{same_is}
 use Rattle.afs_ideal.proofs.Ranks.{Ranked, at, steps, reaching_ranked, HasParents, ranked_reaching}
 use Rattle.afs_ideal.proofs.Tables.{get_below}
-use Rattle.afs_records.specs.Sound.{ascends_from, gives_held, gives_one, has_by_kind, has_names, is_named_in, is_root, is_sound, is_sound_vnode, kind_is_right, same_test}
+use Rattle.afs_records.specs.Sound.{ascends_from, gives_held, gives_one, has_by_kind, has_names, is_held_by, is_named_in, is_root, is_sound, is_sound_vnode, kind_is_right, same_test}
 use Rattle.afs_volume.specs.Taking.{is_among}
-use Rattle.afs_volstore.specs.Patching.{is_right, is_unmoved, keeps_place, others_named, passes, passes_by, reaches, same_others, same_parent, KeepsNames}
+use Rattle.afs_volstore.specs.Patching.{gives_touched, is_right, is_unmoved, keeps_place, others_named, passes, passes_by, reaches, same_others, same_parent, KeepsNames}
 
 -- ---- names of others are counted as before
 
@@ -149,6 +149,64 @@ named_as_before n x y v sound there below keeps =
     let right = (vnode_so v n x (passes_at (is_sound_vnode v) v.vnodes n x second.1 there)).0 in
     let named : is_named_in (get x.parent v.vnodes) n x ≡ true = other_or (nat_eq n 1) (is_named_in (get x.parent v.vnodes) n x) below right.named in
     ap (λ (p : ℕ). is_named_in (get p v.vnodes) n y) (sym keeps.parent) ∙ same_named (get x.parent v.vnodes) n x y keeps named
+
+-- ---- names of what isn't touched give what they gave
+
+-- a directory holds the vnode of a number and a unique number
+abbrev gives_numbers : ℕ → ℕ → ℕ → ℕ → Option Vnode → Bool
+gives_numbers d unique n u None = false
+gives_numbers d unique n u (Some x) = not (nat_eq n 1) && (nat_eq x.unique u && is_held_by d unique x)
+
+gives_by_numbers : (d unique : ℕ) (m : Name) (o : Option Vnode) → gives_held d unique m.vnode o m ≡ gives_numbers d unique m.vnode m.unique o
+gives_by_numbers d unique m None = refl
+gives_by_numbers d unique m (Some x) = refl
+
+-- it holds all of these
+abbrev gives_each : Volume → ℕ → ℕ → Option ℕ → List ℕ → Bool
+gives_each w d unique o [] = true
+gives_each w d unique None (a ∷ rest) = gives_each w d unique (Some a) rest
+gives_each w d unique (Some a) (b ∷ rest) = gives_numbers d unique a b (get a w.vnodes) && gives_each w d unique None rest
+
+other_given : (b : Bool) (touched : List ℕ) (v w : Volume) (d unique : ℕ) (m : Name) (rest : List ℕ) → is_among m.vnode touched ≡ b → (is_among m.vnode touched ≡ false → get m.vnode w.vnodes ≡ get m.vnode v.vnodes) → gives_one v d unique m ≡ true →
+    gives_each w d unique None rest ≡ true → gives_each w d unique None ((if b then [] else m.vnode ∷ m.unique ∷ []) ++ rest) ≡ true
+other_given true touched v w d unique m rest is apart given more = more
+other_given false touched v w d unique m rest is apart given more =
+    both_true (gives_numbers d unique m.vnode m.unique (get m.vnode w.vnodes)) (gives_each w d unique None rest)
+    (sym (gives_by_numbers d unique m (get m.vnode w.vnodes)) ∙ (ap (λ (o : Option Vnode). gives_held d unique m.vnode o m) (apart is) ∙ given)) more
+
+others_given : (touched : List ℕ) (v w : Volume) (d unique : ℕ) (ms : List Name) → ((k : ℕ) → is_among k touched ≡ false → get k w.vnodes ≡ get k v.vnodes) → list_all (gives_one v d unique) ms ≡ true → gives_each w d unique None (others_named touched ms) ≡ true
+others_given touched v w d unique [] apart given = refl
+others_given touched v w d unique (m ∷ ms) apart given =
+    let two = both (gives_one v d unique m) (list_all (gives_one v d unique) ms) given in
+    other_given (is_among m.vnode touched) touched v w d unique m (others_named touched ms) refl (apart m.vnode) two.0 (others_given touched v w d unique ms apart two.1)
+
+all_given_by : (b : Bool) (w : Volume) (d unique : ℕ) (m : Name) (rest : List ℕ) → (not b || gives_one w d unique m) ≡ true → gives_each w d unique None ((if b then [] else m.vnode ∷ m.unique ∷ []) ++ rest) ≡ true →
+    (gives_one w d unique m ≡ true) × (gives_each w d unique None rest ≡ true)
+all_given_by true w d unique m rest tested others = (tested, others)
+all_given_by false w d unique m rest tested others =
+    let two = both (gives_numbers d unique m.vnode m.unique (get m.vnode w.vnodes)) (gives_each w d unique None rest) others in
+    (gives_by_numbers d unique m (get m.vnode w.vnodes) ∙ two.0, two.1)
+
+all_given : (touched : List ℕ) (w : Volume) (d unique : ℕ) (ms : List Name) → list_all (gives_touched touched w d unique) ms ≡ true → gives_each w d unique None (others_named touched ms) ≡ true → list_all (gives_one w d unique) ms ≡ true
+all_given touched w d unique [] tested others = refl
+all_given touched w d unique (m ∷ ms) tested others =
+    let two = both (gives_touched touched w d unique m) (list_all (gives_touched touched w d unique) ms) tested in
+    let one = all_given_by (is_among m.vnode touched) w d unique m (others_named touched ms) two.0 others in
+    both_true (gives_one w d unique m) (list_all (gives_one w d unique) ms) one.0 (all_given touched w d unique ms two.1 one.1)
+
+-- a directory of a sound volume whose other names stay gives what it names, if it gives what is touched
+pub gives_as_before : (touched : List ℕ) (v w : Volume) (n : ℕ) (x y : Vnode) → is_sound v ≡ true → get n v.vnodes ≡ Some x → ((k : ℕ) → is_among k touched ≡ false → get k w.vnodes ≡ get k v.vnodes) → x.unique ≡ y.unique →
+    same_others touched x.names y.names ≡ true → list_all (gives_touched touched w n y.unique) y.names ≡ true → list_all (gives_one w n y.unique) y.names ≡ true
+unfolding is_sound
+gives_as_before touched v w n x y sound there apart unique same tested =
+    let first = both (is_root (get 1 v.vnodes)) (ascends_from 1 v.vnodes && list_all (λ (p : ℕ × Vnode). is_sound_vnode v p.0 p.1) v.vnodes) sound in
+    let second = both (ascends_from 1 v.vnodes) (list_all (λ (p : ℕ × Vnode). is_sound_vnode v p.0 p.1) v.vnodes) first.1 in
+    let right = (vnode_so v n x (passes_at (is_sound_vnode v) v.vnodes n x second.1 there)).0 in
+    let given : list_all (gives_one v n y.unique) x.names ≡ true = ap (λ (u : ℕ). list_all (gives_one v n u) x.names) (sym unique) ∙ right.given in
+    let others : gives_each w n y.unique None (others_named touched y.names) ≡ true =
+    ap (gives_each w n y.unique None) (sym (same_is (others_named touched x.names) (others_named touched y.names) same)) ∙ others_given touched v w n y.unique x.names apart given
+    in
+    all_given touched w n y.unique y.names tested others
 
 -- ---- what is known of the two volumes
 

@@ -12,16 +12,16 @@ use Rattle.afs_ideal.specs.VnodeImage.{FitsImage}
 use Rattle.afs_ideal.specs.Volumes.{Vnode, Volume}
 use Rattle.afs_ideal.proofs.Basics.{both, yes_no}
 use Rattle.afs_ideal.proofs.Tables.{ascends_set, ascends_unset, get_set, get_unset}
-use Rattle.afs_records.specs.Sound.{is_named_in, is_sound}
+use Rattle.afs_records.specs.Sound.{gives_one, is_named_in, is_sound}
 use Rattle.afs_volume.specs.Seen.{all_seen, seen, IsReadable}
 use Rattle.afs_volume.specs.Taking.{is_among, put_but, without_all, CanTakeIn}
 use Rattle.afs_volume.specs.declared.volume.Volume as volumes
 use Rattle.afs_volume.proofs.Tables.{got}
 use Rattle.afs_volume.proofs.Taken.{put_each, removed_first}
 use Rattle.afs_volstore.specs.Changing.{is_in}
-use Rattle.afs_volstore.specs.Patching.{after, before, image_left, new_among, passes, table_left, AreTouched, IsPatch, StaysNamed}
+use Rattle.afs_volstore.specs.Patching.{after, before, gives_touched, image_left, new_among, passes, same_others, table_left, AreTouched, IsPatch, StaysNamed}
 use Rattle.afs_volstore.proofs.Changed.{changed_is, its_order, may_hold}
-use Rattle.afs_volstore.proofs.Patched.{named_as_before, still_sound}
+use Rattle.afs_volstore.proofs.Patched.{gives_as_before, named_as_before, still_sound}
 use Rattle.afs_volstore.proofs.Redone.{seen_up, set_length}
 
 -- ---- what is left under a number
@@ -93,6 +93,11 @@ pub named_by_others : (n : ℕ) (touched : List ℕ) (v : volumes.Volume) (c : C
 named_by_others n touched v c None y are is below named = absurd named
 named_by_others n touched v c (Some x) y are is below named =
     ap (λ (o : Option Vnode). is_named_in o n y) (stays y.parent touched v c are named.0) ∙ named_as_before n x y (before v) v.sound (sym is) below named.1
+
+-- a vnode that is there gives what it names, where it keeps its other names and gives what is touched
+pub gives_left : (n : ℕ) (touched : List ℕ) (v : volumes.Volume) (c : Change) (x y : Vnode) → AreTouched touched c → get n (before v).vnodes ≡ Some x → x.unique ≡ y.unique → same_others touched x.names y.names ≡ true
+    → list_all (gives_touched touched (after v c) n y.unique) y.names ≡ true → list_all (gives_one (after v c) n y.unique) y.names ≡ true
+gives_left n touched v c x y are there unique same tested = gives_as_before touched (before v) (after v c) n x y v.sound there (λ k out. stays k touched v c are out) unique same tested
 
 or_by : (n : ℕ) (b c : Bool) → nat_eq n 1 ≡ b → (nat_eq n 1 ≡ false → c ≡ true) → (b || c) ≡ true
 or_by n true c is f = refl

@@ -52,6 +52,20 @@ others_named touched names = flat_map (other_named touched) names
 abbrev pub same_others : List ℕ → List Name → List Name → Bool
 same_others touched xs ys = bytes_eq (others_named touched xs) (others_named touched ys)
 
+-- the first of these names, where there is one, names what isn't touched
+abbrev pub BeginsWithOther : List ℕ → List Name → Type 0
+BeginsWithOther touched [] = Unit {0}
+BeginsWithOther touched (x ∷ xs) = is_among x.vnode touched ≡ false
+
+-- what follows the first of others, where that names the same vnode
+abbrev pub behind_same : Name → List Name → Option (List Name)
+behind_same x [] = None
+behind_same x (y ∷ ys) = if nat_eq x.vnode y.vnode && nat_eq x.unique y.unique then Some ys else None
+
+-- a name of what is touched gives a vnode that the directory holds
+abbrev pub gives_touched : List ℕ → Volume → ℕ → ℕ → Name → Bool
+gives_touched touched w d unique name = not (is_among name.vnode touched) || gives_one w d unique name
+
 -- a vnode stays where it is, as far as a directory that isn't touched can tell
 abbrev pub keeps_place : List ℕ → Vnode → Vnode → Bool
 keeps_place touched x y = nat_eq x.unique y.unique && (is_among x.parent touched || (nat_eq x.parent y.parent && nat_eq x.parent_unique y.parent_unique))
@@ -83,6 +97,11 @@ pub record KeepsNames (x y : Vnode) : Type 0 where
 abbrev pub StaysNamed : List ℕ → Option Vnode → Vnode → Type 0
 StaysNamed touched None y = ⊥
 StaysNamed touched (Some x) y = (is_among y.parent touched ≡ false) × KeepsNames x y
+
+-- what is there, and keeps its names but for what is touched
+abbrev pub KeepsOthers : List ℕ → Option Vnode → Vnode → Type 0
+KeepsOthers touched None y = Unit {0}
+KeepsOthers touched (Some x) y = (x.unique ≡ y.unique) × (same_others touched x.names y.names ≡ true)
 
 -- one that goes, comes or stays
 abbrev pub passes_by : List ℕ → Volume → Volume → ℕ → Option Vnode → Option Vnode → Bool

@@ -1,7 +1,7 @@
 //! Changes that a volume can take in, found out by what they touch: in a time that is that of the change, and not that of
 //! the volume. A change that doesn't pass may still be one that the volume can take in.
 
-ghost use Rattle.std.specs.Prelude.{◌≡◌, ◌≤◌, ◌+◌, ◌++◌, ◌&&◌, ◌||◌, ◌<◌, ◌^◌, if◌then◌else◌, [], None, Some, true, nat_eq, length, IfOk, OnOk};
+ghost use Rattle.std.specs.Prelude.{◌≡◌, ◌≤◌, ◌+◌, ◌&&◌, ◌||◌, ◌<◌, ◌^◌, if◌then◌else◌, [], None, Some, true, nat_eq, length, IfOk};
 ghost use Rattle.std.specs.List.{list_all, AllByRecursion};
 ghost use Rattle.std.specs.Option.{option_copied, option_map};
 ghost use Rattle.afs_ideal.specs.Operations.{is_kind, leads_up};
@@ -13,7 +13,7 @@ ghost use Rattle.afs_records.specs.Sound.{gives_one, is_named_in, is_root};
 ghost use Rattle.afs_volume.specs.Seen.{seen, IsReadable};
 ghost use Rattle.afs_volume.specs.Taking.{is_among, CanTakeIn};
 ghost use Rattle.afs_volstore.specs.Changing.{is_in};
-ghost use Rattle.afs_volstore.specs.Patching.{after, before, image_left, is_right, is_unmoved, keeps_place, may_stand, new_among, other_named, others_named, passes, passes_by, reaches, same_others, same_parent, table_left, AreTouched, IsPatch, StaysNamed};
+ghost use Rattle.afs_volstore.specs.Patching.{after, before, behind_same, gives_touched, image_left, is_right, is_unmoved, keeps_place, may_stand, new_among, others_named, passes, passes_by, reaches, same_others, same_parent, table_left, AreTouched, BeginsWithOther, IsPatch, KeepsOthers, StaysNamed};
 
 use crate::standing::{
     gives_held, has_links, has_names, is_directory, is_root, kind_is_right, names_of,
@@ -35,7 +35,6 @@ const MOST_TOUCHED: usize = 64;
 /// whose names it changes.
 #[derive(Clone, Copy)]
 struct Patch<'a> {
-    alloc: Global,
     volume: &'a Volume,
     change: &'a Change,
     // The change with the names that it gives.
@@ -72,6 +71,54 @@ fn same_parent(x: Option<&Vnode>, y: Option<&Vnode>) -> bool
         (Some(x), Some(y)) => x.parent_vnode == y.parent_vnode,
         _ => false,
     }
+}
+
+/// Both names name the same vnode.
+fn is_of_same(name: &Name, other: &Name) -> bool
+    ensures { result ≡ (nat_eq name.now.vnode other.now.vnode && nat_eq name.now.unique other.now.unique) }
+{
+    name.vnode == other.vnode && name.unique == other.unique
+}
+
+/// The names from the first on whose vnode isn't touched.
+fn others_from<'b>(touched: &[u32], names: &'b [Name]) -> &'b [Name]
+    ensures same { others_named touched.now result.now ≡ others_named touched.now names.entry.now }
+    ensures first { BeginsWithOther touched.now result.now }
+{
+    let mut rest = names;
+    while let Some((name, behind)) = rest.split_first() {
+        if !is_among(name.vnode, touched) {
+            return rest;
+        }
+        rest = behind;
+    }
+    rest
+}
+
+/// What follows the first of these names, where that names the same vnode as this one.
+fn behind_same<'b>(name: &Name, others: &'b [Name]) -> Option<&'b [Name]>
+    ensures { option_copied result ≡ behind_same name.now others.entry.now }
+{
+    match others.split_first() {
+        Some((other, rest)) if is_of_same(name, other) => Some(rest),
+        _ => None,
+    }
+}
+
+/// Names and names name the same, but for what is touched. Both are gone through side by side.
+fn same_others(touched: &[u32], names: &[Name], others: &[Name]) -> bool
+    ensures { result ≡ same_others touched.now names.now others.now }
+{
+    let mut left = others;
+    for name in names {
+        if !is_among(name.vnode, touched) {
+            match behind_same(name, others_from(touched, left)) {
+                Some(rest) => left = rest,
+                None => return false,
+            }
+        }
+    }
+    others_from(touched, left).is_empty()
 }
 
 impl<'a> Patch<'a> {
@@ -120,55 +167,27 @@ impl<'a> Patch<'a> {
         is_among(number, self.touched)
     }
 
-    /// What a name names, where that isn't touched.
-    fn put_other(&self, out: &mut Vec<u32>, name: &Name) -> Mem<()>
-        ensures { OnOk result (out.new.items ≡ out.old.items ++ other_named self.now.touched.now name.now) }
-    {
-        if self.is_touched(name.vnode) {
-            return Ok(());
-        }
-        out.push(name.vnode)?;
-        out.push(name.unique)?;
-        Ok(())
-    }
-
-    /// What names name, but for what is touched.
-    fn others_named(&self, names: &[Name]) -> Mem<Vec<u32>>
-        ensures { IfOk result (λ out. out.items ≡ others_named self.now.touched.now names.now) }
-    {
-        let mut out = Vec::with_capacity(self.alloc, 2 * names.len())?;
-        for name in names {
-            self.put_other(&mut out, name)?;
-        }
-        Ok(out)
-    }
-
-    /// Names and names name the same, but for what is touched.
-    fn same_others(&self, names: &[Name], others: &[Name]) -> Mem<bool>
-        ensures { IfOk result (λ same. same ≡ same_others self.now.touched.now names.now others.now) }
-    {
-        let named = self.others_named(names)?;
-        let other = self.others_named(others)?;
-        Ok(named.as_slice() == other.as_slice())
-    }
-
     /// A vnode keeps its names, but for what is touched.
-    fn keeps_names(&self, number: u32, x: &Vnode, y: &Vnode) -> Mem<bool>
+    fn keeps_names(&self, number: u32, x: &Vnode, y: &Vnode) -> bool
         requires there { get number self.now.volume.now.vnodes.table ≡ Some x.now }
         requires left { get number (table_left self.now.volume.now self.now.change.now) ≡ Some y.now }
-        ensures { IfOk result (λ keeps. keeps ≡ same_others self.now.touched.now (seen x.now).names (seen y.now).names) }
+        ensures { result ≡ same_others self.now.touched.now (seen x.now).names (seen y.now).names }
     {
-        self.same_others(self.names_before(number, x), self.names_after(number, y))
+        same_others(
+            self.touched,
+            self.names_before(number, x),
+            self.names_after(number, y),
+        )
     }
 
     /// A vnode may go that only touched vnodes see.
     #[tactic(auto, unfolding(afs_volume::specs::Seen::seen))]
-    fn may_go(&self, number: u32, x: &Vnode) -> Mem<bool>
+    fn may_go(&self, number: u32, x: &Vnode) -> bool
         requires { get number self.now.volume.now.vnodes.table ≡ Some x.now }
-        ensures { IfOk result (λ may. may ≡ (is_among (seen x.now).parent self.now.touched.now && same_others self.now.touched.now (seen x.now).names [])) }
+        ensures { result ≡ (is_among (seen x.now).parent self.now.touched.now && same_others self.now.touched.now (seen x.now).names []) }
     {
         let names = self.names_before(number, x);
-        Ok(self.is_touched(x.parent_vnode) && self.same_others(names, &[])?)
+        self.is_touched(x.parent_vnode) && same_others(self.touched, names, &[])
     }
 
     /// A vnode stays where it is, as far as a directory that isn't touched can tell.
@@ -246,6 +265,37 @@ impl<'a> Patch<'a> {
         names.iter().all(|name| self.gives_one(number, d, name))
     }
 
+    /// A name of what is touched gives a vnode that the directory holds.
+    fn gives_where_touched(&self, number: u32, d: &Vnode, name: &Name) -> bool
+        ensures { result ≡ gives_touched self.now.touched.now (after self.now.volume.now self.now.change.now) number (seen d.now).unique name.now }
+    {
+        !self.is_touched(name.vnode) || self.gives_one(number, d, name)
+    }
+
+    /// Every name of what is touched gives a vnode that the directory holds.
+    fn gives_all_touched(&self, number: u32, d: &Vnode, names: &[Name]) -> bool
+        ensures { result ≡ list_all (gives_touched self.now.touched.now (after self.now.volume.now self.now.change.now) number (seen d.now).unique) names.now }
+    {
+        names
+            .iter()
+            .all(|name| self.gives_where_touched(number, d, name))
+    }
+
+    /// Every name of a directory gives a vnode that it holds. Where others are named as before, names of what is touched
+    /// alone are looked up.
+    fn gives_still(&self, number: u32, x: Option<&Vnode>, d: &Vnode, names: &[Name]) -> bool
+        requires touched { AreTouched self.now.touched.now self.now.change.now }
+        requires there { option_map seen (option_copied x) ≡ get number (before self.now.volume.now).vnodes }
+        requires kept { KeepsOthers self.now.touched.now (option_map seen (option_copied x)) (seen d.now) }
+        requires names { names.now ≡ (seen d.now).names }
+        ensures { result ≡ true → list_all (gives_one (after self.now.volume.now self.now.change.now) number (seen d.now).unique) names.now ≡ true }
+    {
+        match x {
+            Some(_) => self.gives_all_touched(number, d, names),
+            None => self.gives_all(number, d, names),
+        }
+    }
+
     /// A vnode has its names in its directory.
     #[tactic(auto, unfolding(afs_volume::specs::Seen::seen))]
     fn is_named(&self, number: u32, y: &Vnode) -> bool
@@ -298,6 +348,7 @@ impl<'a> Patch<'a> {
     fn is_right(&self, number: u32, x: Option<&Vnode>, y: &Vnode) -> bool
         requires touched { AreTouched self.now.touched.now self.now.change.now }
         requires there { option_map seen (option_copied x) ≡ get number (before self.now.volume.now).vnodes }
+        requires kept { KeepsOthers self.now.touched.now (option_map seen (option_copied x)) (seen y.now) }
         requires left { get number (table_left self.now.volume.now self.now.change.now) ≡ Some y.now }
         ensures { result ≡ true → is_right (after self.now.volume.now self.now.change.now) number (seen y.now) ≡ true }
     {
@@ -305,7 +356,7 @@ impl<'a> Patch<'a> {
         kind_is_right(number, y)
             && y.unique < self.change.unique
             && has_links(y, names)
-            && self.gives_all(number, y, names)
+            && self.gives_still(number, x, y, names)
             && self.is_placed(number, x, y)
     }
 
@@ -320,41 +371,42 @@ impl<'a> Patch<'a> {
     }
 
     /// A vnode that becomes another.
-    fn may_become(&self, number: u32, x: &Vnode, y: &Vnode) -> Mem<bool>
+    fn may_become(&self, number: u32, x: &Vnode, y: &Vnode) -> bool
         requires touched { AreTouched self.now.touched.now self.now.change.now }
         requires there { get number self.now.volume.now.vnodes.table ≡ Some x.now }
         requires left { get number (table_left self.now.volume.now self.now.change.now) ≡ Some y.now }
-        ensures { IfOk result (λ may. may ≡ true → passes_by self.now.touched.now (before self.now.volume.now) (after self.now.volume.now self.now.change.now) number (Some (seen x.now)) (Some (seen y.now)) ≡ true) }
+        ensures { result ≡ true → passes_by self.now.touched.now (before self.now.volume.now) (after self.now.volume.now self.now.change.now) number (Some (seen x.now)) (Some (seen y.now)) ≡ true }
     {
-        let right = self.is_right(number, Some(x), y);
-        let keeps = self.keeps_names(number, x, y)?;
-        Ok(right && self.keeps_place(x, y) && keeps && self.may_stand(number, x, y))
+        self.keeps_place(x, y)
+            && self.keeps_names(number, x, y)
+            && self.is_right(number, Some(x), y)
+            && self.may_stand(number, x, y)
     }
 
     /// The vnode of this number passes the test.
-    fn passes(&self, number: u32) -> Mem<bool>
+    fn passes(&self, number: u32) -> bool
         requires touched { AreTouched self.now.touched.now self.now.change.now }
-        ensures { IfOk result (λ pass. pass ≡ true → passes self.now.touched.now (before self.now.volume.now) (after self.now.volume.now self.now.change.now) number ≡ true) }
+        ensures { result ≡ true → passes self.now.touched.now (before self.now.volume.now) (after self.now.volume.now self.now.change.now) number ≡ true }
     {
         match (self.before(number), self.after(number)) {
-            (None, None) => Ok(true),
+            (None, None) => true,
             (Some(x), None) => self.may_go(number, x),
-            (None, Some(y)) => Ok(self.may_come(number, y)),
+            (None, Some(y)) => self.may_come(number, y),
             (Some(x), Some(y)) => self.may_become(number, x, y),
         }
     }
 
     /// All vnodes that are touched pass.
-    fn all_pass(&self) -> Mem<bool>
+    fn all_pass(&self) -> bool
         requires touched { AreTouched self.now.touched.now self.now.change.now }
-        ensures { IfOk result (λ pass. pass ≡ true → list_all (passes self.now.touched.now (before self.now.volume.now) (after self.now.volume.now self.now.change.now)) self.now.touched.now ≡ true) }
+        ensures { result ≡ true → list_all (passes self.now.touched.now (before self.now.volume.now) (after self.now.volume.now self.now.change.now)) self.now.touched.now ≡ true }
     {
         for number in self.touched {
-            if !self.passes(*number)? {
-                return Ok(false);
+            if !self.passes(*number) {
+                return false;
             }
         }
-        Ok(true)
+        true
     }
 
     /// All that go are touched.
@@ -422,22 +474,15 @@ impl<'a> Patch<'a> {
     }
 
     /// The change leaves a sound volume.
-    fn leaves_sound(&self) -> Mem<bool>
-        ensures { IfOk result (λ sound. sound ≡ true → IsPatch self.now.touched.now self.now.volume.now self.now.change.now) }
+    fn leaves_sound(&self) -> bool
+        ensures { result ≡ true → IsPatch self.now.touched.now self.now.volume.now self.now.change.now }
     {
-        if !self.are_touched() {
-            return Ok(false);
-        }
-        let passed = self.all_pass()?;
-        Ok(passed && self.are_there() && self.are_few() && self.is_rooted())
+        self.are_touched()
+            && self.all_pass()
+            && self.are_there()
+            && self.are_few()
+            && self.is_rooted()
     }
-}
-
-/// Both name the same.
-fn is_same(name: &Name, other: &Name) -> bool {
-    name.vnode == other.vnode
-        && name.unique == other.unique
-        && name.name.as_slice() == other.name.as_slice()
 }
 
 /// The vnodes that these names name.
@@ -463,7 +508,7 @@ fn add_up_to<'a>(touched: &mut Vec<u32>, names: &'a [Name], name: &Name) -> Mem<
     let (below, above) = names.split_at(count_below(names, name));
     add_all(touched, below)?;
     match above.split_first() {
-        Some((other, rest)) if is_same(name, other) => Ok(rest),
+        Some((other, rest)) if is_of_same(name, other) => Ok(rest),
         _ => {
             touched.push(name.vnode)?;
             Ok(above)
@@ -471,13 +516,13 @@ fn add_up_to<'a>(touched: &mut Vec<u32>, names: &'a [Name], name: &Name) -> Mem<
     }
 }
 
-/// The vnodes that names name and others don't, or not the same, and those that others name and they don't. Both stand in
-/// byte order, so each is gone through once. What is missed here is found by the test.
+/// The vnodes that names name and others don't, and those that others name and they don't. Both stand in byte order, so each
+/// is gone through once. What is missed here is found by the test.
 fn add_renamed(touched: &mut Vec<u32>, names: &[Name], others: &[Name]) -> Mem<()> {
     let mut left = others;
     for name in names {
         left = match left.split_first() {
-            Some((other, rest)) if is_same(name, other) => rest,
+            Some((other, rest)) if is_of_same(name, other) => rest,
             _ => add_up_to(touched, left, name)?,
         };
     }
@@ -515,11 +560,10 @@ pub(crate) fn can_take(alloc: Global, volume: &Volume, ready: &ReadyChange) -> M
         return Ok(false);
     }
     let patch = Patch {
-        alloc,
         volume,
         change: ready.change(),
         ready,
         touched: touched.as_slice(),
     };
-    patch.leaves_sound()
+    Ok(patch.leaves_sound())
 }

@@ -36,7 +36,7 @@ impl Volume {
         ensures refused { IfErr result (IsRefusal (refusal_at (caller_seen caller.now) (volume_of self.now) fid.now)) }
     {
         let x = self.found(fid)?;
-        let rights = self.rights(caller, x)?;
+        let rights = self.rights(caller, x);
         check(rights.has(8), 13)?;
         Ok(status_with(x, rights))
     }

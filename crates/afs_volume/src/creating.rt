@@ -77,7 +77,7 @@ impl Volume {
         let d = self.found(fid)?;
         check(is_directory(d), 20)?;
         check(self.is_writable(), 30)?;
-        check(self.may(caller, 4, d)?, 13)?;
+        check(self.may(caller, 4, d), 13)?;
         self.creates(
             fid,
             d,
@@ -103,7 +103,7 @@ impl Volume {
         let d = self.found(fid)?;
         check(is_directory(d), 20)?;
         check(self.is_writable(), 30)?;
-        check(self.may(caller, 4, d)?, 13)?;
+        check(self.may(caller, 4, d), 13)?;
         let made = new_link(self.alloc, fid, target)?;
         self.creates(fid, d, name.as_slice(), status, None, made)
     }
@@ -121,7 +121,7 @@ impl Volume {
         let d = self.found(fid)?;
         check(is_directory(d), 20)?;
         check(self.is_writable(), 30)?;
-        check(self.may(caller, 4, d)?, 13)?;
+        check(self.may(caller, 4, d), 13)?;
         let made = new_directory(self.alloc, fid, list_of(d))?;
         self.creates(fid, d, name.as_slice(), status, Some(links_of(d) + 1), made)
     }
@@ -142,7 +142,7 @@ impl Volume {
         check(!is_here || x.is_some(), 102)?;
         check(is_directory(d), 20)?;
         check(self.is_writable(), 30)?;
-        check(self.may(caller, 4, d)?, 13)?;
+        check(self.may(caller, 4, d), 13)?;
         let good = is_here && may_link(fid, x);
         let names = spelled_with(
             self.alloc,

@@ -79,7 +79,7 @@ impl Volume {
         let x = self.found(fid)?;
         check(!is_directory(x), 21)?;
         check(self.is_writable(), 30)?;
-        check(self.may(caller, 2, x)?, 13)?;
+        check(self.may(caller, 2, x), 13)?;
         let is_whole = is_whole_store(contents, position, length, file_length);
         check(is_file(x) && is_whole && is_mask(status), 22)?;
         check(contents.len() <= MOST_BYTES, 27)?;
@@ -102,7 +102,7 @@ impl Volume {
         let d = self.found(fid)?;
         check(is_directory(d), 20)?;
         check(self.is_writable(), 30)?;
-        check(self.may(caller, 64, d)?, 13)?;
+        check(self.may(caller, 64, d), 13)?;
         check(is_acl(self.alloc, acl.as_slice())?, 22)?;
         let mut amend = Amend::nothing();
         amend.acl = Some(acl.copy(self.alloc)?);
@@ -120,7 +120,7 @@ impl Volume {
     {
         let x = self.found(fid)?;
         check(self.is_writable(), 30)?;
-        check(self.may(caller, 2, x)?, 13)?;
+        check(self.may(caller, 2, x), 13)?;
         check(is_mask(status), 22)?;
         let mut amend = Amend::nothing();
         amend.status = Some(*status);

@@ -76,7 +76,7 @@ impl Volume {
     {
         let x = self.found(fid)?;
         let right = if is_directory(x) { 8 } else { 1 };
-        let rights = self.rights(caller, x)?;
+        let rights = self.rights(caller, x);
         check(rights.has(right), 13)?;
         check(position == 0 && length == 2_147_483_647, 22)?;
         Ok(FsReply::FetchData {
@@ -94,7 +94,7 @@ impl Volume {
     {
         let d = self.found(fid)?;
         check(is_directory(d), 20)?;
-        let rights = self.rights(caller, d)?;
+        let rights = self.rights(caller, d);
         check(rights.has(8), 13)?;
         Ok(FsReply::FetchAcl {
             acl: list_text(d).copy(self.alloc)?,
@@ -109,7 +109,7 @@ impl Volume {
         ensures fits { IfOk result (λ r. FitsReply r) }
     {
         let x = self.found(fid)?;
-        let rights = self.rights(caller, x)?;
+        let rights = self.rights(caller, x);
         check(rights.has(8), 13)?;
         Ok(FsReply::FetchStatus {
             status: status_with(x, rights),
@@ -124,7 +124,7 @@ impl Volume {
         ensures fits { IfOk result (λ r. FitsReply r) }
     {
         let may = match self.get(1) {
-            Some(root) => self.may(caller, 8, root)?,
+            Some(root) => self.may(caller, 8, root),
             None => false,
         };
         check(may, 13)?;

@@ -31,7 +31,7 @@ impl Volume {
         let target = self.named(names, name.as_slice());
         check(!is_directory_there(target), 21)?;
         check(self.is_writable(), 30)?;
-        check(self.may(caller, 16, d)?, 13)?;
+        check(self.may(caller, 16, d), 13)?;
         check(has_name(names, name.as_slice()), 2)?;
         let left = spelled_without(self.alloc, names, d.contents.as_slice(), name.as_slice())?;
         let plan = removes(self.alloc, fid.vnode, left, None, number, target)?;
@@ -57,7 +57,7 @@ impl Volume {
             20,
         )?;
         check(self.is_writable(), 30)?;
-        check(self.may(caller, 16, d)?, 13)?;
+        check(self.may(caller, 16, d), 13)?;
         check(has_name(names, name.as_slice()), 2)?;
         check(self.is_empty(target), 39)?;
         let links = links_of(d).saturating_sub(1);

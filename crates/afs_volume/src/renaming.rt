@@ -193,7 +193,7 @@ impl Volume {
         let x = self.found(d)?;
         check(is_directory(x), 20)?;
         check(self.is_writable(), 30)?;
-        check(self.may(caller, 16, x)?, 13)?;
+        check(self.may(caller, 16, x), 13)?;
         Err(OpFault::Code(Code(22)))
     }
 
@@ -207,16 +207,16 @@ impl Volume {
         y: &Vnode,
         others: &Listing,
         new: &[u8],
-    ) -> Mem<bool>
+    ) -> bool
         requires from { vnode_of d.now (volume_of self.now) ≡ Some (seen x.now) }
         requires to { vnode_of e.now (volume_of self.now) ≡ Some (seen y.now) }
         requires names { others.now ≡ (seen y.now).names }
-        ensures { IfOk result (λ b. b ≡ rename_rights (caller_seen caller.now) d.now e.now new.now (volume_of self.now)) }
+        ensures { result ≡ rename_rights (caller_seen caller.now) d.now e.now new.now (volume_of self.now) }
     {
-        let takes = self.may(caller, 16, x)?;
-        let puts = self.may(caller, 4, y)?;
-        let may_replace = self.may(caller, 16, y)?;
-        Ok(takes && puts && (!has_name(others, new) || may_replace))
+        let takes = self.may(caller, 16, x);
+        let puts = self.may(caller, 4, y);
+        let may_replace = self.may(caller, 16, y);
+        takes && puts && (!has_name(others, new) || may_replace)
     }
 
     /// A directory doesn't move below itself, a file with more than one name stays in its directory, and no name takes
@@ -315,7 +315,7 @@ impl Volume {
         requires kinds { (is_kind (seen x.now).kind a_directory ≡ true) × (is_kind (seen y.now).kind a_directory ≡ true) }
         ensures { Plans (by_tests (first_failing (move_tests (caller_seen caller.now) d.now old.now e.now new.now (volume_of self.now))) (effect (caller_seen caller.now) (calls.Rename d.now old.now e.now new.now) (volume_of self.now))) result }
     {
-        check(self.may_rename(caller, d, x, e, y, others, new)?, 13)?;
+        check(self.may_rename(caller, d, x, e, y, others, new), 13)?;
         let may_move = self.may_move(d, old, names, e, new, others);
         check(
             name_ok(new) && !is_same_name(d, old, e, new) && may_move,

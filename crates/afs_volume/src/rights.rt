@@ -1,6 +1,6 @@
-//! Rights on vnodes. An access list is read once, for a caller and for everyone.
+//! Rights on vnodes. The text of an access list is gone through once, for a caller and for everyone.
 
-ghost use Rattle.std.specs.Prelude.{◌≡◌, IfOk};
+ghost use Rattle.std.specs.Prelude.{◌≡◌, Some};
 ghost use Rattle.std.specs.Option.{option_copied, option_map};
 ghost use Rattle.afs_ideal.specs.AccessLists.{anyuser, no_acl, rights_of};
 ghost use Rattle.afs_ideal.specs.Operations.{acl_of, list_for, may, rights_by};
@@ -11,11 +11,8 @@ ghost use Rattle.afs_volume.specs.Seen.{seen, list_spelled};
 use crate::Volume;
 use crate::callers::Caller;
 use crate::finding::is_directory;
-use afs_acl::acl::Acl;
-use afs_acl::faults::AclFault;
-use afs_num::types::Mem;
+use afs_acl::walking::rights_spelled;
 use afs_num::vnodes::Vnode;
-use std::alloc::{AllocError, Global};
 
 /// The rights that a caller has, and those that everyone has.
 #[derive(Clone, Copy)]
@@ -30,23 +27,6 @@ impl Rights {
         ensures { result ≡ has_bit right self.now.caller }
     {
         self.caller & right != 0
-    }
-}
-
-/// The rights by an access list.
-fn rights_by(caller: &Caller, acl: &Acl) -> Rights
-    ensures caller { result.caller ≡ rights_by (caller_seen caller.now) acl.now }
-    ensures anonymous { result.anonymous ≡ rights_of anyuser acl.now }
-{
-    match caller {
-        Caller::AllRights => Rights {
-            caller: 127,
-            anonymous: acl.rights(b"system:anyuser"),
-        },
-        Caller::User(user) => {
-            let (caller, anonymous) = acl.rights_with_everyones(user);
-            Rights { caller, anonymous }
-        }
     }
 }
 
@@ -66,51 +46,66 @@ fn rights_without(caller: &Caller) -> Rights
     }
 }
 
-/// The rights by the access list of this text; a text that is no list gives none.
-#[tactic(auto, unfolding(crate::specs::Seen::list_spelled))]
-fn rights_spelled(alloc: Global, caller: &Caller, text: &[u8]) -> Mem<Rights>
-    ensures caller { IfOk result (λ r. r.caller ≡ rights_by (caller_seen caller.now) (list_spelled text.now)) }
-    ensures anonymous { IfOk result (λ r. r.anonymous ≡ rights_of anyuser (list_spelled text.now)) }
+/// The rights of a user, and everyone's, by the access list of this text; a text that is no list gives none.
+#[tactic(auto, unfolding(crate::specs::Seen::list_spelled, afs_ideal::specs::AccessLists::rights_of))]
+fn rights_of_user(user: &[u8], text: &[u8]) -> Rights
+    ensures caller { result.caller ≡ rights_of user.now (list_spelled text.now) }
+    ensures anonymous { result.anonymous ≡ rights_of anyuser (list_spelled text.now) }
 {
-    match Acl::parse(alloc, text) {
-        Ok(acl) => Ok(rights_by(caller, &acl)),
-        Err(AclFault::OutOfMemory) => Err(AllocError),
-        Err(_) => Ok(rights_without(caller)),
+    match rights_spelled(text, user) {
+        Some((caller, anonymous)) => Rights { caller, anonymous },
+        None => Rights {
+            caller: 0,
+            anonymous: 0,
+        },
+    }
+}
+
+/// The rights by the access list of this text.
+fn rights_by(caller: &Caller, text: &[u8]) -> Rights
+    ensures caller { result.caller ≡ rights_by (caller_seen caller.now) (list_spelled text.now) }
+    ensures anonymous { result.anonymous ≡ rights_of anyuser (list_spelled text.now) }
+{
+    match caller {
+        Caller::AllRights => Rights {
+            caller: 127,
+            anonymous: rights_of_user(b"system:anyuser", text).anonymous,
+        },
+        Caller::User(user) => rights_of_user(user, text),
     }
 }
 
 /// The rights by the list of this directory.
 #[tactic(auto, unfolding(crate::specs::Seen::seen))]
-pub fn rights_in(alloc: Global, caller: &Caller, holder: Option<&Vnode>) -> Mem<Rights>
-    ensures caller { IfOk result (λ r. r.caller ≡ rights_by (caller_seen caller.now) (acl_of (option_map seen (option_copied holder.entry)))) }
-    ensures anonymous { IfOk result (λ r. r.anonymous ≡ rights_of anyuser (acl_of (option_map seen (option_copied holder.entry)))) }
+pub fn rights_in(caller: &Caller, holder: Option<&Vnode>) -> Rights
+    ensures caller { result.caller ≡ rights_by (caller_seen caller.now) (acl_of (option_map seen (option_copied holder.entry))) }
+    ensures anonymous { result.anonymous ≡ rights_of anyuser (acl_of (option_map seen (option_copied holder.entry))) }
 {
     match holder {
-        Some(x) if is_directory(x) => rights_spelled(alloc, caller, x.acl.as_slice()),
-        _ => Ok(rights_without(caller)),
+        Some(x) if is_directory(x) => rights_by(caller, x.acl.as_slice()),
+        _ => rights_without(caller),
     }
 }
 
 impl Volume {
     /// The rights on a vnode: those on a directory by its own access list, on others by that of their parent.
     #[tactic(auto, unfolding(crate::specs::Seen::seen))]
-    pub(crate) fn rights(&self, caller: &Caller, x: &Vnode) -> Mem<Rights>
-        ensures caller { IfOk result (λ r. r.caller ≡ rights_by (caller_seen caller.now) (list_for (seen x.now).kind (seen x.now) (volume_of self.now))) }
-        ensures anonymous { IfOk result (λ r. r.anonymous ≡ rights_of anyuser (list_for (seen x.now).kind (seen x.now) (volume_of self.now))) }
+    pub(crate) fn rights(&self, caller: &Caller, x: &Vnode) -> Rights
+        ensures caller { result.caller ≡ rights_by (caller_seen caller.now) (list_for (seen x.now).kind (seen x.now) (volume_of self.now)) }
+        ensures anonymous { result.anonymous ≡ rights_of anyuser (list_for (seen x.now).kind (seen x.now) (volume_of self.now)) }
     {
         let holder = if is_directory(x) {
             Some(x)
         } else {
             self.get(x.parent_vnode)
         };
-        rights_in(self.alloc, caller, holder)
+        rights_in(caller, holder)
     }
 
     /// Whether a caller has a right on a vnode.
-    pub(crate) fn may(&self, caller: &Caller, right: u32, x: &Vnode) -> Mem<bool>
-        ensures { IfOk result (λ b. b ≡ may (caller_seen caller.now) right (volume_of self.now) (Some (seen x.now))) }
+    pub(crate) fn may(&self, caller: &Caller, right: u32, x: &Vnode) -> bool
+        ensures { result ≡ may (caller_seen caller.now) right (volume_of self.now) (Some (seen x.now)) }
     {
-        let rights = self.rights(caller, x)?;
-        Ok(rights.has(right))
+        self.rights(caller, x).has(right)
     }
 }

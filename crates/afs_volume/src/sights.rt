@@ -85,35 +85,34 @@ impl<'a> Sight<'a> {
 
     /// The rights on a vnode.
     #[tactic(auto, unfolding(crate::specs::Seen::seen))]
-    fn rights(&self, caller: &Caller, x: &Vnode) -> Mem<Rights>
+    fn rights(&self, caller: &Caller, x: &Vnode) -> Rights
         requires { AllByRecursion (IsLeft self.now.draft.now.time) self.now.draft.now.vnodes }
-        ensures caller { IfOk result (λ r. r.caller ≡ rights_by (caller_seen caller.now) (list_for (seen x.now).kind (seen x.now) (volume_drafted self.now.draft.now self.now.volume.now))) }
-        ensures anonymous { IfOk result (λ r. r.anonymous ≡ rights_of anyuser (list_for (seen x.now).kind (seen x.now) (volume_drafted self.now.draft.now self.now.volume.now))) }
+        ensures caller { result.caller ≡ rights_by (caller_seen caller.now) (list_for (seen x.now).kind (seen x.now) (volume_drafted self.now.draft.now self.now.volume.now)) }
+        ensures anonymous { result.anonymous ≡ rights_of anyuser (list_for (seen x.now).kind (seen x.now) (volume_drafted self.now.draft.now self.now.volume.now)) }
     {
         let holder = if is_directory(x) {
             Some(x)
         } else {
             self.get(x.parent_vnode)
         };
-        rights_in(self.volume.alloc, caller, holder)
+        rights_in(caller, holder)
     }
 
     /// The status of a vnode that the change leaves.
-    fn status(&self, caller: &Caller, x: &Vnode) -> Mem<AfsFetchStatus>
+    fn status(&self, caller: &Caller, x: &Vnode) -> AfsFetchStatus
         requires images { AllByRecursion (IsLeft self.now.draft.now.time) self.now.draft.now.vnodes }
         requires readable { IsReadable x.now }
         requires fits { FitsImage x.now }
-        ensures { IfOk result (λ s. s ≡ status_of (caller_seen caller.now) (volume_drafted self.now.draft.now self.now.volume.now) x.now.server_time (seen x.now)) }
+        ensures { result ≡ status_of (caller_seen caller.now) (volume_drafted self.now.draft.now self.now.volume.now) x.now.server_time (seen x.now) }
     {
-        let rights = self.rights(caller, x)?;
-        Ok(status_with(x, rights))
+        status_with(x, self.rights(caller, x))
     }
 
     /// The status of the vnode of a number that the change leaves.
-    fn status_at(&self, caller: &Caller, number: u32) -> Mem<AfsFetchStatus>
+    fn status_at(&self, caller: &Caller, number: u32) -> AfsFetchStatus
         requires images { AllByRecursion (IsLeft self.now.draft.now.time) self.now.draft.now.vnodes }
         requires left { IsLeftIn (shown_by self.now.draft.now.vnodes) number }
-        ensures { IfOk result (λ s. s ≡ status_at self.now.volume.now.head.id (caller_seen caller.now) (λ f. self.now.draft.now.time) (volume_drafted self.now.draft.now self.now.volume.now) number) }
+        ensures { result ≡ status_at self.now.volume.now.head.id (caller_seen caller.now) (λ f. self.now.draft.now.time) (volume_drafted self.now.draft.now self.now.volume.now) number }
     {
         self.status(caller, self.shown(number))
     }
@@ -143,42 +142,42 @@ impl<'a> Sight<'a> {
         let callback = no_callback();
         Ok(match call {
             FsCall::StoreData { fid, .. } => FsReply::StoreData {
-                status: self.status_at(caller, fid.vnode)?,
+                status: self.status_at(caller, fid.vnode),
                 sync,
             },
             FsCall::StoreAcl { fid, .. } => FsReply::StoreAcl {
-                status: self.status_at(caller, fid.vnode)?,
+                status: self.status_at(caller, fid.vnode),
                 sync,
             },
             FsCall::StoreStatus { fid, .. } => FsReply::StoreStatus {
-                status: self.status_at(caller, fid.vnode)?,
+                status: self.status_at(caller, fid.vnode),
                 sync,
             },
             FsCall::RemoveFile { directory, .. } => FsReply::RemoveFile {
-                directory: self.status_at(caller, directory.vnode)?,
+                directory: self.status_at(caller, directory.vnode),
                 sync,
             },
             FsCall::RemoveDir { directory, .. } => FsReply::RemoveDir {
-                directory: self.status_at(caller, directory.vnode)?,
+                directory: self.status_at(caller, directory.vnode),
                 sync,
             },
             FsCall::CreateFile { directory, .. } => FsReply::CreateFile {
                 fid: self.fid_at(shown),
-                status: self.status_at(caller, shown)?,
-                directory: self.status_at(caller, directory.vnode)?,
+                status: self.status_at(caller, shown),
+                directory: self.status_at(caller, directory.vnode),
                 callback,
                 sync,
             },
             FsCall::Symlink { directory, .. } => FsReply::Symlink {
                 fid: self.fid_at(shown),
-                status: self.status_at(caller, shown)?,
-                directory: self.status_at(caller, directory.vnode)?,
+                status: self.status_at(caller, shown),
+                directory: self.status_at(caller, directory.vnode),
                 sync,
             },
             FsCall::MakeDir { directory, .. } => FsReply::MakeDir {
                 fid: self.fid_at(shown),
-                status: self.status_at(caller, shown)?,
-                directory: self.status_at(caller, directory.vnode)?,
+                status: self.status_at(caller, shown),
+                directory: self.status_at(caller, directory.vnode),
                 callback,
                 sync,
             },
@@ -187,8 +186,8 @@ impl<'a> Sight<'a> {
                 existing,
                 ..
             } => FsReply::Link {
-                status: self.status_at(caller, existing.vnode)?,
-                directory: self.status_at(caller, directory.vnode)?,
+                status: self.status_at(caller, existing.vnode),
+                directory: self.status_at(caller, directory.vnode),
                 sync,
             },
             FsCall::Rename {
@@ -196,8 +195,8 @@ impl<'a> Sight<'a> {
                 new_directory,
                 ..
             } => FsReply::Rename {
-                old_directory: self.status_at(caller, old_directory.vnode)?,
-                new_directory: self.status_at(caller, new_directory.vnode)?,
+                old_directory: self.status_at(caller, old_directory.vnode),
+                new_directory: self.status_at(caller, new_directory.vnode),
                 sync,
             },
             _ => unreachable!(),

@@ -4,5 +4,5 @@ use Rattle.afs_volume.proofs.Tables.{got}
 use Rattle.afs_volume.specs.Seen.{seen}
 use Rattle.afs_volstore.proofs.patching.Patch.may_become.Goals as goal
 
-pub is_right-right-requires-clause-there : goal.is_right-right-requires-clause-there
-is_right-right-requires-clause-there c = sym (got c.args.number c.args.self.now.volume.now.vnodes.table ∙ ap (option_map seen) c.requires.there)
+pub is_right-requires-clause-there : goal.is_right-requires-clause-there
+is_right-requires-clause-there c = sym (got c.args.number c.args.self.now.volume.now.vnodes.table ∙ ap (option_map seen) c.requires.there)
