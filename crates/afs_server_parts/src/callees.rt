@@ -1,9 +1,9 @@
 //! The nodes that a server calls, with the calls that they haven't answered.
 
-ghost use Rattle.std.specs.Prelude.{◌≡◌, ◌<◌, ◌+◌, ◌-◌, is_some, length, IfOk, OnErr, OnOk};
+ghost use Rattle.std.specs.Prelude.{◌≡◌, ◌<◌, ◌+◌, ◌-◌, is_some, length, None, IfOk, OnErr, OnOk};
 ghost use Rattle.std.specs.Option.{option_copied, option_map};
 ghost use Rattle.std.specs.Vec.{vec_capacity};
-ghost use Rattle.afs_num.specs.Keyed.{put_last, HasRoom};
+ghost use Rattle.afs_num.specs.Keyed.{other_keyed, put_last, HasRoom};
 ghost use Rattle.afs_num.specs.Nodes.{same_node};
 ghost use Rattle.afs_num.specs.declared.types.Node.{Node};
 ghost use Rattle.afs_rows.specs.Callbacks.{put_at};
@@ -188,6 +188,33 @@ pub fn set_call(callees: &mut Vec<Callee>, node: Node, call: Option<BackCall>) -
     let known = known(callees, node);
     make_room(callees, node)?;
     put_callee(callees, Callee { node, known, call });
+    Ok(())
+}
+
+/// Forgets this node, of which no other boot number is known than the one that is taken for it anyhow.
+fn forget(callees: &mut Vec<Callee>, node: Node)
+    requires { known_to callees.old.items node ≡ 1 }
+    ensures items { callees.new.items ≡ other_keyed node_called same_node node callees.old.items }
+    ensures calls { calls_seen callees.new.items ≡ put_at node None (calls_seen callees.old.items) }
+    ensures known { known_to callees.new.items ≡ known_to callees.old.items }
+    ensures good { (me : Node) → AreGoodCalls me callees.old.items → AreGoodCalls me callees.new.items }
+{
+    callees.retain(|callee| !callee.node.is(&node));
+}
+
+/// This node has no unanswered call any more. Each step copies the callees, so one that has told no boot number isn't kept for
+/// its own sake.
+pub fn end_call(callees: &mut Vec<Callee>, node: Node) -> Mem<()>
+    ensures err { OnErr result (callees.new.items ≡ callees.old.items) }
+    ensures calls { OnOk result (calls_seen callees.new.items ≡ put_at node None (calls_seen callees.old.items)) }
+    ensures known { OnOk result (known_to callees.new.items ≡ known_to callees.old.items) }
+    ensures good { OnOk result ((me : Node) → AreGoodCalls me callees.old.items → AreGoodCalls me callees.new.items) }
+{
+    if known(callees, node) == 1 {
+        forget(callees, node);
+    } else {
+        set_call(callees, node, None)?;
+    }
     Ok(())
 }
 
