@@ -122,7 +122,8 @@ impl Sent {
         ensures ok { OnOk result (self.new ≡ self.old ++ message ∷ []) }
         ensures err { OnErr result (self.new ≡ self.old) }
     {
-        self.parcels.push(message.into_parcel())
+        self.parcels.push(message.into_parcel())?;
+        Ok(())
     }
 
     /// The messages as they are sent. It takes no memory.
