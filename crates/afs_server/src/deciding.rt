@@ -346,7 +346,9 @@ impl FileServer {
                 };
                 Ok(Decided::Shows(reply, Sequence::new(self.alloc)))
             }
-            FsCall::BulkStatus { fids } => { self.statuses(store, head, user, fids.as_slice(), now) }
+            FsCall::BulkStatus { fids } => {
+                self.statuses(store, head, user, fids.as_slice(), now)
+            }
             _ => unreachable!(),
         }
     }
