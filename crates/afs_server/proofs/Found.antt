@@ -17,7 +17,7 @@ use Rattle.afs_server.proofs.Withdrawn.{all_hits, all_left, first_of, hit_or_lef
 
 -- ---- what is found goes, and nothing else
 
-others : Promise → Promise → Bool
+abbrev others : Promise → Promise → Bool
 others g p = not (is_promise g.client g.fid p)
 
 found_swap : (gs : List Promise) (h : Promise) (ps : List Promise) → without_found gs (without_promise h.client h.fid ps) ≡ without_promise h.client h.fid (without_found gs ps)

@@ -19,17 +19,17 @@ parcel_read p = (p.head, p.bytes, received p.bytes)
 abbrev message_spelled : Message → Read
 message_spelled m = (m.head, spelled m, Whole m)
 
-first : Read → List Read → Read
+abbrev first : Read → List Read → Read
 first r [] = r
 first r (x ∷ xs) = x
 
-head_of : Read → Head
+abbrev head_of : Read → Head
 head_of (h, bytes, r) = h
 
-bytes_of : Read → List ℕ
+abbrev bytes_of : Read → List ℕ
 bytes_of (h, bytes, r) = bytes
 
-received_of : Read → Received
+abbrev received_of : Read → Received
 received_of (h, bytes, r) = r
 
 -- ---- one more goes out
