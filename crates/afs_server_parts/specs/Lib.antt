@@ -1,4 +1,5 @@
 pub mod Called
+pub mod Carried
 pub mod Kept
 pub mod Sending
 pub mod Telling

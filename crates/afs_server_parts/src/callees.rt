@@ -9,9 +9,8 @@ ghost use Rattle.afs_num.specs.declared.types.Node.{Node};
 ghost use Rattle.afs_rows.specs.Callbacks.{put_at};
 ghost use Rattle.afs_server_parts.specs.Called.{call_seen, call_to, callee_at, calls_seen, known_to, node_called, AreGoodCalls, IsGoodOrNone};
 
-use afs_breaks::types::OwedBreak;
+use crate::breaks::Breaks;
 use afs_num::keyed::{Keyed, find_keyed, put_last};
-use afs_num::sequences::Sequence;
 use afs_num::types::{Mem, Node};
 use std::alloc::Global;
 use std::marker::Model;
@@ -23,7 +22,7 @@ pub struct BackCall {
     pub server: Node,
     pub number: u32,
     pub tries: u32,
-    pub breaks: Sequence<OwedBreak>,
+    pub breaks: Breaks,
 }
 
 impl Model for BackCall {
@@ -66,13 +65,6 @@ impl Keyed for Callee {
     }
 }
 
-/// A copy of breaks.
-pub fn copy_breaks(alloc: Global, breaks: &[OwedBreak]) -> Mem<Sequence<OwedBreak>>
-    ensures { IfOk result (λ os. os ≡ breaks.now) }
-{
-    Ok(Sequence::from_vec(Vec::from_slice(alloc, breaks)?))
-}
-
 impl BackCall {
     pub fn copy(&self, alloc: Global) -> Mem<BackCall>
         ensures { IfOk result (λ c. c ≡ self.now) }
@@ -81,7 +73,7 @@ impl BackCall {
             server: self.server,
             number: self.number,
             tries: self.tries,
-            breaks: copy_breaks(alloc, self.breaks.as_slice())?,
+            breaks: self.breaks.copy(alloc)?,
         })
     }
 
@@ -94,7 +86,7 @@ impl BackCall {
             server: self.server,
             number: self.number,
             tries: self.tries + 1,
-            breaks: copy_breaks(alloc, self.breaks.as_slice())?,
+            breaks: self.breaks.copy(alloc)?,
         })
     }
 }

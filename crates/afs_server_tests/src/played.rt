@@ -73,7 +73,7 @@ fn are_to_nodes(owed: &[OwedBreak]) -> bool
 fn is_good(node: Node, call: &BackCall) -> bool
     ensures { result ≡ true → IsGoodCall call.now.server node call.now × IsNode call.now.server }
 {
-    is_node(call.server) && is_node(node) && call.breaks.len() <= 50
+    is_node(call.server) && is_node(node) && call.breaks.as_slice().len() <= 50
 }
 
 fn put_line(out: &mut String, line: &Line) -> Mem<()> {
