@@ -1,3 +1,4 @@
 pub mod Granting
 pub mod Owing
 pub mod Gathered
+pub mod Found

@@ -2,7 +2,8 @@ ghost use Rattle.std.specs.Prelude.{◌≡◌, ◌+◌, ◌<◌, ◌≤◌, ◌+
 ghost use Rattle.std.specs.Vec.{vec_capacity};
 ghost use Rattle.afs_breaks.specs.declared.types.Promise.{Promise};
 ghost use Rattle.afs_promise.specs.Granting.{promises_in};
-ghost use Rattle.afs_breaks.specs.Promises.{no_lists, grants, grants_all, gives_up, with_promises, owes_all, owes_from, hits, left, lasting, withdraws, withdraws_volume, ends, expired};
+ghost use Rattle.afs_breaks.specs.Promises.{no_lists, grants, grants_all, gives_up, with_promises, owes_all, owes_from, hits, left, lasting, withdraws, withdraws_volume, withdrawn, ends, expired};
+ghost use Rattle.afs_promise.specs.Found.{without_found};
 
 use crate::grants::Grants;
 use crate::owed::OwedList;
@@ -116,6 +117,23 @@ fn owe_each(owed: &mut OwedList, gone: &[Grant]) -> Mem<()>
     Ok(())
 }
 
+/// Takes these promises, and owes their breaks, in the room that was made for them.
+fn take_found(grants: &mut Grants, owed: &mut OwedList, found: &[Promise]) -> Mem<()>
+    requires room { length found.now ≤ owed.old.room }
+    requires number { owed.old.last + length found.now ≤ 4000000000 }
+    ensures ok { IsOk result }
+    ensures promises { grants.new.promises ≡ without_found found.now grants.old.promises }
+    ensures breaks { owed.new.breaks ≡ owed.old.breaks ++ owes_from owed.old.last found.now }
+    ensures last { owed.new.last ≡ owed.old.last + length found.now }
+    ensures room { owed.new.room + length found.now ≡ owed.old.room }
+{
+    for promise in found {
+        grants.give_up(promise.client, promise.fid);
+        owed.owe(promise.client, Some(promise.fid), promise.expiry)?;
+    }
+    Ok(())
+}
+
 impl Promises {
     /// No promises, and nothing owed. It takes no memory.
     pub fn new(alloc: Global) -> Promises
@@ -193,6 +211,18 @@ impl Promises {
         ensures lists { self.new ≡ withdraws except fid self.old }
     {
         withdraw_each(&mut self.grants, &mut self.owed, fid, except)
+    }
+
+    /// Withdraws these promises, as `hits` gave them: their breaks become owed, one behind the other. It takes no memory, and
+    /// looks for each of them once.
+    pub fn withdraw_found(&mut self, found: &[Promise]) -> Mem<()>
+        // Each of them is held, and stands there once.
+        requires held { length found.now + length (without_found found.now self.old.promises) ≤ length self.old.promises }
+        requires number { self.old.last_owed + length self.old.promises ≤ 4000000000 }
+        ensures ok { IsOk result }
+        ensures lists { self.new ≡ withdrawn (without_found found.now self.old.promises) found.now self.old }
+    {
+        take_found(&mut self.grants, &mut self.owed, found)
     }
 
     /// Withdraws every promise on the volume: their breaks become owed, by ascending vnode, of one vnode number the

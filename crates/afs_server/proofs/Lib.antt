@@ -7,6 +7,7 @@ pub mod Drawing
 pub mod Drawn
 pub mod Effects
 pub mod Folded
+pub mod Found
 pub mod Granting
 pub mod Handled
 pub mod Heard

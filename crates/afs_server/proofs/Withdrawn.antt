@@ -64,7 +64,7 @@ withdrawn_owed n (f ∷ fs) l =
     ∙ ap (λ (os : List OwedBreak). l.owed ++ os) (sym (owes_append l.last_owed (hits n f l.promises) (hits_each n fs (left n f l.promises)))))
 
 -- what may still be owed is no more
-hit_or_left : (n : Node) (f : Fid) (ps : List Promise) → length (hits n f ps) + length (left n f ps) ≡ length ps
+pub hit_or_left : (n : Node) (f : Fid) (ps : List Promise) → length (hits n f ps) + length (left n f ps) ≡ length ps
 hit_or_left n f ps = length-filter_both (is_hit n f) (λ (p : Promise). not (is_hit n f p)) (λ p. refl) ps
 
 pub few_hits : (n : Node) (fs : List Fid) (ps : List Promise) → length (hits_each n fs ps) ≤ length ps
@@ -95,9 +95,12 @@ each_to_nodes n (f ∷ fs) ps h =
     All-append IsPromiseToNode (hits n f ps) (hits_each n fs (left n f ps)) (All-filter (is_hit n f) IsPromiseToNode ps h)
     (each_to_nodes n fs (left n f ps) (All-filter (λ (p : Promise). not (is_hit n f p)) IsPromiseToNode ps h))
 
-owes_to_nodes : (k : ℕ) (ps : List Promise) → All IsPromiseToNode ps → All IsBreakToNode (owes_from k ps)
+pub owes_to_nodes : (k : ℕ) (ps : List Promise) → All IsPromiseToNode ps → All IsBreakToNode (owes_from k ps)
 owes_to_nodes k [] h = All-nil IsBreakToNode
 owes_to_nodes k (p ∷ ps) h = All-cons IsBreakToNode _ (owes_from (k + 1) ps) (All-head IsPromiseToNode p ps h) (owes_to_nodes (k + 1) ps (All-tail IsPromiseToNode p ps h))
+
+pub found_to_nodes : (n : Node) (fs : List Fid) (now : ℕ) (ps : List Promise) → All IsPromiseToNode ps → All IsPromiseToNode (hits_each n fs (lasting now ps))
+found_to_nodes n fs now ps h = each_to_nodes n fs (lasting now ps) (All-filter (λ (p : Promise). nat_lt now p.expiry) IsPromiseToNode ps h)
 
 pub new_to_nodes : (n : Node) (fs : List Fid) (now : ℕ) (l : Lists) → All IsPromiseToNode l.promises → All IsBreakToNode (breaks_new n fs now l)
 new_to_nodes n fs now l h = owes_to_nodes l.last_owed (hits_each n fs (lasting now l.promises)) (each_to_nodes n fs (lasting now l.promises) (All-filter (λ (p : Promise). nat_lt now p.expiry) IsPromiseToNode l.promises h))
@@ -117,7 +120,7 @@ none_left : (q : Promise → Bool) (ps : List Promise) → filter q (filter (λ 
 none_left q [] = refl
 none_left q (p ∷ ps) = none_by (q p) q p ps refl (none_left q ps)
 
-first_of : (a b : Bool) → (a && b) ≡ true → a ≡ true
+pub first_of : (a b : Bool) → (a && b) ≡ true → a ≡ true
 first_of true b e = refl
 first_of false b e = absurd cc
 
@@ -202,11 +205,11 @@ granted_left n e f g ps =
     ∙ rw (own_not n f (record { client = n; fid = g; expiry = e }) refl)
     (ap (λ (qs : List Promise). qs ++ record { client = n; fid = g; expiry = e } ∷ []) (filters_swap (λ (p : Promise). not (is_hit n f p)) (λ (p : Promise). not (is_promise n g p)) ps))
 
-all_hits : (n : Node) (e : ℕ) (f : Fid) (gs : List Fid) (ps : List Promise) → hits n f (with_promises n e gs ps) ≡ hits n f ps
+pub all_hits : (n : Node) (e : ℕ) (f : Fid) (gs : List Fid) (ps : List Promise) → hits n f (with_promises n e gs ps) ≡ hits n f ps
 all_hits n e f [] ps = refl
 all_hits n e f (g ∷ gs) ps = all_hits n e f gs (with_promise n e g ps) ∙ granted_hits n e f g ps
 
-all_left : (n : Node) (e : ℕ) (f : Fid) (gs : List Fid) (ps : List Promise) → left n f (with_promises n e gs ps) ≡ with_promises n e gs (left n f ps)
+pub all_left : (n : Node) (e : ℕ) (f : Fid) (gs : List Fid) (ps : List Promise) → left n f (with_promises n e gs ps) ≡ with_promises n e gs (left n f ps)
 all_left n e f [] ps = refl
 all_left n e f (g ∷ gs) ps = all_left n e f gs (with_promise n e g ps) ∙ ap (with_promises n e gs) (granted_left n e f g ps)
 

@@ -105,6 +105,7 @@ pub record IsPlanned (server : Node) (boot last now : ℕ) (head : Head) (id : �
   pub rec : p.rec ≡ change_kept head id x p.kept
   pub fits : FitsRecord p.rec
   pub changed : p.changed ≡ fids_changed x.versions
+  pub withdrawn : p.withdrawn.items ≡ hits_each head.from p.changed (lasting now m.lists.promises)
   pub granted : p.granted ≡ fids_granted (new_grants x.reply)
 
 -- ---- what becomes of it

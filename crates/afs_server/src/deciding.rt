@@ -293,10 +293,7 @@ impl FileServer {
     {
         match store.volume(id) {
             None => Ok(Decided::Refuses(NO_VOLUME)),
-            Some(volume) => {
-                let decided = self.in_found(store, head, volume, user, call, now)?;
-                Ok(decided)
-            }
+            Some(volume) => { self.in_found(store, head, volume, user, call, now) }
         }
     }
 
@@ -317,10 +314,7 @@ impl FileServer {
     {
         match volume_called(call) {
             None => Ok(Decided::Refuses(NOT_SERVED)),
-            Some(id) => {
-                let decided = self.in_volume(store, head, id, user, call, now)?;
-                Ok(decided)
-            }
+            Some(id) => { self.in_volume(store, head, id, user, call, now) }
         }
     }
 
@@ -352,8 +346,7 @@ impl FileServer {
                 Ok(Decided::Shows(reply, Sequence::new(self.alloc)))
             }
             FsCall::BulkStatus { fids } => {
-                let decided = self.statuses(store, head, user, fids.as_slice(), now)?;
-                Ok(decided)
+                self.statuses(store, head, user, fids.as_slice(), now)
             }
             _ => unreachable!(),
         }
@@ -375,11 +368,9 @@ impl FileServer {
         ensures fits { IfOk result FitsDecided }
     {
         if is_on_volume(call) {
-            let decided = self.with_volume(store, head, user, call, now)?;
-            Ok(decided)
+            self.with_volume(store, head, user, call, now)
         } else {
-            let decided = self.serve_else(store, head, user, call, now)?;
-            Ok(decided)
+            self.serve_else(store, head, user, call, now)
         }
     }
 
@@ -400,10 +391,7 @@ impl FileServer {
             Carried::Call {
                 user,
                 call: Call::File(call),
-            } => {
-                let decided = self.serve(store, head, user.as_slice(), call, now)?;
-                Ok(decided)
-            }
+            } => { self.serve(store, head, user.as_slice(), call, now) }
             Carried::Call { .. } => Ok(Decided::Refuses(NOT_SERVED)),
             _ => Ok(Decided::Drops),
         }
@@ -426,10 +414,7 @@ impl FileServer {
             Received::Nothing => Ok(Decided::Drops),
             Received::Unserved { .. } => Ok(Decided::Refuses(NOT_SERVED)),
             Received::Unreadable { .. } => Ok(Decided::Refuses(code_of_unreadable(head.opcode))),
-            Received::Whole { message } => {
-                let decided = self.run_carried(store, head, &message.carried, now)?;
-                Ok(decided)
-            }
+            Received::Whole { message } => { self.run_carried(store, head, &message.carried, now) }
         }
     }
 
@@ -450,8 +435,7 @@ impl FileServer {
         if !is_client(&head.from) {
             return Ok(Decided::Refuses(NOT_SERVED));
         }
-        let decided = self.run_received(store, head, received, now)?;
-        Ok(decided)
+        self.run_received(store, head, received, now)
     }
 
     /// What is decided on a call of which this becomes.
@@ -472,10 +456,7 @@ impl FileServer {
         ensures runs { IfOk result (λ d. Runs d (paired head.now.epoch head.now.number (call_seat head.now.from self.now.seats))) }
     {
         match admit {
-            Admit::Run => {
-                let decided = self.run(store, head, received, now)?;
-                Ok(decided)
-            }
+            Admit::Run => { self.run(store, head, received, now) }
             Admit::Kept(bytes) => {
                 let reply = SpelledMessage::read(self.alloc, bytes)?;
                 Ok(Decided::Repeats(reply))
@@ -505,7 +486,6 @@ impl FileServer {
         if !head.to.is(&store.node()) {
             return Ok(Decided::Drops);
         }
-        let decided = self.as_admitted(store, head, received, self.callers.admit(head), now)?;
-        Ok(decided)
+        self.as_admitted(store, head, received, self.callers.admit(head), now)
     }
 }

@@ -36,30 +36,14 @@ impl FileServer {
             Does now d (turn_for store.old.node (server_seen self.old store.old) now (row.expired now (server_seen self.old store.old).backs) d) self.old self.new store.old store.new result }
     {
         match decided {
-            Decided::Drops => {
-                let outs = self.pass(store, now)?;
-                Ok(outs)
-            }
-            Decided::TellsBoot => {
-                let outs = self.tell_boot(store, head, now)?;
-                Ok(outs)
-            }
-            Decided::Repeats(reply) => {
-                let outs = self.repeat(store, reply, now)?;
-                Ok(outs)
-            }
-            Decided::Refuses(code) => {
-                let outs = self.refuse(store, head, code, now)?;
-                Ok(outs)
-            }
+            Decided::Drops => { self.pass(store, now) }
+            Decided::TellsBoot => { self.tell_boot(store, head, now) }
+            Decided::Repeats(reply) => { self.repeat(store, reply, now) }
+            Decided::Refuses(code) => { self.refuse(store, head, code, now) }
             Decided::Shows(reply, grants) => {
-                let outs = self.show(store, head, reply, grants.as_slice(), now)?;
-                Ok(outs)
+                self.show(store, head, reply, grants.as_slice(), now)
             }
-            Decided::GivesUp(fids) => {
-                let outs = self.give_up(store, head, fids.as_slice(), now)?;
-                Ok(outs)
-            }
+            Decided::GivesUp(fids) => { self.give_up(store, head, fids.as_slice(), now) }
             Decided::Changes(..) => unreachable!(),
         }
     }

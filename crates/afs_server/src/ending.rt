@@ -17,7 +17,6 @@ use afs_num::sequences::Sequence;
 use afs_num::types::{Mem, Node};
 use afs_server_parts::callees::Callee;
 use afs_server_parts::held::HeldReply;
-use afs_server_parts::spelled::parcels;
 use afs_server_parts::turns::{Calls, Turn};
 use afs_volstore::VolStore;
 use std::alloc::Global;
@@ -56,7 +55,7 @@ pub fn end(alloc: Global, server: Node, boot: u32, turn: Turn) -> Mem<Ended>
     } = calls;
     Ok(Ended {
         outs: Outs {
-            parcels: parcels(alloc, sent)?,
+            parcels: sent.into_parcels(),
             lines,
         },
         last,

@@ -5,6 +5,7 @@ ghost use Rattle.afs_num.specs.declared.records.StoreRecord as records;
 ghost use Rattle.afs_disk.specs.Disk.{SameDisk};
 ghost use Rattle.afs_journal.specs.Log.{SameCounts};
 ghost use Rattle.afs_ideal.specs.Tables.{get};
+ghost use Rattle.afs_breaks.specs.Promises.{lasting};
 ghost use Rattle.afs_model.specs.Calls.{call_seat, paired, runs};
 ghost use Rattle.afs_model.specs.Heads.{IsSoundHead};
 ghost use Rattle.afs_records.specs.Durable.{folded, has_room};
@@ -19,7 +20,7 @@ ghost use Rattle.afs_server.specs.Answering.{answer_turn};
 ghost use Rattle.afs_server.specs.Deciding.{CanBeTold, CanBeWritten, IsMade};
 ghost use Rattle.afs_server.specs.Handling.{record_decided, server_seen, Answers};
 ghost use Rattle.afs_server.specs.Putting.{Commits, DoesAll, OnDisk, Prepares};
-ghost use Rattle.afs_server.specs.Saving.{Puts};
+ghost use Rattle.afs_server.specs.Saving.{hits_each, Puts};
 ghost use Rattle.afs_server.specs.Seen.{backs_seen, CanDraw, Serves};
 ghost use Rattle.afs_server.specs.declared.decided.Decided.TheVariants as decided;
 ghost use Rattle.afs_server.specs.declared.faults.NodeFault.TheVariants as faults;
@@ -87,6 +88,7 @@ impl FileServer {
     ) -> Result<Outs, NodeFault>
         requires runs { paired head.now.epoch head.now.number (call_seat head.now.from self.old.seats) ≡ runs }
         requires draws { self.old.lists.last_owed + length self.old.lists.promises + length planned.granted ≤ 4000000000 }
+        requires withdraws { planned.withdrawn.items ≡ hits_each head.now.from planned.changed (lasting now self.old.lists.promises) }
         requires drawn { store.old.drawn ≤ planned.ended.last }
         requires spelling { IsSpelling planned.kept }
         requires up { store.old.closed ≡ false }
@@ -104,11 +106,12 @@ impl FileServer {
             ended,
             kept,
             rec: _,
-            changed,
+            changed: _,
+            withdrawn,
             granted: _,
         } = planned;
         keep_reply(&mut self.callers, head, kept);
-        withdraw_lasting(&mut self.promises, changed.as_slice(), head.from, now);
+        withdraw_lasting(&mut self.promises, &withdrawn, now);
         let outs = self.keep(store, ended);
         Ok(outs)
     }
@@ -143,6 +146,7 @@ impl FileServer {
         requires head { IsSoundHead head.now }
         requires runs { paired head.now.epoch head.now.number (call_seat head.now.from self.old.seats) ≡ runs }
         requires draws { self.old.lists.last_owed + length self.old.lists.promises + length planned.granted ≤ 4000000000 }
+        requires withdraws { planned.withdrawn.items ≡ hits_each head.now.from planned.changed (lasting now self.old.lists.promises) }
         requires drawn { store.old.drawn ≤ planned.ended.last }
         requires spelling { IsSpelling planned.kept }
         requires up { store.old.closed ≡ false }

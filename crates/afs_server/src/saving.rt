@@ -18,10 +18,11 @@ ghost use Rattle.afs_model.specs.CellRows.{cell_replies, reply_number};
 ghost use Rattle.afs_model.specs.Heads.{IsSoundHead};
 ghost use Rattle.afs_model.specs.Messages.{HasSpelling};
 ghost use Rattle.afs_history.specs.declared.lines.Line.TheVariants as lines;
-ghost use Rattle.afs_breaks.specs.Promises.{expired, lasting, lasting_breaks, owes_from, Lists};
+ghost use Rattle.afs_breaks.specs.Promises.{expired, lasting, lasting_breaks, owes_from, withdrawn, Lists};
 ghost use Rattle.afs_records.specs.Changes.{keeping};
 ghost use Rattle.afs_records.specs.Durable.{folded};
 ghost use Rattle.afs_records.specs.Records.{FitsRecord};
+ghost use Rattle.afs_promise.specs.Found.{without_found};
 ghost use Rattle.afs_rows.specs.Callbacks.{alls, numbers, owe_line, pumped};
 ghost use Rattle.afs_num.specs.declared.messages.Carried.TheVariants as carried;
 ghost use Rattle.afs_rows.specs.ServerRow.{is_client, key_of, promised_in, replied, versioned};
@@ -33,7 +34,7 @@ ghost use Rattle.afs_volstore.specs.Stores.{LeftAround, Served};
 ghost use Rattle.afs_server.specs.Answering.{answer_turn, with_lists, KeepsReply};
 ghost use Rattle.afs_server.specs.Deciding.{CanBeWritten, HasKind, IsChanged};
 ghost use Rattle.afs_server.specs.Ending.{Ends};
-ghost use Rattle.afs_server.specs.Saving.{breaks_new, change_kept, fids_changed, fids_granted, has_fid, hits_fresh, hits_new, new_grants, withdraws_each, IsPlanned, IsTaken, Puts};
+ghost use Rattle.afs_server.specs.Saving.{change_kept, fids_changed, fids_granted, has_fid, hits_fresh, hits_new, new_grants, IsPlanned, IsTaken, Puts};
 ghost use Rattle.afs_server.specs.Seen.{backs_seen, IsPromiseToNode, IsToNodes};
 ghost use Rattle.afs_server.specs.declared.faults.NodeFault.TheVariants as faults;
 
@@ -63,13 +64,14 @@ use std::alloc::Global;
 const PROMISE_TICKS: u32 = 7200;
 
 /// What a change comes to before the disk is touched: what its step gives out and leaves in memory, the bytes of its reply, its
-/// record, the fids that it changes, and those that it promises.
+/// record, the fids that it changes, the promises that it withdraws, and the fids that it promises.
 #[derive(Drop)]
 pub struct Planned {
     pub ended: Ended,
     pub kept: Octets,
     pub rec: StoreRecord,
     pub changed: Sequence<Fid>,
+    pub withdrawn: Vec<Promise>,
     pub granted: Sequence<Fid>,
 }
 
@@ -181,22 +183,15 @@ fn owe_each(owed: &mut Vec<OwedBreak>, last: u32, withdrawn: &[Promise]) -> Mem<
     Ok(())
 }
 
-/// The breaks that become owed where this node changes these fids.
-fn new_breaks(
-    alloc: Global,
-    promises: &Promises,
-    fids: &[Fid],
-    except: Node,
-    now: u32,
-) -> Mem<Vec<OwedBreak>>
-    requires draws { promises.now.last_owed + length promises.now.promises < 4000000000 }
-    requires promised { All IsPromiseToNode promises.now.promises }
-    ensures breaks { IfOk result (λ os. os.items ≡ breaks_new except fids.now now promises.now) }
+/// The breaks that become owed for these promises.
+fn new_breaks(alloc: Global, promises: &Promises, withdrawn: &[Promise]) -> Mem<Vec<OwedBreak>>
+    requires draws { promises.now.last_owed + length withdrawn.now < 4000000000 }
+    requires promised { All IsPromiseToNode withdrawn.now }
+    ensures breaks { IfOk result (λ os. os.items ≡ owes_from promises.now.last_owed withdrawn.now) }
     ensures nodes { IfOk result (λ os. All IsBreakToNode os.items) }
 {
-    let hits = new_hits(alloc, promises, fids, except, now)?;
     let mut breaks = Vec::new(alloc);
-    owe_each(&mut breaks, promises.owed().last(), &hits)?;
+    owe_each(&mut breaks, promises.owed().last(), withdrawn)?;
     Ok(breaks)
 }
 
@@ -232,26 +227,18 @@ fn waits_for(alloc: Global, breaks: &[OwedBreak], owed: &[OwedBreak]) -> Mem<Seq
     Ok(waits)
 }
 
-/// The change of these fids by this node withdraws the promises of others. It takes no memory.
-fn withdraw_each(promises: &mut Promises, fids: &[Fid], except: Node)
-    requires { promises.old.last_owed + length promises.old.promises ≤ 4000000000 }
-    ensures { promises.new ≡ withdraws_each except fids.now promises.old }
-{
-    for fid in fids {
-        match promises.withdraw(*fid, except) {
-            Ok(()) => {}
-            Err(_) => unreachable!(),
-        }
-    }
-}
-
-/// What lasts of the promises on these fids is withdrawn, but for those of this node. It takes no memory.
-pub fn withdraw_lasting(promises: &mut Promises, fids: &[Fid], except: Node, now: u32)
-    requires { promises.old.last_owed + length promises.old.promises ≤ 4000000000 }
-    ensures { promises.new ≡ withdraws_each except fids.now (expired now promises.old) }
+/// The promises that were found for a change of these fids by this node are withdrawn, once the others have ended whose time has
+/// come. It takes no memory.
+pub fn withdraw_lasting(promises: &mut Promises, found: &[Promise], now: u32)
+    requires held { length found.now + length (without_found found.now (lasting now promises.old.promises)) ≤ length (lasting now promises.old.promises) }
+    requires number { promises.old.last_owed + length promises.old.promises ≤ 4000000000 }
+    ensures { promises.new ≡ withdrawn (without_found found.now (lasting now promises.old.promises)) found.now (expired now promises.old) }
 {
     promises.expire(now);
-    withdraw_each(promises, fids, except);
+    match promises.withdraw_found(found) {
+        Ok(()) => {}
+        Err(_) => unreachable!(),
+    }
 }
 
 // ---- lines
@@ -491,13 +478,14 @@ impl FileServer {
         let changed = fids_changed(self.alloc, versions.as_slice())?;
         let grants = new_grants(self.alloc, &reply)?;
         let granted = fids_granted(self.alloc, grants.as_slice())?;
-        let breaks = new_breaks(
+        let withdrawn = new_hits(
             self.alloc,
             &self.promises,
             changed.as_slice(),
             head.from,
             now,
         )?;
+        let breaks = new_breaks(self.alloc, &self.promises, &withdrawn)?;
         let mut saved = self.plan_saved(server, boot, last, head, reply, &breaks, now)?;
         saved.ended.outs.lines = saved_lines(
             self.alloc,
@@ -516,6 +504,7 @@ impl FileServer {
             kept,
             rec,
             changed,
+            withdrawn,
             granted,
         })
     }

@@ -22,7 +22,6 @@ ghost use Rattle.afs_server.specs.Handling.{Answers};
 ghost use Rattle.afs_server.specs.Seen.{backs_seen, IsToNodes, Serves};
 
 use crate::answering::{Replied, keep_reply};
-use crate::ending::Ended;
 use crate::server::FileServer;
 use afs_disk::Disk;
 use afs_history::lines::{Lines, Outs};
@@ -85,30 +84,6 @@ fn shown_reply(
     Ok(spelled)
 }
 
-/// The same reply, with these lines.
-pub fn with_lines(replied: Replied, lines: Lines) -> Replied
-    ensures ended { result.ended ≡ record replied.ended { outs = record replied.ended.outs { lines = lines } } }
-    ensures kept { result.kept ≡ replied.kept }
-{
-    let Replied { ended, kept } = replied;
-    let Ended {
-        outs,
-        last,
-        callees,
-        held,
-    } = ended;
-    let Outs { parcels, lines: _ } = outs;
-    Replied {
-        ended: Ended {
-            outs: Outs { parcels, lines },
-            last,
-            callees,
-            held,
-        },
-        kept,
-    }
-}
-
 /// The reply to the call of this header, which ran, is kept, and its caller is promised these fids.
 fn keep_granted(
     callers: &mut Callers,
@@ -157,8 +132,9 @@ impl FileServer {
     {
         let reply = shown_reply(self.alloc, boot, head, told, expiry)?;
         let lines = granted_lines(self.alloc, server, head.from, expiry, grants)?;
-        let replied = self.plan_spelled(server, boot, last, reply, now)?;
-        Ok(with_lines(replied, lines))
+        let mut replied = self.plan_spelled(server, boot, last, reply, now)?;
+        replied.ended.outs.lines = lines;
+        Ok(replied)
     }
 
     /// A call that reads is told this, and granted these promises.

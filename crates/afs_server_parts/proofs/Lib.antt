@@ -3,6 +3,7 @@ pub mod Finding
 pub mod First
 pub mod Keeping
 pub mod Read
+pub mod Released
 pub mod Same
 pub mod Sending
 pub mod Spelling

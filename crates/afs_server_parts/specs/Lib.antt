@@ -1,4 +1,6 @@
 pub mod Called
+pub mod Carried
 pub mod Kept
+pub mod Sending
 pub mod Telling
 pub mod Turning

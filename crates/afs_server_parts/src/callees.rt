@@ -1,17 +1,16 @@
 //! The nodes that a server calls, with the calls that they haven't answered.
 
-ghost use Rattle.std.specs.Prelude.{◌≡◌, ◌<◌, ◌+◌, ◌-◌, is_some, length, IfOk, OnErr, OnOk};
+ghost use Rattle.std.specs.Prelude.{◌≡◌, ◌<◌, ◌+◌, ◌-◌, is_some, length, None, IfOk, OnErr, OnOk};
 ghost use Rattle.std.specs.Option.{option_copied, option_map};
 ghost use Rattle.std.specs.Vec.{vec_capacity};
-ghost use Rattle.afs_num.specs.Keyed.{put_last, HasRoom};
+ghost use Rattle.afs_num.specs.Keyed.{other_keyed, put_last, HasRoom};
 ghost use Rattle.afs_num.specs.Nodes.{same_node};
 ghost use Rattle.afs_num.specs.declared.types.Node.{Node};
 ghost use Rattle.afs_rows.specs.Callbacks.{put_at};
 ghost use Rattle.afs_server_parts.specs.Called.{call_seen, call_to, callee_at, calls_seen, known_to, node_called, AreGoodCalls, IsGoodOrNone};
 
-use afs_breaks::types::OwedBreak;
+use crate::breaks::Breaks;
 use afs_num::keyed::{Keyed, find_keyed, put_last};
-use afs_num::sequences::Sequence;
 use afs_num::types::{Mem, Node};
 use std::alloc::Global;
 use std::marker::Model;
@@ -23,7 +22,7 @@ pub struct BackCall {
     pub server: Node,
     pub number: u32,
     pub tries: u32,
-    pub breaks: Sequence<OwedBreak>,
+    pub breaks: Breaks,
 }
 
 impl Model for BackCall {
@@ -66,13 +65,6 @@ impl Keyed for Callee {
     }
 }
 
-/// A copy of breaks.
-pub fn copy_breaks(alloc: Global, breaks: &[OwedBreak]) -> Mem<Sequence<OwedBreak>>
-    ensures { IfOk result (λ os. os ≡ breaks.now) }
-{
-    Ok(Sequence::from_vec(Vec::from_slice(alloc, breaks)?))
-}
-
 impl BackCall {
     pub fn copy(&self, alloc: Global) -> Mem<BackCall>
         ensures { IfOk result (λ c. c ≡ self.now) }
@@ -81,7 +73,7 @@ impl BackCall {
             server: self.server,
             number: self.number,
             tries: self.tries,
-            breaks: copy_breaks(alloc, self.breaks.as_slice())?,
+            breaks: self.breaks.copy(alloc)?,
         })
     }
 
@@ -94,7 +86,7 @@ impl BackCall {
             server: self.server,
             number: self.number,
             tries: self.tries + 1,
-            breaks: copy_breaks(alloc, self.breaks.as_slice())?,
+            breaks: self.breaks.copy(alloc)?,
         })
     }
 }
@@ -188,6 +180,33 @@ pub fn set_call(callees: &mut Vec<Callee>, node: Node, call: Option<BackCall>) -
     let known = known(callees, node);
     make_room(callees, node)?;
     put_callee(callees, Callee { node, known, call });
+    Ok(())
+}
+
+/// Forgets this node, of which no other boot number is known than the one that is taken for it anyhow.
+fn forget(callees: &mut Vec<Callee>, node: Node)
+    requires { known_to callees.old.items node ≡ 1 }
+    ensures items { callees.new.items ≡ other_keyed node_called same_node node callees.old.items }
+    ensures calls { calls_seen callees.new.items ≡ put_at node None (calls_seen callees.old.items) }
+    ensures known { known_to callees.new.items ≡ known_to callees.old.items }
+    ensures good { (me : Node) → AreGoodCalls me callees.old.items → AreGoodCalls me callees.new.items }
+{
+    callees.retain(|callee| !callee.node.is(&node));
+}
+
+/// This node has no unanswered call any more. Each step copies the callees, so one that has told no boot number isn't kept for
+/// its own sake.
+pub fn end_call(callees: &mut Vec<Callee>, node: Node) -> Mem<()>
+    ensures err { OnErr result (callees.new.items ≡ callees.old.items) }
+    ensures calls { OnOk result (calls_seen callees.new.items ≡ put_at node None (calls_seen callees.old.items)) }
+    ensures known { OnOk result (known_to callees.new.items ≡ known_to callees.old.items) }
+    ensures good { OnOk result ((me : Node) → AreGoodCalls me callees.old.items → AreGoodCalls me callees.new.items) }
+{
+    if known(callees, node) == 1 {
+        forget(callees, node);
+    } else {
+        set_call(callees, node, None)?;
+    }
     Ok(())
 }
 

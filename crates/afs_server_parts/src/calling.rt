@@ -5,6 +5,7 @@ ghost use Rattle.afs_num.specs.Nodes.{IsNode};
 ghost use Rattle.afs_rows.specs.Callbacks.{break_message, breaks_call, breaks_opcode, broken_until, call_for, carries_for, fids_of, first_of, is_for, most_breaks, opcode_for};
 ghost use Rattle.afs_server_parts.specs.Called.{call_seen};
 
+use crate::breaks::Breaks;
 use crate::callees::BackCall;
 use crate::spelled::SpelledMessage;
 use afs_breaks::types::OwedBreak;
@@ -46,17 +47,16 @@ fn first_for(alloc: Global, node: Node, owed: &[OwedBreak]) -> Mem<Sequence<Owed
 }
 
 /// What a call carries whose oldest break is this.
-pub fn carried(alloc: Global, oldest: &OwedBreak, owed: &[OwedBreak]) -> Mem<Sequence<OwedBreak>>
+pub fn carried(alloc: Global, oldest: &OwedBreak, owed: &[OwedBreak]) -> Mem<Breaks>
     ensures few { IfOk result (λ os. length os ≤ 50) }
     ensures value { IfOk result (λ os. os ≡ carries_for oldest.now.what oldest.now owed.now) }
 {
     match oldest.what {
-        None => {
-            let mut breaks = Sequence::new(alloc);
-            breaks.push(*oldest)?;
-            Ok(breaks)
+        None => Ok(Breaks::one(*oldest)),
+        Some(_) => {
+            let breaks = first_for(alloc, oldest.client, owed)?;
+            Ok(Breaks::of(breaks))
         }
-        Some(_) => first_for(alloc, oldest.client, owed),
     }
 }
 

@@ -1,11 +1,12 @@
 //! Replies that wait until breaks have ended.
 
 ghost use Rattle.std.specs.Prelude.{◌≡◌, ◌++◌, [], ◌∷◌, filter, not, IfOk, OnOk};
+ghost use Rattle.std.specs.List.{list_any};
 ghost use Rattle.afs_rows.specs.Callbacks.{is_ready, replies_of, waits_none};
 ghost use Rattle.afs_rows.specs.States.{Held};
 
 use crate::owed::has_break;
-use crate::spelled::SpelledMessage;
+use crate::spelled::{Sent, SpelledMessage};
 use afs_breaks::types::OwedBreak;
 use afs_num::sequences::Sequence;
 use afs_num::types::Mem;
@@ -85,7 +86,7 @@ pub fn copy_replies(alloc: Global, replies: &[HeldReply]) -> Mem<Sequence<HeldRe
 
 /// Sends a reply, where it waits no more; else it is held.
 fn send_or_hold(
-    sent: &mut Sequence<SpelledMessage>,
+    sent: &mut Sent,
     held: &mut Sequence<HeldReply>,
     one: HeldReply,
     owed: &[OwedBreak],
@@ -104,7 +105,7 @@ fn send_or_hold(
 /// Sends those of the replies that wait no more; the others are held.
 #[tactic(auto, using(crate::proofs::Parted::sent_next, crate::proofs::Parted::held_next))]
 pub(crate) fn part_ready(
-    sent: &mut Sequence<SpelledMessage>,
+    sent: &mut Sent,
     held: &mut Sequence<HeldReply>,
     replies: Sequence<HeldReply>,
     owed: &[OwedBreak],
@@ -116,6 +117,13 @@ pub(crate) fn part_ready(
         send_or_hold(sent, held, one, owed)?;
     }
     Ok(())
+}
+
+/// Whether one of the replies waits no more.
+pub(crate) fn any_ready(replies: &[HeldReply], owed: &[OwedBreak]) -> bool
+    ensures { result ≡ list_any (is_ready owed.now) replies.now }
+{
+    replies.iter().any(|one| one.is_ready(owed))
 }
 
 /// Holds these replies besides.

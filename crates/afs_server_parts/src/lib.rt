@@ -3,6 +3,7 @@
 #![tactic(auto)]
 
 mod answering;
+pub mod breaks;
 pub mod callees;
 pub mod callers;
 pub mod calling;

@@ -1,18 +1,18 @@
 //! The end of each step: replies whose breaks have ended go out, and then calls for what is owed.
 
-ghost use Rattle.std.specs.Prelude.{◌≡◌, ◌≤◌, ◌+◌, List, [], None, IfOk, OnOk};
+ghost use Rattle.std.specs.Prelude.{◌≡◌, ◌≤◌, ◌+◌, ◌++◌, List, [], None, filter, not, IfOk, OnOk};
 ghost use Rattle.std.specs.List.{All};
 ghost use Rattle.afs_num.specs.Nodes.{IsNode};
 ghost use Rattle.afs_num.specs.declared.types.Node.{Node};
 ghost use Rattle.afs_breaks.specs.Promises.{Lists};
-ghost use Rattle.afs_rows.specs.Callbacks.{given_out, held_after, pumped, starts, starts_by};
+ghost use Rattle.afs_rows.specs.Callbacks.{given_out, held_after, is_ready, pumped, replies_of, starts, starts_by};
 ghost use Rattle.afs_rows.specs.States.{Held};
 ghost use Rattle.afs_server_parts.specs.Called.{calls_seen, AreGoodCalls};
 ghost use Rattle.afs_server_parts.specs.Turning.{started_with, turn_with, IsBreakToNode};
 
 use crate::callees::{BackCall, is_waiting, known, set_call};
 use crate::calling::{carried, spell_call};
-use crate::held::{hold_all, part_ready};
+use crate::held::{any_ready, hold_all, part_ready};
 use crate::turns::{Calls, Turn};
 use afs_breaks::types::OwedBreak;
 use afs_num::sequences::Sequence;
@@ -100,6 +100,23 @@ fn start_all(
 }
 
 impl Turn {
+    /// Sends those of the replies that were held before which wait no more. Most often there is none, and they stay where they are.
+    fn release_held(&mut self, alloc: Global) -> Mem<()>
+        ensures sent { OnOk result (self.new.calls.sent ≡ self.old.calls.sent ++ replies_of (filter (is_ready self.old.owed.items) self.old.held)) }
+        ensures held { OnOk result (self.new.held ≡ filter (λ (h : Held). not (is_ready self.old.owed.items h)) self.old.held) }
+        ensures owed { self.new.owed ≡ self.old.owed }
+        ensures callees { self.new.calls.callees ≡ self.old.calls.callees }
+        ensures lines { self.new.lines ≡ self.old.lines }
+        ensures last { self.new.calls.last ≡ self.old.calls.last }
+        ensures outs { self.new.outs ≡ self.old.outs }
+    {
+        if any_ready(self.held.as_slice(), &self.owed) {
+            let held = replace(&mut self.held, Sequence::new(alloc));
+            part_ready(&mut self.calls.sent, &mut self.held, held, &self.owed)?;
+        }
+        Ok(())
+    }
+
     /// Sends the replies that wait no more.
     fn release(&mut self, alloc: Global) -> Mem<()>
         ensures backs { OnOk result ((l : Lists) → l.owed ≡ self.old.owed.items → started_with l self.new.held self.new.calls ≡ record { backs = held_after (turn_with l self.old); sent = given_out (turn_with l self.old) }) }
@@ -110,10 +127,9 @@ impl Turn {
         ensures outs { OnOk result (self.new.outs ≡ []) }
     {
         let outs = replace(&mut self.outs, Sequence::new(alloc));
-        let held = replace(&mut self.held, Sequence::new(alloc));
         let mut later = Sequence::new(alloc);
         part_ready(&mut self.calls.sent, &mut later, outs, &self.owed)?;
-        part_ready(&mut self.calls.sent, &mut self.held, held, &self.owed)?;
+        self.release_held(alloc)?;
         hold_all(&mut self.held, later)?;
         Ok(())
     }

@@ -1,12 +1,12 @@
 //! Messages in their spelling.
 
-ghost use Rattle.std.specs.Prelude.{◌≡◌, ◌∷◌, [], IfOk};
+ghost use Rattle.std.specs.Prelude.{◌≡◌, ◌∷◌, ◌++◌, [], IfOk, OnErr, OnOk};
 ghost use Rattle.afs_model.specs.Messages.{messages_spelled, parcels_read, HasSpelling};
 ghost use Rattle.afs_server_parts.specs.Kept.{IsMessage, IsSpelling, Spells};
 
 use afs_message::messages::encode_message;
 use afs_num::messages::Message;
-use afs_num::sequences::{Octets, Sequence};
+use afs_num::sequences::Octets;
 use afs_num::types::{Head, Mem, Parcel, Parcels};
 use afs_rpc::heads::read_head;
 use std::alloc::Global;
@@ -89,14 +89,55 @@ impl SpelledMessage {
     }
 }
 
-/// Messages as they are sent.
-#[tactic(auto, using(crate::proofs::Sending::sent_more))]
-pub fn parcels(alloc: Global, messages: Sequence<SpelledMessage>) -> Mem<Parcels>
-    ensures { IfOk result (λ ps. parcels_read ps ≡ messages_spelled messages) }
-{
-    let mut parcels = Parcels::new(alloc);
-    for message in messages.into_vec() {
-        parcels.push(message.into_parcel())?;
+/// Messages that go out, each in its spelling.
+#[derive(Drop)]
+pub struct Sent {
+    parcels: Parcels,
+}
+
+impl Model for Sent {
+    ghost use Rattle.std.specs.Prelude.{List, map};
+    ghost use Rattle.afs_num.specs.declared.messages.Message.{Message};
+    ghost use Rattle.afs_server_parts.specs.Sending.{parcel_message, AreMessages};
+
+    ghost Value = { List Message };
+
+    ghost view = { λ s. map parcel_message s.parcels };
+
+    ghost invariant = { λ s. AreMessages s.parcels };
+}
+
+impl Sent {
+    /// No messages. It takes no memory.
+    pub fn new(alloc: Global) -> Sent
+        ensures { result ≡ [] }
+    {
+        Sent {
+            parcels: Parcels::new(alloc),
+        }
     }
-    Ok(parcels)
+
+    /// One more message goes out.
+    pub fn push(&mut self, message: SpelledMessage) -> Mem<()>
+        ensures ok { OnOk result (self.new ≡ self.old ++ message ∷ []) }
+        ensures err { OnErr result (self.new ≡ self.old) }
+    {
+        self.parcels.push(message.into_parcel())?;
+        Ok(())
+    }
+
+    /// The messages as they are sent. It takes no memory.
+    pub fn parcels(&self) -> &Parcels
+        ensures { parcels_read result.now ≡ messages_spelled self.now }
+    {
+        &self.parcels
+    }
+
+    /// The messages as they are sent. It takes no memory.
+    pub fn into_parcels(self) -> Parcels
+        ensures { parcels_read result ≡ messages_spelled self }
+    {
+        let Sent { parcels } = self;
+        parcels
+    }
 }

@@ -9,11 +9,11 @@ ghost use Rattle.afs_rows.specs.Callbacks.{quits, renews, retries, settles, time
 ghost use Rattle.afs_server_parts.specs.Called.{call_seen, AreGoodCalls, IsGoodCall};
 ghost use Rattle.afs_server_parts.specs.Turning.{backs_with, breaks_left, IsBreakToNode, IsFresh, IsTurn};
 
-use crate::callees::{BackCall, Callee, copy_callees, known, set_call, set_known};
+use crate::callees::{BackCall, Callee, copy_callees, end_call, known, set_call, set_known};
 use crate::calling::spell_call;
 use crate::held::{HeldReply, copy_replies};
 use crate::owed::{end_breaks, still_owed};
-use crate::spelled::SpelledMessage;
+use crate::spelled::Sent;
 use crate::telling::{tell_quit, tell_settled, tell_timeout};
 use afs_breaks::types::OwedBreak;
 use afs_history::lines::Lines;
@@ -26,7 +26,7 @@ use std::alloc::Global;
 pub struct Calls {
     pub last: u32,
     pub callees: Vec<Callee>,
-    pub sent: Sequence<SpelledMessage>,
+    pub sent: Sent,
 }
 
 /// What a step does: the breaks that are then owed, its calls, the replies that wait, its lines, and replies that are to be
@@ -60,7 +60,7 @@ impl Turn {
             calls: Calls {
                 last,
                 callees: copy_callees(alloc, callees)?,
-                sent: Sequence::new(alloc),
+                sent: Sent::new(alloc),
             },
             held: copy_replies(alloc, held)?,
             lines: Lines::new(alloc),
@@ -78,7 +78,7 @@ impl Turn {
         let ended = still_owed(alloc, call.breaks.as_slice(), &self.owed)?;
         tell_settled(&mut self.lines, server, node, ended.as_slice())?;
         end_breaks(&mut self.owed, call.breaks.as_slice());
-        set_call(&mut self.calls.callees, node, None)?;
+        end_call(&mut self.calls.callees, node)?;
         Ok(())
     }
 
@@ -140,7 +140,7 @@ impl Turn {
         let ended = still_owed(alloc, call.breaks.as_slice(), &self.owed)?;
         tell_quit(&mut self.lines, call.server, node, ended.as_slice())?;
         end_breaks(&mut self.owed, call.breaks.as_slice());
-        set_call(&mut self.calls.callees, node, None)?;
+        end_call(&mut self.calls.callees, node)?;
         Ok(())
     }
 

@@ -9,10 +9,9 @@ ghost use Rattle.afs_server_parts.specs.Turning.{IsBreakToNode, IsFresh};
 use afs_breaks::types::OwedBreak;
 use afs_history::lines::Line;
 use afs_num::sequences::Sequence;
-use afs_num::types::{Fid, Mem, Node};
+use afs_num::types::{Fid, Mem, Node, Parcel};
 use afs_server_parts::callees::{BackCall, copy_call_to};
 use afs_server_parts::held::HeldReply;
-use afs_server_parts::spelled::SpelledMessage;
 use afs_server_parts::turns::Turn;
 use std::alloc::{AllocError, Global};
 use std::fmt::Write as _;
@@ -74,7 +73,7 @@ fn are_to_nodes(owed: &[OwedBreak]) -> bool
 fn is_good(node: Node, call: &BackCall) -> bool
     ensures { result ≡ true → IsGoodCall call.now.server node call.now × IsNode call.now.server }
 {
-    is_node(call.server) && is_node(node) && call.breaks.len() <= 50
+    is_node(call.server) && is_node(node) && call.breaks.as_slice().len() <= 50
 }
 
 fn put_line(out: &mut String, line: &Line) -> Mem<()> {
@@ -86,11 +85,11 @@ fn put_line(out: &mut String, line: &Line) -> Mem<()> {
     }
 }
 
-fn put_message(out: &mut String, message: &SpelledMessage) -> Mem<()> {
-    let head = message.head();
+fn put_message(out: &mut String, message: &Parcel) -> Mem<()> {
+    let head = &message.head;
     let (to, number) = (head.to.number(), head.number);
     let (boot, opcode) = (head.boot, head.opcode);
-    let length = message.bytes().len();
+    let length = message.bytes.len();
     writeln!(out, "sent {to} {number} {boot} {opcode} {length}")
 }
 
@@ -99,7 +98,7 @@ fn put_turn(out: &mut String, turn: &Turn) -> Mem<()> {
     for line in turn.lines.as_slice() {
         put_line(out, line)?;
     }
-    for message in turn.calls.sent.as_slice() {
+    for message in turn.calls.sent.parcels().as_slice() {
         put_message(out, message)?;
     }
     Ok(())
@@ -204,8 +203,8 @@ pub fn played(alloc: Global, breaks: &[OwedBreak], steps: &[Step]) -> Mem<String
 pub fn spelled(alloc: Global, breaks: &[OwedBreak]) -> Mem<String> {
     let turn = begun(alloc, breaks)?;
     let mut out = String::new(alloc);
-    if let Some(message) = turn.calls.sent.as_slice().first() {
-        for byte in message.bytes().as_slice() {
+    if let Some(message) = turn.calls.sent.parcels().as_slice().first() {
+        for byte in message.bytes.as_slice() {
             write!(&mut out, "{byte:02x}")?;
         }
     }

@@ -8,5 +8,5 @@ returns-clause-ends c t is =
     let all = c.in_ok-pump.ensures.pumped t.backs.lists is.owed ∙ ap (pumped c.args.server c.args.boot) is.same in
     record {
       backs = ap (λ (s : Started). s.backs) all;
-      sent = c.in_ok-parcels.ensures ∙ ap (λ (s : Started). messages_spelled s.sent) all;
+      sent = c.into_parcels.ensures ∙ ap (λ (s : Started). messages_spelled s.sent) all;
     }

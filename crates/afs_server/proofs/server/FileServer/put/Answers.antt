@@ -1,7 +1,8 @@
-use Rattle.std.proofs.Common.{◌≡◌, ◌≤◌, ◌+◌, rules, Option, None, Some, refl, ap, sym, subst, ◌∙◌}
-use Rattle.std.specs.Prelude.{Result, Ok, Err}
+use Rattle.std.proofs.Common.{◌≡◌, ◌≤◌, ◌+◌, List, true, length, arith, lt-ltb, rules, Option, None, Some, refl, ap, sym, subst, ◌∙◌}
+use Rattle.std.specs.Prelude.{nat_lt, Result, Ok, Err}
 use Rattle.afs_history.specs.declared.lines.Outs.{Outs}
-use Rattle.afs_breaks.specs.Promises.{expired, grants_all, Lists}
+use Rattle.afs_breaks.specs.Promises.{expired, grants_all, lasting, withdrawn, Lists}
+use Rattle.afs_breaks.specs.declared.types.Promise.{Promise}
 use Rattle.afs_model.specs.Calls.{call_seated}
 use Rattle.afs_records.specs.Durable.{folded, Durable}
 use Rattle.afs_records.specs.Records.{FitsRecord}
@@ -11,6 +12,8 @@ use Rattle.afs_server.specs.Seen.{Memory}
 use Rattle.afs_volstore.specs.Stores.{Store}
 use Rattle.afs_server.specs.declared.faults.NodeFault.{NodeFault}
 use Rattle.afs_server.specs.declared.faults.NodeFault.TheVariants as nodes
+use Rattle.afs_promise.specs.Found.{without_found}
+use Rattle.afs_server.proofs.Found.{found_held, found_then, found_withdrawn}
 use Rattle.afs_server.proofs.Holding.{all_few}
 use Rattle.afs_server.proofs.Still.{is_still, same_counts, same_disk, with_fault, with_value, OfDisk}
 use Rattle.afs_server.proofs.server.FileServer.put.Goals as goal
@@ -18,8 +21,21 @@ use Rattle.afs_server.proofs.server.FileServer.put.Goals as goal
 some_is : {A : Type 0} (x y : A) → ◌≡◌ {A = Option A} (Some x) (Some y) → x ≡ y
 some_is x y e = cc
 
-pub withdraw_lasting-requires : goal.withdraw_lasting-requires
-withdraw_lasting-requires g c =
+pub withdraw_lasting-requires-clause-held : goal.withdraw_lasting-requires-clause-held
+withdraw_lasting-requires-clause-held g c =
+    let granted = c.in_ok-grant_all.ensures in
+    let now = c.args.now in
+    let n = c.args.head.now.from in
+    let p = c.args.planned in
+    let old = c.args.self.now.lists in
+    let lists : c.grant_all.new.self ≡ grants_all n (now + 7200) p.granted old = search (rules, granted) in
+    let late : nat_lt now (now + 7200) ≡ true = lt-ltb now (now + 7200) (omega arith) in
+    let given : c.deref.result.now ≡ p.withdrawn.items = search rules in
+    subst (λ (ps : List Promise). length ps + length (without_found ps (lasting now c.grant_all.new.self.promises)) ≤ length (lasting now c.grant_all.new.self.promises)) (sym given)
+    (found_held n p.changed (lasting now c.grant_all.new.self.promises) p.withdrawn.items (found_then now n (now + 7200) p.changed p.granted old c.grant_all.new.self p.withdrawn.items late lists c.requires.withdraws))
+
+pub withdraw_lasting-requires-clause-number : goal.withdraw_lasting-requires-clause-number
+withdraw_lasting-requires-clause-number g c =
     let granted = c.in_ok-grant_all.ensures in
     let lists : c.grant_all.new.self ≡ grants_all c.args.head.now.from (c.args.now + 7200) c.args.planned.granted c.args.self.now.lists = search (rules, granted) in
     all_few c.args.head.now.from (c.args.now + 7200) c.args.planned.granted c.args.self.now.lists c.grant_all.new.self lists c.requires.draws
@@ -35,7 +51,16 @@ returns-clause-puts g c =
     let head = c.args.head.now in
     let mid = c.commit.new.store in
     let t = c.keep-outs.new.store in
-    let lists : c.withdraw_lasting.new.promises ≡ withdraws_each head.from p.changed (expired c.args.now (grants_all head.from (c.args.now + 7200) p.granted old.lists)) = search rules in
+    let now = c.args.now in
+    let granted = c.in_ok-grant_all.ensures in
+    let promised : c.grant_all.new.self ≡ grants_all head.from (now + 7200) p.granted old.lists = search (rules, granted) in
+    let late : nat_lt now (now + 7200) ≡ true = lt-ltb now (now + 7200) (omega arith) in
+    let then = found_then now head.from (now + 7200) p.changed p.granted old.lists c.grant_all.new.self p.withdrawn.items late promised c.requires.withdraws in
+    let gone : c.withdraw_lasting.new.promises ≡ withdrawn (without_found p.withdrawn.items (lasting now c.grant_all.new.self.promises)) p.withdrawn.items (expired now c.grant_all.new.self) = search rules in
+    let lists : c.withdraw_lasting.new.promises ≡ withdraws_each head.from p.changed (expired now (grants_all head.from (now + 7200) p.granted old.lists)) =
+    gone
+    ∙ (found_withdrawn head.from p.changed (expired now c.grant_all.new.self) p.withdrawn.items then
+    ∙ ap (λ (l : Lists). withdraws_each head.from p.changed (expired now l)) promised) in
     let memory : c.keep-outs.new.self ≡ record old { seats = c.keep_reply.new.callers.seats; lists = c.withdraw_lasting.new.promises; callees = p.ended.callees.items; held = p.ended.held } = search rules in
     let store : t ≡ record mid { drawn = p.ended.last } = search rules in
     let commits = c.in_ok-commit.ensures.commits p.rec c.requires.prepared in

@@ -61,6 +61,9 @@ put_or_refuse-requires-clause-draws g c =
     let draws = c.requires.draws.breaks in
     omega (arith, long, few, draws)
 
+pub put_or_refuse-requires-clause-withdraws : goal.put_or_refuse-requires-clause-withdraws
+put_or_refuse-requires-clause-withdraws g c = c.in_ok-planned.ensures.withdrawn
+
 pub put_or_refuse-requires-clause-drawn : goal.put_or_refuse-requires-clause-drawn
 put_or_refuse-requires-clause-drawn g c =
     let s = c.args.store.now in

@@ -13,4 +13,4 @@ returns-clause-turn c l q =
     let owed : (ends_all call.breaks l).owed ≡ c.end_breaks.new.owed.items = search (rules, fewer, q) in
     let told : c.tell_quit.new.lines ≡ timeout_line call.server c.args.boot c.args.node call.number 3 ∷ map (quit_line call.server c.args.node) (filter (λ (o : OwedBreak). has_break o.number c.args.self.now.owed.items) call.breaks) = search rules in
     let lines = told ∙ ap (λ (os : List OwedBreak). timeout_line call.server c.args.boot c.args.node call.number 3 ∷ map (quit_line call.server c.args.node) (filter (λ (o : OwedBreak). has_break o.number os) call.breaks)) (sym q) in
-    turn_is (ends_all call.breaks l) _ _ _ _ _ _ _ _ owed refl c.in_ok-set_call.ensures.calls c.in_ok-set_call.ensures.known refl lines c.requires.sent c.requires.outs
+    turn_is (ends_all call.breaks l) _ _ _ _ _ _ _ _ owed refl c.in_ok-end_call.ensures.calls c.in_ok-end_call.ensures.known refl lines c.requires.sent c.requires.outs
