@@ -16,6 +16,7 @@ mod readying;
 mod redo;
 mod redoing;
 mod replaying;
+mod rereading;
 mod setup;
 mod standing;
 mod state;
