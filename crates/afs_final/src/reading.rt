@@ -1,6 +1,6 @@
 //! The disks of the servers are read at the end of a run.
 
-ghost use Rattle.std.specs.Prelude.{◌≡◌, ◌≤◌, ◌×◌, false};
+ghost use Rattle.std.specs.Prelude.{◌≡◌, ◌≤◌, false};
 ghost use Rattle.afs_num.specs.Nodes.{IsNode};
 ghost use Rattle.afs_num.specs.declared.types.Node.TheVariants.{Server};
 ghost use Rattle.afs_volstore.specs.Stores.{IsKept};

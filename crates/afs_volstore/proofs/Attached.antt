@@ -64,6 +64,11 @@ pub record AreFolded (found slice : List (List ℕ)) (parts : Durable) : Type 0 
 pub found_fold : (found slice records : List (List ℕ)) (parts : Durable) (c : ℕ) → AreFolded found slice parts → found ≡ records → fold_all c records ≡ Some (placed (1 + places_length records) c parts)
 found_fold found slice records parts c are is = subst (λ (rs : List (List ℕ)). fold_all c rs ≡ Some (placed (1 + places_length rs) c parts)) (are.same ∙ is) (are.folds c)
 
+pub kept_folded : (gate limit size : ℕ) (parts : Durable) (found slice : List (List ℕ)) (seen : Option (List ℕ)) (may_leave : List ℕ → Type 0) → AreFolded found slice parts → ((bytes : List ℕ) → seen ≡ Some bytes → IsJournal found seen may_leave)
+    → ((bytes : List ℕ) → seen ≡ Some bytes → length bytes ≡ size) → size ≡ gate + 1 → IsKept (placed (gate + 1) limit parts) seen may_leave
+kept_folded gate limit size parts found slice seen may_leave are rests measures ends =
+    kept_where (placed (gate + 1) limit parts) seen seen may_leave (λ e. e) (λ bytes at. kept_so gate limit size parts found seen may_leave (rests bytes at) measures ends (found_fold found slice found parts limit are refl))
+
 pub kept_taken_up : (gate limit size : ℕ) (parts : Durable) (found slice : List (List ℕ)) (before seen : Option (List ℕ)) (may_leave : List ℕ → Type 0) → AreFolded found slice parts → ((bytes : List ℕ) → before ≡ Some bytes → found ≡ whole_records bytes)
     → ((bytes : List ℕ) → before ≡ Some bytes → IsJournal (whole_records bytes) seen may_leave) → (is_some seen ≡ true → is_some before ≡ true) → ((bytes : List ℕ) → seen ≡ Some bytes → length bytes ≡ size) → size ≡ gate + 1
     → IsKept (placed (gate + 1) limit parts) seen may_leave

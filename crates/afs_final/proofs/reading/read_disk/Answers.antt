@@ -1,9 +1,18 @@
-use Rattle.std.proofs.Common.{subst, sym}
+use Rattle.std.proofs.Common.{ap, is_some, subst, sym}
 use Rattle.afs_final.specs.Reading.{IsRead}
 use Rattle.afs_final.specs.declared.reading.Left.{Left}
 use Rattle.afs_volstore.specs.Stores.{Store}
 use Rattle.afs_final.proofs.Found.{refused_so}
 use Rattle.afs_final.proofs.reading.read_disk.Goals as goal
+
+pub returns-in-Ok : goal.returns-in-Ok
+returns-in-Ok g c =
+    let e = c.in-Ok.ensures in
+    record {
+      is = record { before = e.stands; after = λ bytes at. (e.kept (e.told.0 (ap is_some at))).stands bytes at; capacity = e.capacity };
+      never_falls = e.ok.0.never_falls;
+      told = e.told;
+    }
 
 pub returns-in-Err : goal.returns-in-Err
 returns-in-Err g c =
