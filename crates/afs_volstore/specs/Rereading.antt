@@ -2,7 +2,7 @@
 use Rattle.std.specs.Prelude.{◌≡◌, ◌+◌, ◌↔◌, ℕ, List, false, None, Option, Some, Result, Ok, Err, length, IsSome}
 use Rattle.afs_num.specs.declared.types.Node.{Node}
 use Rattle.afs_num.specs.declared.faults.StoreFault.{StoreFault}
-use Rattle.afs_num.specs.declared.faults.StoreFault.TheVariants as faults
+use Rattle.afs_num.specs.declared.faults.StoreFault.TheVariants as fault
 use Rattle.afs_disk.specs.Disk.{LeavesOnly, PassesAll, Setting}
 use Rattle.afs_journal.specs.Log.{IsJournal, Log, Rests, StandsAsBefore, Taken}
 use Rattle.afs_journal.specs.Records.{whole_records}
@@ -42,7 +42,7 @@ pub record IsAttached {D : Type 0} (seen : D → Option (List ℕ)) (may_leave :
 -- A refusal: the disk failed, memory was wanting, or this record can't be taken.
 pub record IsRefused {D : Type 0} (seen : D → Option (List ℕ)) (faults own_faults calls : D → ℕ) (setting : D → Setting) (limit : D → ℕ) (disk : D) (e : StoreFault × D) : Type 0 where
   pub refusal : IsAttachFault e.0
-  pub bad : (n : ℕ) → e.0 ≡ faults.BadRecord n → (bytes : List ℕ) → seen disk ≡ Some bytes → first_bad (limit disk) (whole_records bytes) ≡ Some n
+  pub bad : (n : ℕ) → e.0 ≡ fault.BadRecord n → (bytes : List ℕ) → seen disk ≡ Some bytes → first_bad (limit disk) (whole_records bytes) ≡ Some n
   pub caused : IsCaused (setting disk) (calls e.1) (faults disk) (faults e.1) (own_faults disk) (own_faults e.1) e.0
 
 -- ---- a journal that was taken up
@@ -57,4 +57,4 @@ pub record IsMade {D : Type 0} (seen : D → Option (List ℕ)) (may_leave : D �
 pub record IsNotMade {D : Type 0} (log : Log D) (e : StoreFault × D) : Type 0 where
   pub refusal : IsFoldFault e.0
   pub disk_is : e.1 ≡ log.disk
-  pub bad : (n : ℕ) → e.0 ≡ faults.BadRecord n → (capacity : ℕ) → first_bad capacity log.found ≡ Some n
+  pub bad : (n : ℕ) → e.0 ≡ fault.BadRecord n → (capacity : ℕ) → first_bad capacity log.found ≡ Some n
