@@ -15,7 +15,7 @@ mod Lifted
 mod Going
 mod Able
 mod Eventful
-mod Reads
+mod DisksRead
 mod Scheduled
 mod Clocks
 mod Parts

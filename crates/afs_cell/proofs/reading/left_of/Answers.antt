@@ -5,7 +5,7 @@ use Rattle.afs_final.specs.declared.reading.Left.{Left}
 use Rattle.afs_cell.specs.FirstSeats.{AreKeptSeats}
 use Rattle.afs_cell.specs.Worlds.{ServerSeat}
 use Rattle.afs_cell.proofs.GivenBack.{none_left}
-use Rattle.afs_cell.proofs.Reads.{all_found, next_readable, one_found}
+use Rattle.afs_cell.proofs.DisksRead.{all_found, next_readable, one_found}
 use Rattle.afs_cell.proofs.reading.left_of.Goals as goal
 
 pub left_at-requires : goal.left_at-requires

@@ -2,7 +2,7 @@ use Rattle.std.proofs.Common.{◌≡◌, ◌≤◌, ◌+◌, length, vec_capacit
 use Rattle.std.specs.Vec.Iter.{into_iter_items}
 use Rattle.afs_cell.specs.FirstSeats.{AreKeptSeats}
 use Rattle.afs_cell.specs.Readable.{AreReadable}
-use Rattle.afs_cell.proofs.Reads.{Completes}
+use Rattle.afs_cell.proofs.DisksRead.{Completes}
 use Rattle.afs_cell.proofs.reading.left_of.Given as goal
 
 abbrev pub invariant-loop-seat : goal.invariant-loop-seat

@@ -8,7 +8,7 @@ use Rattle.afs_cell.specs.Since.{whole}
 use Rattle.afs_cell.specs.Steps.{lent_from}
 use Rattle.afs_cell.specs.Worlds.{ServerSeat, WorldState}
 use Rattle.afs_cell.proofs.GivenBack.{standing}
-use Rattle.afs_cell.proofs.Reads.{readable}
+use Rattle.afs_cell.proofs.DisksRead.{readable}
 use Rattle.afs_cell.proofs.world.World.read_at_end.Goals as goal
 
 pub left_of-requires-clause-ready : goal.left_of-requires-clause-ready
