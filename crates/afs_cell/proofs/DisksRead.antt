@@ -1,10 +1,6 @@
 -- The disks of the servers are read, one after the other.
-use Rattle.std.proofs.Common.{refl, arith, append_assoc, append-nil, ap, sym, subst, ◌∙◌, ◌≡◌, ◌+◌, ◌≤◌, ℕ, zero, suc, List, [], ◌∷◌, ◌++◌, length, false, Option, Some}
-use Rattle.std.specs.Prelude.{IsSome}
-use Rattle.afs_num.specs.Places.{at_place}
-use Rattle.afs_num.specs.declared.types.Node.TheVariants.{Server}
+use Rattle.std.proofs.Common.{refl, arith, append_assoc, append-nil, ap, sym, subst, ◌∙◌, ◌≡◌, ◌+◌, ◌≤◌, ℕ, zero, suc, List, [], ◌∷◌, ◌++◌, length, false, Option}
 use Rattle.afs_history.specs.declared.scripts.Script.{Script}
-use Rattle.afs_disk.specs.declared.disks.Lent.{Lent}
 use Rattle.afs_volstore.specs.Stores.{Store}
 use Rattle.afs_host.specs.declared.seats.Seat.TheVariants.{Down, Up}
 use Rattle.afs_final.specs.Reading.{AreFound, IsRead}

@@ -1,6 +1,6 @@
 -- A store over a disk that was taken up anew.
-use Rattle.std.proofs.Common.{◌≡◌, ℕ, ◌+◌, Bool, true, false, List, length, Option, Some, None, Result, Ok, Err, is_some, refl, sym, ap, subst, ◌∙◌}
-use Rattle.std.specs.Prelude.{◌↔◌, IsSome, MatchResult}
+use Rattle.std.proofs.Common.{◌≡◌, ℕ, ◌+◌, Bool, false, List, length, Option, Some, None, Result, Ok, Err, is_some, refl, sym, ap, subst, ◌∙◌}
+use Rattle.std.specs.Prelude.{IsSome, MatchResult}
 use Rattle.afs_num.specs.declared.faults.StoreFault.{StoreFault}
 use Rattle.afs_num.specs.declared.types.Node.{Node}
 use Rattle.afs_disk.specs.Disk.{PassesAll, Setting}

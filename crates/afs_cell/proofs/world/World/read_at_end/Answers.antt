@@ -1,6 +1,5 @@
 use Rattle.std.proofs.Common.{ap, ap₂, arith, subst, sym, ◌∙◌, ◌≡◌, ◌++◌, List, length}
 use Rattle.afs_disk.specs.declared.disks.Lent.{Lent}
-use Rattle.afs_volstore.specs.Stores.{Store}
 use Rattle.afs_final.specs.Reading.{AreFound}
 use Rattle.afs_cell.specs.FirstSeats.{AreKeptSeats}
 use Rattle.afs_cell.specs.Readable.{AreReadable}
