@@ -59,13 +59,14 @@ pub struct Dropping {
     pub lines: Lines,
 }
 
-/// These lines, with room for so many more and for the one that ends a step.
+/// These lines, with room for so many more, for the one that ends a step, and for the one that comes before all of them where the step
+/// is told.
 fn with_room(lines: Lines, count: usize) -> Mem<Lines>
     requires { count < 2 ^ 63 }
     ensures { IfOk result (λ ls. ls ≡ lines) }
 {
     let mut items = lines.into_vec();
-    items.reserve(count + 1)?;
+    items.reserve(count + 2)?;
     Ok(Sequence::from_vec(items))
 }
 

@@ -285,27 +285,28 @@ impl CacheManager {
         }
     }
 
-    /// A message to this client.
-    fn take_message(&mut self, message: Message, now: u32) -> Mem<Outs>
-        requires sound { HasSpelling message }
+    /// What a message to this client carries.
+    fn take_carried(&mut self, head: &Head, carried: Carried, now: u32) -> Mem<Outs>
+        requires sound { HasSpelling (record { head = head.now; carried = carried }) }
         requires last { self.old.state.last < number_limit }
-        ensures { Takes (λ place. hears self.old.node self.old.state now place message.head message.carried) self.old self.new result }
+        ensures { Takes (λ place. hears self.old.node self.old.state now place head.now carried) self.old self.new result }
     {
-        let Message { head, carried } = message;
         match carried {
-            Carried::Call { call, .. } => self.called(&head, Asking::Call(call)),
-            other => self.hear(&head, other, now),
+            Carried::Call { call, .. } => self.called(head, Asking::Call(call)),
+            Carried::Refusal { .. } | Carried::Reply { .. } | Carried::Notice => {
+                self.hear(head, carried, now)
+            }
         }
     }
 
-    /// A message, if it is to this client.
-    fn take_whole(&mut self, message: Message, now: u32) -> Mem<Outs>
-        requires sound { HasSpelling message }
+    /// What a message carries, if it is to this client.
+    fn take_whole(&mut self, head: &Head, carried: Carried, now: u32) -> Mem<Outs>
+        requires sound { HasSpelling (record { head = head.now; carried = carried }) }
         requires last { self.old.state.last < number_limit }
-        ensures { Takes (λ place. takes_in self.old.node self.old.state now place (Received.Whole message)) self.old self.new result }
+        ensures { Takes (λ place. takes_in self.old.node self.old.state now place (Received.Whole (record { head = head.now; carried = carried }))) self.old self.new result }
     {
-        if message.head.to.is(&self.node) {
-            self.take_message(message, now)
+        if head.to.is(&self.node) {
+            self.take_carried(head, carried, now)
         } else {
             self.ignore()
         }
@@ -324,7 +325,9 @@ impl CacheManager {
                 let code = unreadable(&head);
                 self.take_asking(&head, Asking::Refused(code))
             }
-            Received::Whole { message } => self.take_whole(message, now),
+            Received::Whole {
+                message: Message { head, carried },
+            } => self.take_whole(&head, carried, now),
         }
     }
 }

@@ -15,6 +15,7 @@ mod Lifted
 mod Going
 mod Able
 mod Eventful
+mod DisksRead
 mod Scheduled
 mod Clocks
 mod Parts

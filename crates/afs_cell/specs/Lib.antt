@@ -5,6 +5,7 @@ pub mod Steps
 pub mod Happening
 pub mod Hearing
 pub mod Seating
+pub mod Readable
 pub mod Ready
 pub mod Meaning
 pub mod Noting

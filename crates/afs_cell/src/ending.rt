@@ -1,12 +1,16 @@
-//! The end of a cell's run: its disks.
+//! The end of a cell's run: its disks, and what they keep.
 
-ghost use Rattle.std.specs.Prelude.{◌≡◌};
+ghost use Rattle.std.specs.Prelude.{◌≡◌, false, IfErr, IfOk};
+ghost use Rattle.afs_final.specs.Reading.{AreFound};
 ghost use Rattle.afs_cell.specs.Since.{IsWorldSince, StandsSince};
 ghost use Rattle.afs_cell.specs.Steps.{lent_from, AreLent};
 
 use crate::disks::give_back;
+use crate::reading::left_of;
 use crate::world::World;
 use afs_disk::{Disk, Disks};
+use afs_final::Left;
+use afs_volstore::VolStore;
 
 impl<'a, D: Disk + Drop> World<'a, D> {
     /// The disks of the servers, in order of number. It takes no memory.
@@ -30,5 +34,34 @@ impl<'a, D: Disk + Drop> World<'a, D> {
         } = self;
         give_back(servers.into_vec(), &mut back);
         Disks::from_vec(back)
+    }
+
+    /// What the disks of the servers keep, in order of number: each is read. Where there is no memory for so many, they come back.
+    pub fn read_at_end(self) -> Result<Vec<Left<VolStore<D>, D>>, Disks<D>>
+        requires world { IsWorldSince D.seen D.may_leave D.faults D.limit self }
+        requires going { self.is_lost ≡ false }
+        ensures found { IfOk result (λ left. AreFound D.seen D.faults D.limit (lent_from 1 self.entry.servers) left.items) }
+        ensures back { IfErr result (λ disks. disks ≡ lent_from 1 self.entry.servers) }
+        ensures standing { StandsSince D.seen D.may_leave D.limit self.entry (lent_from 1 self.entry.servers) }
+    {
+        let World {
+            alloc,
+            script: _,
+            servers,
+            clients: _,
+            wire: _,
+            history: _,
+            gone: _,
+            clock: _,
+            is_lost: _,
+            mut back,
+        } = self;
+        match left_of(alloc, servers.into_vec()) {
+            Ok(left) => Ok(left),
+            Err(seats) => {
+                give_back(seats, &mut back);
+                Err(Disks::from_vec(back))
+            }
+        }
     }
 }

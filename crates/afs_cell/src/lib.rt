@@ -10,6 +10,7 @@ mod giving;
 mod happening;
 mod places;
 mod playing;
+mod reading;
 mod servers;
 mod setup;
 mod telling;

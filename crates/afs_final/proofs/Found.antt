@@ -1,16 +1,19 @@
--- What is read of disks, one after the other.
-use Rattle.std.proofs.Common.{◌≡◌, ℕ, ◌+◌, List, [], ◌∷◌, ◌++◌, Option, Some, None, refl, ap, sym, subst, ◌∙◌, append_assoc, append-nil}
+-- What is read of a disk.
+use Rattle.std.specs.Prelude.{◌≤◌, ◌↔◌, IsSome}
+use Rattle.std.proofs.Common.{◌≡◌, ℕ, ◌+◌, List, [], ◌∷◌, Option, Some, None, refl, ap, sym, ◌∙◌}
+use Rattle.afs_num.specs.declared.faults.StoreFault.{StoreFault}
+use Rattle.afs_num.specs.declared.faults.StoreFault.TheVariants as store
 use Rattle.afs_num.specs.declared.records.StoreRecord.{StoreRecord}
-use Rattle.afs_disk.specs.declared.disks.Lent.{Lent}
+use Rattle.afs_disk.specs.Disk.{Setting}
 use Rattle.afs_journal.specs.Records.{whole_records}
 use Rattle.afs_shape.specs.Taking.{◌>>=◌}
 use Rattle.afs_records.specs.Durable.{bad_by, bad_from, first_bad, first_folded, fold_all, fold_from, folded, nothing_on, Durable}
 use Rattle.afs_records.specs.Records.{record_at}
 use Rattle.afs_records.specs.Stands.{Stands}
 use Rattle.afs_records.proofs.Forms.{bound}
-use Rattle.afs_volstore.specs.Stores.{Store}
-use Rattle.afs_final.specs.Reading.{AreFound, AreReadable, IsRead}
-use Rattle.afs_final.specs.declared.reading.Left.{Left}
+use Rattle.afs_volstore.specs.Opening.{IsAttachFault}
+use Rattle.afs_volstore.specs.Stores.{IsCaused}
+use Rattle.afs_final.specs.Reading.{refused, IsRead}
 
 -- ---- records that stand for something can be taken
 
@@ -33,26 +36,20 @@ none_bad capacity (b ∷ bs) d h =
 none_some : (number : ℕ) → None ≡ Some number → ⊥
 none_some number e = absurd cc
 
-pub stands_for_none : (capacity number : ℕ) (bytes : List ℕ) (d : Durable) → first_bad capacity (whole_records bytes) ≡ Some number → d.capacity ≡ capacity → Stands bytes d → ⊥
+stands_for_none : (capacity number : ℕ) (bytes : List ℕ) (d : Durable) → first_bad capacity (whole_records bytes) ≡ Some number → d.capacity ≡ capacity → Stands bytes d → ⊥
 stands_for_none capacity number bytes d bad same stands =
     none_some number (sym (none_bad capacity (whole_records bytes) d (ap (λ (n : ℕ). fold_all n (whole_records bytes)) (sym same) ∙ stands)) ∙ bad)
 
--- ---- one disk after the other
+-- ---- a disk of which no store could be made
 
--- so far as disks were read, whatever is found on the others
-abbrev pub Completes : {D : Type 0} (seen : D → Option (List ℕ)) (faults limit : D → ℕ) (disks rest : List (Lent D)) (found : List (Left (Store D) D)) → Type 0
-Completes {D} seen faults limit disks rest found = (fs : List (Left (Store D) D)) → AreFound seen faults limit rest fs → AreFound seen faults limit disks (found ++ fs)
-
-pub one_found : {D : Type 0} (seen : D → Option (List ℕ)) (faults limit : D → ℕ) (disks rest more : List (Lent D)) (found longer : List (Left (Store D) D)) (l : Lent D) (f : Left (Store D) D)
-    → more ≡ l ∷ rest → longer ≡ found ++ f ∷ [] → IsRead seen faults limit l.disk f → Completes seen faults limit disks more found → Completes seen faults limit disks rest longer
-one_found {D} seen faults limit disks rest more found longer l f first put read all fs h =
-    let whole : AreFound seen faults limit disks (found ++ f ∷ fs) = all (f ∷ fs) (subst (λ (ls : List (Lent D)). AreFound seen faults limit ls (f ∷ fs)) (sym first) (read, h)) in
-    subst (λ (gs : List (Left (Store D) D)). AreFound seen faults limit disks gs) (sym (ap (λ (gs : List (Left (Store D) D)). gs ++ fs) put ∙ append_assoc found (f ∷ []) fs)) whole
-
-pub all_found : {D : Type 0} (seen : D → Option (List ℕ)) (faults limit : D → ℕ) (disks rest : List (Lent D)) (found : List (Left (Store D) D))
-    → rest ≡ [] → Completes seen faults limit disks rest found → AreFound seen faults limit disks found
-all_found {D} seen faults limit disks rest found none all =
-    subst (λ (gs : List (Left (Store D) D)). AreFound seen faults limit disks gs) (append-nil found) (all [] (subst (λ (ls : List (Lent D)). AreFound seen faults limit ls []) (sym none) tt))
-
-pub first_readable : {D : Type 0} (limit : D → ℕ) (rest more : List (Lent D)) (l : Lent D) → more ≡ l ∷ rest → AreReadable limit more → AreReadable limit (l ∷ rest)
-first_readable {D} limit rest more l first h = subst (λ (ls : List (Lent D)). AreReadable limit ls) first h
+pub refused_so : {D : Type 0} (seen : D → Option (List ℕ)) (faults limit : D → ℕ) (disk d : D) (setting : Setting) (last own_before own_now : ℕ) (refusal : StoreFault) → IsAttachFault refusal → faults disk ≤ faults d → IsSome (seen d) ↔ IsSome (seen disk)
+    → IsCaused setting last (faults disk) (faults d) own_before own_now refusal → ((n : ℕ) → refusal ≡ store.BadRecord n → (bytes : List ℕ) → seen disk ≡ Some bytes → first_bad (limit disk) (whole_records bytes) ≡ Some n) → IsRead seen faults limit disk (refused refusal d)
+refused_so {D} seen faults limit disk d setting last own_before own_now (store.Full used capacity) is falls told caused bad = absurd is
+refused_so {D} seen faults limit disk d setting last own_before own_now store.Failed is falls told caused bad = record { is = caused.0; never_falls = falls; told = told }
+refused_so {D} seen faults limit disk d setting last own_before own_now store.Closed is falls told caused bad = absurd is
+refused_so {D} seen faults limit disk d setting last own_before own_now (store.BadRecord n) is falls told caused bad = record {
+  is = λ bytes at p same stands. stands_for_none (limit disk) n bytes p (bad n refl bytes at) same stands;
+  never_falls = falls;
+  told = told;
+}
+refused_so {D} seen faults limit disk d setting last own_before own_now store.OutOfMemory is falls told caused bad = record { is = tt; never_falls = falls; told = told }

@@ -1,7 +1,7 @@
 -- What is found on the disks of the servers at the end of a run.
 use Rattle.std.specs.Prelude.{◌≡◌, ◌≤◌, ◌↔◌, ℕ, List, [], ◌∷◌, Option, Some, None, IsSome}
-use Rattle.afs_num.specs.Nodes.{IsNode}
-use Rattle.afs_num.specs.declared.types.Node.TheVariants.{Server}
+use Rattle.afs_num.specs.declared.faults.StoreFault.{StoreFault}
+use Rattle.afs_num.specs.declared.faults.StoreFault.TheVariants as store
 use Rattle.afs_disk.specs.Disk.{Rose}
 use Rattle.afs_disk.specs.declared.bank.LendFault.{LendFault}
 use Rattle.afs_disk.specs.declared.bank.LendFault.TheVariants as faults
@@ -25,6 +25,14 @@ part {D} (left.Kept s) = s.durable
 part {D} (left.Bad disk) = nothing_on 0
 part {D} (left.Failed disk) = nothing_on 0
 part {D} (left.Unread disk) = nothing_on 0
+
+-- a disk of which no store could be made, by the reason
+abbrev pub refused : {S D : Type 0} → StoreFault → D → Left S D
+refused {S} {D} (store.BadRecord number) disk = left.Bad disk
+refused {S} {D} store.OutOfMemory disk = left.Unread disk
+refused {S} {D} (store.Full used capacity) disk = left.Failed disk
+refused {S} {D} store.Failed disk = left.Failed disk
+refused {S} {D} store.Closed disk = left.Failed disk
 
 -- The bytes that the disk told stand for this, and its bytes stand for it still.
 pub record IsOfDisk {D : Type 0} (seen : D → Option (List ℕ)) (limit : D → ℕ) (disk : D) (s : Store D) : Type 0 where
@@ -51,11 +59,6 @@ AreFound {D} seen faults limit [] [] = Unit {0}
 AreFound {D} seen faults limit [] (f ∷ fs) = ⊥
 AreFound {D} seen faults limit (l ∷ ls) [] = ⊥
 AreFound {D} seen faults limit (l ∷ ls) (f ∷ fs) = IsRead seen faults limit l.disk f × AreFound seen faults limit ls fs
-
--- disks of servers, none longer than one may be
-abbrev pub AreReadable : {D : Type 0} → (D → ℕ) → List (Lent D) → Type 0
-AreReadable {D} limit [] = Unit {0}
-AreReadable {D} limit (l ∷ ls) = (IsNode (Server l.node) × (limit l.disk ≤ 268435456)) × AreReadable limit ls
 
 -- the first that can't be told
 abbrev pub fault_in : {D : Type 0} → List (Left (Store D) D) → Option LendFault

@@ -4,5 +4,5 @@
 mod reading;
 mod telling;
 
-pub use reading::{Left, disk_in, fault_in, left_of};
+pub use reading::{Left, disk_in, fault_in, read_disk, read_store};
 pub use telling::{Kept, put_final, told_of};

@@ -1,12 +1,13 @@
 //! The disks of the servers are read at the end of a run.
 
-ghost use Rattle.std.specs.Prelude.{◌≡◌, ◌≤◌, ◌<◌, ◌++◌, ◌∷◌, [], IfOk, IfErr, vec_len, vec_capacity};
+ghost use Rattle.std.specs.Prelude.{◌≡◌, ◌≤◌, false};
 ghost use Rattle.afs_num.specs.Nodes.{IsNode};
 ghost use Rattle.afs_num.specs.declared.types.Node.TheVariants.{Server};
-ghost use Rattle.afs_final.specs.Reading.{kept_disk, AreFound, AreReadable, IsRead};
+ghost use Rattle.afs_volstore.specs.Stores.{IsKept};
+ghost use Rattle.afs_final.specs.Reading.{kept_disk, IsRead};
 ghost use Rattle.afs_final.specs.Reading as read;
 
-use afs_disk::{Disk, Disks, LendFault, Lent};
+use afs_disk::{Disk, Fuse, LendFault};
 use afs_num::faults::StoreFault;
 use afs_num::records::Mark;
 use afs_num::types::Node;
@@ -29,49 +30,40 @@ pub enum Left<S, D> {
     Unread(D),
 }
 
-/// What a server's disk keeps, by its records.
-fn left_at<D: Disk>(alloc: Global, server: u32, disk: D) -> Left<VolStore<D>, D>
+/// A disk of which no store could be made, by the reason.
+fn refused<S, D>(refusal: StoreFault, disk: D) -> Left<S, D>
+    ensures { result ≡ read.refused refusal disk }
+{
+    match refusal {
+        StoreFault::BadRecord(_) => Left::Bad(disk),
+        StoreFault::OutOfMemory => Left::Unread(disk),
+        StoreFault::Full(_, _) | StoreFault::Failed | StoreFault::Closed => Left::Failed(disk),
+    }
+}
+
+/// What the disk of a server keeps, by its records.
+pub fn read_disk<D: Disk>(alloc: Global, server: u32, disk: D) -> Left<VolStore<D>, D>
     requires node { IsNode (Server server) }
     requires limit { D.limit disk ≤ 268435456 }
     ensures { IsRead D.seen D.faults D.limit disk result }
 {
     match VolStore::attach(alloc, disk, Node::Server(server as u8), NO_MARK) {
         Ok((store, _lines)) => Left::Kept(store),
-        Err((StoreFault::BadRecord(_), disk)) => Left::Bad(disk),
-        Err((StoreFault::OutOfMemory, disk)) => Left::Unread(disk),
-        Err((_, disk)) => Left::Failed(disk),
+        Err((refusal, disk)) => refused(refusal, disk),
     }
 }
 
-/// One more, for which there is a place.
-fn put_last<T>(all: &mut Vec<T>, one: T)
-    requires { vec_len all.old < vec_capacity all.old }
-    ensures items { all.new.items ≡ all.old.items ++ one ∷ [] }
-    ensures room { vec_capacity all.old ≤ vec_capacity all.new }
+/// What the disk of a server keeps that has a store over it: it is read as another is, and the store has what its records make.
+pub fn read_store<D: Disk>(store: VolStore<Fuse<D>>) -> Left<VolStore<D>, D>
+    requires open { store.closed ≡ false }
+    requires limit { D.limit store.disk.disk ≤ 268435456 }
+    ensures read { IsRead D.seen D.faults D.limit store.disk.disk result }
+    ensures was { IsKept store.durable (D.seen store.disk.disk) (D.may_leave store.disk.disk) × (store.durable.capacity ≡ D.limit store.disk.disk) }
 {
-    match all.push(one) {
-        Ok(()) => {}
-        Err(_) => unreachable!(),
+    match store.attach_again() {
+        Ok(store) => Left::Kept(store),
+        Err((refusal, disk)) => refused(refusal, disk),
     }
-}
-
-/// What the disks keep, in their order. Where there is no memory for so many, they come back.
-pub fn left_of<D: Disk + Drop>(
-    alloc: Global,
-    disks: Disks<D>,
-) -> Result<Vec<Left<VolStore<D>, D>>, Disks<D>>
-    requires { AreReadable D.limit disks }
-    ensures found { IfOk result (λ left. AreFound D.seen D.faults D.limit disks left.items) }
-    ensures back { IfErr result (λ ds. ds ≡ disks) }
-{
-    let Ok(mut left) = Vec::with_capacity(alloc, disks.len()) else {
-        return Err(disks);
-    };
-    for lent in disks.into_vec() {
-        let Lent { node, disk } = lent;
-        put_last(&mut left, left_at(alloc, node, disk));
-    }
-    Ok(left)
 }
 
 /// Why what the disks keep can't be told: one of them failed, or memory was wanting for what it holds. The first counts.

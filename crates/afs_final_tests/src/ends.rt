@@ -1,15 +1,16 @@
 //! Three servers at the end of a run: one whose volumes were changed, one without a record, one as set-up left it. The reference
 //! program tells what these records make so.
 
-ghost use Rattle.std.specs.Prelude.{◌≡◌, ◌∷◌, [], IfOk};
+ghost use Rattle.std.specs.Prelude.{◌≤◌};
 
 use crate::vectors::{change, first};
-use afs_disk::{Disk, Disks, Lent, MemDisk};
-use afs_final::{fault_in, left_of, put_final, told_of};
+use afs_disk::{Disk, MemDisk};
+use afs_final::{Left, fault_in, put_final, read_disk, told_of};
 use afs_journal::Journal;
 use afs_num::sequences::{Octets, Records};
 use afs_num::types::Mem;
 use afs_outside::memory::MemSink;
+use afs_volstore::VolStore;
 use std::alloc::Global;
 use std::test::Fail;
 
@@ -71,18 +72,15 @@ fn disk(alloc: Global, changed: bool) -> Option<MemDisk> {
     disk_with(alloc, &records)
 }
 
-/// The disks of the servers 1 to 3.
-fn lent<D: Disk + Drop>(alloc: Global, one: D, two: D, three: D) -> Mem<Disks<D>>
-    ensures { IfOk result (λ ds. ds ≡ record { node = 1; disk = one } ∷ record { node = 2; disk = two } ∷ record { node = 3; disk = three } ∷ []) }
+/// What the disks of the servers 1 to 3 keep.
+fn left<D: Disk + Drop>(alloc: Global, one: D, two: D, three: D) -> Mem<Vec<Left<VolStore<D>, D>>>
+    requires { (D.limit one ≤ 268435456) × ((D.limit two ≤ 268435456) × (D.limit three ≤ 268435456)) }
 {
-    let mut disks = Disks::new(alloc);
-    disks.push(Lent { node: 1, disk: one })?;
-    disks.push(Lent { node: 2, disk: two })?;
-    disks.push(Lent {
-        node: 3,
-        disk: three,
-    })?;
-    Ok(disks)
+    let mut left = Vec::new(alloc);
+    left.push(read_disk(alloc, 1, one))?;
+    left.push(read_disk(alloc, 2, two))?;
+    left.push(read_disk(alloc, 3, three))?;
+    Ok(left)
 }
 
 /// Writes the final part of three disks, none of which failed.
@@ -90,8 +88,7 @@ fn put<D: Disk + Drop>(alloc: Global, one: D, two: D, three: D) -> Option<Octets
     if one.capacity() > MOST || two.capacity() > MOST || three.capacity() > MOST {
         return None;
     }
-    let disks = lent(alloc, one, two, three).ok()?;
-    let left = left_of(alloc, disks).ok()?;
+    let left = left(alloc, one, two, three).ok()?;
     if left.len() > 8 || fault_in(left.as_slice()).is_some() {
         return None;
     }

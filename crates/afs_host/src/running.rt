@@ -171,6 +171,18 @@ impl<D: Disk> Running<D> {
         Resting::of(store)
     }
 
+    /// The store.
+    pub fn into_store(self) -> VolStore<Fuse<D>>
+        ensures { result ≡ self.store }
+    {
+        let Running {
+            server: _,
+            store,
+            armed: _,
+        } = self;
+        store
+    }
+
     /// The disk. While the server is up it stands for what the store keeps, and no crash leaves another.
     pub fn into_disk(self) -> D
         ensures value { result ≡ disk_of self }

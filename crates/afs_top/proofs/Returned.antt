@@ -1,9 +1,7 @@
 -- Where a world that was played ends, by what its parts promise.
-use Rattle.std.specs.Prelude.{◌≡◌, ◌≤◌, ◌⊎◌, ℕ, zero, suc, ◌+◌, List, [], ◌∷◌, ◌++◌, length, map, Bool, false, Option, Result, Ok, Err, OnOk, OnErr}
+use Rattle.std.specs.Prelude.{◌≡◌, ◌≤◌, ◌⊎◌, ℕ, suc, ◌+◌, List, [], ◌∷◌, length, map, Bool, false, Option, Result, Ok, Err, OnOk, OnErr}
 use Rattle.std.proofs.Common.{refl, ap, sym, subst, inl, inr, arith}
-use Rattle.afs_num.specs.Nodes.{IsNode}
 use Rattle.afs_num.specs.declared.devices.Failed as bank
-use Rattle.afs_num.specs.declared.types.Node.TheVariants.{Server}
 use Rattle.afs_history.specs.declared.scripts.Script.{Script}
 use Rattle.afs_disk.specs.Disk.{Rose}
 use Rattle.afs_disk.specs.declared.disks.Lent.{Lent}
@@ -13,9 +11,9 @@ use Rattle.afs_outside.specs.declared.outside.Failed.{Failed}
 use Rattle.afs_text.specs.FinalText.{final_text}
 use Rattle.afs_volstore.specs.Stores.{Store}
 use Rattle.afs_cell.specs.Since.{whole, StandsSince}
-use Rattle.afs_cell.specs.Steps.{lent_from, AreLent, AreStanding, HasPlayedAll, HasPlayedFirst, HasPlayedSome}
+use Rattle.afs_cell.specs.Steps.{lent_from, AreStanding, HasPlayedAll, HasPlayedFirst, HasPlayedSome}
 use Rattle.afs_cell.specs.Worlds.{AllTell, HistoryTold, IsWorld, ServerSeat, WorldState}
-use Rattle.afs_final.specs.Reading.{fault_in, part, AreFound, AreReadable}
+use Rattle.afs_final.specs.Reading.{fault_in, part, AreFound}
 use Rattle.afs_final.specs.declared.reading.Left.{Left}
 use Rattle.afs_lending.specs.Lending.{faults_of, kept_disks, with_faults, GivesBackAll, GivesBackSome}
 use Rattle.afs_top.specs.Outside.{Outside, Writes}
@@ -26,34 +24,11 @@ use Rattle.afs_top.specs.declared.statuses.Status.{Status}
 use Rattle.afs_top.specs.declared.statuses.Status.TheVariants as statuses
 use Rattle.afs_top.proofs.Ended.{all_wanted, ended, entries_of, wanted, was_cut, GoesBack, HasEnded}
 
--- ---- the disks can be read
-
-server_is_node : (i : ℕ) → 1 ≤ i → i ≤ 8 → IsNode (Server i)
-server_is_node zero low high = absurd (omega (arith, low))
-server_is_node (suc zero) low high = refl
-server_is_node (suc (suc zero)) low high = refl
-server_is_node (suc (suc (suc zero))) low high = refl
-server_is_node (suc (suc (suc (suc zero)))) low high = refl
-server_is_node (suc (suc (suc (suc (suc zero))))) low high = refl
-server_is_node (suc (suc (suc (suc (suc (suc zero)))))) low high = refl
-server_is_node (suc (suc (suc (suc (suc (suc (suc zero))))))) low high = refl
-server_is_node (suc (suc (suc (suc (suc (suc (suc (suc zero)))))))) low high = refl
-server_is_node (suc (suc (suc (suc (suc (suc (suc (suc (suc n))))))))) low high = absurd (omega (arith, high))
-
-readable_from : {D : Type 0} (limit : D → ℕ) (capacity i : ℕ) (ls : List (Lent D)) → AreLent limit capacity i ls → capacity ≤ 268435456 → 1 ≤ i → i + length ls ≤ 9 → AreReadable limit ls
-readable_from {D} limit capacity i [] lent short low few = tt
-readable_from {D} limit capacity i (l ∷ ls) lent short low few =
-    let here : l.node ≡ i = lent.0 in
-    let size : limit l.disk ≡ capacity = lent.1.0 in
-    ((server_is_node l.node (omega (arith, here, low)) (omega (arith, here, few)), omega (arith, size, short)), readable_from limit capacity (i + 1) ls lent.1.1 short (omega (arith, low)) (omega (arith, few)))
+-- ---- the disks that were read
 
 lent_length : {D : Type 0} (i : ℕ) (ss : List (ServerSeat D)) → length (lent_from i ss) ≡ length ss
 lent_length {D} i [] = refl
 lent_length {D} i (s ∷ ss) = ap suc (lent_length (i + 1) ss)
-
-pub readable : {D : Type 0} (seen : D → Option (List ℕ)) (may_leave : D → List ℕ → Type 0) (faults limit : D → ℕ) (s : Script) (w : WorldState D) (disks : List (Lent D)) → IsWorld seen may_leave faults limit s w → disks ≡ lent_from 1 w.servers → AreLent limit s.capacity 1 disks → AreReadable limit disks
-readable {D} seen may_leave faults limit s w disks is are lent =
-    readable_from limit s.capacity 1 disks lent is.safe.cell_script.capacity.1 (omega (arith)) (omega (arith, ap (λ (ls : List (Lent D)). length ls) are, lent_length 1 w.servers, is.safe.server_count, is.safe.cell_script.servers.1))
 
 found_length : {D : Type 0} (seen : D → Option (List ℕ)) (faults limit : D → ℕ) (ls : List (Lent D)) (fs : List (Left (Store D) D)) → AreFound seen faults limit ls fs → length fs ≡ length ls
 found_length {D} seen faults limit [] [] found = refl
@@ -61,9 +36,8 @@ found_length {D} seen faults limit [] (f ∷ fs) found = absurd found
 found_length {D} seen faults limit (l ∷ ls) [] found = absurd found
 found_length {D} seen faults limit (l ∷ ls) (f ∷ fs) found = ap suc (found_length seen faults limit ls fs found.1)
 
-pub few_left : {D : Type 0} (seen : D → Option (List ℕ)) (may_leave : D → List ℕ → Type 0) (faults limit : D → ℕ) (s : Script) (w : WorldState D) (disks : List (Lent D)) (fs : List (Left (Store D) D)) → IsWorld seen may_leave faults limit s w → disks ≡ lent_from 1 w.servers → AreFound seen faults limit disks fs → length fs ≤ 8
-few_left {D} seen may_leave faults limit s w disks fs is are found =
-    omega (arith, found_length seen faults limit disks fs found, ap (λ (ls : List (Lent D)). length ls) are, lent_length 1 w.servers, is.safe.server_count, is.safe.cell_script.servers.1)
+pub few_left : {D : Type 0} (seen : D → Option (List ℕ)) (may_leave : D → List ℕ → Type 0) (faults limit : D → ℕ) (s : Script) (w : WorldState D) (fs : List (Left (Store D) D)) → IsWorld seen may_leave faults limit s w → AreFound seen faults limit (lent_from 1 w.servers) fs → length fs ≤ 8
+few_left {D} seen may_leave faults limit s w fs is found = omega (arith, found_length seen faults limit (lent_from 1 w.servers) fs found, lent_length 1 w.servers, is.safe.server_count, is.safe.cell_script.servers.1)
 
 -- ---- the world ends
 

@@ -23,7 +23,7 @@ use crate::statuses::Status;
 use afs_cell::faults::SetupFault;
 use afs_cell::{World, set_up};
 use afs_disk::{Bank, Disk, Disks, LendFault, Place};
-use afs_final::{Kept, Left, fault_in, left_of, put_final, told_of};
+use afs_final::{Kept, Left, fault_in, put_final, told_of};
 use afs_history::scripts::Script;
 use afs_law::laws::runs_are_legal;
 use afs_lending::{give_back, give_back_all, lend_all};
@@ -134,8 +134,7 @@ fn end<K: Sink, B: Bank<D: Drop>>(
     ensures never_falls { B.faults bank.old ≤ B.faults bank.new }
 {
     runs_are_legal();
-    let disks = world.end();
-    let left = match left_of(alloc, disks) {
+    let left = match world.read_at_end() {
         Ok(left) => left,
         Err(disks) => return give_up(bank, disks, Status::OutOfMemory),
     };

@@ -1,3 +1,4 @@
 mod Hints
 mod Kept
+mod Lowest
 mod Places

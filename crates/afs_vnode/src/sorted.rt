@@ -130,18 +130,34 @@ pub fn remove(vnodes: &mut Vec<Vnode>, number: u32) -> bool
     }
 }
 
-/// The lowest of this number and the next ones of its parity that no vnode has.
+/// The lowest of this number and the next ones of its parity that none of these vnodes has.
+fn first_free(vnodes: &[Vnode], from: u32) -> u32
+    requires few { length vnodes.now ≤ most_vnodes }
+    requires low { from ≤ 10000 }
+    ensures { result ≡ lowest_free from (table_of vnodes.now) }
+{
+    let mut number = from;
+    for v in vnodes {
+        if number < v.vnode {
+            return number;
+        }
+        if v.vnode == number {
+            number += 2;
+        }
+    }
+    number
+}
+
+/// The lowest of this number and the next ones of its parity that no vnode has. It looks at no vnode of a lower number.
+#[tactic(auto, using(crate::proofs::Lowest::from_place))]
 pub fn free_number(vnodes: &[Vnode], from: u32) -> u32
     requires ascends { AscendsFrom 0 (table_of vnodes.now) }
     requires few { length vnodes.now ≤ most_vnodes }
     requires low { from ≤ 10000 }
     ensures { result ≡ lowest_free from (table_of vnodes.now) }
 {
-    let mut number = from;
-    while find(vnodes, number).is_some() {
-        number += 2;
-    }
-    number
+    let (_, behind) = vnodes.split_at(place(vnodes, from));
+    first_free(behind, from)
 }
 
 /// The lowest number that no directory, or no file or link, has, where none below the hint is free.

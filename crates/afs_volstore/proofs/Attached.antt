@@ -31,14 +31,17 @@ pub stands_so : (gate limit size : ℕ) (parts : Durable) (records : List (List 
 stands_so gate limit size parts records long ends folds =
     folds ∙ ap (λ (j : ℕ). Some (placed j limit parts)) (let z : 1 + places_length records ≡ gate + 1 = omega (arith, long, ends, journal_length records) in z)
 
-pub kept_so : (gate limit size : ℕ) (parts : Durable) (records : List (List ℕ)) (seen : Option (List ℕ)) (may_leave : List ℕ → Type 0) → IsJournal records seen may_leave → ((bytes : List ℕ) → seen ≡ Some bytes → length bytes ≡ size) → size ≡ gate + 1
-    → fold_all limit records ≡ Some (placed (1 + places_length records) limit parts) → IsKept (placed (gate + 1) limit parts) seen may_leave
-kept_so gate limit size parts records seen may_leave journal measures ends folds = record {
-  stands = λ bytes at.
-      let here : journal_bytes records ≡ bytes = some_is (journal_bytes records) bytes (sym journal.now ∙ at) in
-      subst (λ (rs : List (List ℕ)). StandFor rs (placed (gate + 1) limit parts)) (sym (ap whole_records (sym here) ∙ journal.stands)) (stands_so gate limit size parts records (measures (journal_bytes records) journal.now) ends folds);
+-- the disk is at rest with records that stand for this
+kept_by : (d : Durable) (records : List (List ℕ)) (seen : Option (List ℕ)) (may_leave : List ℕ → Type 0) → IsJournal records seen may_leave → StandFor records d → IsKept d seen may_leave
+kept_by d records seen may_leave journal stands = record {
+  stands = λ bytes at. subst (λ (rs : List (List ℕ)). StandFor rs d) (sym (ap whole_records (some_is bytes (journal_bytes records) (sym at ∙ journal.now)) ∙ journal.stands)) stands;
   durable = λ bytes at c left. journal.durable c left ∙ some_is (journal_bytes records) bytes (sym journal.now ∙ at);
 }
+
+pub kept_so : (gate limit size : ℕ) (parts : Durable) (records : List (List ℕ)) (seen : Option (List ℕ)) (may_leave : List ℕ → Type 0) → IsJournal records seen may_leave → ((bytes : List ℕ) → seen ≡ Some bytes → length bytes ≡ size) → size ≡ gate + 1
+    → fold_all limit records ≡ Some (placed (1 + places_length records) limit parts) → IsKept (placed (gate + 1) limit parts) seen may_leave
+kept_so gate limit size parts records seen may_leave journal measures ends folds =
+    kept_by (placed (gate + 1) limit parts) records seen may_leave journal (stands_so gate limit size parts records (measures (journal_bytes records) journal.now) ends folds)
 
 -- what is kept where the disk told its bytes before
 pub kept_where : (d : Durable) (seen before : Option (List ℕ)) (may_leave : List ℕ → Type 0) → (is_some seen ≡ true → is_some before ≡ true) → ((bytes : List ℕ) → before ≡ Some bytes → IsKept d seen may_leave) → IsKept d seen may_leave
@@ -47,6 +50,12 @@ kept_where d seen before may_leave told kept = record {
   durable = λ bytes at. (let was = some_bytes before (told (ap is_some at)) in (kept was.0 was.1).durable bytes at);
 }
 
+-- What was kept is kept of a disk that was taken up anew: its records are the same.
+pub kept_again : (d : Durable) (before seen : Option (List ℕ)) (may_leave might_leave : List ℕ → Type 0) → IsKept d before might_leave → ((bytes : List ℕ) → before ≡ Some bytes → IsJournal (whole_records bytes) seen may_leave) → (is_some seen ≡ true → is_some before ≡ true)
+    → IsKept d seen may_leave
+kept_again d before seen may_leave might_leave kept rests told =
+    kept_where d seen before may_leave told (λ bytes at. kept_by d (whole_records bytes) seen may_leave (rests bytes at) (kept.stands bytes at))
+
 -- what records that were found make
 pub record AreFolded (found slice : List (List ℕ)) (parts : Durable) : Type 0 where
   pub same : slice ≡ found
@@ -54,6 +63,11 @@ pub record AreFolded (found slice : List (List ℕ)) (parts : Durable) : Type 0 
 
 pub found_fold : (found slice records : List (List ℕ)) (parts : Durable) (c : ℕ) → AreFolded found slice parts → found ≡ records → fold_all c records ≡ Some (placed (1 + places_length records) c parts)
 found_fold found slice records parts c are is = subst (λ (rs : List (List ℕ)). fold_all c rs ≡ Some (placed (1 + places_length rs) c parts)) (are.same ∙ is) (are.folds c)
+
+pub kept_folded : (gate limit size : ℕ) (parts : Durable) (found slice : List (List ℕ)) (seen : Option (List ℕ)) (may_leave : List ℕ → Type 0) → AreFolded found slice parts → ((bytes : List ℕ) → seen ≡ Some bytes → IsJournal found seen may_leave)
+    → ((bytes : List ℕ) → seen ≡ Some bytes → length bytes ≡ size) → size ≡ gate + 1 → IsKept (placed (gate + 1) limit parts) seen may_leave
+kept_folded gate limit size parts found slice seen may_leave are rests measures ends =
+    kept_where (placed (gate + 1) limit parts) seen seen may_leave (λ e. e) (λ bytes at. kept_so gate limit size parts found seen may_leave (rests bytes at) measures ends (found_fold found slice found parts limit are refl))
 
 pub kept_taken_up : (gate limit size : ℕ) (parts : Durable) (found slice : List (List ℕ)) (before seen : Option (List ℕ)) (may_leave : List ℕ → Type 0) → AreFolded found slice parts → ((bytes : List ℕ) → before ≡ Some bytes → found ≡ whole_records bytes)
     → ((bytes : List ℕ) → before ≡ Some bytes → IsJournal (whole_records bytes) seen may_leave) → (is_some seen ≡ true → is_some before ≡ true) → ((bytes : List ℕ) → seen ≡ Some bytes → length bytes ≡ size) → size ≡ gate + 1

@@ -11,5 +11,6 @@ mod Patched
 mod Patches
 mod Readied
 mod Redone
+mod Reread
 mod Told
 mod Waiting

@@ -8,6 +8,7 @@ pub mod Opening
 pub mod Patching
 pub mod Preparing
 pub mod Redoing
+pub mod Rereading
 pub mod Redos
 pub mod States
 pub mod Stores

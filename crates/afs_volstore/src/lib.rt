@@ -17,6 +17,7 @@ mod readying;
 mod redo;
 mod redoing;
 mod replaying;
+mod rereading;
 mod setup;
 mod standing;
 mod state;

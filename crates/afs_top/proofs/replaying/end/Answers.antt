@@ -1,29 +1,26 @@
-use Rattle.std.proofs.Common.{ℕ, arith}
+use Rattle.std.proofs.Common.{arith, refl}
 use Rattle.afs_cell.specs.Since.{whole}
-use Rattle.afs_top.proofs.Returned.{end_of, few_left, readable, unread_of}
+use Rattle.afs_cell.specs.Steps.{lent_from}
+use Rattle.afs_top.proofs.Returned.{end_of, few_left, unread_of}
 use Rattle.afs_top.proofs.Written.{written_by}
 use Rattle.afs_top.proofs.replaying.end.Goals as goal
 
-pub left_of-requires : goal.left_of-requires
-left_of-requires g c = readable g.B.D.Disk.seen g.B.D.Disk.may_leave g.B.D.Disk.faults g.B.D.Disk.limit c.args.world.script (whole c.requires.world.before c.args.world) c.end-disks.result c.requires.world.world c.end-disks.ensures.disks c.end-disks.ensures.lent
-
 pub tell_left-status-requires : goal.tell_left-status-requires
 tell_left-status-requires g c = record {
-  few = rw (c.as_slice.ensures.value) (few_left g.B.D.Disk.seen g.B.D.Disk.may_leave g.B.D.Disk.faults g.B.D.Disk.limit c.args.world.script (whole c.requires.world.before c.args.world) c.end-disks.result c.in-Ok.left.items c.requires.world.world c.end-disks.ensures.disks c.in-Ok.ensures.found);
+  few = rw (c.as_slice.ensures.value) (few_left g.B.D.Disk.seen g.B.D.Disk.may_leave g.B.D.Disk.faults g.B.D.Disk.limit c.args.world.script (whole c.requires.world.before c.args.world) c.in-Ok.left.items c.requires.world.world c.in-Ok.ensures.found);
 }
 
 pub give_back-taken-requires : goal.give_back-taken-requires
-give_back-taken-requires g c =
-    omega (arith, few_left g.B.D.Disk.seen g.B.D.Disk.may_leave g.B.D.Disk.faults g.B.D.Disk.limit c.args.world.script (whole c.requires.world.before c.args.world) c.end-disks.result c.in-Ok.left.items c.requires.world.world c.end-disks.ensures.disks c.in-Ok.ensures.found)
+give_back-taken-requires g c = omega (arith, few_left g.B.D.Disk.seen g.B.D.Disk.may_leave g.B.D.Disk.faults g.B.D.Disk.limit c.args.world.script (whole c.requires.world.before c.args.world) c.in-Ok.left.items c.requires.world.world c.in-Ok.ensures.found)
 
 pub returns-in-Err-clause-ends : goal.returns-in-Err-clause-ends
 returns-in-Err-clause-ends g c = λ wire start count gone told.
-    unread_of g.B.D.Disk.seen g.B.D.Disk.may_leave g.B.D.Disk.faults g.B.D.Disk.limit wire start count gone c.args.world _ _ c.args.written c.end-disks.result _ c.runs_are_legal.ensures c.requires.one told
+    unread_of g.B.D.Disk.seen g.B.D.Disk.may_leave g.B.D.Disk.faults g.B.D.Disk.limit wire start count gone c.args.world _ _ c.args.written (lent_from 1 c.args.world.servers) _ c.runs_are_legal.ensures c.requires.one told
     (rw (← c.in-Err.ensures.back) c.give_up.ensures.given) (rw (← c.in-Err.ensures.back) c.give_up.ensures.some) (rw (← c.in-Err.ensures.back) c.give_up.ensures.faults) c.give_up.ensures.never_falls
-    (record { are = c.end-disks.ensures.disks; standing = c.end-disks.ensures.standing }) (written_by _ start _ count _ c.args.written told.text) _ c.give_up.ensures.status
+    (record { are = refl; standing = c.in-Err.ensures.standing }) (written_by _ start _ count _ c.args.written told.text) _ c.give_up.ensures.status
 
 pub returns-clause-ends : goal.returns-clause-ends
 returns-clause-ends g c = λ wire start count gone told.
-    end_of g.B.D.Disk.seen g.B.D.Disk.may_leave g.B.D.Disk.faults g.B.D.Disk.limit wire start count gone c.args.world _ _ c.args.written c.end-disks.result _ c.runs_are_legal.ensures c.requires.one told c.in-Ok.left.items c.tell_left-status.result _ c.give_back-taken.result
-    c.requires.going (record { are = c.end-disks.ensures.disks; standing = c.end-disks.ensures.standing }) c.in-Ok.ensures.found (rw (c.as_slice.ensures.value) at (c.tell_left-status.ensures _ start count told.text)) c.give_back-taken.ensures.all c.give_back-taken.ensures.some c.give_back-taken.ensures.cause
+    end_of g.B.D.Disk.seen g.B.D.Disk.may_leave g.B.D.Disk.faults g.B.D.Disk.limit wire start count gone c.args.world _ _ c.args.written (lent_from 1 c.args.world.servers) _ c.runs_are_legal.ensures c.requires.one told c.in-Ok.left.items c.tell_left-status.result _ c.give_back-taken.result
+    c.requires.going (record { are = refl; standing = c.in-Ok.ensures.standing }) c.in-Ok.ensures.found (rw (c.as_slice.ensures.value) at (c.tell_left-status.ensures _ start count told.text)) c.give_back-taken.ensures.all c.give_back-taken.ensures.some c.give_back-taken.ensures.cause
     c.give_back-taken.ensures.faults c.give_back-taken.ensures.never_falls c.returned.ensures

@@ -11,7 +11,7 @@ use Rattle.afs_cache.proofs.node.CacheManager.take_whole.Goals as goal
 pub returns-then-is : goal.returns-then-is
 returns-then-is c =
     let old = c.args.self.now in
-    let head = c.args.message.head in
+    let head = c.args.head.now in
     let here = c.if-is.ensures ∙ ap (λ (n : NodeState ClientState). same_node head.to n.node) c.self.view_is in
-    takes_same (λ (place : ℕ). hears old.node old.state c.args.now place head c.args.message.carried) (λ (place : ℕ). takes_in old.node old.state c.args.now place (Whole c.args.message)) old c.take_message.new.self c.take_message.result
-    (λ place. chosen (same_node head.to old.node) (hears old.node old.state c.args.now place head c.args.message.carried) (ignores old.state place) here) c.take_message.ensures
+    takes_same (λ (place : ℕ). hears old.node old.state c.args.now place head c.args.carried) (λ (place : ℕ). takes_in old.node old.state c.args.now place (Whole (record { head = c.args.head.now; carried = c.args.carried }))) old c.take_carried.new.self c.take_carried.result
+    (λ place. chosen (same_node head.to old.node) (hears old.node old.state c.args.now place head c.args.carried) (ignores old.state place) here) c.take_carried.ensures
