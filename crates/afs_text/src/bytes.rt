@@ -1,13 +1,13 @@
 //! Contents and names as texts.
 
-ghost use Rattle.std.specs.Prelude.{◌≡◌, ◌+◌, ◌*◌, ◌<◌, ◌≤◌, ◌++◌, true, false, length};
+ghost use Rattle.std.specs.Prelude.{◌≡◌, ◌+◌, ◌*◌, ◌/◌, ◌%◌, ◌<◌, ◌≤◌, [], ◌∷◌, ◌++◌, map, true, false, length, take};
 ghost use Rattle.std.specs.Fmt.{digit_glyph};
-ghost use Rattle.std.specs.List.{list_all};
+ghost use Rattle.std.specs.List.{flat_map, list_all, All};
 ghost use Rattle.afs_outside.specs.Outside.{Puts};
-ghost use Rattle.afs_text.specs.Laying.{Lays};
+ghost use Rattle.afs_text.specs.Laying.{halves_of, Lays, LaysAt};
 ghost use Rattle.afs_model.specs.LineText.{hex_byte, hex_text, is_plain, name_byte, name_text};
 
-use crate::laying::{Short, TextPiece, put_piece};
+use crate::laying::{Short, TextPiece, lay_byte, lay_two, put_piece};
 use crate::pieces::Print;
 use afs_outside::outside::{Failed, Sink, put_bytes};
 
@@ -16,10 +16,8 @@ fn hex_digit(n: u8) -> u8
     requires { n < 16 }
     ensures { result ≡ digit_glyph false n }
 {
-    match n {
-        0..=9 => b'0' + n,
-        _ => b'a' + (n - 10),
-    }
+    let letter = if 9 < n { b'a' - b'9' - 1 } else { 0 };
+    b'0' + n + letter
 }
 
 /// The upper-case hexadecimal digit of a number below 16.
@@ -36,6 +34,32 @@ fn upper_hex_digit(n: u8) -> u8
 /// How many bytes are spelled at once, on the stack.
 const CHUNK: usize = 256;
 
+/// Parts bytes into their halves, each of which is a number below 16. This and the digits of them are two loops, as a compiler then takes
+/// sixteen of them at once.
+fn part(bytes: &[u8], halves: &mut [u8])
+    requires { 2 * length bytes.now ≤ length halves.old }
+    ensures parted { take (2 * length bytes.now) halves.new ≡ flat_map halves_of bytes.now }
+    ensures small { All (λ n. n < 16) (take (2 * length bytes.now) halves.new) }
+    ensures room { length halves.new ≡ length halves.old }
+{
+    for (i, byte) in bytes.iter().enumerate() {
+        halves[2 * i] = *byte / 16;
+        halves[2 * i + 1] = *byte % 16;
+    }
+}
+
+/// Makes digits of numbers below 16.
+fn spell(halves: &mut [u8])
+    requires { All (λ n. n < 16) halves.old }
+    ensures { halves.new ≡ map (digit_glyph false) halves.old }
+{
+    let mut i = 0;
+    while i < halves.len() {
+        halves[i] = hex_digit(halves[i]);
+        i += 1;
+    }
+}
+
 /// Spells bytes at the front of a buffer of so many digits.
 #[tactic(auto, unfolding(afs_model::specs::LineText::hex_text))]
 fn put_chunk<K: Sink>(sink: &mut K, bytes: &[u8]) -> Result<(), Failed>
@@ -43,11 +67,10 @@ fn put_chunk<K: Sink>(sink: &mut K, bytes: &[u8]) -> Result<(), Failed>
     ensures { Puts (hex_text bytes.now) (K.held sink.old) (K.held sink.new) (K.faults sink.old) (K.faults sink.new) result }
 {
     let mut digits = [0; 2 * CHUNK];
-    for (i, byte) in bytes.iter().enumerate() {
-        digits[2 * i] = hex_digit(*byte / 16);
-        digits[2 * i + 1] = hex_digit(*byte % 16);
-    }
-    put_bytes(sink, digits.split_at(2 * bytes.len()).0)
+    part(bytes, &mut digits);
+    let (front, _behind) = digits.split_at_mut(2 * bytes.len());
+    spell(front);
+    put_bytes(sink, front)
 }
 
 /// Bytes as hexadecimal digits.
@@ -80,12 +103,24 @@ pub(crate) fn lay_hex<K: Sink>(
     Hex(bytes).print(sink)
 }
 
+/// 1 for each byte that stands in a name as itself: the letters, the digits, `.`, `_` and `-`.
+static PLAIN: [u8; 256] = [
+    0, 0, 0, 0, 0, 0, 0, 0, 0, 0, 0, 0, 0, 0, 0, 0, 0, 0, 0, 0, 0, 0, 0, 0, 0, 0, 0, 0, 0, 0, 0, 0,
+    0, 0, 0, 0, 0, 0, 0, 0, 0, 0, 0, 0, 0, 1, 1, 0, 1, 1, 1, 1, 1, 1, 1, 1, 1, 1, 0, 0, 0, 0, 0, 0,
+    0, 1, 1, 1, 1, 1, 1, 1, 1, 1, 1, 1, 1, 1, 1, 1, 1, 1, 1, 1, 1, 1, 1, 1, 1, 1, 1, 0, 0, 0, 0, 1,
+    0, 1, 1, 1, 1, 1, 1, 1, 1, 1, 1, 1, 1, 1, 1, 1, 1, 1, 1, 1, 1, 1, 1, 1, 1, 1, 1, 0, 0, 0, 0, 0,
+    0, 0, 0, 0, 0, 0, 0, 0, 0, 0, 0, 0, 0, 0, 0, 0, 0, 0, 0, 0, 0, 0, 0, 0, 0, 0, 0, 0, 0, 0, 0, 0,
+    0, 0, 0, 0, 0, 0, 0, 0, 0, 0, 0, 0, 0, 0, 0, 0, 0, 0, 0, 0, 0, 0, 0, 0, 0, 0, 0, 0, 0, 0, 0, 0,
+    0, 0, 0, 0, 0, 0, 0, 0, 0, 0, 0, 0, 0, 0, 0, 0, 0, 0, 0, 0, 0, 0, 0, 0, 0, 0, 0, 0, 0, 0, 0, 0,
+    0, 0, 0, 0, 0, 0, 0, 0, 0, 0, 0, 0, 0, 0, 0, 0, 0, 0, 0, 0, 0, 0, 0, 0, 0, 0, 0, 0, 0, 0, 0, 0,
+];
+
 /// Whether a byte stands in a name as itself.
 #[inline(always)]
 fn is_plain(b: u8) -> bool
     ensures { result ≡ is_plain b }
 {
-    b.is_ascii_lowercase() || b.is_ascii_digit() || matches!(b, b'A'..=b'Z' | b'.' | b'_' | b'-')
+    PLAIN[b as usize] == 1
 }
 
 fn put_name_byte<K: Sink>(sink: &mut K, b: u8) -> Result<(), Failed>
@@ -135,18 +170,32 @@ impl<'a> Print for Name<'a> {
     }
 }
 
+/// Lays a byte of a name that isn't plain. It stands apart, as few are not.
+#[cold]
+#[inline(never)]
+fn lay_escape(bytes: &mut [u8], at: usize, b: u8) -> usize
+    requires { at + 3 ≤ length bytes.old }
+    ensures { LaysAt (37 ∷ digit_glyph true (b / 16) ∷ digit_glyph true (b % 16) ∷ []) at bytes.old bytes.new result }
+{
+    let behind = lay_byte(bytes, at, b'%');
+    lay_two(
+        bytes,
+        behind,
+        upper_hex_digit(b / 16),
+        upper_hex_digit(b % 16),
+    )
+}
+
 /// Lays a byte of a name.
 #[inline(always)]
-fn lay_name_byte(piece: &mut TextPiece, b: u8)
-    requires { length piece.old + 3 ≤ 512 }
-    ensures { piece.new ≡ piece.old ++ name_byte b }
+fn lay_name_byte(bytes: &mut [u8], at: usize, b: u8) -> usize
+    requires { at + 3 ≤ length bytes.old }
+    ensures { LaysAt (name_byte b) at bytes.old bytes.new result }
 {
     if is_plain(b) {
-        piece.push(b);
+        lay_byte(bytes, at, b)
     } else {
-        piece.push(b'%');
-        piece.push(upper_hex_digit(b / 16));
-        piece.push(upper_hex_digit(b % 16));
+        lay_escape(bytes, at, b)
     }
 }
 
@@ -156,9 +205,12 @@ impl<'a> Short for Name<'a> {
     ghost most = { λ name. 3 * length name.0.now };
 
     #[tactic(auto, unfolding(afs_model::specs::LineText::name_text))]
-    fn lay(&self, piece: &mut TextPiece) {
+    #[inline(always)]
+    fn lay(&self, bytes: &mut [u8], at: usize) -> usize {
+        let mut end = at;
         for b in self.0 {
-            lay_name_byte(piece, *b);
+            end = lay_name_byte(bytes, end, *b);
         }
+        end
     }
 }

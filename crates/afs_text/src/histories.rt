@@ -13,7 +13,6 @@ use crate::run_lines::lay_line;
 use afs_history::lines::{Entry, Line};
 use afs_num::types::Parcel;
 use afs_outside::outside::{Failed, Sink, put_bytes};
-use afs_outside::piece::Piece;
 
 /// Lays these lines.
 #[tactic(auto, unfolding(crate::specs::RunText::lines_text))]
@@ -57,7 +56,7 @@ pub fn print_entry<K: Sink>(
     requires places { first_place + length sent.now ≤ 2 ^ 64 }
     ensures { Puts (kept_entry_text wire number first_place sent.now entry.now) (K.held sink.old) (K.held sink.new) (K.faults sink.old) (K.faults sink.new) result }
 {
-    let mut piece = Piece::new();
+    let mut piece = TextPiece::new();
     lay_step(sink, &mut piece, number, entry.actor)?;
     lay_lines(sink, &mut piece, entry.lines.as_slice())?;
     lay_sent(sink, &mut piece, first_place, sent, wire)?;

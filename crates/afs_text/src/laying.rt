@@ -3,83 +3,121 @@
 ghost use Rattle.std.specs.Prelude.{◌≡◌, ◌+◌, ◌/◌, ◌%◌, ◌<◌, ◌≤◌, [], ◌∷◌, ◌++◌, List, ℕ, length, OnOk};
 ghost use Rattle.std.specs.Fmt.{decimal};
 ghost use Rattle.afs_outside.specs.Outside.{Puts};
-ghost use Rattle.afs_text.specs.Laying.{Lays};
+ghost use Rattle.afs_text.specs.Laying.{Lays, LaysAt};
 
 use afs_outside::outside::{Failed, Sink, put_bytes};
-use afs_outside::piece::Piece;
+use std::marker::Model;
 
 /// How many bytes a piece of text has room for.
 const ROOM: usize = 512;
 
-pub(crate) type TextPiece = Piece<ROOM>;
-
 /// How many bytes a short text has at most.
 const SHORT: usize = 128;
 
+// ---- bytes
+
+/// Lays a byte.
+#[inline(always)]
+pub(crate) fn lay_byte(bytes: &mut [u8], at: usize, byte: u8) -> usize
+    requires { at + 1 ≤ length bytes.old }
+    ensures { LaysAt (byte ∷ []) at bytes.old bytes.new result }
+{
+    bytes[at] = byte;
+    at + 1
+}
+
+/// Lays two bytes.
+#[inline(always)]
+pub(crate) fn lay_two(bytes: &mut [u8], at: usize, first: u8, second: u8) -> usize
+    requires { at + 2 ≤ length bytes.old }
+    ensures { LaysAt (first ∷ second ∷ []) at bytes.old bytes.new result }
+{
+    bytes[at] = first;
+    bytes[at + 1] = second;
+    at + 2
+}
+
+/// Lays bytes.
+#[inline(always)]
+pub(crate) fn lay_bytes(bytes: &mut [u8], at: usize, text: &[u8]) -> usize
+    requires { at + length text.now ≤ length bytes.old }
+    ensures { LaysAt text.now at bytes.old bytes.new result }
+{
+    let end = at + text.len();
+    bytes[at..end].copy_from_slice(text);
+    end
+}
+
 // ---- numbers
+
+/// The numbers below 100 in two digits each.
+static PAIRS: [u8; 200] =
+    *b"00010203040506070809101112131415161718192021222324252627282930313233343536373839404142434445464748495051525354555657585960616263646566676869707172737475767778798081828384858687888990919293949596979899";
 
 /// Lays two digits.
 #[inline(always)]
-fn push_pair(piece: &mut TextPiece, n: u64)
+fn lay_pair(bytes: &mut [u8], at: usize, n: u64) -> usize
     requires small { n < 100 }
-    requires room { length piece.old + 2 ≤ 512 }
-    ensures { piece.new ≡ piece.old ++ (48 + n / 10) ∷ (48 + n % 10) ∷ [] }
+    requires room { at + 2 ≤ length bytes.old }
+    ensures { LaysAt ((48 + n / 10) ∷ (48 + n % 10) ∷ []) at bytes.old bytes.new result }
 {
-    piece.push_two(b'0' + (n / 10) as u8, b'0' + (n % 10) as u8);
+    let pair = n as usize * 2;
+    lay_two(bytes, at, PAIRS[pair], PAIRS[pair + 1])
 }
 
 /// Lays a number of one or two digits.
 #[inline(always)]
-fn push_front(piece: &mut TextPiece, n: u64)
+fn lay_front(bytes: &mut [u8], at: usize, n: u64) -> usize
     requires small { n < 100 }
-    requires room { length piece.old + length (decimal n) ≤ 512 }
-    ensures { piece.new ≡ piece.old ++ decimal n }
+    requires room { at + length (decimal n) ≤ length bytes.old }
+    ensures { LaysAt (decimal n) at bytes.old bytes.new result }
 {
     if n < 10 {
-        piece.push(b'0' + n as u8);
+        lay_byte(bytes, at, b'0' + n as u8)
     } else {
-        push_pair(piece, n);
+        lay_pair(bytes, at, n)
     }
 }
 
 /// Lays a number of at most four digits.
 #[inline(always)]
-fn push_short_number(piece: &mut TextPiece, n: u64)
+fn lay_short_number(bytes: &mut [u8], at: usize, n: u64) -> usize
     requires small { n < 10000 }
-    requires room { length piece.old + length (decimal n) ≤ 512 }
-    ensures { piece.new ≡ piece.old ++ decimal n }
+    requires room { at + length (decimal n) ≤ length bytes.old }
+    ensures { LaysAt (decimal n) at bytes.old bytes.new result }
 {
     if n < 100 {
-        return push_front(piece, n);
+        return lay_front(bytes, at, n);
     }
-    push_front(piece, n / 100);
-    push_pair(piece, n % 100);
+    let behind = lay_front(bytes, at, n / 100);
+    lay_pair(bytes, behind, n % 100)
 }
 
 /// Lays a number. Most have no more than four digits.
-fn push_number(piece: &mut TextPiece, n: u64)
-    requires { length piece.old + length (decimal n) ≤ 512 }
-    ensures { piece.new ≡ piece.old ++ decimal n }
+#[inline(always)]
+fn lay_number(bytes: &mut [u8], at: usize, n: u64) -> usize
+    requires { at + length (decimal n) ≤ length bytes.old }
+    ensures { LaysAt (decimal n) at bytes.old bytes.new result }
 {
     if n < 10_000 {
-        push_short_number(piece, n);
+        lay_short_number(bytes, at, n)
     } else {
-        push_long_number(piece, n);
+        lay_long_number(bytes, at, n)
     }
 }
 
 /// Lays a number, four digits behind those before them. It stands apart, so that a short number needs no stack.
 #[inline(never)]
-fn push_long_number(piece: &mut TextPiece, n: u64)
-    requires { length piece.old + length (decimal n) ≤ 512 }
-    ensures { piece.new ≡ piece.old ++ decimal n }
+fn lay_long_number(bytes: &mut [u8], at: usize, n: u64) -> usize
+    requires { at + length (decimal n) ≤ length bytes.old }
+    ensures { LaysAt (decimal n) at bytes.old bytes.new result }
 {
     if n < 10_000 {
-        return push_short_number(piece, n);
+        return lay_short_number(bytes, at, n);
     }
-    push_long_number(piece, n / 10_000);
-    push_pair(piece, n % 10_000 / 100);
-    push_pair(piece, n % 10_000 % 100);
+    let behind = lay_long_number(bytes, at, n / 10_000);
+    let between = lay_pair(bytes, behind, n % 10_000 / 100);
+    lay_pair(bytes, between, n % 10_000 % 100)
 }
 
 // ---- short texts
@@ -92,10 +130,11 @@ pub(crate) trait Short {
     /// The text has at most so many bytes.
     ghost most: { Self → ℕ };
 
-    /// Lays its text behind what the piece holds.
-    fn lay(&self, piece: &mut TextPiece)
-        requires { length piece.old + most self.now ≤ 512 }
-        ensures laid { piece.new ≡ piece.old ++ text self.now }
+    /// Lays its text at this place, and says where the text ends. So the place is kept in a register from one text to the next, which
+    /// a field that lies beside the bytes can't be.
+    fn lay(&self, bytes: &mut [u8], at: usize) -> usize
+        requires { at + most self.now ≤ length bytes.old }
+        ensures laid { LaysAt (text self.now) at bytes.old bytes.new result }
         ensures short { length (text self.now) ≤ most self.now };
 }
 
@@ -106,9 +145,9 @@ impl<A: Short, B: Short> Short for (A, B) {
     ghost most = { λ p. A.most p.0 + B.most p.1 };
 
     #[inline(always)]
-    fn lay(&self, piece: &mut TextPiece) {
-        self.0.lay(piece);
-        self.1.lay(piece);
+    fn lay(&self, bytes: &mut [u8], at: usize) -> usize {
+        let behind = self.0.lay(bytes, at);
+        self.1.lay(bytes, behind)
     }
 }
 
@@ -118,8 +157,8 @@ impl<'a> Short for &'a str {
     ghost most = { λ s. length s.now };
 
     #[inline(always)]
-    fn lay(&self, piece: &mut TextPiece) {
-        piece.push_bytes(self.as_bytes());
+    fn lay(&self, bytes: &mut [u8], at: usize) -> usize {
+        lay_bytes(bytes, at, self.as_bytes())
     }
 }
 
@@ -128,8 +167,9 @@ impl Short for u64 {
 
     ghost most = { λ _. 20 };
 
-    fn lay(&self, piece: &mut TextPiece) {
-        push_number(piece, *self);
+    #[inline(always)]
+    fn lay(&self, bytes: &mut [u8], at: usize) -> usize {
+        lay_number(bytes, at, *self)
     }
 }
 
@@ -138,8 +178,9 @@ impl Short for u32 {
 
     ghost most = { λ _. 10 };
 
-    fn lay(&self, piece: &mut TextPiece) {
-        push_number(piece, *self as u64);
+    #[inline(always)]
+    fn lay(&self, bytes: &mut [u8], at: usize) -> usize {
+        lay_number(bytes, at, *self as u64)
     }
 }
 
@@ -149,12 +190,72 @@ impl Short for u8 {
     ghost most = { λ _. 3 };
 
     #[inline(always)]
-    fn lay(&self, piece: &mut TextPiece) {
+    fn lay(&self, bytes: &mut [u8], at: usize) -> usize {
         if *self < 10 {
-            piece.push(b'0' + *self);
+            lay_byte(bytes, at, b'0' + *self)
         } else {
-            push_number(piece, *self as u64);
+            lay_number(bytes, at, *self as u64)
         }
+    }
+}
+
+// ---- pieces
+
+/// A piece of text: what is laid, and not yet put.
+#[derive(Drop)]
+pub(crate) struct TextPiece {
+    bytes: [u8; ROOM],
+    len: usize,
+}
+
+impl Model for TextPiece {
+    ghost use Rattle.std.specs.Prelude.{◌≡◌, ◌≤◌, List, ℕ, length, take};
+
+    ghost Value = { List ℕ };
+
+    ghost view = { λ p. take p.len p.bytes };
+
+    ghost invariant = { λ p. (p.len ≤ 512) × (length p.bytes ≡ 512) };
+}
+
+impl TextPiece {
+    pub(crate) fn new() -> TextPiece
+        ensures { result ≡ [] }
+    {
+        TextPiece {
+            bytes: [0; ROOM],
+            len: 0,
+        }
+    }
+
+    #[inline(always)]
+    pub(crate) fn as_slice(&self) -> &[u8]
+        ensures { result.now ≡ self.now }
+    {
+        self.bytes.split_at(self.len).0
+    }
+
+    /// How many bytes more it has room for.
+    #[inline(always)]
+    fn room(&self) -> usize
+        ensures { result + length self.now ≡ 512 }
+    {
+        ROOM - self.len
+    }
+
+    fn clear(&mut self)
+        ensures { self.new ≡ [] }
+    {
+        self.len = 0;
+    }
+
+    /// Lays a short text behind what it holds.
+    #[inline(always)]
+    pub(crate) fn lay<T: Short>(&mut self, item: &T)
+        requires { length self.old + T.most item.now ≤ 512 }
+        ensures { self.new ≡ self.old ++ T.text item.now }
+    {
+        self.len = item.lay(&mut self.bytes, self.len);
     }
 }
 
@@ -163,8 +264,8 @@ pub(crate) fn put_short<T: Short, K: Sink>(sink: &mut K, item: &T) -> Result<(),
     requires { T.most item.now ≤ 512 }
     ensures { Puts (T.text item.now) (K.held sink.old) (K.held sink.new) (K.faults sink.old) (K.faults sink.new) result }
 {
-    let mut piece = Piece::new();
-    item.lay(&mut piece);
+    let mut piece = TextPiece::new();
+    piece.lay(item);
     put_bytes(sink, piece.as_slice())
 }
 
@@ -210,6 +311,6 @@ pub(crate) fn lay_short<T: Short, K: Sink>(
     ensures { Lays (T.text item.now) piece.old piece.new (K.held sink.old) (K.held sink.new) (K.faults sink.old) (K.faults sink.new) result }
 {
     make_room(sink, piece, SHORT)?;
-    item.lay(piece);
+    piece.lay(item);
     Ok(())
 }

@@ -6,7 +6,7 @@ ghost use Rattle.std.specs.Fmt.{decimal, signed_decimal};
 ghost use Rattle.afs_num.specs.Texts.{node_text, fid_text, key_text};
 ghost use Rattle.afs_outside.specs.Outside.{Puts};
 
-use crate::laying::{Short, TextPiece, put_short};
+use crate::laying::{Short, lay_bytes, put_short};
 use afs_num::types::{Code, Fid, Key, Node};
 use afs_outside::outside::{Failed, Sink, put_bytes};
 use itoa::Buffer;
@@ -100,9 +100,9 @@ impl Short for Code {
 
     ghost most = { λ _. 11 };
 
-    fn lay(&self, piece: &mut TextPiece) {
+    fn lay(&self, bytes: &mut [u8], at: usize) -> usize {
         let mut buffer = Buffer::new();
-        piece.push_bytes(buffer.format(self.0).as_bytes());
+        lay_bytes(bytes, at, buffer.format(self.0).as_bytes())
     }
 }
 
@@ -119,12 +119,12 @@ impl Short for Node {
 
     ghost most = { λ _. 4 };
 
-    fn lay(&self, piece: &mut TextPiece) {
+    fn lay(&self, bytes: &mut [u8], at: usize) -> usize {
         match *self {
-            Node::Loc => "loc".lay(piece),
-            Node::Server(i) => row!("s", i).lay(piece),
-            Node::Client(i) => row!("c", i).lay(piece),
-            Node::Admin(i) => row!("a", i).lay(piece),
+            Node::Loc => "loc".lay(bytes, at),
+            Node::Server(i) => row!("s", i).lay(bytes, at),
+            Node::Client(i) => row!("c", i).lay(bytes, at),
+            Node::Admin(i) => row!("a", i).lay(bytes, at),
         }
     }
 }
@@ -142,8 +142,8 @@ impl Short for Fid {
 
     ghost most = { λ _. 32 };
 
-    fn lay(&self, piece: &mut TextPiece) {
-        row!(self.volume, ".", self.vnode, ".", self.unique).lay(piece);
+    fn lay(&self, bytes: &mut [u8], at: usize) -> usize {
+        row!(self.volume, ".", self.vnode, ".", self.unique).lay(bytes, at)
     }
 }
 
@@ -160,7 +160,7 @@ impl Short for Key {
 
     ghost most = { λ _. 26 };
 
-    fn lay(&self, piece: &mut TextPiece) {
-        row!(self.node, ".", self.epoch, ".", self.number).lay(piece);
+    fn lay(&self, bytes: &mut [u8], at: usize) -> usize {
+        row!(self.node, ".", self.epoch, ".", self.number).lay(bytes, at)
     }
 }

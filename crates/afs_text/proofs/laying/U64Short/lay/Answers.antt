@@ -3,8 +3,8 @@ use Rattle.std.proofs.Common.{arith}
 use Rattle.std.proofs.lemmas.Fmt.{length-decimal-le}
 use Rattle.afs_text.proofs.laying.U64Short.lay.Goals as goal
 
-pub push_number-requires : goal.push_number-requires
-push_number-requires c = omega (arith, c.requires, length-decimal-le 20 c.args.self.now (omega arith) (omega arith) (omega arith))
+pub lay_number-requires : goal.lay_number-requires
+lay_number-requires c = omega (arith, c.requires, length-decimal-le 20 c.args.self.now (omega arith) (omega arith) (omega arith))
 
 pub returns-clause-short : goal.returns-clause-short
 returns-clause-short c = length-decimal-le 20 c.args.self.now (omega arith) (omega arith) (omega arith)

@@ -1,13 +1,14 @@
 -- It has at most 3 digits.
-use Rattle.std.proofs.Common.{ℕ, List, ◌++◌, ap, sym, ◌∙◌, arith}
+use Rattle.std.proofs.Common.{sym, arith}
 use Rattle.std.proofs.lemmas.Fmt.{decimal_digit, length-decimal-le}
+use Rattle.afs_text.proofs.Placed.{placed_as}
 use Rattle.afs_text.proofs.laying.U8Short.lay.Goals as goal
 
-pub push_number-requires : goal.push_number-requires
-push_number-requires c = omega (arith, c.requires, length-decimal-le 3 c.args.self.now (omega arith) (omega arith) (omega arith))
+pub lay_number-requires : goal.lay_number-requires
+lay_number-requires c = omega (arith, c.requires, length-decimal-le 3 c.args.self.now (omega arith) (omega arith) (omega arith))
 
 pub returns-then-self-lt10-clause-laid : goal.returns-then-self-lt10-clause-laid
-returns-then-self-lt10-clause-laid c = c.push.ensures ∙ ap (λ (l : List ℕ). c.args.piece.now ++ l) (sym (decimal_digit c.args.self.now c.if-self-lt10.true))
+returns-then-self-lt10-clause-laid c = placed_as _ _ c.args.at _ _ _ (sym (decimal_digit c.args.self.now c.if-self-lt10.true)) c.lay_byte.ensures
 
 pub returns-then-self-lt10-clause-short : goal.returns-then-self-lt10-clause-short
 returns-then-self-lt10-clause-short c = length-decimal-le 3 c.args.self.now (omega arith) (omega arith) (omega arith)
