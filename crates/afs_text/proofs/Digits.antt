@@ -4,9 +4,9 @@ use Rattle.std.specs.List.{flat_map, list_all, All}
 use Rattle.std.specs.Fmt.{digit_glyph}
 use Rattle.std.proofs.Math.ListN.{get_or}
 use Rattle.std.proofs.lemmas.Bool.{and_parts}
-use Rattle.std.proofs.lemmas.Grind.{flat_map-append}
-use Rattle.std.proofs.lemmas.List.{take_more, take_more_set, take_all, length-set, get_or-drop, map-append}
-use Rattle.std.proofs.lemmas.List.Elements.{All-append}
+use Rattle.std.proofs.lemmas.Grind.{drop_more_same, flat_map-append}
+use Rattle.std.proofs.lemmas.List.{take_more, take_more_set, take_all, length-set, get_or-drop, map-append, drop-set-lt}
+use Rattle.std.proofs.lemmas.List.Elements.{All-append, All-cons, All-get_or}
 use Rattle.afs_model.specs.LineText.{hex_byte, hex_text, is_plain, name_byte, name_text}
 use Rattle.afs_text.specs.Laying.{halves_of}
 use Rattle.afs_text.specs.declared.bytes.TheConstants.{PLAIN}
@@ -34,13 +34,16 @@ parted_more bytes halves i d x y within room high low before =
     ∙ ap (λ (l : List ℕ). flat_map halves_of (take i bytes) ++ l) pair
     ∙ sym (flat_map-append halves_of (take i bytes) (get_or bytes i d ∷ [])) ∙ sym (ap (flat_map halves_of) (take_more bytes i d within))
 
+all_two : (x y : ℕ) → x < 16 → y < 16 → All (λ n. n < 16) (x ∷ y ∷ [])
+all_two x y high low = All-cons (λ n. n < 16) x (y ∷ []) high (All-cons (λ n. n < 16) y [] low (λ k d h. absurd (omega (arith, h))))
+
 -- two numbers more are below 16
 pub small_more : (halves : List ℕ) (i x y : ℕ) → 2 * i + 1 < length halves → x < 16 → y < 16
     → All (λ n. n < 16) (take (2 * i) halves) → All (λ n. n < 16) (take (2 * (i + 1)) (slice_set (slice_set halves (2 * i) x) (2 * i + 1) y))
 small_more halves i x y room high low before =
     let two : 2 * (i + 1) ≡ 2 * i + 2 = omega arith in
     let same = ap (λ k. take k (slice_set (slice_set halves (2 * i) x) (2 * i + 1) y)) two ∙ two_more halves (2 * i) x y room in
-    subst (λ (l : List ℕ). All (λ n. n < 16) l) (sym same) (All-append (λ n. n < 16) (take (2 * i) halves) (x ∷ y ∷ []) before (high, (low, tt)))
+    subst (λ (l : List ℕ). All (λ n. n < 16) l) (sym same) (All-append (λ n. n < 16) (take (2 * i) halves) (x ∷ y ∷ []) before (all_two x y high low))
 
 -- all bytes were parted
 pub parted_all : (bytes halves : List ℕ) (i : ℕ) → length bytes ≤ i → i ≤ length bytes → take (2 * i) halves ≡ flat_map halves_of (take i bytes) → take (2 * length bytes) halves ≡ flat_map halves_of bytes
@@ -48,24 +51,43 @@ parted_all bytes halves i all within done =
     let same : i ≡ length bytes = omega arith in
     ap (λ k. take (2 * k) halves) (sym same) ∙ done ∙ ap (flat_map halves_of) (take_all i bytes (omega arith))
 
+-- of lists that are the same from here on the items that stand here are the same
+same_item : (old halves : List ℕ) (i d : ℕ) → drop i halves ≡ drop i old → get_or halves i d ≡ get_or old i d
+same_item old halves i d left =
+    let here : i + 0 ≡ i = omega arith in
+    ap (λ k. get_or halves k d) (sym here) ∙ sym (get_or-drop i halves 0 d) ∙ ap (λ (l : List ℕ). get_or l 0 d) left ∙ get_or-drop i old 0 d ∙ ap (λ k. get_or old k d) here
+
+-- what is left is below 16
+pub small_item : (old halves : List ℕ) (i d : ℕ) → i < length halves → length halves ≡ length old → drop i halves ≡ drop i old → All (λ n. n < 16) old → get_or halves i d < 16
+small_item old halves i d within long left small =
+    subst (λ k. k < 16) (sym (same_item old halves i d left)) (All-get_or (λ n. n < 16) old i d (omega (arith, long)) small)
+
+-- what is behind a digit that was made is as it was
+pub left_more : (old halves : List ℕ) (i x : ℕ) → drop i halves ≡ drop i old → drop (i + 1) (slice_set halves i x) ≡ drop (i + 1) old
+left_more old halves i x left = drop-set-lt (i + 1) halves i x (omega arith) ∙ drop_more_same halves old i left
+
 -- one digit more was made
 pub digit_more : (old halves : List ℕ) (i d x : ℕ) → i < length halves → length halves ≡ length old → x ≡ digit_glyph false (get_or halves i d)
     → take i halves ≡ map (digit_glyph false) (take i old) → drop i halves ≡ drop i old
     → take (i + 1) (slice_set halves i x) ≡ map (digit_glyph false) (take (i + 1) old)
 digit_more old halves i d x within long is before left =
-    let same : get_or halves i d ≡ get_or old i d = sym (get_or-drop i halves 0 d) ∙ ap (λ (l : List ℕ). get_or l 0 d) left ∙ get_or-drop i old 0 d in
+    let same = same_item old halves i d left in
     take_more_set halves i x within ∙ ap (λ (l : List ℕ). l ++ x ∷ []) before
     ∙ ap (λ k. map (digit_glyph false) (take i old) ++ k ∷ []) (is ∙ ap (digit_glyph false) same)
     ∙ sym (map-append (digit_glyph false) (take i old) (get_or old i d ∷ [])) ∙ sym (ap (map (digit_glyph false)) (take_more old i d (omega (arith, long))))
 
--- the digits of the halves are those of the bytes
-pub spelled : (bytes : List ℕ) → map (digit_glyph false) (flat_map halves_of bytes) ≡ flat_map hex_byte bytes
+spelled : (bytes : List ℕ) → map (digit_glyph false) (flat_map halves_of bytes) ≡ flat_map hex_byte bytes
 spelled [] = refl
 spelled (b ∷ bs) = ap (λ (l : List ℕ). digit_glyph false (b / 16) ∷ digit_glyph false (b % 16) ∷ l) (spelled bs)
 
+-- the digits of the halves are those of the bytes
+pub spelled_text : (bytes : List ℕ) → map (digit_glyph false) (flat_map halves_of bytes) ≡ hex_text bytes
+unfolding hex_text
+spelled_text bytes = spelled bytes
+
 -- ---- names
 
-agree : Bool → Bool → Bool
+abbrev agree : Bool → Bool → Bool
 agree true b = b
 agree false true = false
 agree false false = true

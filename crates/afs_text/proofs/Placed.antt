@@ -1,9 +1,10 @@
 -- Texts that are laid among bytes one behind another.
-use Rattle.std.proofs.Common.{◌≡◌, ℕ, zero, suc, ◌+◌, ◌-◌, ◌*◌, ◌/◌, ◌%◌, ◌<◌, ◌≤◌, Bool, true, ◌&&◌, T, eqb, List, [], ◌∷◌, ◌++◌, length, take, get_or, refl, ap, sym, ◌∙◌, subst, inl, inr, arith, eq-zero-or-pos, eqb→eq, append_assoc, append-nil, length-append, slice_set}
+use Rattle.std.proofs.Common.{◌≡◌, ℕ, zero, suc, ◌+◌, ◌-◌, ◌*◌, ◌/◌, ◌%◌, ◌<◌, ◌≤◌, Bool, true, false, if◌then◌else◌, ◌&&◌, T, eqb, List, [], ◌∷◌, ◌++◌, length, take, get_or, refl, ap, sym, ◌∙◌, subst, inl, inr, arith, eq-zero-or-pos, eqb→eq, append_assoc, append-nil, length-append, slice_set}
 use Rattle.std.specs.List.{flat_map}
 use Rattle.std.proofs.lemmas.Grind.{flat_map-append}
 use Rattle.std.proofs.lemmas.List.{take_more, take_more_set, length-set}
-use Rattle.afs_model.specs.LineText.{name_byte}
+use Rattle.std.specs.Fmt.{digit_glyph}
+use Rattle.afs_model.specs.LineText.{is_plain, name_byte}
 use Rattle.afs_text.specs.Laying.{LaysAt}
 use Rattle.afs_text.specs.declared.laying.TheConstants.{PAIRS}
 use lib.Ieee.Fits.{and_l, and_r}
@@ -30,14 +31,28 @@ placed_both x y at mid end old new newer p q = record {
 
 -- ---- names
 
+name_more : (name : List ℕ) (i d : ℕ) → i < length name → flat_map name_byte (take i name) ++ name_byte (get_or name i d) ≡ flat_map name_byte (take (i + 1) name)
+name_more name i d within =
+    ap (λ (l : List ℕ). flat_map name_byte (take i name) ++ l) (sym (append-nil (name_byte (get_or name i d))))
+    ∙ sym (flat_map-append name_byte (take i name) (get_or name i d ∷ [])) ∙ sym (ap (flat_map name_byte) (take_more name i d within))
+
 -- one byte more of a name was laid
 pub placed_more : (name : List ℕ) (i d : ℕ) (at mid behind : ℕ) (old new newer : List ℕ) → i < length name → LaysAt (flat_map name_byte (take i name)) at old new mid
     → LaysAt (name_byte (get_or name i d)) mid new newer behind → LaysAt (flat_map name_byte (take (i + 1) name)) at old newer behind
 placed_more name i d at mid behind old new newer within before p =
-    let whole : flat_map name_byte (take i name) ++ name_byte (get_or name i d) ≡ flat_map name_byte (take (i + 1) name) =
-        ap (λ (l : List ℕ). flat_map name_byte (take i name) ++ l) (sym (append-nil (name_byte (get_or name i d))))
-        ∙ sym (flat_map-append name_byte (take i name) (get_or name i d ∷ [])) ∙ sym (ap (flat_map name_byte) (take_more name i d within)) in
-    placed_as _ _ at old newer behind whole (placed_both (flat_map name_byte (take i name)) (name_byte (get_or name i d)) at mid behind old new newer before p)
+    placed_as _ _ at old newer behind (name_more name i d within) (placed_both (flat_map name_byte (take i name)) (name_byte (get_or name i d)) at mid behind old new newer before p)
+
+few_if : (p : Bool) (b x y z : ℕ) → length (if p then b ∷ [] else x ∷ y ∷ z ∷ []) ≤ 3
+few_if true b x y z = omega arith
+few_if false b x y z = omega arith
+
+few_of : (b : ℕ) → length (name_byte b) ≤ 3
+few_of b = few_if (is_plain b) b 37 (digit_glyph true (b / 16)) (digit_glyph true (b % 16))
+
+-- it takes no more than three
+pub few_more : (name : List ℕ) (i d : ℕ) → i < length name → length (flat_map name_byte (take i name)) ≤ 3 * i → length (flat_map name_byte (take (i + 1) name)) ≤ 3 * (i + 1)
+few_more name i d within few =
+    omega (arith, few, few_of (get_or name i d), ap length (name_more name i d within), length-append (flat_map name_byte (take i name)) (name_byte (get_or name i d)))
 
 -- ---- two digits
 
