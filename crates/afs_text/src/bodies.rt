@@ -19,7 +19,7 @@ const SHORT_NAME: usize = 64;
 impl<'a> Short for &'a directories::Name {
     ghost text = { λ name. entry_name_text name.now };
 
-    ghost most = { λ name. 3 * length name.now.name + 22 };
+    ghost most = { λ name. 3 * length name.now.name + 24 };
 
     #[inline(always)]
     fn lay(&self, bytes: &mut [u8], at: usize) -> usize {
@@ -44,7 +44,7 @@ fn lay_name<K: Sink>(
 {
     let bytes = name.name.as_slice();
     if bytes.len() <= SHORT_NAME {
-        make_room(sink, piece, 3 * bytes.len() + 22)?;
+        make_room(sink, piece, 3 * bytes.len() + 24)?;
         piece.lay(&name);
         return Ok(());
     }
@@ -60,7 +60,7 @@ fn lay_long_name<K: Sink>(sink: &mut K, piece: &mut TextPiece, name: &[u8]) -> R
     Name(name).print(sink)
 }
 
-/// Lays a comma and a name in a directory. Each byte of the name may need three, the comma and the numbers need 23.
+/// Lays a comma and a name in a directory. Each byte of the name may need three, the comma and the numbers need 25.
 fn lay_next_name<K: Sink>(
     sink: &mut K,
     piece: &mut TextPiece,
@@ -70,7 +70,7 @@ fn lay_next_name<K: Sink>(
 {
     let len = name.name.as_slice().len();
     if len <= SHORT_NAME {
-        make_room(sink, piece, 3 * len + 23)?;
+        make_room(sink, piece, 3 * len + 25)?;
         piece.lay(&row!(",", name));
         return Ok(());
     }
@@ -231,7 +231,7 @@ pub struct Owed(pub Option<Fid>);
 impl Short for Owed {
     ghost text = { λ owed. owed_text owed.0 };
 
-    ghost most = { λ _. 32 };
+    ghost most = { λ _. 35 };
 
     fn lay(&self, bytes: &mut [u8], at: usize) -> usize {
         match self.0 {

@@ -1,7 +1,6 @@
 //! Short texts: they are laid one behind another in a piece, which is put where it has no room for the next.
 
-ghost use Rattle.std.specs.Prelude.{◌≡◌, ◌+◌, ◌/◌, ◌%◌, ◌<◌, ◌≤◌, [], ◌∷◌, ◌++◌, List, ℕ, length, OnOk};
-ghost use Rattle.std.specs.Fmt.{decimal};
+ghost use Rattle.std.specs.Prelude.{◌≡◌, ◌+◌, ◌≤◌, [], ◌∷◌, ◌++◌, List, ℕ, length, OnOk};
 ghost use Rattle.afs_outside.specs.Outside.{Puts};
 ghost use Rattle.afs_text.specs.Laying.{Lays, LaysAt};
 
@@ -37,6 +36,23 @@ pub(crate) fn lay_two(bytes: &mut [u8], at: usize, first: u8, second: u8) -> usi
     at + 2
 }
 
+/// Lays four bytes.
+#[inline(always)]
+pub(crate) fn lay_four(
+    bytes: &mut [u8],
+    at: usize,
+    first: u8,
+    second: u8,
+    third: u8,
+    fourth: u8,
+) -> usize
+    requires { at + 4 ≤ length bytes.old }
+    ensures { LaysAt (first ∷ second ∷ third ∷ fourth ∷ []) at bytes.old bytes.new result }
+{
+    let behind = lay_two(bytes, at, first, second);
+    lay_two(bytes, behind, third, fourth)
+}
+
 /// Lays bytes.
 #[inline(always)]
 pub(crate) fn lay_bytes(bytes: &mut [u8], at: usize, text: &[u8]) -> usize
@@ -46,78 +62,6 @@ pub(crate) fn lay_bytes(bytes: &mut [u8], at: usize, text: &[u8]) -> usize
     let end = at + text.len();
     bytes[at..end].copy_from_slice(text);
     end
-}
-
-// ---- numbers
-
-/// The numbers below 100 in two digits each.
-static PAIRS: [u8; 200] =
-    *b"00010203040506070809101112131415161718192021222324252627282930313233343536373839404142434445464748495051525354555657585960616263646566676869707172737475767778798081828384858687888990919293949596979899";
-
-/// Lays two digits.
-#[inline(always)]
-fn lay_pair(bytes: &mut [u8], at: usize, n: u64) -> usize
-    requires small { n < 100 }
-    requires room { at + 2 ≤ length bytes.old }
-    ensures { LaysAt ((48 + n / 10) ∷ (48 + n % 10) ∷ []) at bytes.old bytes.new result }
-{
-    let pair = n as usize * 2;
-    lay_two(bytes, at, PAIRS[pair], PAIRS[pair + 1])
-}
-
-/// Lays a number of one or two digits.
-#[inline(always)]
-fn lay_front(bytes: &mut [u8], at: usize, n: u64) -> usize
-    requires small { n < 100 }
-    requires room { at + length (decimal n) ≤ length bytes.old }
-    ensures { LaysAt (decimal n) at bytes.old bytes.new result }
-{
-    if n < 10 {
-        lay_byte(bytes, at, b'0' + n as u8)
-    } else {
-        lay_pair(bytes, at, n)
-    }
-}
-
-/// Lays a number of at most four digits.
-#[inline(always)]
-fn lay_short_number(bytes: &mut [u8], at: usize, n: u64) -> usize
-    requires small { n < 10000 }
-    requires room { at + length (decimal n) ≤ length bytes.old }
-    ensures { LaysAt (decimal n) at bytes.old bytes.new result }
-{
-    if n < 100 {
-        return lay_front(bytes, at, n);
-    }
-    let behind = lay_front(bytes, at, n / 100);
-    lay_pair(bytes, behind, n % 100)
-}
-
-/// Lays a number. Most have no more than four digits.
-#[inline(always)]
-fn lay_number(bytes: &mut [u8], at: usize, n: u64) -> usize
-    requires { at + length (decimal n) ≤ length bytes.old }
-    ensures { LaysAt (decimal n) at bytes.old bytes.new result }
-{
-    if n < 10_000 {
-        lay_short_number(bytes, at, n)
-    } else {
-        lay_long_number(bytes, at, n)
-    }
-}
-
-/// Lays a number, four digits behind those before them. It stands apart, so that a short number needs no stack.
-#[inline(never)]
-fn lay_long_number(bytes: &mut [u8], at: usize, n: u64) -> usize
-    requires { at + length (decimal n) ≤ length bytes.old }
-    ensures { LaysAt (decimal n) at bytes.old bytes.new result }
-{
-    if n < 10_000 {
-        return lay_short_number(bytes, at, n);
-    }
-    let behind = lay_long_number(bytes, at, n / 10_000);
-    let between = lay_pair(bytes, behind, n % 10_000 / 100);
-    lay_pair(bytes, between, n % 10_000 % 100)
 }
 
 // ---- short texts
@@ -162,48 +106,11 @@ impl<'a> Short for &'a str {
     }
 }
 
-impl Short for u64 {
-    ghost text = { decimal };
-
-    ghost most = { λ _. 20 };
-
-    #[inline(always)]
-    fn lay(&self, bytes: &mut [u8], at: usize) -> usize {
-        lay_number(bytes, at, *self)
-    }
-}
-
-impl Short for u32 {
-    ghost text = { decimal };
-
-    ghost most = { λ _. 10 };
-
-    #[inline(always)]
-    fn lay(&self, bytes: &mut [u8], at: usize) -> usize {
-        lay_number(bytes, at, *self as u64)
-    }
-}
-
-impl Short for u8 {
-    ghost text = { decimal };
-
-    ghost most = { λ _. 3 };
-
-    #[inline(always)]
-    fn lay(&self, bytes: &mut [u8], at: usize) -> usize {
-        if *self < 10 {
-            lay_byte(bytes, at, b'0' + *self)
-        } else {
-            lay_number(bytes, at, *self as u64)
-        }
-    }
-}
-
 // ---- pieces
 
 /// A piece of text: what is laid, and not yet put.
 #[derive(Drop)]
-pub(crate) struct TextPiece {
+pub struct TextPiece {
     bytes: [u8; ROOM],
     len: usize,
 }
@@ -219,7 +126,7 @@ impl Model for TextPiece {
 }
 
 impl TextPiece {
-    pub(crate) fn new() -> TextPiece
+    pub fn new() -> TextPiece
         ensures { result ≡ [] }
     {
         TextPiece {
@@ -230,7 +137,8 @@ impl TextPiece {
 
     #[inline(always)]
     pub(crate) fn as_slice(&self) -> &[u8]
-        ensures { result.now ≡ self.now }
+        ensures value { result.now ≡ self.now }
+        ensures fits { length result.now ≤ 512 }
     {
         self.bytes.split_at(self.len).0
     }
@@ -243,7 +151,7 @@ impl TextPiece {
         ROOM - self.len
     }
 
-    fn clear(&mut self)
+    pub(crate) fn clear(&mut self)
         ensures { self.new ≡ [] }
     {
         self.len = 0;

@@ -48,7 +48,7 @@ impl Short for Half {
 impl Short for Head {
     ghost text = { head_text };
 
-    ghost most = { λ _. 48 };
+    ghost most = { λ _. 56 };
 
     #[tactic(auto, unfolding(afs_model::specs::Text::head_text))]
     fn lay(&self, bytes: &mut [u8], at: usize) -> usize {
@@ -75,7 +75,7 @@ struct HalfCode(Half, Code);
 impl Short for HalfCode {
     ghost text = { λ c. code_text c.0 c.1.0 };
 
-    ghost most = { λ _. 12 };
+    ghost most = { λ _. 13 };
 
     #[tactic(auto, unfolding(afs_model::specs::Text::code_text))]
     fn lay(&self, bytes: &mut [u8], at: usize) -> usize {

@@ -9,4 +9,4 @@ returns c =
     let at = c.args.at in
     let first = c.args.first in
     placed_both (first ∷ []) (c.args.second ∷ []) at (at + 1) (at + 2) bytes (slice_set bytes at first) _ (placed_one bytes at first (at + 1) (omega (arith, c.requires)) refl)
-        (placed_one (slice_set bytes at first) (at + 1) c.args.second (at + 2) (omega (arith, c.requires, length-set bytes at first)) (omega arith))
+    (placed_one (slice_set bytes at first) (at + 1) c.args.second (at + 2) (omega (arith, c.requires, length-set bytes at first)) (omega arith))
