@@ -8,7 +8,9 @@ use Rattle.std.proofs.lemmas.Grind.{drop_more_same, flat_map-append}
 use Rattle.std.proofs.lemmas.List.{take_more, take_more_set, take_all, length-set, get_or-drop, map-append, drop-set-lt}
 use Rattle.std.proofs.lemmas.List.Elements.{All-append, All-cons, All-get_or}
 use Rattle.afs_model.specs.LineText.{hex_byte, hex_text, is_plain, name_byte, name_text}
-use Rattle.afs_text.specs.Laying.{halves_of}
+use Rattle.std.proofs.lemmas.Slice.{between-put_mid, take-put_mid, take-put_mid_below}
+use borrow.Rule.Slice.PartMut.{mid_of, mid_len, put_mid, same_len_mid}
+use Rattle.afs_text.specs.Laying.{halves_of, LaysAt}
 use Rattle.afs_text.specs.declared.bytes.TheConstants.{PLAIN}
 use lib.Ieee.Fits.{and_l, and_r}
 
@@ -84,6 +86,31 @@ spelled (b ∷ bs) = ap (λ (l : List ℕ). digit_glyph false (b / 16) ∷ digit
 pub spelled_text : (bytes : List ℕ) → map (digit_glyph false) (flat_map halves_of bytes) ≡ hex_text bytes
 unfolding hex_text
 spelled_text bytes = spelled bytes
+
+-- two digits a byte
+pub hex_length : (bytes : List ℕ) → length (hex_text bytes) ≡ 2 * length bytes
+unfolding hex_text
+hex_length [] = refl
+hex_length (b ∷ bs) = ap (λ n. suc (suc n)) (hex_length bs) ∙ omega arith
+
+-- the halves were laid in a part of the bytes, and then their digits in their place
+pub digits_laid : (xs old halves digits : List ℕ) (at behind : ℕ) → behind ≡ at + 2 * length xs → behind ≤ length old → length halves ≡ behind - at → take (2 * length xs) halves ≡ flat_map halves_of xs
+    → digits ≡ map (digit_glyph false) (mid_of at (behind - at) (put_mid at (behind - at) old halves))
+    → LaysAt (hex_text xs) at old (put_mid at (behind - at) (put_mid at (behind - at) old halves) digits) behind
+digits_laid xs old halves digits at behind there within long parted is =
+    let between : List ℕ = put_mid at (behind - at) old halves in
+    let text : digits ≡ hex_text xs =
+        is ∙ ap (map (digit_glyph false)) (between-put_mid at (behind - at) old halves behind (omega (arith, there, within)) long ∙ sym (take_all (2 * length xs) halves (omega (arith, there, long))) ∙ parted)
+        ∙ spelled_text xs in
+    let many : length digits ≡ behind - at = ap length text ∙ hex_length xs ∙ omega (arith, there) in
+    let first : length between ≡ length old = same_len_mid at (behind - at) old halves (long ∙ sym (mid_len at behind old within)) in
+    let second : length (put_mid at (behind - at) between digits) ≡ length between = same_len_mid at (behind - at) between digits (many ∙ sym (mid_len at behind between (omega (arith, first, within)))) in
+    record {
+      laid = take-put_mid at (behind - at) between digits behind (omega (arith, there, many)) (omega (arith, first, there, within))
+          ∙ ap (λ (l : List ℕ). l ++ digits) (take-put_mid_below at (behind - at) old halves at (omega arith) (omega (arith, there, within))) ∙ ap (λ (l : List ℕ). take at old ++ l) text;
+      end = omega (arith, there, hex_length xs);
+      room = second ∙ first;
+    }
 
 -- ---- names
 

@@ -7,7 +7,7 @@ ghost use Rattle.afs_outside.specs.Outside.{Puts};
 ghost use Rattle.afs_text.specs.Laying.{halves_of, Lays, LaysAt};
 ghost use Rattle.afs_model.specs.LineText.{hex_byte, hex_text, is_plain, name_byte, name_text};
 
-use crate::laying::{Short, TextPiece, lay_byte, lay_two, put_piece};
+use crate::laying::{Short, TextPiece, lay_byte, lay_two, make_room};
 use crate::pieces::Print;
 use afs_outside::outside::{Failed, Sink, put_bytes};
 
@@ -31,7 +31,7 @@ fn upper_hex_digit(n: u8) -> u8
     }
 }
 
-/// How many bytes are spelled at once, on the stack.
+/// How many bytes are spelled at once: their digits fit in a piece.
 const CHUNK: usize = 256;
 
 /// Parts bytes into their halves, each of which is a number below 16. This and the digits of them are two loops, as a compiler then takes
@@ -60,17 +60,48 @@ fn spell(halves: &mut [u8])
     }
 }
 
-/// Spells bytes at the front of a buffer of so many digits.
-#[tactic(auto, unfolding(afs_model::specs::LineText::hex_text))]
-fn put_chunk<K: Sink>(sink: &mut K, bytes: &[u8]) -> Result<(), Failed>
-    requires { length bytes.now ≤ 256 }
-    ensures { Puts (hex_text bytes.now) (K.held sink.old) (K.held sink.new) (K.faults sink.old) (K.faults sink.new) result }
+/// Not more than 256 bytes, as hexadecimal digits.
+#[derive(Drop)]
+struct Digits<'a>(&'a [u8]);
+
+impl<'a> Short for Digits<'a> {
+    ghost text = { λ digits. hex_text digits.0.now };
+
+    ghost most = { λ digits. 2 * length digits.0.now };
+
+    fn lay(&self, bytes: &mut [u8], at: usize) -> usize {
+        let end = at + 2 * self.0.len();
+        part(self.0, &mut bytes[at..end]);
+        spell(&mut bytes[at..end]);
+        end
+    }
+}
+
+/// Lays not more than 256 bytes as hexadecimal digits.
+fn lay_chunk<K: Sink>(sink: &mut K, piece: &mut TextPiece, chunk: &[u8]) -> Result<(), Failed>
+    requires { length chunk.now ≤ 256 }
+    ensures { Lays (hex_text chunk.now) piece.old piece.new (K.held sink.old) (K.held sink.new) (K.faults sink.old) (K.faults sink.new) result }
 {
-    let mut digits = [0; 2 * CHUNK];
-    part(bytes, &mut digits);
-    let (front, _behind) = digits.split_at_mut(2 * bytes.len());
-    spell(front);
-    put_bytes(sink, front)
+    make_room(sink, piece, 2 * chunk.len())?;
+    piece.lay(&Digits(chunk));
+    Ok(())
+}
+
+/// Lays bytes as hexadecimal digits.
+pub(crate) fn lay_hex<K: Sink>(
+    sink: &mut K,
+    piece: &mut TextPiece,
+    bytes: &[u8],
+) -> Result<(), Failed>
+    ensures { Lays (hex_text bytes.now) piece.old piece.new (K.held sink.old) (K.held sink.new) (K.faults sink.old) (K.faults sink.new) result }
+{
+    let mut rest = bytes;
+    while 0 < rest.len() {
+        let (chunk, behind) = rest.split_at(rest.len().min(CHUNK));
+        lay_chunk(sink, piece, chunk)?;
+        rest = behind;
+    }
+    Ok(())
 }
 
 /// Bytes as hexadecimal digits.
@@ -81,26 +112,24 @@ impl<'a> Print for Hex<'a> {
     ghost text = { λ hex. hex_text hex.0.now };
 
     fn print<K: Sink>(&self, sink: &mut K) -> Result<(), Failed> {
-        let mut rest = self.0;
-        while 0 < rest.len() {
-            let (chunk, behind) = rest.split_at(rest.len().min(CHUNK));
-            put_chunk(sink, chunk)?;
-            rest = behind;
-        }
-        Ok(())
+        let mut piece = TextPiece::new();
+        lay_hex(sink, &mut piece, self.0)?;
+        put_bytes(sink, piece.as_slice())
     }
 }
 
-/// Puts what the piece holds, and then bytes as hexadecimal digits.
-pub(crate) fn lay_hex<K: Sink>(
-    sink: &mut K,
-    piece: &mut TextPiece,
-    bytes: &[u8],
-) -> Result<(), Failed>
-    ensures { Lays (hex_text bytes.now) piece.old piece.new (K.held sink.old) (K.held sink.new) (K.faults sink.old) (K.faults sink.new) result }
-{
-    put_piece(sink, piece)?;
-    Hex(bytes).print(sink)
+/// A byte, as two hexadecimal digits.
+#[derive(Drop)]
+pub(crate) struct HexByte(pub u8);
+
+impl Short for HexByte {
+    ghost text = { λ byte. hex_byte byte.0 };
+
+    ghost most = { λ _. 2 };
+
+    fn lay(&self, bytes: &mut [u8], at: usize) -> usize {
+        lay_two(bytes, at, hex_digit(self.0 / 16), hex_digit(self.0 % 16))
+    }
 }
 
 /// 1 for each byte that stands in a name as itself: the letters, the digits, `.`, `_` and `-`.
