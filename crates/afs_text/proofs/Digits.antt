@@ -100,8 +100,8 @@ pub digits_laid : (xs old halves digits : List ℕ) (at behind : ℕ) → behind
 digits_laid xs old halves digits at behind there within long parted is =
     let between : List ℕ = put_mid at (behind - at) old halves in
     let text : digits ≡ hex_text xs =
-        is ∙ ap (map (digit_glyph false)) (between-put_mid at (behind - at) old halves behind (omega (arith, there, within)) long ∙ sym (take_all (2 * length xs) halves (omega (arith, there, long))) ∙ parted)
-        ∙ spelled_text xs in
+    is ∙ ap (map (digit_glyph false)) (between-put_mid at (behind - at) old halves behind (omega (arith, there, within)) long ∙ sym (take_all (2 * length xs) halves (omega (arith, there, long))) ∙ parted)
+    ∙ spelled_text xs in
     let many : length digits ≡ behind - at = ap length text ∙ hex_length xs ∙ omega (arith, there) in
     let first : length between ≡ length old = same_len_mid at (behind - at) old halves (long ∙ sym (mid_len at behind old within)) in
     let second : length (put_mid at (behind - at) between digits) ≡ length between = same_len_mid at (behind - at) between digits (many ∙ sym (mid_len at behind between (omega (arith, first, within)))) in
