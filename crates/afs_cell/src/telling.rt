@@ -29,7 +29,8 @@ pub fn told_alone(alloc: Global, line: Line) -> Mem<Outs>
     })
 }
 
-/// These lines behind one that comes first, if there is one.
+/// These lines behind one that comes first, if there is one. Where there is no room for it, it is made for this line alone: no
+/// other comes, and room for as many again is a large block, which takes long to find.
 fn with_front(front: Option<Line>, lines: Lines) -> Mem<Lines>
     ensures { IfOk result (λ ls. ls ≡ front_lines front ++ lines) }
 {
@@ -37,6 +38,7 @@ fn with_front(front: Option<Line>, lines: Lines) -> Mem<Lines>
         return Ok(lines);
     };
     let mut all = lines.into_vec();
+    all.reserve_exact(1)?;
     all.insert(0, line)?;
     Ok(Sequence::from_vec(all))
 }

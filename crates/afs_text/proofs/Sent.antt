@@ -13,7 +13,7 @@ use Rattle.afs_model.specs.Telling.{with_received, messages_of, AreRead, code_at
 use Rattle.afs_model.specs.LineText.{hex_byte, hex_text}
 use Rattle.afs_model.specs.Text.{sent_text, messages_text}
 use Rattle.afs_model.proofs.Texts.{parcel_same, parcels_length}
-use Rattle.afs_outside.proofs.Puts.{Completes}
+use Rattle.afs_text.proofs.Laid.{LaysAll}
 
 -- ---- bytes
 
@@ -22,14 +22,14 @@ unfolding hex_text
 hex_split n bytes = ap (flat_map hex_byte) (sym (take-append-drop n bytes)) ∙ flat_map-append hex_byte (take n bytes) (drop n bytes)
 
 -- a chunk is the next, and the bytes behind it are left
-pub hex_chunk : (whole : List ℕ) (a b : Option (List ℕ)) (f g n : ℕ) (bytes chunk behind : List ℕ) → chunk ≡ take n bytes → behind ≡ drop n bytes
-    → Completes (hex_text bytes) whole a b f g → Completes (hex_text chunk ++ hex_text behind) whole a b f g
-hex_chunk whole a b f g n bytes chunk behind front back left = rw (front, back) (subst (λ (t : List ℕ). Completes t whole a b f g) (hex_split n bytes) left)
+pub hex_left : (whole start piece : List ℕ) (a b : Option (List ℕ)) (f g n : ℕ) (bytes chunk behind : List ℕ) → chunk ≡ take n bytes → behind ≡ drop n bytes
+    → LaysAll (hex_text bytes) whole start piece a b f g → LaysAll (hex_text chunk ++ hex_text behind) whole start piece a b f g
+hex_left whole start piece a b f g n bytes chunk behind front back left = rw (front, back) (subst (λ (t : List ℕ). LaysAll t whole start piece a b f g) (hex_split n bytes) left)
 
-pub hex_end : (whole : List ℕ) (a b : Option (List ℕ)) (f g : ℕ) (bytes : List ℕ) → length bytes ≤ 0 → Completes (hex_text bytes) whole a b f g → Completes [] whole a b f g
+pub hex_laid : (whole start piece : List ℕ) (a b : Option (List ℕ)) (f g : ℕ) (bytes : List ℕ) → length bytes ≤ 0 → LaysAll (hex_text bytes) whole start piece a b f g → LaysAll [] whole start piece a b f g
 unfolding hex_text
-hex_end whole a b f g [] none left = left
-hex_end whole a b f g (x ∷ xs) none left = absurd (omega (arith, none))
+hex_laid whole start piece a b f g [] none left = left
+hex_laid whole start piece a b f g (x ∷ xs) none left = absurd (omega (arith, none))
 
 -- ---- parcels
 

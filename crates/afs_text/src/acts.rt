@@ -6,8 +6,8 @@ ghost use Rattle.afs_model.specs.LineText.{hex_byte};
 ghost use Rattle.afs_text.specs.Laying.{Lays};
 ghost use Rattle.afs_text.specs.ActText.{act_text, begin_text, names_text, octal, operand_text, path_text, step_text, written_text};
 
-use crate::bytes::{Hex, Name};
-use crate::laying::{TextPiece, lay_short, put_piece};
+use crate::bytes::{Hex, HexByte, Name};
+use crate::laying::{TextPiece, lay_short, put_piece, put_short};
 use crate::pieces::Print;
 use afs_history::acts::{Act, Operand, Path, Written};
 use afs_num::sequences::Octets;
@@ -47,7 +47,7 @@ impl<'a> Print for &'a Written {
         match *self {
             Written::Hex(bytes) => row!("hex:", Hex(bytes.as_slice())).print(sink),
             Written::Fill { count, byte } => {
-                row!("fill:", *count, ":", Hex(&[*byte])).print(sink)
+                put_short(sink, &row!("fill:", *count, ":", HexByte(*byte)))
             }
         }
     }

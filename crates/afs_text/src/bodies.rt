@@ -12,7 +12,6 @@ use afs_num::directories;
 use afs_num::histories::{Body, ReadBody, ReadSource, ReadStatus};
 use afs_num::types::Fid;
 use afs_outside::outside::{Failed, Sink, put_bytes};
-use afs_outside::piece::Piece;
 
 /// The longest name that is laid together with its numbers.
 const SHORT_NAME: usize = 64;
@@ -20,10 +19,10 @@ const SHORT_NAME: usize = 64;
 impl<'a> Short for &'a directories::Name {
     ghost text = { λ name. entry_name_text name.now };
 
-    ghost most = { λ name. 3 * length name.now.name + 22 };
+    ghost most = { λ name. 3 * length name.now.name + 24 };
 
     #[inline(always)]
-    fn lay(&self, piece: &mut TextPiece) {
+    fn lay(&self, bytes: &mut [u8], at: usize) -> usize {
         row!(
             Name(self.name.as_slice()),
             "=",
@@ -31,7 +30,7 @@ impl<'a> Short for &'a directories::Name {
             ".",
             self.unique
         )
-        .lay(piece);
+        .lay(bytes, at)
     }
 }
 
@@ -45,8 +44,8 @@ fn lay_name<K: Sink>(
 {
     let bytes = name.name.as_slice();
     if bytes.len() <= SHORT_NAME {
-        make_room(sink, piece, 3 * bytes.len() + 22)?;
-        name.lay(piece);
+        make_room(sink, piece, 3 * bytes.len() + 24)?;
+        piece.lay(&name);
         return Ok(());
     }
     lay_long_name(sink, piece, bytes)?;
@@ -61,7 +60,7 @@ fn lay_long_name<K: Sink>(sink: &mut K, piece: &mut TextPiece, name: &[u8]) -> R
     Name(name).print(sink)
 }
 
-/// Lays a comma and a name in a directory. Each byte of the name may need three, the comma and the numbers need 23.
+/// Lays a comma and a name in a directory. Each byte of the name may need three, the comma and the numbers need 25.
 fn lay_next_name<K: Sink>(
     sink: &mut K,
     piece: &mut TextPiece,
@@ -71,8 +70,8 @@ fn lay_next_name<K: Sink>(
 {
     let len = name.name.as_slice().len();
     if len <= SHORT_NAME {
-        make_room(sink, piece, 3 * len + 23)?;
-        row!(",", name).lay(piece);
+        make_room(sink, piece, 3 * len + 25)?;
+        piece.lay(&row!(",", name));
         return Ok(());
     }
     lay_short(sink, piece, &",")?;
@@ -169,7 +168,7 @@ impl<'a> Print for &'a Body {
     ghost text = { λ body. body_text body.now };
 
     fn print<K: Sink>(&self, sink: &mut K) -> Result<(), Failed> {
-        let mut piece = Piece::new();
+        let mut piece = TextPiece::new();
         lay_body(sink, &mut piece, self)?;
         put_bytes(sink, piece.as_slice())
     }
@@ -181,7 +180,7 @@ impl Short for ReadStatus {
     ghost most = { λ _. 55 };
 
     #[tactic(auto, unfolding(afs_model::specs::LineText::status_text))]
-    fn lay(&self, piece: &mut TextPiece) {
+    fn lay(&self, bytes: &mut [u8], at: usize) -> usize {
         row!(
             "s:",
             self.kind,
@@ -192,7 +191,7 @@ impl Short for ReadStatus {
             ",",
             self.mode
         )
-        .lay(piece);
+        .lay(bytes, at)
     }
 }
 
@@ -217,10 +216,10 @@ impl Short for ReadSource {
 
     ghost most = { λ _. 7 };
 
-    fn lay(&self, piece: &mut TextPiece) {
+    fn lay(&self, bytes: &mut [u8], at: usize) -> usize {
         match self {
-            ReadSource::Cached => "cached".lay(piece),
-            ReadSource::Fetched => "fetched".lay(piece),
+            ReadSource::Cached => "cached".lay(bytes, at),
+            ReadSource::Fetched => "fetched".lay(bytes, at),
         }
     }
 }
@@ -232,12 +231,12 @@ pub struct Owed(pub Option<Fid>);
 impl Short for Owed {
     ghost text = { λ owed. owed_text owed.0 };
 
-    ghost most = { λ _. 32 };
+    ghost most = { λ _. 35 };
 
-    fn lay(&self, piece: &mut TextPiece) {
+    fn lay(&self, bytes: &mut [u8], at: usize) -> usize {
         match self.0 {
-            Some(fid) => fid.lay(piece),
-            None => "all".lay(piece),
+            Some(fid) => fid.lay(bytes, at),
+            None => "all".lay(bytes, at),
         }
     }
 }

@@ -13,7 +13,6 @@ use crate::run_lines::lay_line;
 use afs_history::lines::{Entry, Line};
 use afs_num::types::Parcel;
 use afs_outside::outside::{Failed, Sink, put_bytes};
-use afs_outside::piece::Piece;
 
 /// Lays these lines.
 #[tactic(auto, unfolding(crate::specs::RunText::lines_text))]
@@ -44,10 +43,11 @@ fn lay_sent<K: Sink>(
 }
 
 /// Writes an entry of this number, which sent these parcels, from this place on; with the bytes of each where `wire` asks for
-/// them.
+/// them. What the piece holds before is let go.
 #[tactic(auto, unfolding(crate::specs::KeptText::kept_entry_text))]
 pub fn print_entry<K: Sink>(
     sink: &mut K,
+    piece: &mut TextPiece,
     entry: &Entry,
     sent: &[Parcel],
     number: u64,
@@ -57,17 +57,18 @@ pub fn print_entry<K: Sink>(
     requires places { first_place + length sent.now ≤ 2 ^ 64 }
     ensures { Puts (kept_entry_text wire number first_place sent.now entry.now) (K.held sink.old) (K.held sink.new) (K.faults sink.old) (K.faults sink.new) result }
 {
-    let mut piece = Piece::new();
-    lay_step(sink, &mut piece, number, entry.actor)?;
-    lay_lines(sink, &mut piece, entry.lines.as_slice())?;
-    lay_sent(sink, &mut piece, first_place, sent, wire)?;
+    piece.clear();
+    lay_step(sink, piece, number, entry.actor)?;
+    lay_lines(sink, piece, entry.lines.as_slice())?;
+    lay_sent(sink, piece, first_place, sent, wire)?;
     put_bytes(sink, piece.as_slice())
 }
 
 /// Writes these entries, the first of which has this number, with these parcels, the first of which has this place. It takes no
-/// memory.
+/// memory. The piece is that in which each is laid: who writes them a few at a time makes one for all.
 pub fn put_entries<K: Sink>(
     sink: &mut K,
+    piece: &mut TextPiece,
     first_number: u64,
     first_place: u64,
     parcels: &[Parcel],
@@ -83,7 +84,15 @@ pub fn put_entries<K: Sink>(
     let mut left = parcels;
     for (i, entry) in entries.iter().enumerate() {
         let (sent, behind) = left.split_at(entry.sent);
-        print_entry(sink, entry, sent, first_number + i as u64, place, wire)?;
+        print_entry(
+            sink,
+            piece,
+            entry,
+            sent,
+            first_number + i as u64,
+            place,
+            wire,
+        )?;
         place += entry.sent as u64;
         left = behind;
     }
@@ -102,5 +111,6 @@ pub fn put_history<K: Sink>(
     requires places { length parcels.now < 2 ^ 63 }
     ensures { Puts (kept_history_text wire parcels.now history.now) (K.held sink.old) (K.held sink.new) (K.faults sink.old) (K.faults sink.new) result }
 {
-    put_entries(sink, 1, 1, parcels, history, wire)
+    let mut piece = TextPiece::new();
+    put_entries(sink, &mut piece, 1, 1, parcels, history, wire)
 }

@@ -1,85 +1,67 @@
 //! Short texts: they are laid one behind another in a piece, which is put where it has no room for the next.
 
-ghost use Rattle.std.specs.Prelude.{◌≡◌, ◌+◌, ◌/◌, ◌%◌, ◌<◌, ◌≤◌, [], ◌∷◌, ◌++◌, List, ℕ, length, OnOk};
-ghost use Rattle.std.specs.Fmt.{decimal};
+ghost use Rattle.std.specs.Prelude.{◌≡◌, ◌+◌, ◌≤◌, [], ◌∷◌, ◌++◌, List, ℕ, length, OnOk};
 ghost use Rattle.afs_outside.specs.Outside.{Puts};
-ghost use Rattle.afs_text.specs.Laying.{Lays};
+ghost use Rattle.afs_text.specs.Laying.{Lays, LaysAt};
 
 use afs_outside::outside::{Failed, Sink, put_bytes};
-use afs_outside::piece::Piece;
+use std::marker::Model;
 
 /// How many bytes a piece of text has room for.
 const ROOM: usize = 512;
 
-pub(crate) type TextPiece = Piece<ROOM>;
-
 /// How many bytes a short text has at most.
 const SHORT: usize = 128;
 
-// ---- numbers
+// ---- bytes
 
-/// Lays two digits.
+/// Lays a byte.
 #[inline(always)]
-fn push_pair(piece: &mut TextPiece, n: u64)
-    requires small { n < 100 }
-    requires room { length piece.old + 2 ≤ 512 }
-    ensures { piece.new ≡ piece.old ++ (48 + n / 10) ∷ (48 + n % 10) ∷ [] }
+pub(crate) fn lay_byte(bytes: &mut [u8], at: usize, byte: u8) -> usize
+    requires { at + 1 ≤ length bytes.old }
+    ensures { LaysAt (byte ∷ []) at bytes.old bytes.new result }
 {
-    piece.push_two(b'0' + (n / 10) as u8, b'0' + (n % 10) as u8);
+    bytes[at] = byte;
+    at + 1
 }
 
-/// Lays a number of one or two digits.
+/// Lays two bytes.
 #[inline(always)]
-fn push_front(piece: &mut TextPiece, n: u64)
-    requires small { n < 100 }
-    requires room { length piece.old + length (decimal n) ≤ 512 }
-    ensures { piece.new ≡ piece.old ++ decimal n }
+pub(crate) fn lay_two(bytes: &mut [u8], at: usize, first: u8, second: u8) -> usize
+    requires { at + 2 ≤ length bytes.old }
+    ensures { LaysAt (first ∷ second ∷ []) at bytes.old bytes.new result }
 {
-    if n < 10 {
-        piece.push(b'0' + n as u8);
-    } else {
-        push_pair(piece, n);
-    }
+    bytes[at] = first;
+    bytes[at + 1] = second;
+    at + 2
 }
 
-/// Lays a number of at most four digits.
+/// Lays four bytes.
 #[inline(always)]
-fn push_short_number(piece: &mut TextPiece, n: u64)
-    requires small { n < 10000 }
-    requires room { length piece.old + length (decimal n) ≤ 512 }
-    ensures { piece.new ≡ piece.old ++ decimal n }
+pub(crate) fn lay_four(
+    bytes: &mut [u8],
+    at: usize,
+    first: u8,
+    second: u8,
+    third: u8,
+    fourth: u8,
+) -> usize
+    requires { at + 4 ≤ length bytes.old }
+    ensures { LaysAt (first ∷ second ∷ third ∷ fourth ∷ []) at bytes.old bytes.new result }
 {
-    if n < 100 {
-        return push_front(piece, n);
-    }
-    push_front(piece, n / 100);
-    push_pair(piece, n % 100);
+    let behind = lay_two(bytes, at, first, second);
+    lay_two(bytes, behind, third, fourth)
 }
 
-/// Lays a number. Most have no more than four digits.
-fn push_number(piece: &mut TextPiece, n: u64)
-    requires { length piece.old + length (decimal n) ≤ 512 }
-    ensures { piece.new ≡ piece.old ++ decimal n }
+/// Lays bytes.
+#[inline(always)]
+pub(crate) fn lay_bytes(bytes: &mut [u8], at: usize, text: &[u8]) -> usize
+    requires { at + length text.now ≤ length bytes.old }
+    ensures { LaysAt text.now at bytes.old bytes.new result }
 {
-    if n < 10_000 {
-        push_short_number(piece, n);
-    } else {
-        push_long_number(piece, n);
-    }
-}
-
-/// Lays a number, four digits behind those before them. It stands apart, so that a short number needs no stack.
-#[inline(never)]
-fn push_long_number(piece: &mut TextPiece, n: u64)
-    requires { length piece.old + length (decimal n) ≤ 512 }
-    ensures { piece.new ≡ piece.old ++ decimal n }
-{
-    if n < 10_000 {
-        return push_short_number(piece, n);
-    }
-    push_long_number(piece, n / 10_000);
-    push_pair(piece, n % 10_000 / 100);
-    push_pair(piece, n % 10_000 % 100);
+    let end = at + text.len();
+    bytes[at..end].copy_from_slice(text);
+    end
 }
 
 // ---- short texts
@@ -92,10 +74,11 @@ pub(crate) trait Short {
     /// The text has at most so many bytes.
     ghost most: { Self → ℕ };
 
-    /// Lays its text behind what the piece holds.
-    fn lay(&self, piece: &mut TextPiece)
-        requires { length piece.old + most self.now ≤ 512 }
-        ensures laid { piece.new ≡ piece.old ++ text self.now }
+    /// Lays its text at this place, and says where the text ends. So the place is kept in a register from one text to the next, which
+    /// a field that lies beside the bytes can't be.
+    fn lay(&self, bytes: &mut [u8], at: usize) -> usize
+        requires { at + most self.now ≤ length bytes.old }
+        ensures laid { LaysAt (text self.now) at bytes.old bytes.new result }
         ensures short { length (text self.now) ≤ most self.now };
 }
 
@@ -106,9 +89,9 @@ impl<A: Short, B: Short> Short for (A, B) {
     ghost most = { λ p. A.most p.0 + B.most p.1 };
 
     #[inline(always)]
-    fn lay(&self, piece: &mut TextPiece) {
-        self.0.lay(piece);
-        self.1.lay(piece);
+    fn lay(&self, bytes: &mut [u8], at: usize) -> usize {
+        let behind = self.0.lay(bytes, at);
+        self.1.lay(bytes, behind)
     }
 }
 
@@ -118,43 +101,69 @@ impl<'a> Short for &'a str {
     ghost most = { λ s. length s.now };
 
     #[inline(always)]
-    fn lay(&self, piece: &mut TextPiece) {
-        piece.push_bytes(self.as_bytes());
+    fn lay(&self, bytes: &mut [u8], at: usize) -> usize {
+        lay_bytes(bytes, at, self.as_bytes())
     }
 }
 
-impl Short for u64 {
-    ghost text = { decimal };
+// ---- pieces
 
-    ghost most = { λ _. 20 };
-
-    fn lay(&self, piece: &mut TextPiece) {
-        push_number(piece, *self);
-    }
+/// A piece of text: what is laid, and not yet put.
+#[derive(Drop)]
+pub struct TextPiece {
+    bytes: [u8; ROOM],
+    len: usize,
 }
 
-impl Short for u32 {
-    ghost text = { decimal };
+impl Model for TextPiece {
+    ghost use Rattle.std.specs.Prelude.{◌≡◌, ◌≤◌, List, ℕ, length, take};
 
-    ghost most = { λ _. 10 };
+    ghost Value = { List ℕ };
 
-    fn lay(&self, piece: &mut TextPiece) {
-        push_number(piece, *self as u64);
-    }
+    ghost view = { λ p. take p.len p.bytes };
+
+    ghost invariant = { λ p. (p.len ≤ 512) × (length p.bytes ≡ 512) };
 }
 
-impl Short for u8 {
-    ghost text = { decimal };
-
-    ghost most = { λ _. 3 };
+impl TextPiece {
+    pub fn new() -> TextPiece
+        ensures { result ≡ [] }
+    {
+        TextPiece {
+            bytes: [0; ROOM],
+            len: 0,
+        }
+    }
 
     #[inline(always)]
-    fn lay(&self, piece: &mut TextPiece) {
-        if *self < 10 {
-            piece.push(b'0' + *self);
-        } else {
-            push_number(piece, *self as u64);
-        }
+    pub(crate) fn as_slice(&self) -> &[u8]
+        ensures value { result.now ≡ self.now }
+        ensures fits { length result.now ≤ 512 }
+    {
+        self.bytes.split_at(self.len).0
+    }
+
+    /// How many bytes more it has room for.
+    #[inline(always)]
+    fn room(&self) -> usize
+        ensures { result + length self.now ≡ 512 }
+    {
+        ROOM - self.len
+    }
+
+    pub(crate) fn clear(&mut self)
+        ensures { self.new ≡ [] }
+    {
+        self.len = 0;
+    }
+
+    /// Lays a short text behind what it holds.
+    #[inline(always)]
+    pub(crate) fn lay<T: Short>(&mut self, item: &T)
+        requires { length self.old + T.most item.now ≤ 512 }
+        ensures { self.new ≡ self.old ++ T.text item.now }
+    {
+        self.len = item.lay(&mut self.bytes, self.len);
     }
 }
 
@@ -163,8 +172,8 @@ pub(crate) fn put_short<T: Short, K: Sink>(sink: &mut K, item: &T) -> Result<(),
     requires { T.most item.now ≤ 512 }
     ensures { Puts (T.text item.now) (K.held sink.old) (K.held sink.new) (K.faults sink.old) (K.faults sink.new) result }
 {
-    let mut piece = Piece::new();
-    item.lay(&mut piece);
+    let mut piece = TextPiece::new();
+    piece.lay(item);
     put_bytes(sink, piece.as_slice())
 }
 
@@ -210,6 +219,6 @@ pub(crate) fn lay_short<T: Short, K: Sink>(
     ensures { Lays (T.text item.now) piece.old piece.new (K.held sink.old) (K.held sink.new) (K.faults sink.old) (K.faults sink.new) result }
 {
     make_room(sink, piece, SHORT)?;
-    item.lay(piece);
+    piece.lay(item);
     Ok(())
 }

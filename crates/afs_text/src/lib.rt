@@ -13,7 +13,10 @@ mod bytes;
 pub mod histories;
 mod laying;
 mod lines;
+mod numbers;
 pub mod pieces;
 mod printing;
 mod run_lines;
 pub mod volumes;
+
+pub use laying::TextPiece;

@@ -6,10 +6,10 @@ ghost use Rattle.std.specs.Fmt.{decimal, signed_decimal};
 ghost use Rattle.afs_num.specs.Texts.{node_text, fid_text, key_text};
 ghost use Rattle.afs_outside.specs.Outside.{Puts};
 
-use crate::laying::{Short, TextPiece, put_short};
+use crate::laying::{Short, put_short};
+use crate::numbers::lay_signed;
 use afs_num::types::{Code, Fid, Key, Node};
 use afs_outside::outside::{Failed, Sink, put_bytes};
-use itoa::Buffer;
 
 /// What has a text.
 pub trait Print {
@@ -98,11 +98,11 @@ impl Print for Code {
 impl Short for Code {
     ghost text = { λ c. signed_decimal c.0 };
 
-    ghost most = { λ _. 11 };
+    ghost most = { λ _. 12 };
 
-    fn lay(&self, piece: &mut TextPiece) {
-        let mut buffer = Buffer::new();
-        piece.push_bytes(buffer.format(self.0).as_bytes());
+    #[inline(always)]
+    fn lay(&self, bytes: &mut [u8], at: usize) -> usize {
+        lay_signed(bytes, at, self.0)
     }
 }
 
@@ -117,14 +117,15 @@ impl Print for Node {
 impl Short for Node {
     ghost text = { node_text };
 
-    ghost most = { λ _. 4 };
+    ghost most = { λ _. 5 };
 
-    fn lay(&self, piece: &mut TextPiece) {
+    #[inline(always)]
+    fn lay(&self, bytes: &mut [u8], at: usize) -> usize {
         match *self {
-            Node::Loc => "loc".lay(piece),
-            Node::Server(i) => row!("s", i).lay(piece),
-            Node::Client(i) => row!("c", i).lay(piece),
-            Node::Admin(i) => row!("a", i).lay(piece),
+            Node::Loc => "loc".lay(bytes, at),
+            Node::Server(i) => row!("s", i).lay(bytes, at),
+            Node::Client(i) => row!("c", i).lay(bytes, at),
+            Node::Admin(i) => row!("a", i).lay(bytes, at),
         }
     }
 }
@@ -140,10 +141,10 @@ impl Print for Fid {
 impl Short for Fid {
     ghost text = { fid_text };
 
-    ghost most = { λ _. 32 };
+    ghost most = { λ _. 35 };
 
-    fn lay(&self, piece: &mut TextPiece) {
-        row!(self.volume, ".", self.vnode, ".", self.unique).lay(piece);
+    fn lay(&self, bytes: &mut [u8], at: usize) -> usize {
+        row!(self.volume, ".", self.vnode, ".", self.unique).lay(bytes, at)
     }
 }
 
@@ -158,9 +159,9 @@ impl Print for Key {
 impl Short for Key {
     ghost text = { key_text };
 
-    ghost most = { λ _. 26 };
+    ghost most = { λ _. 29 };
 
-    fn lay(&self, piece: &mut TextPiece) {
-        row!(self.node, ".", self.epoch, ".", self.number).lay(piece);
+    fn lay(&self, bytes: &mut [u8], at: usize) -> usize {
+        row!(self.node, ".", self.epoch, ".", self.number).lay(bytes, at)
     }
 }

@@ -36,11 +36,11 @@ impl Short for Half {
 
     ghost most = { λ _. 6 };
 
-    fn lay(&self, piece: &mut TextPiece) {
+    fn lay(&self, bytes: &mut [u8], at: usize) -> usize {
         match self {
-            Half::Call => "call ".lay(piece),
-            Half::Reply => "reply ".lay(piece),
-            Half::Boot => "boot ".lay(piece),
+            Half::Call => "call ".lay(bytes, at),
+            Half::Reply => "reply ".lay(bytes, at),
+            Half::Boot => "boot ".lay(bytes, at),
         }
     }
 }
@@ -48,10 +48,10 @@ impl Short for Half {
 impl Short for Head {
     ghost text = { head_text };
 
-    ghost most = { λ _. 48 };
+    ghost most = { λ _. 56 };
 
     #[tactic(auto, unfolding(afs_model::specs::Text::head_text))]
-    fn lay(&self, piece: &mut TextPiece) {
+    fn lay(&self, bytes: &mut [u8], at: usize) -> usize {
         row!(
             self.from,
             " ",
@@ -64,7 +64,7 @@ impl Short for Head {
             ".",
             self.number
         )
-        .lay(piece);
+        .lay(bytes, at)
     }
 }
 
@@ -75,13 +75,13 @@ struct HalfCode(Half, Code);
 impl Short for HalfCode {
     ghost text = { λ c. code_text c.0 c.1.0 };
 
-    ghost most = { λ _. 12 };
+    ghost most = { λ _. 13 };
 
     #[tactic(auto, unfolding(afs_model::specs::Text::code_text))]
-    fn lay(&self, piece: &mut TextPiece) {
+    fn lay(&self, bytes: &mut [u8], at: usize) -> usize {
         match self.0 {
-            Half::Reply => row!(" ", self.1).lay(piece),
-            Half::Call | Half::Boot => {}
+            Half::Reply => row!(" ", self.1).lay(bytes, at),
+            Half::Call | Half::Boot => at,
         }
     }
 }
@@ -123,11 +123,11 @@ impl Short for Actor {
 
     ghost most = { λ _. 5 };
 
-    fn lay(&self, piece: &mut TextPiece) {
+    fn lay(&self, bytes: &mut [u8], at: usize) -> usize {
         match self {
-            Actor::Node(node) => node.lay(piece),
-            Actor::Clock => "clock".lay(piece),
-            Actor::Nobody => "none".lay(piece),
+            Actor::Node(node) => node.lay(bytes, at),
+            Actor::Clock => "clock".lay(bytes, at),
+            Actor::Nobody => "none".lay(bytes, at),
         }
     }
 }

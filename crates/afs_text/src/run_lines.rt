@@ -13,7 +13,6 @@ use crate::lines::{
 use crate::pieces::Print;
 use afs_history::lines::Line;
 use afs_outside::outside::{Failed, Sink, put_bytes};
-use afs_outside::piece::Piece;
 
 /// Lays a line.
 #[tactic(auto, unfolding(crate::specs::RunText::line_text))]
@@ -84,7 +83,7 @@ impl Print for Line {
     ghost text = { line_text };
 
     fn print<K: Sink>(&self, sink: &mut K) -> Result<(), Failed> {
-        let mut piece = Piece::new();
+        let mut piece = TextPiece::new();
         lay_line(sink, &mut piece, self)?;
         put_bytes(sink, piece.as_slice())
     }

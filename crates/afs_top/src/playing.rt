@@ -10,6 +10,7 @@ ghost use Rattle.afs_top.specs.Playing.{IsTold, PutsBehind};
 use afs_cell::{Played, World};
 use afs_disk::Disk;
 use afs_outside::outside::{Failed, Sink};
+use afs_text::TextPiece;
 use afs_text::histories::put_entries;
 
 /// How a script was played: to its end; as far as a history may go, and an event is left; or memory was wanting. And whether its
@@ -31,6 +32,7 @@ pub(crate) enum Ended {
 /// Writes the entries that weren't let go, if all before them were written.
 fn put_next<K: Sink, D: Disk>(
     sink: &mut K,
+    piece: &mut TextPiece,
     world: &World<'_, D>,
     wire: bool,
     written: Result<(), Failed>,
@@ -44,6 +46,7 @@ fn put_next<K: Sink, D: Disk>(
     let first_place = world.sent() - parcels.len() as u64 + 1;
     put_entries(
         sink,
+        piece,
         world.entries_before() + 1,
         first_place,
         parcels,
@@ -66,10 +69,11 @@ pub(crate) fn play<'a, K: Sink, D: Disk>(
     let mut world = world;
     let mut schedule = world.schedule();
     let mut written = Ok(());
+    let mut piece = TextPiece::new();
     loop {
         match world.play_next(&mut schedule) {
             Played::Event => {
-                written = put_next(sink, &world, wire, written);
+                written = put_next(sink, &mut piece, &world, wire, written);
                 world.let_go(schedule.settled());
             }
             Played::All => {

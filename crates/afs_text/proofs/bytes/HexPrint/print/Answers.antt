@@ -1,15 +1,9 @@
--- Each chunk goes on behind those before it.
-use Rattle.afs_outside.proofs.Puts.{completes_more, completes_stop, completes_end}
-use Rattle.afs_text.proofs.Sent.{hex_chunk, hex_end}
+use Rattle.afs_model.specs.LineText.{hex_text}
+use Rattle.afs_text.proofs.Laid.{lays_put, lays_put_stop}
 use Rattle.afs_text.proofs.bytes.HexPrint.print.Goals as goal
 
-pub loop-rest-preserved : goal.loop-rest-preserved
-loop-rest-preserved g c =
-    completes_more _ _ _ _ _ _ _ _ _ _ (hex_chunk _ _ _ _ _ _ _ _ _ c.split_at.ensures.front c.split_at.ensures.back c.loop-rest.invariant) c.in_ok-put_chunk.ensures
-
-pub returns-in_err-put_chunk : goal.returns-in_err-put_chunk
-returns-in_err-put_chunk g c =
-    completes_stop _ _ _ _ _ _ _ _ _ _ _ (hex_chunk _ _ _ _ _ _ _ _ _ c.split_at.ensures.front c.split_at.ensures.back c.loop-rest.invariant) c.from_residual.ensures.0 c.in_err-put_chunk.ensures
+pub returns-in_err-lay_hex : goal.returns-in_err-lay_hex
+returns-in_err-lay_hex g c = lays_put_stop (hex_text c.args.self.now.0.now) c.new-piece.result _ _ _ _ _ _ c.new-piece.ensures c.from_residual.ensures.0 c.in_err-lay_hex.ensures
 
 pub returns : goal.returns
-returns g c = completes_end _ _ _ _ _ _ (hex_end _ _ _ _ _ _ c.loop-rest-test.false c.loop-rest.invariant)
+returns g c = lays_put (hex_text c.args.self.now.0.now) c.new-piece.result c.lay_hex.new.piece _ _ _ _ _ _ _ _ _ c.new-piece.ensures c.as_slice.ensures.value c.in_ok-lay_hex.ensures c.put_bytes.ensures
