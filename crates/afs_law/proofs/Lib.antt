@@ -54,6 +54,9 @@ pub mod Ideals
 pub mod Cutting
 pub mod Changing
 pub mod Placing
+pub mod Ticking
+pub mod Reasons
+pub mod Promised
 pub mod Sending
 pub mod Entering
 pub mod Dying

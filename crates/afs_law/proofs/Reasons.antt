@@ -266,7 +266,7 @@ held_by x id = volume_in id x.lasting.volumes
 pub held_at : (x : ServerState) (id : ℕ) (st : Stored) → get id x.lasting.volumes ≡ Some st → held_by x id ≡ Some st.volume
 held_at x id st at = ap (option_map (λ (y : Stored). y.volume)) at
 
-answer_of : (V : ℕ → Option Volume) (user : List ℕ) (call : FsCall) (id : ℕ) (o : Option Volume) → volume_called call ≡ Some id → V id ≡ o → answers_in V user call ≡ Some (op_on id (the_user user) call o)
+pub answer_of : (V : ℕ → Option Volume) (user : List ℕ) (call : FsCall) (id : ℕ) (o : Option Volume) → volume_called call ≡ Some id → V id ≡ o → answers_in V user call ≡ Some (op_on id (the_user user) call o)
 answer_of V user (calls.GiveUpCallBacks fids callbacks) id o of at = absurd cc
 answer_of V user calls.GetTime id o of at = absurd cc
 answer_of V user (calls.BulkStatus fids) id o of at = absurd cc

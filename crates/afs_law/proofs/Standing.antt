@@ -34,7 +34,7 @@ use Rattle.afs_law.proofs.Agreeing.{at_end}
 use Rattle.afs_law.proofs.Basics.{Each, Above, IfCall, IfDone, IfReply, OfClient, OfReply, OfServer, by_client, by_server, client_number, each_at, runs_above}
 use Rattle.afs_law.proofs.Facts.{its_call, Origin, CallFact, CallIn, Holds, InScope, IsAged, IsSafe, ReplyFact, ReplyIn, view}
 use Rattle.afs_law.proofs.Nexts.{asks_is}
-use Rattle.afs_law.proofs.OneCell.{Cell}
+use Rattle.afs_law.proofs.OneCell.{the_server, Cell}
 use Rattle.afs_law.proofs.Owing.{AllOf, DoneIn, DroppedOwe, IsIn, IsPromised, promise_to}
 use Rattle.afs_law.proofs.Servers.{run_same, seen_in}
 
@@ -110,7 +110,7 @@ done_in (carried.Refusal code) to X is e h = by_server 1 to X e h
 done_in (carried.Reply reply) to X is e h = by_server 1 to X e h
 done_in carried.Notice to X is e h = absurd is
 
-handled_all : (j : ℕ) (past : List Entry) (os : List OwedBreak) → AllOf (DroppedOwe (Client j) (lines_of past)) os → AllByRecursion (IsHandled j past) os
+handled_all : (j : ℕ) (past : List Entry) (os : List OwedBreak) → AllOf (DroppedOwe the_server (Client j) (lines_of past)) os → AllByRecursion (IsHandled j past) os
 handled_all j past [] h = tt
 handled_all j past (o ∷ os) h = ((record { going = λ z. z; what = o.what; owe = h.0.owe; dropped = h.0.dropped }, refl), handled_all j past os h.1)
 
@@ -121,10 +121,10 @@ run_handled s h end is r j place m b at code to from up boot call number =
     let c : Cell = seen_in end in
     let k : Holds s c past = holds_at s h end is r in
     let x = k.backs refl in
-    let P : Message → Type 0 = DoneIn c.down c.server.backs.calls c.server.backs.last_call c.server.lasting.boot past in
+    let P : Message → Type 0 = DoneIn the_server c.down c.server.backs.calls c.server.backs.last_call c.server.lasting.boot past in
     let d : P m = done_in m.carried m.head.to (P m) code to (each_at (IfDone P) c.sent place m at x.dones) in
     let same : d.client ≡ Client j = sym d.from ∙ from in
-    handled_all j past b.breaks (subst (λ (q : Node). AllOf (DroppedOwe q (lines_of past)) b.breaks) same (d.done.dropped b up boot (ap c.server.backs.calls same ∙ call) number))
+    handled_all j past b.breaks (subst (λ (q : Node). AllOf (DroppedOwe the_server q (lines_of past)) b.breaks) same ((d.done to).dropped b up boot (ap c.server.backs.calls same ∙ call) number))
 
 -- ---- a call that was given up
 
