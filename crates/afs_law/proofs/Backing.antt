@@ -221,7 +221,7 @@ waits_or : (me : Node) (h : Held) (e : Entry) (t u : ℕ) (newer : List Entry) (
 waits_or me h e t u newer at older before after c what n le (inl x) = inl (ended_over me e t u newer at older before after c what n le x)
 waits_or me h e t u newer at older before after c what n le (inr x) = inr x
 
-pub waits_over : (me : Node) (seats now : List Seat) (t u : ℕ) (e : Entry) (past : List Entry) (h : Held) → t ≤ u → ((k : Key) → HasChange k (lines_of (e ∷ past)) → HasChange k (lines_of past) ⊎ Above (call_seat k.node seats) k.epoch k.number)
+pub waits_over : (me : Node) (seats now : List Seat) (t u : ℕ) (e : Entry) (past : List Entry) (h : Held) → t ≤ u → (HasChange (key_answered h.reply) (lines_of (e ∷ past)) → HasChange (key_answered h.reply) (lines_of past) ⊎ Above (call_seat h.reply.head.to seats) h.reply.head.epoch h.reply.head.number)
     → ((before after : List Line) (c : Node) (what : Option Fid) (n : ℕ) → e.lines ≡ before ++ lines.Owe me c what n ∷ after → WaitedBy me h u [] e past before after c what n × (what ≡ None → ⊥))
     → ((m : Node) (x y : ℕ) → Above (call_seat m now) x y → Above (call_seat m seats) x y) → HeldWaits me seats t past h → HeldWaits me now u (e ∷ past) h
 waits_over me seats now t u e past h le change new seat w = record {
@@ -231,7 +231,7 @@ waits_over me seats now t u e past h le change new seat w = record {
   is_reply = w.is_reply;
   under = λ x. w.under (seat _ _ _ x);
   own = owes_over me (WaitedBy me h t) (WaitedBy me h u) e past (λ before after c what n line. (new before after c what n line).0) (λ newer at older before after c what n x boot y. waits_or me h e t u newer at older before after c what n le (x boot y)) w.own;
-  all = λ x. elim (change (key_answered h.reply) x) [
+  all = λ x. elim (change x) [
     | inl y ↦ owes_over me (AllWaitedBy me h t) (AllWaitedBy me h u) e past (λ before after c what n line z. absurd ((new before after c what n line).1 z)) (λ newer at older before after c what n y z. waits_or me h e t u newer at older before after c what n le (y z)) (w.all y)
     | inr y ↦ absurd (w.under y)
   ];
@@ -503,7 +503,7 @@ plain_step me d b clock then e past p le = record {
 }
 
 pub plain_waits : (me : Node) (seats now : List Seat) (t u : ℕ) (e : Entry) (past : List Entry) (h : Held) → Plain me e.lines → t ≤ u → ((m : Node) (x y : ℕ) → Above (call_seat m now) x y → Above (call_seat m seats) x y) → HeldWaits me seats t past h → HeldWaits me now u (e ∷ past) h
-plain_waits me seats now t u e past h p le seat w = waits_over me seats now t u e past h le (λ k x. inl (change_back k e.lines (lines_of past) p.unchanging x)) (λ before after c what n line. absurd (no_owe e.lines before after me c what n p.oweless line)) seat w
+plain_waits me seats now t u e past h p le seat w = waits_over me seats now t u e past h le (λ x. inl (change_back (key_answered h.reply) e.lines (lines_of past) p.unchanging x)) (λ before after c what n line. absurd (no_owe e.lines before after me c what n p.oweless line)) seat w
 
 pub granted_over : (me : Node) (e : Entry) (past : List Entry) (ps : List Promise) → all_lines is_still e.lines ≡ true → all_lines (is_up me) e.lines ≡ true → all_lines is_oweless e.lines ≡ true → AllOf (IsGranted me (lines_of past)) ps → AllOf (IsGranted me (lines_of (e ∷ past))) ps
 granted_over me e past ps still up oweless h = all_map (IsGranted me (lines_of past)) (IsGranted me (lines_of (e ∷ past))) (λ p x. unbroken_back me p.client p.fid e.lines (lines_of past) still up oweless ∙ x) ps h

@@ -424,7 +424,7 @@ none_by : (t u : Bool) (h : Held) (o : Option Held) → cond t (Some h) o ≡ No
 none_by true u h o e f w = absurd cc
 none_by false u h o e f w = w e f
 
-not_held : (k : Key) (hs : List Held) → held_under k hs ≡ None → is_held k hs ≡ true → ⊥
+pub not_held : (k : Key) (hs : List Held) → held_under k hs ≡ None → is_held k hs ≡ true → ⊥
 not_held k [] e f = absurd cc
 not_held k (h ∷ hs) e f = none_by (is_reply_to k h.reply) (is_held k hs) h (held_under k hs) e f (λ x y. not_held k hs x y)
 
@@ -432,7 +432,7 @@ held_by : (P : Held → Type 0) (t : Bool) (k : Key) (x h : Held) (o : Option He
 held_by P true k x h o e p at w = subst (λ (z : Held). P z × (is_reply_to k z.reply ≡ true)) (some_of x h at) (p, e)
 held_by P false k x h o e p at w = w at
 
-held_waits : (P : Held → Type 0) (k : Key) (hs : List Held) (h : Held) → held_under k hs ≡ Some h → AllOf P hs → P h × (is_reply_to k h.reply ≡ true)
+pub held_waits : (P : Held → Type 0) (k : Key) (hs : List Held) (h : Held) → held_under k hs ≡ Some h → AllOf P hs → P h × (is_reply_to k h.reply ≡ true)
 held_waits P k [] h at all = absurd cc
 held_waits P k (x ∷ hs) h at all = held_by P (is_reply_to k x.reply) k x h (held_under k hs) refl all.0 at (λ y. held_waits P k hs h y all.1)
 

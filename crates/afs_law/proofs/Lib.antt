@@ -57,6 +57,8 @@ pub mod Placing
 pub mod Ticking
 pub mod Reasons
 pub mod Promised
+pub mod Breaking
+pub mod Speaking
 pub mod Sending
 pub mod Entering
 pub mod Dying

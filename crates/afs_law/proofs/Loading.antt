@@ -391,7 +391,7 @@ no_key me k (h ∷ hs) seats clock past w e above = no_key_by me (is_reply_to k 
 -- the replies that waited wait on, over an entry that owes nothing
 pub old_waits : (me : Node) (b : Backs) (boot : ℕ) (seats now : List Seat) (cs : ℕ → Option Seat) (clock : ℕ) (sent : List Message) (e : Entry) (past : List Entry) → BackedIn me None b boot seats cs clock sent past → all_lines is_oweless e.lines ≡ true → all_lines is_unchanging e.lines ≡ true → ((m : Node) (x y : ℕ) → Above (call_seat m now) x y → Above (call_seat m seats) x y)
     → AllOf (HeldWaits me now clock (e ∷ past)) b.held
-old_waits me b boot seats now cs clock sent e past h oweless unchanging seat = all_map (HeldWaits me seats clock past) (HeldWaits me now clock (e ∷ past)) (λ q y. waits_over me seats now clock clock e past q (le_refl _) (λ k x. inl (change_back k e.lines (lines_of past) unchanging x))
+old_waits me b boot seats now cs clock sent e past h oweless unchanging seat = all_map (HeldWaits me seats clock past) (HeldWaits me now clock (e ∷ past)) (λ q y. waits_over me seats now clock clock e past q (le_refl _) (λ x. inl (change_back (key_answered q.reply) e.lines (lines_of past) unchanging x))
     (λ before after c what n line. absurd (no_owe e.lines before after me c what n oweless line)) seat y) b.held (h.waiting refl)
 
 -- what the entries of a key owed before that runs now is ended
@@ -965,7 +965,7 @@ change_loaded me who b ps more boot seats now cs clock sent e past pre os hd m h
     (λ x. all_both (λ (o : Owed). IsOwed me o.client (lines_of (e ∷ past)) o) b.lists.owed os (owed_over me e past b.lists.owed up (h.owing x))
     (subst (λ (ls : List Line). AllOf (λ (o : Owed). IsOwed me o.client ls o) os) (sym (ap (onto (lines_of past)) w.are ∙ onto_both (lines_of past) pre (map (owe_line me) os))) (owes_at me os (onto (lines_of past) pre))))
     (λ x. all_both (HeldWaits me now clock (e ∷ past)) b.held (hd ∷ [])
-    (all_map (HeldWaits me seats clock past) (HeldWaits me now clock (e ∷ past)) (λ q y. waits_over me seats now clock clock e past q (le_refl _) w.changed
+    (all_map (HeldWaits me seats clock past) (HeldWaits me now clock (e ∷ past)) (λ q y. waits_over me seats now clock clock e past q (le_refl _) (w.changed (key_answered q.reply))
     (λ before rest c what n line. ((λ t z. absurd (y.under (subst (λ (k : Key). Above (call_seat k.node seats) k.epoch k.number) (under (key_answered q.reply) t z) w.above))), not_all before rest c what n line)) w.seat y) b.held (h.waiting refl)) (
       record {
         client = w.reply.client;

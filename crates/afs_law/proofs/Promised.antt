@@ -198,15 +198,15 @@ reading_code s c past i user call r h is = answers_same (held_by (c.hosts i).sta
 
 shows_grant : (s : Script) (c : Cell) (past : List Entry) (i j place : ℕ) (m : Message) (r : Reading) (f : Found) → HeldTicks s c past → (c.hosts i).down ≡ None → message_at c.sent place ≡ Some m → (run : Runs (Server i) (c.hosts i).state m j) → IsReading (held_by (c.hosts i).state) run.user run.call r → IsAmong f r.granted
     → GoodGrant (Server i) m.head.from f.fid f.vnode.index (c.clock + promise_ticks) past (lines.Given place ∷ [])
-shows_grant s c past i j place m r f h up at run is yes =
+shows_grant s c past i j place m r f h up at run is z =
     let V : ℕ → Option Volume = held_by (c.hosts i).state in
     let given : given_message (lines.Given place ∷ []) (sent_of past) ≡ Some m = was_given s c past place m h.0 at in
-    let q = read_there V run.call r (answer_at run.user run.call past) past f is.is yes in
+    let q = read_there V run.call r (answer_at run.user run.call past) past f is.is z in
     record {
       key = key_of m.head;
       node = refl;
       ran = runs_here s c past i j m (lines.Given place ∷ []) h.0 up run given;
-      going = λ z. z;
+      going = λ x. x;
       user = run.user;
       call = run.call;
       carries = ap (option_map (λ (k : Message). k.carried)) given ∙ ap Some run.carries;
@@ -235,7 +235,7 @@ over_stopped n (v ∷ vs) own h = over_stopped n vs (lines.Version v ∷ own) h
 
 saves_grant : (s : Script) (c : Cell) (past : List Entry) (i j place : ℕ) (m : Message) (ch : Change) (f : Found) → HeldTicks s c past → (c.hosts i).down ≡ None → message_at c.sent place ≡ Some m → (run : Runs (Server i) (c.hosts i).state m j) → IsMaking (held_by (c.hosts i).state) run.user run.call ch → IsAmong f (granted_in ch)
     → GoodGrant (Server i) m.head.from f.fid f.vnode.index (c.clock + promise_ticks) past (on_top (made ch) (lines.Change (Server i) (key_of m.head) (length (made ch)) ∷ lines.Given place ∷ []))
-saves_grant s c past i j place m ch f h up at run is yes =
+saves_grant s c past i j place m ch f h up at run is z =
     let k : Key = key_of m.head in
     let vs : List Version = made ch in
     let v : Volume = ch.before.volume in
@@ -245,13 +245,13 @@ saves_grant s c past i j place m ch f h up at run is yes =
     let there : volume_after ch.id past ≡ Some v = are_ideal s c past i h.0 ch.id v is.at in
     let answer : answer_at run.user run.call past ≡ Some (changes ch.edits ch.shown) = sym (answers_after past run.user run.call) ∙ (answer_of (λ id. volume_after id past) run.user run.call ch.id (Some v) is.of_volume there ∙ ap Some is.result) in
     let given : given_message own (sent_of past) ≡ Some m = over_given vs front (sent_of past) ∙ was_given s c past place m h.0 at in
-    let new = newly ch.id (the_user run.user) run.call v ch.edits ch.shown past f is.of_volume is.result there (h.0.1.fine i ch.id v is.at).ascends (subst (λ (x : FsCall). IsAmong f (granted_in (record ch { call = x }))) is.called yes) in
+    let new = newly ch.id (the_user run.user) run.call v ch.edits ch.shown past f is.of_volume is.result there (h.0.1.fine i ch.id v is.at).ascends (subst (λ (x : FsCall). IsAmong f (granted_in (record ch { call = x }))) is.called z) in
     let old : Sound ch.id v base = sound_same ch.id (Some v) (lines_of past) base (λ n u. refl) (subst (λ (o : Option Volume). SoundIn ch.id o (lines_of past)) there (h.0.1.sound ch.id)) in
     record {
       key = k;
       node = refl;
       ran = runs_here s c past i j m own h.0 up run given;
-      going = λ z. over_stopped (Server i) vs front z;
+      going = λ x. over_stopped (Server i) vs front x;
       user = run.user;
       call = run.call;
       carries = ap (option_map (λ (x : Message). x.carried)) given ∙ ap Some run.carries;
@@ -265,19 +265,19 @@ saves_grant s c past i j place m ch f h up at run is yes =
 
 does_rules : (s : Script) (c : Cell) (past : List Entry) (i place : ℕ) (m : Message) (d : Decision) (tail : List Line) → HeldTicks s c past → (c.hosts i).down ≡ None → message_at c.sent place ≡ Some m → Why (Server i) (c.hosts i).state m d → all_lines is_still tail ≡ true
     → EachLine IsGrantGood (actors.Node (Server i)) past [] (does (Server i) (c.hosts i).state c.clock place d tail).lines
-does_rules s c past i place m drops tail h up at y t = (tt, all_still _ past _ tail t)
-does_rules s c past i place m (tells_boot head) tail h up at y t = (tt, all_still _ past _ tail t)
-does_rules s c past i place m (repeats reply) tail h up at y t = (tt, all_still _ past _ tail t)
-does_rules s c past i place m (refuses head code) tail h up at y t = (tt, all_still _ past _ tail t)
+does_rules s c past i place m drops tail h up at y t = (tt, all_still (actors.Node (Server i)) past (lines.Given place ∷ []) tail t)
+does_rules s c past i place m (tells_boot head) tail h up at y t = (tt, all_still (actors.Node (Server i)) past (lines.Given place ∷ []) tail t)
+does_rules s c past i place m (repeats reply) tail h up at y t = (tt, all_still (actors.Node (Server i)) past (lines.Given place ∷ []) tail t)
+does_rules s c past i place m (refuses head code) tail h up at y t = (tt, all_still (actors.Node (Server i)) past (lines.Given place ∷ []) tail t)
 does_rules s c past i place m (shows head r) tail h up at y t =
     (tt, subst (λ (x : Head). EachLine IsGrantGood (actors.Node (Server i)) past (lines.Given place ∷ []) (granted (Server i) x.from (c.clock + promise_ticks) r.granted tail)) (sym y.1.why.0)
-    (granted_rules (Server i) m.head.from (actors.Node (Server i)) past (lines.Given place ∷ []) (c.clock + promise_ticks) r.granted tail (λ f yes. shows_grant s c past i y.0 place m r f h up at y.1.run y.1.why.1 yes) t))
+    (granted_rules (Server i) m.head.from (actors.Node (Server i)) past (lines.Given place ∷ []) (c.clock + promise_ticks) r.granted tail (λ f z. shows_grant s c past i y.0 place m r f h up at y.1.run y.1.why.1 z) t))
 does_rules s c past i place m (saves head ch) tail h up at y t =
     let who : Actor = actors.Node (Server i) in
     let all : Head → List Line = λ x. lines.Given place ∷ lines.Change (Server i) (key_of x) (length (made ch)) ∷ versioned (made ch) (granted (Server i) x.from (c.clock + promise_ticks) (granted_in ch) tail) in
     subst (λ (x : Head). EachLine IsGrantGood who past [] (all x)) (sym y.1.why.0)
     (tt, (tt, version_rules who past (lines.Change (Server i) (key_of m.head) (length (made ch)) ∷ lines.Given place ∷ []) (made ch) (granted (Server i) m.head.from (c.clock + promise_ticks) (granted_in ch) tail)
-    (granted_rules (Server i) m.head.from who past (on_top (made ch) (lines.Change (Server i) (key_of m.head) (length (made ch)) ∷ lines.Given place ∷ [])) (c.clock + promise_ticks) (granted_in ch) tail (λ f yes. saves_grant s c past i y.0 place m ch f h up at y.1.run y.1.why.1 yes) t)))
+    (granted_rules (Server i) m.head.from who past (on_top (made ch) (lines.Change (Server i) (key_of m.head) (length (made ch)) ∷ lines.Given place ∷ [])) (c.clock + promise_ticks) (granted_in ch) tail (λ f z. saves_grant s c past i y.0 place m ch f h up at y.1.run y.1.why.1 z) t)))
 
 -- all calls that are sent are file calls
 file_of : (P : Head → List ℕ → FsCall → Type 0) (head : Head) (c : Carried) → OfCall (ByClient P) head c → OfCall (λ h user call. ⊤) head c

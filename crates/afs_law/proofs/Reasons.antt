@@ -26,11 +26,12 @@ use Rattle.afs_num.specs.declared.types.Node.TheVariants.{Client}
 use Rattle.afs_records.specs.Durable.{Stored, has_room}
 use Rattle.afs_rows.specs.Runs.{Entry}
 use Rattle.afs_rows.specs.ServerRow.{Change, Decision, Reading, Sight, admits, decided, decides, drops, given_up_read, hears, in_volume, is_client, no_room, no_volume, not_served, reading_in, record_of, refuses, repeats, runs_received, saves, serves_call, several, shows, sight_by, sight_in, sights, statuses_read, tells_boot, time_read, whole, with_volume}
+use Rattle.afs_shape.specs.Reading.{◌>>=◌}
 use Rattle.afs_rows.specs.States.{Seat, ServerState, durable_of, volume_in}
 use Rattle.std.proofs.Common.{◌≡◌, ℕ, ◌⊎◌, inl, inr, Bool, true, false, cond, List, [], ◌∷◌, map, Option, Some, None, ℤ, pos, refl, sym, ap, subst, ◌∙◌}
 use Rattle.std.specs.Option.{option_map}
 use Rattle.std.specs.Prelude as outcome
-use Rattle.std.specs.Prelude.{⊤, ◌>>=◌, Ok, Err}
+use Rattle.std.specs.Prelude.{⊤, Ok, Err}
 
 -- ---- what the ideal operation makes of a call, by these volumes
 
@@ -146,7 +147,7 @@ AreAmong V W = (id : ℕ) (v : Volume) → V id ≡ Some v → W id ≡ Some v
 seen_to : (V W : ℕ → Option Volume) (f : Fid) (st : Stored) (x : Found) → AreAmong V W → IsSeen V f st x → IsSeen W f st x
 seen_to V W f st x w h = record { fid = h.fid; at = w x.fid.volume st.volume h.at; found = h.found }
 
-look_to : (V W : ℕ → Option Volume) (f : Fid) (show : Found → Shown) (r : Reading) → AreAmong V W → IsLook V f show r → IsLook W f show r
+abbrev look_to : (V W : ℕ → Option Volume) (f : Fid) (show : Found → Shown) (r : Reading) → AreAmong V W → IsLook V f show r → IsLook W f show r
 look_to V W f show r w h = record { stored = h.stored; found = h.found; seen = seen_to V W f h.stored h.found w h.seen; caller = h.caller; is = h.is }
 
 all_to : (V W : ℕ → Option Volume) (fs : List Fid) (xs : List Sight) → AreAmong V W → AllSeen V fs xs → AllSeen W fs xs
@@ -285,7 +286,7 @@ roomed_reason : (t : Bool) (x : ServerState) (h : Head) (user : List ℕ) (call 
 roomed_reason true x h user call c m = (refl, m)
 roomed_reason false x h user call c m = (refl, record { some = refl; why = inr (refl, subst IsChanging (sym (answer_of (held_by x) user call c.id (Some c.before.volume) m.of_volume m.at ∙ ap Some m.result)) tt) })
 
-looked : (x : ServerState) (caller : Caller) (g : Fid) (id : ℕ) (st : Stored) (f : Found) (show : Found → Shown) → g.volume ≡ id → get id x.lasting.volumes ≡ Some st → IsFoundAs g st.volume f → IsLook (held_by x) g show (reading_in id caller st (show f))
+abbrev looked : (x : ServerState) (caller : Caller) (g : Fid) (id : ℕ) (st : Stored) (f : Found) (show : Found → Shown) → g.volume ≡ id → get id x.lasting.volumes ≡ Some st → IsFoundAs g st.volume f → IsLook (held_by x) g show (reading_in id caller st (show f))
 looked x caller g id st f show of at is = record {
   stored = st;
   found = f;
@@ -418,6 +419,8 @@ pub record Ran (me : Node) (x : ServerState) (m : Message) (j : ℕ) (d : Decisi
 
 -- a refusal to what is no client isn't looked at
 abbrev pub Why : Node → ServerState → Message → Decision → Type 0
+Why me x m (tells_boot head) = (head ≡ m.head) × (m.head.to ≡ me)
+Why me x m (repeats reply) = (m.head.to ≡ me) × (admitted x.lasting.boot x.seats m.head ≡ pairs.kept reply)
 Why me x m (refuses head code) = (j : ℕ) → m.head.from ≡ Client j → Ran me x m j (refuses head code)
 Why me x m (shows head r) = (j : ℕ) × Ran me x m j (shows head r)
 Why me x m (saves head c) = (j : ℕ) × Ran me x m j (saves head c)
@@ -434,8 +437,8 @@ no_client from j not e = let yes : is_client from ≡ true = ap is_client e in a
 
 why_of : (me : Node) (x : ServerState) (m : Message) (j : ℕ) (d : Decision) → Ran me x m j d → Why me x m d
 why_of me x m j drops r = tt
-why_of me x m j (tells_boot head) r = tt
-why_of me x m j (repeats reply) r = tt
+why_of me x m j (tells_boot head) r = absurd r.why
+why_of me x m j (repeats reply) r = absurd r.why
 why_of me x m j (refuses head code) r = λ k e. let same : j ≡ k = client_is j k (sym r.run.from ∙ e) in subst (λ (n : ℕ). Ran me x m n (refuses head code)) same r
 why_of me x m j (shows head rd) r = (j, r)
 why_of me x m j (saves head c) r = (j, r)
@@ -447,10 +450,10 @@ why_from me x clock m user call from e to runs is = λ j z. absurd (no_client fr
 
 why_admits : (me : Node) (x : ServerState) (clock : ℕ) (m : Message) (user : List ℕ) (call : FsCall) (o : Admitted Message) → m.head.to ≡ me → admitted x.lasting.boot x.seats m.head ≡ o → m.carried ≡ carried.Call user (ask.File call) → Why me x m (admits x clock m.head (whole m.head (carried.Call user (ask.File call))) o)
 why_admits me x clock m user call pairs.runs to e is = why_from me x clock m user call m.head.from refl to e is
-why_admits me x clock m user call (pairs.kept reply) to e is = tt
+why_admits me x clock m user call (pairs.kept reply) to e is = (to, e)
 why_admits me x clock m user call pairs.in_progress to e is = tt
 why_admits me x clock m user call pairs.older to e is = tt
-why_admits me x clock m user call (pairs.wrong_boot boot) to e is = tt
+why_admits me x clock m user call (pairs.wrong_boot boot) to e is = (refl, to)
 
 why_called : (t : Bool) (me : Node) (x : ServerState) (clock : ℕ) (m : Message) (user : List ℕ) (call : FsCall) → same_node m.head.to me ≡ t → m.carried ≡ carried.Call user (ask.File call)
     → Why me x m (cond t (admits x clock m.head (whole m.head (carried.Call user (ask.File call))) (admitted x.lasting.boot x.seats m.head)) drops)

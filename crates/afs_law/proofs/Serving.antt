@@ -1009,7 +1009,7 @@ first_answer boot (o ∷ os) k t h = first_answer boot os k _ (by_answer boot k 
 pub told_there : (f : Fid) (index : ℕ) (body : ReadBody) (o : Option Volume) (v : Volume) (x : Vnode) → Some v ≡ o → vnode_of f v ≡ Some x → Tells index body x → TellsOf f index body o
 told_there f index body o v x at found h = subst (TellsOf f index body) at (subst (TellsIn index body) (sym found) h)
 
-and_true : (a b : Bool) → a ≡ true → b ≡ true → (a && b) ≡ true
+pub and_true : (a b : Bool) → a ≡ true → b ≡ true → (a && b) ≡ true
 and_true true b e h = h
 and_true false b e h = absurd cc
 
@@ -1036,7 +1036,7 @@ from_not false s k boot o e w = refl
 from_not true s k boot None e w = absurd cc
 from_not true s k boot (Some m) e w = absurd (w (from_is s k boot m e))
 
-comes : (s : Node) (k : Key) (boot : ℕ) (past : List Entry) → IsToCome s k boot past → is_to_come s k boot past ≡ true
+pub comes : (s : Node) (k : Key) (boot : ℕ) (past : List Entry) → IsToCome s k boot past → is_to_come s k boot past ≡ true
 comes s k boot [] h = refl
 comes s k boot (e ∷ past) h = and_true (not (is_call_from s k boot (given_message e.lines (sent_of past)))) (is_to_come s k boot past) (from_not (is_call_from s k boot (given_message e.lines (sent_of past))) s k boot (given_message e.lines (sent_of past)) refl h.0) (comes s k boot past h.1)
 

@@ -20,12 +20,14 @@ use Rattle.afs_num.specs.declared.histories.Version.{Version}
 use Rattle.afs_num.specs.declared.messages.Message.{Message}
 use Rattle.afs_num.specs.declared.types.Key.{Key}
 use Rattle.afs_num.specs.declared.types.Node.{Node}
-use Rattle.afs_num.specs.declared.types.Node.TheVariants.{Server}
+use Rattle.afs_num.specs.declared.types.Node.TheVariants.{Client, Server}
 use Rattle.afs_records.specs.Durable.{Stored}
+use Rattle.afs_num.specs.declared.messages.Received.TheVariants.{Whole}
+use Rattle.afs_rows.specs.ClientRow.{begin_row, client_row, timeout_row}
 use Rattle.afs_rows.specs.Runs.{Cell, Entry, Fall, Moved, at_rest, begun_by_disk, blow_line, in_boot, in_step, start}
 use Rattle.afs_rows.specs.ServerRow.{Begun, key_of, made, versioned}
 use Rattle.afs_rows.specs.States.{ServerState}
-use Rattle.std.proofs.Common.{suc, ◌≡◌, ℕ, ◌+◌, inl, inr, Bool, true, List, [], ◌∷◌, ◌++◌, length, refl, sym, ap, ◌∙◌}
+use Rattle.std.proofs.Common.{suc, ◌≡◌, ℕ, ◌+◌, inl, inr, Bool, true, false, List, [], ◌∷◌, ◌++◌, length, refl, sym, ap, ◌∙◌}
 use Rattle.std.specs.Prelude.{⊤}
 
 -- ---- what holds of each line of a server's step
@@ -107,9 +109,9 @@ ticks_moves : (s : Script) → EachMove (HeldTicks s) (Behind TicksIn)
 ticks_moves s = record {
   void = λ c past h. h.1;
   ticked = λ c past n h. ap (λ (t : ℕ). t + suc n) h.1;
-  begun = λ c past n act h r. acts_stand c past n _ h.1 (begins_acts n (c.clients n) c.clock act r).of;
-  told = λ c past n place m h at to. acts_stand c past n _ h.1 (given_acts (by_key (IsKnown h.0.0.0.keys.callees c.clients)) any_told n (c.clients n) c.clock place m (h.0.0.0.keys.replies n) (h.0.0.1.seats n)).of;
-  waited = λ c past n act h r. acts_stand c past n _ h.1 (waits_acts n (c.clients n) act r).of;
+  begun = λ c past n act h r. acts_stand c past n (begin_row (Client n) (c.clients n) c.clock act).lines h.1 (begins_acts n (c.clients n) c.clock act r).of;
+  told = λ c past n place m h at to. acts_stand c past n (client_row (Client n) (c.clients n) c.clock place (Whole m)).lines h.1 (given_acts (by_key (IsKnown h.0.0.0.keys.callees c.clients)) any_told n (c.clients n) c.clock place m (h.0.0.0.keys.replies n) (h.0.0.1.seats n)).of;
+  waited = λ c past n act h r. acts_stand c past n (timeout_row (Client n) (c.clients n) act).lines h.1 (waits_acts n (c.clients n) act r).of;
   fallen = λ c past n h. h.1;
   risen = λ c past n h. h.1;
   served = λ c past i place m armed h up at to. works_stand c past i _ _ h.1 (serves_works AnyCall (Server i) (c.hosts i).state c.clock place m (λ rest. tt));
@@ -124,8 +126,8 @@ ticks_moves s = record {
       let ls : List Line = risen_lines (Server i) c.clock c.count f in
       works_stand c past i _ _ h.1 (starts_works AnyCall (Server i) (c.hosts i).state c.clock c.count f (disk_works AnyCall (Server i) (c.hosts i).state after fall ls (any_cut ls fall) (risen_from (Server i) c.clock c.count f)));
   early = λ c past i fall h down. h.1;
-  midway = λ c past i after fall h down. works_stand c past i _ _ h.1 (disk_works AnyCall (Server i) (c.hosts i).state after fall (lines.Fault (Server i) ∷ []) (any_cut _ fall) (rw (own_from i) refl));
-  full = λ c past i after fall h down. works_stand c past i _ _ h.1 (disk_works AnyCall (Server i) (c.hosts i).state after fall (lines.Full (Server i) ∷ []) (any_cut _ fall) (rw (own_from i) refl));
+  midway = λ c past i after fall h down. works_stand c past i _ _ h.1 (disk_works AnyCall (Server i) (c.hosts i).state after fall (lines.Fault (Server i) ∷ []) (any_cut (lines.Fault (Server i) ∷ []) fall) (rw (own_from i) refl));
+  full = λ c past i after fall h down. works_stand c past i _ _ h.1 (disk_works AnyCall (Server i) (c.hosts i).state after fall (lines.Full (Server i) ∷ []) (any_cut (lines.Full (Server i) ∷ []) fall) (rw (own_from i) refl));
 }
 
 pub ticks_kept : (s : Script) → IsKept (HeldTicks s)
