@@ -84,7 +84,7 @@ pub record IsMessage (me : Node) (m : Message) : Type 0 where
   pub calls : OfCall (λ head user call. IsClient head.to) m.head m.carried
   pub replies : IfDone (λ k. ⊥) m
 
-break_is : (me : Node) (boot : ℕ) (n : Node) (known : ℕ) (c : BackCall) → IsClient n → IsMessage me (break_message me boot n known c)
+pub break_is : (me : Node) (boot : ℕ) (n : Node) (known : ℕ) (c : BackCall) → IsClient n → IsMessage me (break_message me boot n known c)
 break_is me boot n known c is = record { from = refl; calls = is; replies = tt }
 
 pub record Loads (me : Node) (boot : ℕ) (seats : List Seat) (cs : ℕ → Option Seat) (clock : ℕ) (sent : List Message) (past : List Entry) (t : Turn) : Type 0 where

@@ -59,6 +59,7 @@ pub mod Reasons
 pub mod Promised
 pub mod Breaking
 pub mod Speaking
+pub mod Others
 pub mod Sending
 pub mod Entering
 pub mod Dying

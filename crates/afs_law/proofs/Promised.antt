@@ -42,9 +42,10 @@ use Rattle.afs_num.specs.declared.types.Fid.{Fid}
 use Rattle.afs_num.specs.declared.types.Head.{Head}
 use Rattle.afs_num.specs.declared.types.Key.{Key}
 use Rattle.afs_num.specs.declared.types.Node.{Node}
-use Rattle.afs_num.specs.declared.types.Node.TheVariants.{Server}
+use Rattle.afs_num.specs.declared.types.Node.TheVariants.{Client, Server}
 use Rattle.afs_records.specs.Durable.{Stored}
 use Rattle.afs_rows.specs.Callbacks.{Turn, expired, held_under, is_back_awaited, is_ready, is_seat_of, key_answered, new_owes, owe_line, quit_line, renews_by, repeats_by, risen_turn, settle_line, settles_by, still_owed, turn_for, turned_by}
+use Rattle.afs_rows.specs.ClientRow.{begin_row, client_row, timeout_row}
 use Rattle.afs_rows.specs.Runs.{Cell, Entry, Fall, Input, Moved, at_rest, begun_by_disk, blow_line, in_boot, in_step, message_at, moved, start}
 use Rattle.afs_rows.specs.ServerRow.{Begun, Change, Decision, Reading, begun_after, decides, does, drops, granted, granted_in, key_of, made, promise_ticks, refuses, repeats, saves, shows, tells_boot, versioned}
 use Rattle.afs_rows.specs.ServerSteps.{back_timeout_row, server_row, start_row, wake_row}
@@ -313,29 +314,29 @@ started_rules : (me : Node) (who : Actor) (x : ServerState) (clock count : ℕ) 
 unfolding start_row
 started_rules me who x clock count past after fall = all_still who past [] _ (disk_still me x after fall (risen_lines me clock count (begun_by_disk me x after fall)) (owes_still me (risen_turn me clock count).backs.lists.owed))
 
-acts_rules : (c : Cell) (past : List Entry) (n : ℕ) (who : Actor) (ls : List Line) → all_lines (is_of n) ls ≡ true → EachLine IsGrantGood who past [] ls
-acts_rules c past n who ls h = all_still who past [] ls (of_still n ls h)
+acts_rules : (past : List Entry) (n : ℕ) (ls : List Line) → all_lines (is_of n) ls ≡ true → EachLine IsGrantGood (actors.Node (Client n)) past [] ls
+acts_rules past n ls h = all_still (actors.Node (Client n)) past [] ls (of_still n ls h)
 
 grant_moves : (s : Script) → EachMove (HeldTicks s) GrantStep
 grant_moves s = record {
   void = λ c past h. (tt, tt);
   ticked = λ c past n h. (tt, tt);
-  begun = λ c past n act h r. acts_rules c past n _ _ (begins_acts n (c.clients n) c.clock act r).of;
-  told = λ c past n place m h at to. acts_rules c past n _ _ (given_acts (by_key (IsKnown h.0.0.0.keys.callees c.clients)) any_told n (c.clients n) c.clock place m (h.0.0.0.keys.replies n) (h.0.0.1.seats n)).of;
-  waited = λ c past n act h r. acts_rules c past n _ _ (waits_acts n (c.clients n) act r).of;
+  begun = λ c past n act h r. acts_rules past n (begin_row (Client n) (c.clients n) c.clock act).lines (begins_acts n (c.clients n) c.clock act r).of;
+  told = λ c past n place m h at to. acts_rules past n (client_row (Client n) (c.clients n) c.clock place (Whole m)).lines (given_acts (by_key (IsKnown h.0.0.0.keys.callees c.clients)) any_told n (c.clients n) c.clock place m (h.0.0.0.keys.replies n) (h.0.0.1.seats n)).of;
+  waited = λ c past n act h r. acts_rules past n (timeout_row (Client n) (c.clients n) act).lines (waits_acts n (c.clients n) act r).of;
   fallen = λ c past n h. (tt, tt);
   risen = λ c past n h. (tt, tt);
   served = λ c past i place m armed h up at to. served_rules s c past i place m h up at;
-  cut = λ c past i place m t h up at to. all_still _ past [] _ (blow_still i place t);
+  cut = λ c past i place m t h up at to. all_still (actors.Node (Server i)) past [] (lines.Given place ∷ blow_line i t ∷ []) (blow_still i place t);
   stopped = λ c past i h up. (tt, tt);
   stop_set = λ c past i calls pick armed h up. (tt, tt);
   fail_set = λ c past i call armed h up. (tt, tt);
-  timed = λ c past i n b armed h up at. timed_rules (Server i) _ (c.hosts i).state c.clock past n b;
-  woken = λ c past i armed h up. woken_rules (Server i) _ (c.hosts i).state c.clock past;
-  started = λ c past i after fall h down. started_rules (Server i) _ (c.hosts i).state c.clock c.count past after fall;
+  timed = λ c past i n b armed h up at. timed_rules (Server i) (actors.Node (Server i)) (c.hosts i).state c.clock past n b;
+  woken = λ c past i armed h up. woken_rules (Server i) (actors.Node (Server i)) (c.hosts i).state c.clock past;
+  started = λ c past i after fall h down. started_rules (Server i) (actors.Node (Server i)) (c.hosts i).state c.clock c.count past after fall;
   early = λ c past i fall h down. (tt, tt);
-  midway = λ c past i after fall h down. all_still _ past [] _ (disk_still (Server i) (c.hosts i).state after fall (lines.Fault (Server i) ∷ []) refl);
-  full = λ c past i after fall h down. all_still _ past [] _ (disk_still (Server i) (c.hosts i).state after fall (lines.Full (Server i) ∷ []) refl);
+  midway = λ c past i after fall h down. all_still (actors.Node (Server i)) past [] ((begun_by_disk (Server i) (c.hosts i).state after fall).before (lines.Fault (Server i) ∷ [])) (disk_still (Server i) (c.hosts i).state after fall (lines.Fault (Server i) ∷ []) refl);
+  full = λ c past i after fall h down. all_still (actors.Node (Server i)) past [] ((begun_by_disk (Server i) (c.hosts i).state after fall).before (lines.Full (Server i) ∷ [])) (disk_still (Server i) (c.hosts i).state after fall (lines.Full (Server i) ∷ []) refl);
 }
 
 pub run_grants : GrantsAreGood

@@ -460,7 +460,7 @@ why_called : (t : Bool) (me : Node) (x : ServerState) (clock : ℕ) (m : Message
 why_called true me x clock m user call e is = why_admits me x clock m user call (admitted x.lasting.boot x.seats m.head) (same_node-true m.head.to me e) refl is
 why_called false me x clock m user call e is = tt
 
-why_hears : (me : Node) (x : ServerState) (clock : ℕ) (m : Message) (y : Carried) → m.carried ≡ y → OfCall (λ head user call. ⊤) m.head y → Why me x m (hears me x clock m.head y)
+pub why_hears : (me : Node) (x : ServerState) (clock : ℕ) (m : Message) (y : Carried) → m.carried ≡ y → OfCall (λ head user call. ⊤) m.head y → Why me x m (hears me x clock m.head y)
 why_hears me x clock m (carried.Call user (ask.File call)) is h = why_called (same_node m.head.to me) me x clock m user call refl is
 why_hears me x clock m (carried.Call user (ask.Volume call)) is h = absurd h
 why_hears me x clock m (carried.Call user (ask.Location call)) is h = absurd h

@@ -153,16 +153,16 @@ others_by : (t : Bool) (s c : Node) (f : Fid) (v : Version) (vs : List Version) 
 others_by true s c f v vs o t by e h = on_more s c f vs (lines.Version v ∷ o) (inl (same_fid-true v.fid f t, by))
 others_by false s c f v vs o t by e h = h e
 
-on_others : (s c : Node) (f : Fid) (vs : List Version) (o : List Line) → IsByOther s c (change_below o) → touches f vs ≡ true → IsChangedByOther s c f (on_top vs o)
+pub on_others : (s c : Node) (f : Fid) (vs : List Version) (o : List Line) → IsByOther s c (change_below o) → touches f vs ≡ true → IsChangedByOther s c f (on_top vs o)
 on_others s c f [] o by e = absurd cc
 on_others s c f (v ∷ vs) o by e = others_by (same_fid v.fid f) s c f v vs o refl by e (λ t. on_others s c f vs (lines.Version v ∷ o) by t)
 
 -- grants behind that change nothing of it
-granted_others : (s c q d : Node) (f : Fid) (x : ℕ) (fs : List Found) (o : List Line) → IsChangedByOther s c f o → IsChangedByOther s c f (onto o (granted q d x fs []))
+pub granted_others : (s c q d : Node) (f : Fid) (x : ℕ) (fs : List Found) (o : List Line) → IsChangedByOther s c f o → IsChangedByOther s c f (onto o (granted q d x fs []))
 granted_others s c q d f x [] o h = h
 granted_others s c q d f x (g ∷ fs) o h = granted_others s c q d f x fs (lines.Grant q d g.fid g.vnode.index x ∷ o) h
 
-granted_stopped : (s q d : Node) (x : ℕ) (fs : List Found) (o : List Line) → (HasStopped s o → ⊥) → HasStopped s (onto o (granted q d x fs [])) → ⊥
+pub granted_stopped : (s q d : Node) (x : ℕ) (fs : List Found) (o : List Line) → (HasStopped s o → ⊥) → HasStopped s (onto o (granted q d x fs [])) → ⊥
 granted_stopped s q d x [] o h z = h z
 granted_stopped s q d x (g ∷ fs) o h z = granted_stopped s q d x fs (lines.Grant q d g.fid g.vnode.index x ∷ o) h z
 

@@ -21,7 +21,12 @@ use Rattle.afs_num.specs.declared.calls.FsCall.TheVariants as calls
 use Rattle.afs_num.specs.declared.calls.FsReply.{FsReply}
 use Rattle.afs_num.specs.declared.calls.FsReply.TheVariants as replies
 use Rattle.afs_num.specs.declared.histories.Actor.TheVariants as actors
+use Rattle.afs_num.specs.declared.histories.Body.{Body}
+use Rattle.afs_num.specs.declared.histories.Body.TheVariants as bodies
 use Rattle.afs_num.specs.declared.histories.ReadBody.{ReadBody}
+use Rattle.afs_num.specs.declared.histories.ReadBody.TheVariants as seen
+use Rattle.afs_num.specs.declared.histories.ReadSource.TheVariants.{Fetched}
+use Rattle.afs_num.specs.declared.histories.ReadStatus.{ReadStatus}
 use Rattle.afs_num.specs.declared.messages.Call.TheVariants as ask
 use Rattle.afs_num.specs.declared.messages.Carried.{Carried}
 use Rattle.afs_num.specs.declared.messages.Carried.TheVariants as carried
@@ -34,14 +39,16 @@ use Rattle.afs_num.specs.declared.types.Head.{Head}
 use Rattle.afs_num.specs.declared.types.Node.{Node}
 use Rattle.afs_num.specs.declared.types.Node.TheVariants.{Client, Server}
 use Rattle.afs_rows.specs.Callbacks.{breaks_call}
-use Rattle.afs_rows.specs.ClientRow.{Walked, admits_call, awaits, begin_row, calls_again, is_trusted, begins_by, breaks, client_row, counts, done, drop_line, gives_by, goes_by, goes_on, hears, ignores, is_awaited, is_spent, refused_with, refuses, replies_step, takes, takes_bulk, takes_bytes, takes_data, takes_entries, takes_entry, takes_given, takes_in, takes_list, takes_plain, takes_set, takes_shown, takes_status, timeout_row, told_step, walks_on, whole, without_fids, without_server}
-use Rattle.afs_rows.specs.Going.{ClientState, Going, Need, answers, began, gives_back, next}
+use Rattle.afs_rows.specs.ClientRow.{Walked, admits_call, answers_step, awaits, begin_row, begins_by, behind_batch, body_told, breaks, call_of, calls_again, client_row, counts, done, drop_line, dropped, ends_step, entries_told, entry_told, find_cached, gift_of, given, gives_by, gives_up, goes_by, goes_on, hears, ignores, in_order, is_awaited, is_below, is_busy_code, is_older, is_spent, is_trusted, look_at, looked, most_busy, most_reads, put_entries, put_entry, read_lines, refused_with, refuses, replies_step, status_look, status_told, takes, takes_bulk, takes_data, takes_entries, takes_entry, takes_given, takes_list, takes_plain, takes_rights, takes_set, takes_shown, takes_stored, timeout_row, told_step, tries_again, trusted_in, untrusted_in, walked, walks_on, whole, with_statuses, without_fids, without_server}
+use Rattle.afs_rows.specs.Going.{ClientState, Going, Need, answers, began, gives_back, next, with_read}
 use Rattle.afs_rows.specs.Runs.{Entry, Fall}
-use Rattle.afs_rows.specs.ServerRow.{not_served, replied, seat_for}
+use Rattle.afs_rows.specs.ServerRow.{boot_told, not_served, replied, seat_for}
 use Rattle.afs_rows.specs.States.{BackCall, Backs, CacheEntry, Gift, Seat}
 use Rattle.afs_rows.specs.Steps.{Step}
-use Rattle.std.proofs.Common.{◌≡◌, ℕ, ◌≤◌, ◌⊎◌, inl, inr, Bool, true, false, cond, List, [], ◌∷◌, map, nat_eq, nat_lt, Option, Some, None, refl, sym, ap, subst, ◌∙◌}
+use Rattle.std.proofs.Common.{◌≡◌, ℕ, ◌≤◌, ◌⊎◌, inl, inr, Bool, true, false, cond, List, [], ◌∷◌, ◌+◌, map, nat_eq, nat_lt, Option, Some, None, refl, sym, ap, subst, ◌∙◌}
 use Rattle.std.proofs.Math.Nat.{le_refl}
+use Rattle.std.specs.List.{list_any}
+use Rattle.std.specs.Prelude.{◌&&◌, filter, not}
 
 -- ---- a step that answers no call
 
@@ -61,55 +68,80 @@ goes_speaks me c front w need = record { calls = (tt, tt); seats' = refl }
 on_speaks : (me : Node) (c : ClientState) (front : List Line → List Line) (w : Walked) → Speaks c.seats (goes_on me c front w)
 on_speaks me c front w = goes_speaks me c front w (next w.act)
 
+walks_speaks : (me : Node) (c : ClientState) (clock : ℕ) (front : List Line → List Line) (act : Going) (cache : List CacheEntry) → Speaks c.seats (walks_on me c clock front act cache)
+walks_speaks me c clock front act cache = on_speaks me c front (walked (most_reads act) clock act cache)
+
 gives_speaks : (me : Node) (c : ClientState) (front : List Line → List Line) (act : Going) (gs : List Gift) → Speaks c.seats (gives_by me c front act gs)
 gives_speaks me c front act [] = record { calls = tt; seats' = refl }
 gives_speaks me c front act (g ∷ gs) = record { calls = (tt, tt); seats' = refl }
 
 begins_speaks : (me : Node) (c : ClientState) (clock : ℕ) (front : List Line → List Line) (act : Going) (need : Need) → Speaks c.seats (begins_by me c clock front act need)
-begins_speaks me c clock front act gives_back = gives_speaks me _ _ act _
-begins_speaks me c clock front act need = on_speaks me c front _
+begins_speaks me c clock front act gives_back = gives_speaks me (record c { cache = untrusted_in clock c.cache }) (λ ls. front (dropped me (trusted_in clock c.cache) ls)) act (in_order (map gift_of (trusted_in clock c.cache)))
+begins_speaks me c clock front act need = walks_speaks me c clock front act c.cache
 
 pub begun_speaks : (me : Node) (c : ClientState) (clock : ℕ) (act : Act) → Speaks c.seats (begin_row me c clock act)
 unfolding begin_row
-begun_speaks me c clock act = let h : Speaks c.seats (begins_by me (record c { busy = 0 }) clock (λ ls. lines.Begin me act ∷ ls) (began c.table act) (next (began c.table act))) = begins_speaks me (record c { busy = 0 }) clock _ (began c.table act) (next (began c.table act)) in h
+begun_speaks me c clock act = begins_speaks me (record c { busy = 0 }) clock (λ ls. lines.Begin me act ∷ ls) (began c.table act) (next (began c.table act))
 
-entry_speaks : (t : Bool) (me : Node) (c : ClientState) (place : ℕ) (act : Going) (front : List Line → List Line) (w : Walked) → Speaks c.seats (cond t (goes_on me c front w) (calls_again me c place act))
-entry_speaks t me c place act front w = either_speaks t c.seats _ _ (on_speaks me c front w) (record { calls = (tt, tt); seats' = refl })
+again_speaks : (me : Node) (c : ClientState) (place : ℕ) (act : Going) → Speaks c.seats (calls_again me c place act)
+again_speaks me c place act = record { calls = (tt, tt); seats' = refl }
 
-takes_entry_speaks : (me : Node) (c : ClientState) (clock place : ℕ) (act : Going) (entry : CacheEntry) (body : ReadBody) → Speaks c.seats (takes_entry me c clock place act entry body)
-takes_entry_speaks me c clock place act entry body = either_speaks (is_trusted clock entry) c.seats _ _ (on_speaks me c _ _) (record { calls = (tt, tt); seats' = refl })
+ends_speaks : (me : Node) (c : ClientState) (cache : List CacheEntry) (front : List Line → List Line) (code : Code) → Speaks c.seats (ends_step me c cache front code)
+ends_speaks me c cache front code = record { calls = tt; seats' = refl }
+
+plain_speaks : (me : Node) (c : ClientState) (place : ℕ) (call : FsCall) → Speaks c.seats (takes_plain me c place call)
+plain_speaks me c place call = record { calls = tt; seats' = refl }
+
+stored_speaks : (me : Node) (c : ClientState) (clock place : ℕ) (f : Fid) (index : ℕ) (status : ReadStatus) (made : Option Body → Option Body) → Speaks c.seats (takes_stored me c clock place f index status made)
+stored_speaks me c clock place f index status made = record { calls = tt; seats' = refl }
+
+entry_speaks : (me : Node) (c : ClientState) (clock place : ℕ) (act : Going) (entry : CacheEntry) (body : ReadBody) → Speaks c.seats (takes_entry me c clock place act entry body)
+entry_speaks me c clock place act entry body =
+    either_speaks (is_trusted clock entry) c.seats (walks_on me c clock (read_lines me place (look_at Fetched entry body)) (with_read entry.fid body act) (put_entry c.capacity entry c.cache)) (calls_again me c place act)
+    (walks_speaks me c clock (read_lines me place (look_at Fetched entry body)) (with_read entry.fid body act) (put_entry c.capacity entry c.cache)) (again_speaks me c place act)
 
 data_speaks : (me : Node) (c : ClientState) (clock place : ℕ) (act : Going) (contents : List ℕ) (status : AfsFetchStatus) (callback : AfsCallBack) (sync : AfsVolSync) (call : FsCall) → Speaks c.seats (takes_data me c clock place act contents status callback sync call)
-data_speaks me c clock place act contents status callback sync (calls.FetchData f position wanted) = takes_entry_speaks me c clock place act _ _
-data_speaks me c clock place act contents status callback sync call = record { calls = tt; seats' = refl }
+data_speaks me c clock place act contents status callback sync (calls.FetchData f position wanted) = entry_speaks me c clock place act (entry_told c.callee f status callback sync (Some (body_told status.file_type contents))) (seen.Contents (body_told status.file_type contents))
+data_speaks me c clock place act contents status callback sync call = plain_speaks me c place call
 
 shown_speaks : (me : Node) (c : ClientState) (clock place : ℕ) (act : Going) (status : AfsFetchStatus) (callback : AfsCallBack) (sync : AfsVolSync) (call : FsCall) → Speaks c.seats (takes_shown me c clock place act status callback sync call)
-shown_speaks me c clock place act status callback sync (calls.FetchStatus f) = takes_entry_speaks me c clock place act _ _
-shown_speaks me c clock place act status callback sync call = record { calls = tt; seats' = refl }
+shown_speaks me c clock place act status callback sync (calls.FetchStatus f) = entry_speaks me c clock place act (entry_told c.callee f status callback sync None) (seen.Status (status_told status))
+shown_speaks me c clock place act status callback sync call = plain_speaks me c place call
 
-several_speaks : (t : Bool) (me : Node) (c : ClientState) (place : ℕ) (act : Going) (front : List Line → List Line) (w : Walked) → Speaks c.seats (cond t (calls_again me c place act) (goes_on me c front w))
-several_speaks t me c place act front w = either_speaks t c.seats _ _ (record { calls = (tt, tt); seats' = refl }) (on_speaks me c front w)
+entries_speaks : (me : Node) (c : ClientState) (clock place : ℕ) (act : Going) (entries : List CacheEntry) → Speaks c.seats (takes_entries me c clock place act entries)
+entries_speaks me c clock place act entries =
+    either_speaks (list_any (λ e. not (is_trusted clock e)) entries) c.seats (calls_again me c place act) (walks_on me c clock (λ ls. given place (looked me (map status_look entries) ls)) (with_statuses entries act) (put_entries c.capacity entries c.cache)) (again_speaks me c place act)
+    (walks_speaks me c clock (λ ls. given place (looked me (map status_look entries) ls)) (with_statuses entries act) (put_entries c.capacity entries c.cache))
 
 bulk_speaks : (me : Node) (c : ClientState) (clock place : ℕ) (act : Going) (statuses : List AfsFetchStatus) (callbacks : List AfsCallBack) (sync : AfsVolSync) (call : FsCall) → Speaks c.seats (takes_bulk me c clock place act statuses callbacks sync call)
-bulk_speaks me c clock place act statuses callbacks sync (calls.BulkStatus fids) = several_speaks _ me c place act _ _
-bulk_speaks me c clock place act statuses callbacks sync call = record { calls = tt; seats' = refl }
+bulk_speaks me c clock place act statuses callbacks sync (calls.BulkStatus fids) = entries_speaks me c clock place act (entries_told c.callee sync fids statuses callbacks)
+bulk_speaks me c clock place act statuses callbacks sync call = plain_speaks me c place call
+
+rights_speaks : (me : Node) (c : ClientState) (clock place : ℕ) (act : Going) (f : Fid) (index release : ℕ) (text : List ℕ) → Speaks c.seats (takes_rights me c clock place act f index release text)
+rights_speaks me c clock place act f index release text =
+    walks_speaks me c clock (λ ls. read_lines me place (record { fid = f; index = index; source = Fetched; body = seen.AccessList text }) (dropped me (filter (is_older f index release) c.cache) ls)) (with_read f (seen.AccessList text) act) (filter (λ e. not (is_older f index release e)) c.cache)
 
 list_speaks : (me : Node) (c : ClientState) (clock place : ℕ) (act : Going) (text : List ℕ) (status : AfsFetchStatus) (sync : AfsVolSync) (call : FsCall) → Speaks c.seats (takes_list me c clock place act text status sync call)
-list_speaks me c clock place act text status sync (calls.FetchAcl f) = on_speaks me c _ _
-list_speaks me c clock place act text status sync call = record { calls = tt; seats' = refl }
+list_speaks me c clock place act text status sync (calls.FetchAcl f) = rights_speaks me c clock place act f status.sync_counter sync.release text
+list_speaks me c clock place act text status sync call = plain_speaks me c place call
 
-bytes_speaks : (t : Bool) (c : ClientState) (a b : Step ClientState) → Speaks c.seats a → Speaks c.seats b → Speaks c.seats (cond t a b)
-bytes_speaks t c a b h k = either_speaks t c.seats a b h k
+status_speaks : (t : Bool) (me : Node) (c : ClientState) (clock place : ℕ) (f : Fid) (status : AfsFetchStatus) (call : FsCall) → Speaks c.seats (cond t (takes_stored me c clock place f status.sync_counter (status_told status) (λ body. body)) (takes_plain me c place call))
+status_speaks true me c clock place f status call = record { calls = tt; seats' = refl }
+status_speaks false me c clock place f status call = record { calls = tt; seats' = refl }
+
+bytes_speaks : (t : Bool) (me : Node) (c : ClientState) (clock place : ℕ) (f : Fid) (status : AfsFetchStatus) (contents : List ℕ) (call : FsCall) → Speaks c.seats (cond t (takes_plain me c place call) (takes_stored me c clock place f status.sync_counter (status_told status) (λ body. Some (bodies.File contents))))
+bytes_speaks true me c clock place f status contents call = record { calls = tt; seats' = refl }
+bytes_speaks false me c clock place f status contents call = record { calls = tt; seats' = refl }
 
 set_speaks : (me : Node) (c : ClientState) (clock place : ℕ) (status : AfsFetchStatus) (call : FsCall) → Speaks c.seats (takes_set me c clock place status call)
-set_speaks me c clock place status (calls.StoreData f set position wanted file_length contents) = bytes_speaks c.spoiled c _ _ (record { calls = tt; seats' = refl }) (record { calls = tt; seats' = refl })
-set_speaks me c clock place status (calls.StoreAcl f acl) = bytes_speaks _ c _ _ (record { calls = tt; seats' = refl }) (record { calls = tt; seats' = refl })
-set_speaks me c clock place status (calls.StoreStatus f set) = bytes_speaks _ c _ _ (record { calls = tt; seats' = refl }) (record { calls = tt; seats' = refl })
-set_speaks me c clock place status call = record { calls = tt; seats' = refl }
+set_speaks me c clock place status (calls.StoreData f set position wanted file_length contents) = bytes_speaks c.spoiled me c clock place f status contents (calls.StoreData f set position wanted file_length contents)
+set_speaks me c clock place status (calls.StoreAcl f acl) = status_speaks (not c.spoiled && is_below clock status.sync_counter (find_cached f c.cache)) me c clock place f status (calls.StoreAcl f acl)
+set_speaks me c clock place status (calls.StoreStatus f set) = status_speaks (not c.spoiled && is_below clock status.sync_counter (find_cached f c.cache)) me c clock place f status (calls.StoreStatus f set)
+set_speaks me c clock place status call = plain_speaks me c place call
 
 given_speaks : (me : Node) (c : ClientState) (place : ℕ) (act : Going) (call : FsCall) → Speaks c.seats (takes_given me c place act call)
-given_speaks me c place act (calls.GiveUpCallBacks fids callbacks) = gives_speaks me c _ act _
-given_speaks me c place act call = record { calls = tt; seats' = refl }
+given_speaks me c place act (calls.GiveUpCallBacks fids callbacks) = gives_speaks me c (given place) act (behind_batch c.gifts)
+given_speaks me c place act call = plain_speaks me c place call
 
 takes_speaks : (me : Node) (c : ClientState) (clock place : ℕ) (act : Going) (call : FsCall) (reply : FsReply) → Speaks c.seats (takes me c clock place act call reply)
 takes_speaks me c clock place act call (replies.FetchData contents status callback sync) = data_speaks me c clock place act contents status callback sync call
@@ -120,21 +152,32 @@ takes_speaks me c clock place act call (replies.StoreData status sync) = set_spe
 takes_speaks me c clock place act call (replies.StoreAcl status sync) = set_speaks me c clock place status call
 takes_speaks me c clock place act call (replies.StoreStatus status sync) = set_speaks me c clock place status call
 takes_speaks me c clock place act call replies.GiveUpCallBacks = given_speaks me c place act call
-takes_speaks me c clock place act call reply = record { calls = tt; seats' = refl }
+takes_speaks me c clock place act call reply = plain_speaks me c place call
+
+refuses_speaks : (t : Bool) (me : Node) (c : ClientState) (place : ℕ) (act : Going) (code : Code) → Speaks c.seats (cond t (calls_again me (record c { busy = c.busy + 1 }) place act) (answers_step me c place code))
+refuses_speaks true me c place act code = record { calls = (tt, tt); seats' = refl }
+refuses_speaks false me c place act code = record { calls = tt; seats' = refl }
 
 counts_speaks : (me : Node) (c : ClientState) (clock place : ℕ) (act : Going) (head : Head) (x : Carried) → Speaks c.seats (counts me c clock place act head x)
 counts_speaks me c clock place act head (carried.Call user call) = record { calls = tt; seats' = refl }
-counts_speaks me c clock place act head (carried.Refusal code) = either_speaks (is_spent c act) c.seats _ _ (record { calls = (tt, tt); seats' = refl }) (either_speaks _ c.seats _ _ (record { calls = (tt, tt); seats' = refl }) (record { calls = tt; seats' = refl }))
-counts_speaks me c clock place act head (carried.Reply (tell.File reply)) = either_speaks (is_spent c act) c.seats _ _ (record { calls = (tt, tt); seats' = refl }) (takes_speaks me c clock place act _ reply)
+counts_speaks me c clock place act head (carried.Refusal code) = either_speaks (is_spent c act) c.seats (calls_again me c place act) (refuses me c place act code) (again_speaks me c place act) (refuses_speaks (is_busy_code code && nat_lt c.busy most_busy) me c place act code)
+counts_speaks me c clock place act head (carried.Reply (tell.File reply)) = either_speaks (is_spent c act) c.seats (calls_again me c place act) (takes me c clock place act (call_of c act) reply) (again_speaks me c place act) (takes_speaks me c clock place act (call_of c act) reply)
 counts_speaks me c clock place act head (carried.Reply reply) = record { calls = tt; seats' = refl }
 counts_speaks me c clock place act head carried.Notice = record { calls = (tt, tt); seats' = refl }
 
+ignores_speaks : (c : ClientState) (place : ℕ) → Speaks c.seats (ignores c place)
+ignores_speaks c place = record { calls = tt; seats' = refl }
+
 awaits_speaks : (me : Node) (c : ClientState) (clock place : ℕ) (head : Head) (x : Carried) (o : Option Going) → Speaks c.seats (awaits me c clock place head x o)
-awaits_speaks me c clock place head x None = record { calls = tt; seats' = refl }
-awaits_speaks me c clock place head x (Some act) = either_speaks (is_awaited c act head) c.seats _ _ (counts_speaks me c clock place act head x) (record { calls = tt; seats' = refl })
+awaits_speaks me c clock place head x None = ignores_speaks c place
+awaits_speaks me c clock place head x (Some act) = either_speaks (is_awaited c act head) c.seats (counts me c clock place act head x) (ignores c place) (counts_speaks me c clock place act head x) (ignores_speaks c place)
+
+waits_by : (t : Bool) (me : Node) (c : ClientState) (act : Going) → Speaks c.seats (cond t (tries_again me c act) (gives_up me c (call_of c act)))
+waits_by true me c act = record { calls = (tt, tt); seats' = refl }
+waits_by false me c act = record { calls = tt; seats' = refl }
 
 pub waits_speaks : (me : Node) (c : ClientState) (act : Going) → Speaks c.seats (timeout_row me c act)
-waits_speaks me c act = either_speaks (nat_lt c.tries 2) c.seats _ _ (record { calls = (tt, tt); seats' = refl }) (record { calls = tt; seats' = refl })
+waits_speaks me c act = waits_by (nat_lt c.tries 2) me c act
 
 -- ---- what a client has told a server
 
@@ -238,7 +281,7 @@ again_tells me d b boot past n old head r q l w =
       seated = w;
     }
 
-kept_at : (t : Bool) (boot : ℕ) (e n : ℕ) (o : Option Seat) (r : Message) → cond t (pairs.paired e n o) (pairs.wrong_boot boot) ≡ pairs.kept r → LastSeat e n o r
+pub kept_at : (t : Bool) (boot : ℕ) (e n : ℕ) (o : Option Seat) (r : Message) → cond t (pairs.paired e n o) (pairs.wrong_boot boot) ≡ pairs.kept r → LastSeat e n o r
 kept_at true boot e n o r k = kept_last e n o r k
 kept_at false boot e n o r k = absurd cc
 
@@ -283,15 +326,15 @@ admits_leaves me d b boot seats cs clock sent past n c place head user call (pai
     λ p. again_tells me d b boot (of_step n (told_step c place (reply ∷ [])) ∷ past) n c.seats head reply g.seated (kept_at (nat_eq head.boot c.epoch) c.epoch head.epoch head.number (call_seat head.from c.seats) reply e) (old_of me d b boot seats cs clock sent (of_step n (told_step c place (reply ∷ []))) past n c g p)
 admits_leaves me d b boot seats cs clock sent past n c place head user call pairs.in_progress g to k e = speaks_leaves me d b boot seats cs clock sent past n c (ignores c place) g (record { calls = tt; seats' = refl })
 admits_leaves me d b boot seats cs clock sent past n c place head user call pairs.older g to k e = speaks_leaves me d b boot seats cs clock sent past n c (ignores c place) g (record { calls = tt; seats' = refl })
-admits_leaves me d b boot seats cs clock sent past n c place head user call (pairs.wrong_boot other) g to k e = speaks_leaves me d b boot seats cs clock sent past n c _ g (record { calls = (tt, tt); seats' = refl })
+admits_leaves me d b boot seats cs clock sent past n c place head user call (pairs.wrong_boot other) g to k e = speaks_leaves me d b boot seats cs clock sent past n c (told_step c place (boot_told c.epoch head ∷ [])) g (record { calls = (tt, tt); seats' = refl })
 
 hears_leaves : (i : ℕ) (d : Option Fall) (b : Backs) (boot : ℕ) (seats : List Seat) (cs : ℕ → Option Seat) (clock : ℕ) (sent : List Message) (past : List Entry) (n : ℕ) (c : ClientState) (place : ℕ) (head : Head) (x : Carried) → Given (Server i) d b boot seats cs clock sent past n c → head.to ≡ Client n → OfCall (ByServer (BackIn (Server i) d b.calls b.last_call boot)) head x → Leaves (Server i) d b boot past n (hears (Client n) c clock place head x)
 hears_leaves i d b boot seats cs clock sent past n c place head (carried.Call user (ask.File call)) g to k = admits_leaves (Server i) d b boot seats cs clock sent past n c place head user call (admitted c.epoch c.seats head) g to (λ own. by_server i head.from _ own k) refl
 hears_leaves i d b boot seats cs clock sent past n c place head (carried.Call user (ask.Volume call)) g to k = absurd k
 hears_leaves i d b boot seats cs clock sent past n c place head (carried.Call user (ask.Location call)) g to k = absurd k
-hears_leaves i d b boot seats cs clock sent past n c place head (carried.Refusal code) g to k = speaks_leaves (Server i) d b boot seats cs clock sent past n c _ g (awaits_speaks (Client n) c clock place head (carried.Refusal code) c.running)
-hears_leaves i d b boot seats cs clock sent past n c place head (carried.Reply reply) g to k = speaks_leaves (Server i) d b boot seats cs clock sent past n c _ g (awaits_speaks (Client n) c clock place head (carried.Reply reply) c.running)
-hears_leaves i d b boot seats cs clock sent past n c place head carried.Notice g to k = speaks_leaves (Server i) d b boot seats cs clock sent past n c _ g (awaits_speaks (Client n) c clock place head carried.Notice c.running)
+hears_leaves i d b boot seats cs clock sent past n c place head (carried.Refusal code) g to k = speaks_leaves (Server i) d b boot seats cs clock sent past n c (awaits (Client n) c clock place head (carried.Refusal code) c.running) g (awaits_speaks (Client n) c clock place head (carried.Refusal code) c.running)
+hears_leaves i d b boot seats cs clock sent past n c place head (carried.Reply reply) g to k = speaks_leaves (Server i) d b boot seats cs clock sent past n c (awaits (Client n) c clock place head (carried.Reply reply) c.running) g (awaits_speaks (Client n) c clock place head (carried.Reply reply) c.running)
+hears_leaves i d b boot seats cs clock sent past n c place head carried.Notice g to k = speaks_leaves (Server i) d b boot seats cs clock sent past n c (awaits (Client n) c clock place head carried.Notice c.running) g (awaits_speaks (Client n) c clock place head carried.Notice c.running)
 
 if_leaves : (t : Bool) (me : Node) (d : Option Fall) (b : Backs) (boot : ℕ) (past : List Entry) (n : ℕ) (x y : Step ClientState) (head : Head) → same_node head.to (Client n) ≡ t → (head.to ≡ Client n → Leaves me d b boot past n x) → Leaves me d b boot past n y → Leaves me d b boot past n (cond t x y)
 if_leaves true me d b boot past n x y head e h k = h (same_node-true head.to (Client n) e)
@@ -302,4 +345,4 @@ pub told_leaves : (i : ℕ) (d : Option Fall) (b : Backs) (boot : ℕ) (seats : 
 unfolding client_row
 told_leaves i d b boot seats cs clock sent past n c place m B own seated k =
     let g : Given (Server i) d b boot seats cs clock sent past n c = record { backed = B; own = own; seated = seated } in
-    if_leaves (same_node m.head.to (Client n)) (Server i) d b boot past n _ _ m.head refl (λ to. hears_leaves i d b boot seats cs clock sent past n c place m.head m.carried g to k) (speaks_leaves (Server i) d b boot seats cs clock sent past n c (ignores c place) g (record { calls = tt; seats' = refl }))
+    if_leaves (same_node m.head.to (Client n)) (Server i) d b boot past n (hears (Client n) c clock place m.head m.carried) (ignores c place) m.head refl (λ to. hears_leaves i d b boot seats cs clock sent past n c place m.head m.carried g to k) (speaks_leaves (Server i) d b boot seats cs clock sent past n c (ignores c place) g (record { calls = tt; seats' = refl }))

@@ -165,7 +165,7 @@ replies_done me P seats clock past [] w = tt
 replies_done me P seats clock past (h ∷ hs) w = (of_reply_any _ h.reply.carried (not_server h.reply.head.to w.0.client _ w.0.to), replies_done me P seats clock past hs w.1)
 
 -- what was held and what is new
-held_all : {A : Type 0} → (P : A → Type 0) (xs ys : List A) → AllOf P (xs ++ ys) → AllOf P xs × AllOf P ys
+pub held_all : {A : Type 0} → (P : A → Type 0) (xs ys : List A) → AllOf P (xs ++ ys) → AllOf P xs × AllOf P ys
 held_all P [] ys h = (tt, h)
 held_all P (x ∷ xs) ys h = let q = held_all P xs ys h.1 in ((h.0, q.0), q.1)
 
