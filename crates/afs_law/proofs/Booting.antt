@@ -202,7 +202,7 @@ rise_boots hosts i h e past front notes are stand note was up grows B =
 
 -- ---- the lines of a server's steps
 
-owes_standing : (me : Node) (os : List OwedBreak) → all_lines is_standing (map (owe_line me) os) ≡ true
+pub owes_standing : (me : Node) (os : List OwedBreak) → all_lines is_standing (map (owe_line me) os) ≡ true
 owes_standing me [] = refl
 owes_standing me (o ∷ os) = owes_standing me os
 

@@ -60,6 +60,7 @@ pub mod Promised
 pub mod Breaking
 pub mod Speaking
 pub mod Others
+pub mod Owed
 pub mod Sending
 pub mod Entering
 pub mod Dying

@@ -15,6 +15,7 @@ use Rattle.afs_law.proofs.Turning.{held_all}
 use Rattle.afs_law.specs.Breaks.{has_answer, is_entry_of, is_on, last_number, lines_at, live_grant, returned_by, returned_in, runs_now, unbroken_grant}
 use Rattle.afs_law.specs.Legal.{HasChange}
 use Rattle.afs_law.specs.Past.{called_key, given_message, lines_of, onto, sent_of}
+use Rattle.afs_num.specs.Fids.{same_fid}
 use Rattle.afs_num.specs.Nodes.{same_node}
 use Rattle.afs_num.specs.declared.calls.FsCall.{FsCall}
 use Rattle.afs_num.specs.declared.histories.Actor.TheVariants as actors

@@ -230,7 +230,7 @@ over_given : (vs : List Version) (own : List Line) (sent : List Message) → giv
 over_given [] own sent = refl
 over_given (v ∷ vs) own sent = over_given vs (lines.Version v ∷ own) sent
 
-over_stopped : (n : Node) (vs : List Version) (own : List Line) → HasStopped n (on_top vs own) → HasStopped n own
+pub over_stopped : (n : Node) (vs : List Version) (own : List Line) → HasStopped n (on_top vs own) → HasStopped n own
 over_stopped n [] own h = h
 over_stopped n (v ∷ vs) own h = over_stopped n vs (lines.Version v ∷ own) h
 

@@ -95,7 +95,7 @@ HeldTicks s c past = Held s c past × TicksIn c past
 stands : (c : Cell) (past : List Entry) (ls : List Line) → TicksIn c past → all_lines is_tickless ls ≡ true → clock_of (onto (lines_of past) ls) ≡ c.clock
 stands c past ls t h = tickless_clock ls (lines_of past) h ∙ t
 
-works_stand : (c : Cell) (past : List Entry) (i : ℕ) (b : Table Stored) (ls : List Line) → TicksIn c past → Works AnyCall (Server i) (c.hosts i).state b ls → clock_of (onto (lines_of past) ls) ≡ c.clock
+pub works_stand : (c : Cell) (past : List Entry) (i : ℕ) (b : Table Stored) (ls : List Line) → TicksIn c past → Works AnyCall (Server i) (c.hosts i).state b ls → clock_of (onto (lines_of past) ls) ≡ c.clock
 works_stand c past i b ls t w = stands c past ls t (works_lines AnyCall (Server i) (c.hosts i).state b ls is_tickless (calm_tickless (Server i)) w)
 
 acts_stand : (c : Cell) (past : List Entry) (n : ℕ) (ls : List Line) → TicksIn c past → all_lines (is_of n) ls ≡ true → clock_of (onto (lines_of past) ls) ≡ c.clock

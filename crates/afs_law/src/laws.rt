@@ -2,6 +2,7 @@
 
 ghost use Rattle.afs_law.specs.Laws.{AcknowledgedAreKept, AcknowledgedAreMade, AnswersAreRecent, ChangesAreFolded, EffectsAreTold, KeysRunOnce, ReadsAreNewest, RunsAreLegal, RunsAreOne, SetUpsAreFirst, StartsAreFolded, VolumesAreTold, PairsAreKnown, TrustedIsGood, RoomlessAreRefused, UnservedAreRefused, CallsRunOnce, RepliesAreCaused, RepliesWereRun, KeptWereRun, DurableAreChanges, GrantsAreKept, BreaksAreOwed, RepliesFollowDrops, UnawaitedAreUntrusted, DeadAreUntrusted};
 ghost use Rattle.afs_law.specs.Parts.{ActsAreTold, CallsAreAsked, ChangesAreIdeal, EntriesAreSound, LinesAreInPlace, MessagesAreOwn};
+ghost use Rattle.afs_law.specs.ServerParts.{BreaksAreGood, GrantsAreGood, RepliesWait};
 
 /// Every run of a script for one server is legal.
 pub fn runs_are_legal()
@@ -165,4 +166,19 @@ pub fn messages_are_own()
 /// Each change is what the ideal cell makes of the call that ran.
 pub fn changes_are_ideal()
     ensures { ChangesAreIdeal }
+{}
+
+/// Each promise of a server is made where it runs a call whose reply promises that object, for 7200 ticks.
+pub fn grants_are_good()
+    ensures { GrantsAreGood }
+{}
+
+/// Behind each change its breaks are owed, and each break that becomes owed, is settled or is given up has its cause.
+pub fn breaks_are_good()
+    ensures { BreaksAreGood }
+{}
+
+/// A server's reply with code 0 waits until no break is open that an entry given its call owes, or, where that changed something, any on all.
+pub fn replies_wait()
+    ensures { RepliesWait }
 {}
