@@ -61,6 +61,9 @@ pub mod Breaking
 pub mod Speaking
 pub mod Others
 pub mod Owed
+pub mod Replying
+pub mod Housed
+pub mod Telling
 pub mod Sending
 pub mod Entering
 pub mod Dying

@@ -8,7 +8,7 @@ use Rattle.afs_ideal.specs.Operations.{Found}
 use Rattle.afs_ideal.specs.Tables.{Table}
 use Rattle.afs_law.proofs.Acting.{Acts, begins_acts, falls_acts, given_acts, is_of, rises_acts, waits_acts, who_at, Who, IsTheCall}
 use Rattle.afs_law.proofs.Backing.{Plain, all_lines, backed_fall, backed_plain, change_back, is_oweless, is_still, is_unchanging, plain_step, seated_over, before_own, live_back, live_given, no_owe, rising_back, zero_back}
-use Rattle.afs_law.proofs.Basics.{Above, Below, ByClient, Each, IfBack, IfCall, IfDone, IfReply, LastSeat, OfCall, OfClient, OfReply, OfServer, at_more, at_put, both, by_client, by_server, each_at, each_map, each_more, node_apart, same_node-refl, same_node-true, some_of, of_call}
+use Rattle.afs_law.proofs.Basics.{Above, Below, ByClient, ByServer, Each, IfBack, IfCall, IfDone, IfReply, LastSeat, OfCall, OfClient, OfReply, OfServer, at_more, at_put, both, by_client, by_server, each_at, each_map, each_more, node_apart, same_node-refl, same_node-true, some_of, of_call}
 use Rattle.afs_law.proofs.Booting.{HasFront, all_same, disk_front, is_standing, notes_standing, serves_standing, times_standing, wakes_standing, owes_standing}
 use Rattle.afs_law.proofs.Breaking.{Facing, IsKept, IsMessage, Loads, Runtime, answered_loads, does_loads, none_loads, noticed_loads, of_server, repeated_lines, timed_loads, saves_lines}
 use Rattle.afs_law.proofs.Changing.{run_each}
@@ -18,7 +18,7 @@ use Rattle.afs_law.proofs.Deciding.{durable_above}
 use Rattle.afs_law.proofs.Edits.{on_top}
 use Rattle.afs_law.proofs.Ideals.{CutIs, Held as HeldVolumes, cut_by, of_this, own_from}
 use Rattle.afs_law.proofs.KeysOnce.{HasRun, IsKnown, any_told, by_key, new_key, not_run, HasCut, IsCutOf}
-use Rattle.afs_law.proofs.Loading.{alls_good, all_hits, down_later, filtered, has_owe, hits_hit, is_tickless, numbers_good, quits_good, rise_loaded, settles_good, touched_hit, two_all, owes_tickless}
+use Rattle.afs_law.proofs.Loading.{IsHit, alls_good, all_hits, down_later, filtered, has_owe, hits_hit, is_tickless, numbers_good, quits_good, rise_loaded, settles_good, touched_hit, two_all, owes_tickless}
 use Rattle.afs_law.proofs.Moving.{Behind, EachMove, IsKept as IsKeptBy, each_moved}
 use Rattle.afs_law.proofs.Origins.{of_client}
 use Rattle.afs_law.proofs.Others.{KeepsKey, apart_backed, is_apart, other_calm, pumped_own}
@@ -34,7 +34,8 @@ use Rattle.afs_law.proofs.Ticking.{HeldTicks, IsCalm, any_cut, ticks_first, tick
 use Rattle.afs_law.proofs.Turning.{Pumps, expired_backed, loaded, pumps}
 use Rattle.afs_law.specs.Breaks.{HasOwe, HasStopped, last_number, live_grant, lines_at}
 use Rattle.afs_law.specs.Ideal.{clock_of, set_up, first_lines}
-use Rattle.afs_law.specs.Legal.{AreGood, AreGoodSent, GoodReply, HasChange, IsChanged, IsChangedByOther, IsGood, IsNew, IsUnbroken, versions_first}
+use Rattle.afs_law.specs.Grants.{IsChangedByOther}
+use Rattle.afs_law.specs.Legal.{AreGood, AreGoodSent, GoodReply, HasChange, IsChanged, IsGood, IsNew, IsUnbroken, versions_first}
 use Rattle.afs_law.specs.Parts.{EachLine, EachSent}
 use Rattle.afs_law.specs.Past.{HasCode, IsReply, given_message, lines_of, onto, server_boot, answered_key, risen, sent_of}
 use Rattle.afs_law.specs.ServerParts.{BreaksAreGood, IsBreakGood, RepliesWait}
@@ -62,7 +63,7 @@ use Rattle.afs_rows.specs.Going.{ClientState}
 use Rattle.afs_rows.specs.Runs.{Armed, Cell, Entry, Fall, Host, Input, Moved, at_rest, begun_by_disk, blow_line, client_moves, in_boot, in_step, message_at, moved, server_moves, start, unarmed, first_client, first_host, server_falls, server_set, server_stays}
 use Rattle.afs_rows.specs.ServerRow.{Begun, Change, Decision, begun_after, decides, does, drops, granted, granted_in, hears, key_of, made, promise_ticks, refuses, repeats, revived, saves, shows, tells_boot, versioned}
 use Rattle.afs_rows.specs.ServerSteps.{back_timeout_row, server_row, start_row, wake_row}
-use Rattle.afs_rows.specs.States.{BackCall, Backs, Held, Seat, ServerState}
+use Rattle.afs_rows.specs.States.{BackCall, Backs, Gift, Held, Seat, ServerState}
 use Rattle.afs_rows.specs.Steps.{Step}
 use Rattle.afs_law.proofs.Calling.{IsAnswer}
 use Rattle.afs_law.proofs.Facts.{IsOne, up_boot}
@@ -665,10 +666,10 @@ answered_rules s c past i place head B up to d same k =
     to_rules (same_node head.to (Server i)) s (actors.Node (Server i)) past (lines.Given place ∷ []) b (settles_by (Server i) x.lasting.boot head b (x.backs.calls head.from)) (settled_rules s past (lines.Given place ∷ []) i x.lasting.boot (c.hosts i).down b x.backs x.backs.last_call head (x.backs.calls head.from) up refl done_ (λ z. z))
 
 done_of : (i : ℕ) (P : Message → Type 0) (m : Message) (y : Carried) → m.carried ≡ y → (OfReply ⊥ y → ⊥) → m.head.to ≡ Server i → IfDone P m → P m
-done_of i P m (carried.Call user call) is no to h = absurd (no tt)
-done_of i P m (carried.Refusal code) is no to h = by_server i m.head.to (P m) to (subst (OfReply (OfServer m.head.to (P m))) is h)
-done_of i P m (carried.Reply reply) is no to h = by_server i m.head.to (P m) to (subst (OfReply (OfServer m.head.to (P m))) is h)
-done_of i P m carried.Notice is no to h = absurd (no tt)
+done_of i P m (carried.Call user call) is answers to h = absurd (answers tt)
+done_of i P m (carried.Refusal code) is answers to h = by_server i m.head.to (P m) to (subst (OfReply (OfServer m.head.to (P m))) is h)
+done_of i P m (carried.Reply reply) is answers to h = by_server i m.head.to (P m) to (subst (OfReply (OfServer m.head.to (P m))) is h)
+done_of i P m carried.Notice is answers to h = absurd (answers tt)
 
 given_rules : (s : Script) (c : Cell) (past : List Entry) (i place : ℕ) (m : Message) (y : Carried) → (B : Breaks s c past) → (c.hosts i).down ≡ None → message_at c.sent place ≡ Some m → m.head.to ≡ Server i → m.carried ≡ y → OfCall (λ h user call. ⊤) m.head y
     → DoesRules s c past i place (hears (Server i) (c.hosts i).state c.clock m.head y) (given_step c i place m y).lines
