@@ -13,7 +13,7 @@ use Rattle.afs_num.specs.declared.types.Node.TheVariants.{Server}
 use Rattle.afs_rows.specs.ClientRow.{server_at, server_or_first}
 use Rattle.afs_rows.specs.Runs.{Cell, Entry, counts_later, location_by, locations, locations_in}
 use Rattle.afs_rows.specs.States.{Location}
-use Rattle.std.proofs.Common.{◌≡◌, ℕ, ◌⊎◌, inl, inr, Bool, true, false, cond, eqb, eq-eqb, eqb-true, find, nat_eq, List, [], ◌∷◌, Option, Some, None, refl, sym, ap, subst, ◌∙◌}
+use Rattle.std.proofs.Common.{◌≡◌, ℕ, ◌⊎◌, inl, inr, Bool, true, false, cond, eq-eqb, eqb-true, find, nat_eq, List, [], ◌∷◌, Option, Some, None, refl, sym, subst, ◌∙◌}
 
 -- a call is sent to the server of each volume that it asks
 abbrev pub IsHome : Script → Head → List ℕ → FsCall → Type 0

@@ -358,7 +358,7 @@ pub blow_blank : (i place : ℕ) (t : Bool) → AreBlank (lines.Given place ∷ 
 blow_blank i place true = refl
 blow_blank i place false = refl
 
-volumes_moves : (s : Script) → EachMove (Held s) (Behind (VolumesIn s))
+pub volumes_moves : (s : Script) → EachMove (Held s) (Behind (VolumesIn s))
 volumes_moves s = record {
   void = λ c past h. still_volumes s c.hosts c.sent c.sent past _ h.1 (same_grows c.sent) refl refl;
   ticked = λ c past n h. still_volumes s c.hosts c.sent c.sent past _ h.1 (same_grows c.sent) refl refl;

@@ -64,6 +64,8 @@ pub mod Owed
 pub mod Replying
 pub mod Housed
 pub mod Telling
+pub mod Owning
+pub mod Remaining
 pub mod Sending
 pub mod Entering
 pub mod Dying

@@ -8,36 +8,36 @@ use Rattle.afs_ideal.specs.Operations.{Found}
 use Rattle.afs_ideal.specs.Tables.{Table}
 use Rattle.afs_law.proofs.Acting.{Acts, begins_acts, falls_acts, given_acts, is_of, rises_acts, waits_acts, who_at, Who, IsTheCall}
 use Rattle.afs_law.proofs.Backing.{Plain, all_lines, backed_fall, backed_plain, change_back, is_oweless, is_still, is_unchanging, plain_step, seated_over, before_own, live_back, live_given, no_owe, rising_back, zero_back}
-use Rattle.afs_law.proofs.Basics.{Above, Below, ByClient, ByServer, Each, IfBack, IfCall, IfDone, IfReply, LastSeat, OfCall, OfClient, OfReply, OfServer, at_more, at_put, both, by_client, by_server, each_at, each_map, each_more, node_apart, same_node-refl, same_node-true, some_of, of_call}
-use Rattle.afs_law.proofs.Booting.{HasFront, all_same, disk_front, is_standing, notes_standing, serves_standing, times_standing, wakes_standing, owes_standing}
+use Rattle.afs_law.proofs.Basics.{Above, Below, ByServer, Each, IfBack, IfCall, IfDone, IfReply, LastSeat, OfCall, OfClient, OfReply, OfServer, at_put, both, by_client, by_server, each_at, each_map, each_more, node_apart, same_node-refl, of_call}
+use Rattle.afs_law.proofs.Booting.{HasFront, all_same, disk_front, serves_standing, times_standing, owes_standing}
 use Rattle.afs_law.proofs.Breaking.{Facing, IsKept, IsMessage, Loads, Runtime, answered_loads, does_loads, none_loads, noticed_loads, of_server, repeated_lines, timed_loads, saves_lines}
 use Rattle.afs_law.proofs.Changing.{run_each}
-use Rattle.afs_law.proofs.Choosing.{Saves, Works, disk_works, is_from, risen_from, risen_lines, serves_works, starts_works, times_works, wakes_works, IfCut}
+use Rattle.afs_law.proofs.Choosing.{Works, disk_works, is_from, risen_from, risen_lines, serves_works, starts_works, times_works, wakes_works, IfCut}
 use Rattle.afs_law.proofs.Cutting.{comes_first, now_up}
 use Rattle.afs_law.proofs.Deciding.{durable_above}
 use Rattle.afs_law.proofs.Edits.{on_top}
-use Rattle.afs_law.proofs.Ideals.{CutIs, Held as HeldVolumes, cut_by, of_this, own_from}
+use Rattle.afs_law.proofs.Ideals.{of_this, own_from}
 use Rattle.afs_law.proofs.KeysOnce.{HasRun, IsKnown, any_told, by_key, new_key, not_run, HasCut, IsCutOf}
 use Rattle.afs_law.proofs.Loading.{IsHit, alls_good, all_hits, down_later, filtered, has_owe, hits_hit, is_tickless, numbers_good, quits_good, rise_loaded, settles_good, touched_hit, two_all, owes_tickless}
 use Rattle.afs_law.proofs.Moving.{Behind, EachMove, IsKept as IsKeptBy, each_moved}
 use Rattle.afs_law.proofs.Origins.{of_client}
 use Rattle.afs_law.proofs.Others.{KeepsKey, apart_backed, is_apart, other_calm, pumped_own}
-use Rattle.afs_law.proofs.Owing.{AllOf, BackIn, BackedIn, CallOut, DoneIn, DroppedOwe, HeldWaits, IsClient, IsDone, IsGranted, SeatedIn, all_map, Numbered}
+use Rattle.afs_law.proofs.Owing.{AllOf, BackIn, BackedIn, DoneIn, HeldWaits, IsClient, IsDone, IsGranted, SeatedIn, all_map, Numbered}
 use Rattle.afs_law.proofs.Promised.{is_file, was_given, over_stopped}
 use Rattle.afs_law.proofs.Promising.{Owed, hits, risen_as, risen_is, saves_turn, saves_turn_is}
-use Rattle.afs_law.proofs.Reasons.{IsFile, Ran, Runs, Why, why_hears}
+use Rattle.afs_law.proofs.Reasons.{IsFile, Runs, Why, why_hears}
 use Rattle.afs_law.proofs.Saving.{first_on, on_changed, onto_versioned, granted_others, granted_stopped, on_others}
 use Rattle.afs_law.proofs.Seating.{IsReplyOf, SitsIn, sits_moves}
 use Rattle.afs_law.proofs.Speaking.{Tells, begun_speaks, kept_at, of_plain, old_seated, speaks_tells, told_leaves, waits_speaks, Speaks}
 use Rattle.afs_law.proofs.Standing.{runs_admitted}
-use Rattle.afs_law.proofs.Ticking.{HeldTicks, IsCalm, any_cut, ticks_first, ticks_kept, tickless_clock, works_lines, AnyCall, works_stand}
-use Rattle.afs_law.proofs.Turning.{Pumps, expired_backed, loaded, pumps}
+use Rattle.afs_law.proofs.Ticking.{HeldTicks, ticks_first, ticks_kept, tickless_clock, works_lines, AnyCall, works_stand}
+use Rattle.afs_law.proofs.Turning.{Pumps, expired_backed, pumps}
 use Rattle.afs_law.specs.Breaks.{HasOwe, HasStopped, last_number, live_grant, lines_at}
 use Rattle.afs_law.specs.Ideal.{clock_of, set_up, first_lines}
 use Rattle.afs_law.specs.Grants.{IsChangedByOther}
 use Rattle.afs_law.specs.Legal.{AreGood, AreGoodSent, GoodReply, HasChange, IsChanged, IsGood, IsNew, IsUnbroken, versions_first}
 use Rattle.afs_law.specs.Parts.{EachLine, EachSent}
-use Rattle.afs_law.specs.Past.{HasCode, IsReply, given_message, lines_of, onto, server_boot, answered_key, risen, sent_of}
+use Rattle.afs_law.specs.Past.{HasCode, given_message, lines_of, onto, server_boot, answered_key, risen, sent_of}
 use Rattle.afs_law.specs.ServerParts.{BreaksAreGood, IsBreakGood, RepliesWait}
 use Rattle.afs_model.specs.Calls as pairs
 use Rattle.afs_model.specs.Calls.{admitted, call_seat}
@@ -57,11 +57,11 @@ use Rattle.afs_num.specs.declared.types.Key.{Key}
 use Rattle.afs_num.specs.declared.types.Node.{Node}
 use Rattle.afs_num.specs.declared.types.Node.TheVariants.{Client, Server}
 use Rattle.afs_records.specs.Durable.{Stored}
-use Rattle.afs_rows.specs.Callbacks.{Turn, expired, is_back_awaited, is_seat_of, key_answered, no_turn, owe_line, pumped, put, quits, replies_of, retries, risen_turn, settles, settles_by, still_owed, turn_for, turned_by, held_under, if_to, quit_line, renews, renews_by, settle_line}
+use Rattle.afs_rows.specs.Callbacks.{Turn, expired, is_back_awaited, is_seat_of, key_answered, no_turn, owe_line, pumped, put, quits, replies_of, retries, settles, settles_by, still_owed, turn_for, turned_by, held_under, if_to, quit_line, renews, renews_by, settle_line}
 use Rattle.afs_rows.specs.ClientRow.{begin_row, client_row, reborn, timeout_row}
 use Rattle.afs_rows.specs.Going.{ClientState}
-use Rattle.afs_rows.specs.Runs.{Armed, Cell, Entry, Fall, Host, Input, Moved, at_rest, begun_by_disk, blow_line, client_moves, in_boot, in_step, message_at, moved, server_moves, start, unarmed, first_client, first_host, server_falls, server_set, server_stays}
-use Rattle.afs_rows.specs.ServerRow.{Begun, Change, Decision, begun_after, decides, does, drops, granted, granted_in, hears, key_of, made, promise_ticks, refuses, repeats, revived, saves, shows, tells_boot, versioned}
+use Rattle.afs_rows.specs.Runs.{Armed, Cell, Entry, Fall, Host, Moved, at_rest, begun_by_disk, blow_line, client_moves, in_boot, in_step, message_at, server_moves, start, unarmed, first_client, first_host, server_falls, server_set, server_stays}
+use Rattle.afs_rows.specs.ServerRow.{Begun, Change, Decision, begun_after, decides, does, drops, granted, granted_in, hears, key_of, made, promise_ticks, refuses, repeats, saves, shows, tells_boot, versioned}
 use Rattle.afs_rows.specs.ServerSteps.{back_timeout_row, server_row, start_row, wake_row}
 use Rattle.afs_rows.specs.States.{BackCall, Backs, Gift, Held, Seat, ServerState}
 use Rattle.afs_rows.specs.Steps.{Step}
@@ -72,7 +72,7 @@ use Rattle.afs_law.proofs.Law.{AreVersions, all_versions, first_oweless, first_s
 use Rattle.std.proofs.Common.{suc, ◌≡◌, ℕ, ◌+◌, ◌<◌, ◌≤◌, ◌⊎◌, inl, inr, Bool, true, false, cond, nat_eq, nat_lt, List, [], ◌∷◌, ◌++◌, map, length, Option, Some, None, refl, sym, ap, subst, ◌∙◌, arith, append-nil, le_of_eq, ltb-true, eqb-true}
 use Rattle.std.proofs.Math.Nat.{le_refl}
 use Rattle.std.proofs.lemmas.List.{append_assoc}
-use Rattle.std.specs.Prelude.{⊤, ◌&&◌}
+use Rattle.std.specs.Prelude.{⊤}
 
 -- ---- what holds after every entry
 
@@ -877,7 +877,7 @@ break_moves s = record {
   full = λ c past i after fall B down. stays_steps s c past i after fall at_rest (lines.Full (Server i)) B down (own_from i) refl refl refl;
 }
 
-breaks_kept : (s : Script) → IsKeptBy (Breaks s)
+pub breaks_kept : (s : Script) → IsKeptBy (Breaks s)
 breaks_kept s c past x B = record { held = ticks_kept s c past x B.held; sits = each_moved SitsIn (Behind SitsIn) sits_moves c past x B.sits; backed = (each_moved (Breaks s) (Steps s) (break_moves s) c past x B).backed }
 
 -- ---- the set-up
@@ -904,7 +904,7 @@ first_backed s i =
       seated = λ j seat m x y. absurd cc;
     }
 
-breaks_first : (s : Script) → Breaks s (start s) (set_up s ∷ [])
+pub breaks_first : (s : Script) → Breaks s (start s) (set_up s ∷ [])
 breaks_first s = record { held = ticks_first s; sits = λ i. record { seats = λ n seat m e. absurd cc; kept = λ n seat m e. absurd cc }; backed = record { count = refl; fair = tt; all = first_backed s } }
 
 -- ---- the laws

@@ -15,7 +15,7 @@ use Rattle.afs_num.specs.declared.types.Node.{Node}
 use Rattle.afs_num.specs.declared.types.Node.TheVariants.{Server}
 use Rattle.afs_rows.specs.Callbacks.{Started, Turn, expired, held_under, is_back_awaited, is_ready, is_seat_of, key_answered, no_turn, pumped, renews_by, repeats_by, replies_of, risen_turn, settles_by, starts, starts_by, timed, turn_for, turned_by, turned_in}
 use Rattle.afs_rows.specs.Runs.{Fall, at_rest, begun_by_disk, in_boot, in_step}
-use Rattle.afs_rows.specs.ServerRow.{Begun, Change, Decision, begun_after, boot_told, change_reply_to, decides, does, drops, promise_ticks, read_reply_to, refusal, refuses, repeats, revived, saves, seat_for, seat_placed, shows, tells_boot}
+use Rattle.afs_rows.specs.ServerRow.{Begun, Decision, begun_after, boot_told, change_reply_to, decides, does, drops, promise_ticks, read_reply_to, refusal, refuses, repeats, revived, saves, seat_for, seat_placed, shows, tells_boot}
 use Rattle.afs_rows.specs.ServerSteps.{back_timeout_row, server_row, start_row, wake_row}
 use Rattle.afs_rows.specs.States.{BackCall, Backs, Held, Seat, ServerState}
 use Rattle.afs_rows.specs.Steps.{Step}

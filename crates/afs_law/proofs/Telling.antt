@@ -2,7 +2,7 @@
 use Rattle.afs_history.specs.declared.lines.Line.{Line}
 use Rattle.afs_history.specs.declared.lines.Line.TheVariants as lines
 use Rattle.afs_history.specs.declared.scripts.Script.{Script}
-use Rattle.afs_ideal.specs.Operations.{Caller, Found, Result, changes, op, the_user, volume_changed}
+use Rattle.afs_ideal.specs.Operations.{Caller, Found, Result, changes, the_user, volume_changed}
 use Rattle.afs_ideal.specs.Replies.{change_reply}
 use Rattle.afs_ideal.specs.Volumes.{Volume}
 use Rattle.afs_law.proofs.Basics.{Each, IfCall, LastSeat, OfCall, at_put, each_at, each_map, each_more, kept_last}
@@ -10,21 +10,22 @@ use Rattle.afs_law.proofs.Acting.{begins_acts, given_acts, waits_acts}
 use Rattle.afs_law.proofs.Choosing.{risen_lines}
 use Rattle.afs_law.proofs.Cutting.{comes_first, now_up}
 use Rattle.afs_law.proofs.Facts.{IsOne}
-use Rattle.afs_law.proofs.Hearing.{HearsIn, ran_later}
+use Rattle.afs_law.proofs.Hearing.{ran_later}
 use Rattle.afs_law.proofs.Housed.{HomesIn, IsHome, home_held}
 use Rattle.afs_law.proofs.Hosting.{HasHead, does_given, served_head}
 use Rattle.afs_law.proofs.Ideals.{Held, IsSent, of_this}
 use Rattle.afs_law.proofs.KeysOnce.{IsKnown, any_told, by_key}
-use Rattle.afs_law.proofs.Moving.{Behind, EachMove, IsKept, each_moved}
+use Rattle.afs_law.proofs.Moving.{Behind, EachMove}
 use Rattle.afs_law.proofs.Ops.{changes_is}
 use Rattle.afs_law.proofs.Promised.{are_ideal, is_file, reading_code}
-use Rattle.afs_law.proofs.Reasons.{AreAmong, IsAsked, IsFile, IsMaking, IsNo, IsRead, IsReading, Ran as RanFor, Runs, Why, answer_of, answers_after, answers_in, answers_same, held_by, read_to, why}
+use Rattle.afs_law.proofs.Reasons.{AreAmong, IsFile, IsMaking, IsNo, IsRead, IsReading, Ran as RanFor, Runs, Why, answer_of, answers_after, answers_in, answers_same, held_by, read_to, why}
 use Rattle.afs_law.proofs.Replying.{AreTold, Makes, MakesCut, Replied, Replies, Spares, disk_replies, serves_replies, starts_replies, times_replies, wakes_replies}
 use Rattle.afs_law.proofs.Serving.{IsAmong}
 use Rattle.afs_law.proofs.Standing.{runs_admitted}
 use Rattle.afs_law.specs.Breaks.{HasStopped}
 use Rattle.afs_law.specs.Ideal.{change_in, set_up, volume_after}
 use Rattle.afs_law.specs.Legal.{HasChange, IsChanging, IsKey, IsResult, IsTold as IsToldOf, answer_at, code_given}
+use Rattle.afs_law.specs.ServerParts.{IsKind}
 use Rattle.afs_law.specs.Past.{HasCode, IsCall, IsToCome, Ran, answered_key, called_key, code_told, given_message, lines_of, onto, sent_of, server_boot}
 use Rattle.afs_model.specs.Calls as pairs
 use Rattle.afs_model.specs.Calls.{Admitted, admitted, call_seat, paired}
@@ -32,7 +33,6 @@ use Rattle.afs_model.specs.FsRows.{call_number, reply_number}
 use Rattle.afs_num.specs.Nodes.{same_node}
 use Rattle.afs_num.specs.declared.calls.FsCall.{FsCall}
 use Rattle.afs_num.specs.declared.calls.FsCall.TheVariants as calls
-use Rattle.afs_num.specs.declared.calls.FsReply.{FsReply}
 use Rattle.afs_num.specs.declared.histories.Actor.TheVariants as actors
 use Rattle.afs_num.specs.declared.histories.Version.{Version}
 use Rattle.afs_num.specs.declared.messages.Call.TheVariants as ask
@@ -48,8 +48,8 @@ use Rattle.afs_num.specs.declared.types.Node.{Node}
 use Rattle.afs_num.specs.declared.types.Node.TheVariants.{Client, Server}
 use Rattle.afs_rows.specs.Callbacks.{expired, put, replies_of, turn_for, turned_by}
 use Rattle.afs_rows.specs.ClientRow.{begin_row, client_row, timeout_row}
-use Rattle.afs_rows.specs.Runs.{Armed, Cell, Entry, Fall, Host, at_rest, begun_by_disk, blow_line, client_moves, in_boot, in_step, message_at, server_falls, server_moves, server_rises, server_set, server_stays, start, unarmed}
-use Rattle.afs_rows.specs.ServerRow.{Begun, Change, Decision, Reading, admits, begun_after, carried_by, change_reply_to, decides, does, drops, granted, granted_in, hears, is_client, key_of, made, no_room, not_served, promise_ticks, promised_in, read_reply_to, refusal, refuses, repeats, replied, reply_head, result, saves, serves_call, shows, stored_by, tells_boot, versioned, whole}
+use Rattle.afs_rows.specs.Runs.{Armed, Cell, Entry, Fall, Host, at_rest, begun_by_disk, blow_line, client_moves, in_boot, in_step, message_at, server_falls, server_moves, server_rises, server_stays, start, unarmed}
+use Rattle.afs_rows.specs.ServerRow.{Begun, Change, Decision, Reading, admits, begun_after, carried_by, change_reply_to, decides, does, drops, granted, granted_in, hears, is_client, key_of, made, not_served, promise_ticks, promised_in, read_reply_to, refusal, refuses, repeats, reply_head, result, saves, serves_call, shows, stored_by, tells_boot, versioned, whole}
 use Rattle.afs_rows.specs.ServerSteps.{back_timeout_row, server_row, start_row, wake_row}
 use Rattle.afs_rows.specs.Going.{ClientState}
 use Rattle.afs_rows.specs.States.{Seat, ServerState}
@@ -89,12 +89,6 @@ pub record TellsMade (V : ℕ → Option Volume) (user : List ℕ) (call : FsCal
 abbrev pub IsRefused : Carried → Type 0
 IsRefused (carried.Refusal code) = ⊤
 IsRefused c = ⊥
-
--- it is of the call's kind
-abbrev pub IsKind : FsCall → Carried → Type 0
-IsKind call (carried.Refusal code) = ⊤
-IsKind call (carried.Reply (tell.File reply)) = reply_number reply ≡ call_number call
-IsKind call c = ⊥
 
 pub record Tells (m : Message) (past : List Entry) : Type 0 where
   pub ran : Ran m.head past

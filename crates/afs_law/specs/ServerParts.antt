@@ -1,15 +1,25 @@
 -- What a legal history asks of the promises of servers, each proved of the runs of every script, with any number of servers.
 use Rattle.afs_law.specs.Breaks.{GoodQuit, GoodSettle, HasOwe, lines_at, live_grant}
-use Rattle.afs_law.specs.Ideal.{clock_of, set_up}
-use Rattle.afs_law.specs.Legal.{GoodGrant, GoodOwe, GoodReply, IsChanged, versions_first}
+use Rattle.afs_law.specs.Ideal.{Accepts, clock_of, set_up, volume_after}
+use Rattle.afs_law.specs.Legal.{GoodGrant, GoodOwe, GoodReply, IsChanged, IsResult, answer_at, versions_first}
+use Rattle.afs_law.specs.Once.{past_of}
 use Rattle.afs_law.specs.Parts.{AllLines, EachEntry, EachSent, LineRule}
-use Rattle.afs_law.specs.Past.{lines_of}
+use Rattle.afs_law.specs.Past.{HasCode, Ran, answered_key, code_told, lines_of}
+use Rattle.afs_model.specs.FsRows.{call_number, reply_number}
+use Rattle.afs_num.specs.declared.calls.FsCall.{FsCall}
+use Rattle.afs_num.specs.declared.histories.Actor.TheVariants as actors
+use Rattle.afs_num.specs.declared.messages.Call.TheVariants as ask
+use Rattle.afs_num.specs.declared.messages.Carried.{Carried}
+use Rattle.afs_num.specs.declared.messages.Carried.TheVariants as carried
+use Rattle.afs_num.specs.declared.messages.Message.{Message}
+use Rattle.afs_num.specs.declared.messages.Reply.TheVariants as tell
 use Rattle.afs_num.specs.declared.types.Fid.{Fid}
-use Rattle.afs_num.specs.declared.types.Node.TheVariants.{Client}
+use Rattle.afs_num.specs.declared.types.Node.TheVariants.{Client, Server}
 use Rattle.afs_history.specs.declared.lines.Line.TheVariants as lines
 use Rattle.afs_history.specs.declared.scripts.Script.{Script}
-use Rattle.afs_rows.specs.Runs.{Cell, Entry, RunsTo}
-use Rattle.std.specs.Prelude.{◌≡◌, ◌<◌, ℕ, List, [], ◌∷◌, ◌++◌, Some, ⊤}
+use Rattle.afs_rows.specs.Runs.{Cell, Entry, Fall, Host, RunsTo, begun_by_disk}
+use Rattle.afs_rows.specs.States.{volume_in}
+use Rattle.std.specs.Prelude.{◌≡◌, ◌<◌, ℕ, ℤ, List, [], ◌∷◌, ◌++◌, Some, true, ⊤}
 
 -- ---- promises
 
@@ -41,3 +51,43 @@ BreaksAreGood = (s : Script) (history : List Entry) (end : Cell) → RunsTo hist
 -- changed something, any on all; and the server that sends it is up
 abbrev pub RepliesWait : Type 0
 RepliesWait = (s : Script) (history : List Entry) (end : Cell) → RunsTo history s end → EachEntry (λ past e. EachSent GoodReply (e ∷ past) e.sent) (set_up s ∷ []) history
+
+-- ---- replies
+
+-- it is of the call's kind
+abbrev pub IsKind : FsCall → Carried → Type 0
+IsKind call (carried.Refusal code) = ⊤
+IsKind call (carried.Reply (tell.File reply)) = reply_number reply ≡ call_number call
+IsKind call c = ⊥
+
+-- the reply is that of the entry which ran its call, and tells what the ideal operation made of it there; and if it isn't a refusal it is of that
+-- call's kind
+pub record IsTrue (m : Message) (past : List Entry) : Type 0 where
+  pub ran : Ran m.head past
+  pub user : List ℕ
+  pub call : FsCall
+  pub carries : ran.message.carried ≡ carried.Call user (ask.File call)
+  pub code : ℤ
+  pub told : code_told m.carried ≡ Some code
+  pub result : IsResult m.head.from code (answer_at user call ran.older) (answered_key m.head) ran.at.lines (lines_of past)
+  pub kind : IsKind call m.carried
+
+-- where it is one of a server to a client
+abbrev pub IsTruthful : List Entry → Message → Type 0
+IsTruthful past m = (i j : ℕ) → m.head.from ≡ Server i → m.head.to ≡ Client j → HasCode m.carried → IsTrue m past
+
+-- so is each reply of a run
+abbrev pub RepliesAreTrue : Type 0
+RepliesAreTrue = (s : Script) (history : List Entry) (end : Cell) → RunsTo history s end → EachEntry (λ past e. EachSent IsTruthful (e ∷ past) e.sent) (set_up s ∷ []) history
+
+-- ---- what is kept
+
+-- the entry that a restart would make, where the record of the interrupted step is on the disk, by what it tells of that step
+abbrev pub told_by_restart : ℕ → Host → Fall → Entry
+told_by_restart i host fall = record { actor = actors.Node (Server i); lines = (begun_by_disk (Server i) host.state true fall).before []; sent = []; volumes = [] }
+
+-- while a server is down, what its step that was interrupted may have left is the ideal volumes too, behind what a restart tells of that step
+abbrev pub FallsAreKept : Type 0
+FallsAreKept =
+    (s : Script) (history : List Entry) (end : Cell) → RunsTo history s end → (i : ℕ) (fall : Fall) → (end.hosts i).down ≡ Some fall → (id : ℕ) → Accepts s id (Server i) (lines_of (past_of (set_up s ∷ []) history))
+    → volume_in id (begun_by_disk (Server i) (end.hosts i).state true fall).state.lasting.volumes ≡ volume_after id (told_by_restart i (end.hosts i) fall ∷ past_of (set_up s ∷ []) history)

@@ -111,17 +111,17 @@ pub fn durable_are_changes()
     ensures { DurableAreChanges }
 {}
 
-/// In a run of a script for one server, a grant that lasts, and was neither withdrawn nor dropped by its client, is promised still.
+/// A grant that lasts, and was neither withdrawn nor dropped by its client, is promised still.
 pub fn grants_are_kept()
     ensures { GrantsAreKept }
 {}
 
-/// In a run of a script for one server, a break that became owed is ended, or is owed still.
+/// A break that became owed is ended, or its server owes it still.
 pub fn breaks_are_owed()
     ensures { BreaksAreOwed }
 {}
 
-/// In a run of a script for one server, a client that answers a break has given up what the break is on.
+/// A client that answers a break has given up what the break is on.
 pub fn replies_follow_drops()
     ensures { RepliesFollowDrops }
 {}
