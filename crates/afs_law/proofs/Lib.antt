@@ -45,6 +45,7 @@ pub mod Standing
 pub mod Hearing
 pub mod Members
 pub mod Moving
+pub mod Firm
 pub mod Seating
 pub mod Acting
 pub mod Choosing
