@@ -272,7 +272,7 @@ calls_acts j gs c act front f = record {
   goes = inr (inl (record { epoch = refl; last = refl; act = act; runs = refl; sent = refl }));
   each = λ S past t r. f.each S past [] t r (refl, refl) (λ own q. tt);
   seats = λ k. k;
-  from = (record { from = refl; half = λ z. refl; firm = tt }, tt);
+  from = (record { from = refl; half = λ z. refl; firm = tt; gift = λ z ls. absurd cc }, tt);
 }
 
 goes_acts : (j : ℕ) (gs : List Gift) (c : ClientState) (front : List Line → List Line) (w : Walked) (need : Need) → Front j c.table c.running w.act (λ ls. front (looked (Client j) w.looks ls)) → Acts j (who_at c) gs (goes_by (Client j) c front w need)
@@ -308,7 +308,7 @@ replies_acts j x gs c place head ls y same gifts q h to code firm = record {
   goes = inl (record { epoch = ap (λ (w : Who). w.epoch) same; last = ap (λ (w : Who). w.last) same; act = inr (ap (λ (w : Who). w.running) same, (gifts, q.begins)); sent = (h, tt) });
   each = λ S past t r. (refl, q.each S past (lines.Given place ∷ []));
   seats = λ k. seated (Client j) c.epoch head y c.seats to code firm (subst (AreSeated (Client j)) (sym (ap (λ (w : Who). w.seats) same)) k);
-  from = (record { from = to; half = code_half (replied c.epoch head y) code; firm = firm }, tt);
+  from = (record { from = to; half = code_half (replied c.epoch head y) code; firm = firm; gift = λ z ls. absurd cc }, tt);
 }
 
 either_acts : (t : Bool) (j : ℕ) (x : Who) (gs : List Gift) (a b : Step ClientState) → Acts j x gs a → Acts j x gs b → Acts j x gs (cond t a b)
@@ -404,7 +404,7 @@ counts_acts j c clock place act head (carried.Call user call) r = ignores_acts j
 counts_acts j c clock place act head (carried.Refusal code) r = either_acts (is_spent c act) j (who_at c) c.gifts _ _ (again_acts j c.gifts c place act r) (refuses_acts j c.gifts c place act code r)
 counts_acts j c clock place act head (carried.Reply (tell.File reply)) r = either_acts (is_spent c act) j (who_at c) c.gifts _ _ (again_acts j c.gifts c place act r) (takes_acts j c.gifts c clock place act _ reply r)
 counts_acts j c clock place act head (carried.Reply reply) r = ignores_acts j c place
-counts_acts j c clock place act head carried.Notice r = record { user = refl; table = refl; of = refl; runs = λ S t o q. q; goes = inl (record { epoch = refl; last = refl; act = inr (refl, (refl, refl)); sent = (record { key = refl; act = act; runs = r; user' = refl; asks = refl }, tt) }); each = λ S past t q. (refl, tt); seats = λ k. k; from = (record { from = refl; half = λ z. refl; firm = tt }, tt) }
+counts_acts j c clock place act head carried.Notice r = record { user = refl; table = refl; of = refl; runs = λ S t o q. q; goes = inl (record { epoch = refl; last = refl; act = inr (refl, (refl, refl)); sent = (record { key = refl; act = act; runs = r; user' = refl; asks = refl }, tt) }); each = λ S past t q. (refl, tt); seats = λ k. k; from = (record { from = refl; half = λ z. refl; firm = tt; gift = λ z ls. absurd cc }, tt) }
 
 awaited_acts : (t : Bool) (j : ℕ) (c : ClientState) (clock place : ℕ) (act : Going) (head : Head) (x : Carried) → c.running ≡ Some act → Acts j (who_at c) c.gifts (cond t (counts (Client j) c clock place act head x) (ignores c place))
 awaited_acts true j c clock place act head x r = counts_acts j c clock place act head x r
@@ -440,7 +440,7 @@ admits_acts K L j c place head x (pairs.kept reply) k q to e =
     told_acts j c place (reply ∷ []) (uncalled_any (IsTheCall j c) reply a.0, tt) (kept_from (Client j) c.epoch c.seats head reply q e, tt)
 admits_acts K L j c place head x pairs.in_progress k q to e = ignores_acts j c place
 admits_acts K L j c place head x pairs.older k q to e = ignores_acts j c place
-admits_acts K L j c place head x (pairs.wrong_boot boot) k q to e = told_acts j c place (boot_told c.epoch head ∷ []) (tt, tt) (record { from = to; half = λ z. absurd z; firm = tt }, tt)
+admits_acts K L j c place head x (pairs.wrong_boot boot) k q to e = told_acts j c place (boot_told c.epoch head ∷ []) (tt, tt) (record { from = to; half = λ z. absurd z; firm = tt; gift = λ z ls. absurd cc }, tt)
 
 hears_acts : (K L : Head → Type 0) (j : ℕ) (c : ClientState) (clock place : ℕ) (head : Head) (x : Carried) → AreReplies K L c.seats → AreSeated (Client j) c.seats → head.to ≡ Client j → Acts j (who_at c) c.gifts (hears (Client j) c clock place head x)
 hears_acts K L j c clock place head (carried.Call user call) k q to = admits_acts K L j c place head (carried.Call user call) (admitted c.epoch c.seats head) k q to refl
@@ -469,7 +469,7 @@ begins_acts j c clock act r = first_acts j c.gifts (record c { busy = 0 }) clock
 
 pub waits_acts : (j : ℕ) (c : ClientState) (act : Going) → c.running ≡ Some act → Acts j (who_at c) c.gifts (timeout_row (Client j) c act)
 waits_acts j c act r = either_acts (nat_lt c.tries 2) j (who_at c) c.gifts _ _
-    (record { user = refl; table = refl; of = one_of j true refl; runs = λ S t o q. q; goes = inl (record { epoch = refl; last = refl; act = inr (refl, (refl, refl)); sent = (record { key = refl; act = act; runs = r; user' = refl; asks = refl }, tt) }); each = λ S past t q. ((refl, ((refl, refl), (refl, refl))), tt); seats = λ k. k; from = (record { from = refl; half = λ z. refl; firm = tt }, tt) })
+    (record { user = refl; table = refl; of = one_of j true refl; runs = λ S t o q. q; goes = inl (record { epoch = refl; last = refl; act = inr (refl, (refl, refl)); sent = (record { key = refl; act = act; runs = r; user' = refl; asks = refl }, tt) }); each = λ S past t q. ((refl, ((refl, refl), (refl, refl))), tt); seats = λ k. k; from = (record { from = refl; half = λ z. refl; firm = tt; gift = λ z ls. absurd cc }, tt) })
     (ends_acts j c.gifts c _ (λ ls. timeout_line (Client j) c 3 ∷ dropped (Client j) (given_up_in (volume_changed (call_of c act)) c.cache) ls) dead_code act
     (subst (λ (o : Option Going). Front j c.table o act (λ ls. timeout_line (Client j) c 3 ∷ dropped (Client j) (given_up_in (volume_changed (call_of c act)) c.cache) ls)) (sym r)
     (then_front j c.table (Some act) act act (λ ls. timeout_line (Client j) c 3 ∷ ls) (dropped (Client j) (given_up_in (volume_changed (call_of c act)) c.cache)) (timeout_front j c c.table act 3) (dropped_more j act (given_up_in (volume_changed (call_of c act)) c.cache)))))

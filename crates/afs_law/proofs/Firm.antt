@@ -1,9 +1,10 @@
 -- No server refuses a call with a code that asks to come again, however many servers a cell has: no volume is out of service or busy.
+use Rattle.afs_history.specs.declared.lines.Line.{Line}
 use Rattle.afs_ideal.specs.Operations.{Caller, Found, Result, Shown, changes, no_operation, op, reads, refused, shows_acl, shows_body, shows_status, shows_statuses, shows_volume, the_user, volume_called}
 use Rattle.afs_ideal.specs.Tables.{Table, get}
 use Rattle.afs_law.proofs.Facts.{is_passing}
 use Rattle.afs_law.proofs.Ops.{op_code}
-use Rattle.afs_law.specs.Legal.{HasOwnHalf}
+use Rattle.afs_law.specs.Legal.{GoodGift, HasOwnHalf}
 use Rattle.afs_model.specs.Calls as pairs
 use Rattle.afs_model.specs.Calls.{Admitted, admitted}
 use Rattle.afs_num.specs.Nodes.{same_node}
@@ -30,11 +31,12 @@ abbrev pub IsFirm : Carried → Type 0
 IsFirm (carried.Refusal code) = is_passing code.0 ≡ false
 IsFirm c = ⊤
 
--- this node sends it in its own name; a call is one by its header, and a refusal firm
+-- this node sends it in its own name; a call is one by its header, a refusal is firm, and no server gives promises back
 pub record IsSentBy (me : Node) (m : Message) : Type 0 where
   pub from : m.head.from ≡ me
   pub half : HasOwnHalf m
   pub firm : IsFirm m.carried
+  pub gift : is_client me ≡ false → (ls : List Line) → GoodGift m.head m.carried ls
 
 -- ---- what a server decides
 

@@ -48,6 +48,7 @@ pub mod Moving
 pub mod Firm
 pub mod Seating
 pub mod Acting
+pub mod Following
 pub mod Choosing
 pub mod Knowing
 pub mod Origins
@@ -56,6 +57,8 @@ pub mod Cutting
 pub mod Changing
 pub mod Placing
 pub mod Sending
+pub mod Gifts
+pub mod Lone
 pub mod Entering
 pub mod Dying
 pub mod Made

@@ -1,5 +1,6 @@
 -- A reply that a server keeps for a caller is that server's, to that caller, under the pair of its last call; however many servers a
 -- cell has.
+use Rattle.afs_history.specs.declared.lines.Line.{Line}
 use Rattle.afs_history.specs.declared.scripts.Script.{Script}
 use Rattle.afs_law.proofs.Basics.{LastSeat, a_key, at_put, at_seat, kept_last, same_node-true, some_of}
 use Rattle.afs_law.proofs.Firm.{IfFirm, IsFirm, IsSentBy, hears_firm}
@@ -9,7 +10,7 @@ use Rattle.afs_law.proofs.Keeping.{at_placed}
 use Rattle.afs_law.proofs.Moving.{Behind, EachMove, each_moved, run_keeps}
 use Rattle.afs_law.specs.Ideal.{set_up}
 use Rattle.afs_law.specs.Laws.{seat_key}
-use Rattle.afs_law.specs.Legal.{HasOwnHalf}
+use Rattle.afs_law.specs.Legal.{GoodGift, HasOwnHalf}
 use Rattle.afs_law.specs.Once.{past_of}
 use Rattle.afs_law.specs.Past.{HasCode, IsCall, IsReply, Ran, answered_key}
 use Rattle.afs_model.specs.Calls as pairs
@@ -121,9 +122,15 @@ both_not carried.Notice h k = absurd h
 pub code_half : (m : Message) → HasCode m.carried → HasOwnHalf m
 code_half m h call = absurd (both_not m.carried h call)
 
+pub code_gift : (head : Head) (c : Carried) (ls : List Line) → HasCode c → GoodGift head c ls
+code_gift head (carried.Call user call) ls h = absurd h
+code_gift head (carried.Refusal code) ls h = tt
+code_gift head (carried.Reply reply) ls h = tt
+code_gift head carried.Notice ls h = absurd h
+
 -- a reply that is repeated is one of them
 kept_sent : (me n : Node) (seat : Seat) (m : Message) → IsReplyOf me n seat m → IsSentBy me m
-kept_sent me n seat m r = record { from = r.from; half = code_half m r.reply.1; firm = r.firm }
+kept_sent me n seat m r = record { from = r.from; half = code_half m r.reply.1; firm = r.firm; gift = λ z ls. code_gift m.head m.carried ls r.reply.1 }
 
 kept_by : (t : Bool) (me : Node) (boot : ℕ) (seats : List Seat) (head : Head) (m : Message) → AreSeated me seats → cond t (paired head.epoch head.number (call_seat head.from seats)) (pairs.wrong_boot boot) ≡ pairs.kept m → IsSentBy me m
 kept_by true me boot seats head m h e = let l : LastSeat head.epoch head.number (call_seat head.from seats) m = kept_last head.epoch head.number (call_seat head.from seats) m e in kept_sent me head.from l.seat m (h head.from l.seat m l.at l.reply)

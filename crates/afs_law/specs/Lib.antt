@@ -7,3 +7,4 @@ pub mod OneServer
 pub mod Once
 pub mod Laws
 pub mod Parts
+pub mod ClientParts
