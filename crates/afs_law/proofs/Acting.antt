@@ -44,7 +44,7 @@ use Rattle.afs_num.specs.declared.types.Node.TheVariants.{Client}
 use Rattle.afs_rows.specs.ClientRow.{Look, Walked, admits_call, awaits, begin_row, begins_by, behind_batch, body_told, breaks, call_message, call_of, calls_again, calls_step, client_row, counts, dead_code, drop_line, dropped, dropped_after, ends_step, entries_told, entry_told, find_cached, gift_of, given, given_up_in, gives_by, goes_by, hears, ignores, in_order, is_awaited, is_busy_code, is_older, is_spent, is_trusted, look_at, looked, most_busy, most_reads, put_entries, put_entry, read_lines, reborn, refuses, replies_step, runs_carried, shown_by, status_look, status_told, stays, takes, takes_bulk, takes_bytes, takes_data, takes_entries, takes_entry, takes_given, takes_list, takes_plain, takes_rights, takes_set, takes_shown, takes_status, takes_stored, timeout_line, timeout_row, told_step, trusted_in, untrusted_in, used_first, walked, walked_at, walked_by, walked_with, walks_on, whole, with_statuses}
 use Rattle.afs_rows.specs.Going.{ClientState, Going, Need, answers, began, gives_back, next, reads, reads_status, with_read}
 use Rattle.afs_rows.specs.Runs.{Entry, locations}
-use Rattle.afs_rows.specs.ServerRow.{boot_told, key_of, replied}
+use Rattle.afs_rows.specs.ServerRow.{boot_told, key_of, replied, reply_head}
 use Rattle.afs_rows.specs.States.{CacheEntry, Gift, Location, Seat}
 use Rattle.afs_rows.specs.Steps.{Step}
 use Rattle.std.proofs.Common.{zero, suc, ◌+◌, ◌≡◌, ℕ, ◌⊎◌, inl, inr, Bool, true, false, cond, List, [], ◌∷◌, ◌++◌, map, Option, Some, None, refl, sym, subst, filter, not, ap, ◌∙◌}
@@ -299,7 +299,7 @@ drops_quiet : (j : ℕ) (fs : List Fid) → Quiet j (map (drop_line (Client j)) 
 drops_quiet j [] = record { of = refl; runs = λ S o. refl; begins = refl; each = λ S past own. tt }
 drops_quiet j (f ∷ fs) = let q : Quiet j (map (drop_line (Client j)) fs) = drops_quiet j fs in record { of = one_of j _ q.of; runs = λ S o. q.runs S (lines.Drop (Client j) f ∷ o); begins = q.begins; each = λ S past own. (refl, q.each S past (lines.Drop (Client j) f ∷ own)) }
 
-replies_acts : (j : ℕ) (x : Who) (gs : List Gift) (c : ClientState) (place : ℕ) (head : Head) (ls : List Line) (y : Carried) → who_at c ≡ x → c.gifts ≡ gs → Quiet j ls → IfCall (IsTheCall j (replies_step c place head ls y).state) (replied c.epoch head y) → head.to ≡ Client j → HasCode y → IsFirm y → Acts j x gs (replies_step c place head ls y)
+replies_acts : (j : ℕ) (x : Who) (gs : List Gift) (c : ClientState) (place : ℕ) (head : Head) (ls : List Line) (y : Carried) → who_at c ≡ x → c.gifts ≡ gs → Quiet j ls → IfCall (IsTheCall j (replies_step c place head ls y).state) (replied c.epoch head y) → head.to ≡ Client j → HasCode y → IsFirm (reply_head c.epoch head) y → Acts j x gs (replies_step c place head ls y)
 replies_acts j x gs c place head ls y same gifts q h to code firm = record {
   user = ap (λ (w : Who). w.user) same;
   table = ap (λ (w : Who). w.table) same;
@@ -423,14 +423,14 @@ all_line : (j : ℕ) (server : Node) → Quiet j (lines.DropAll (Client j) serve
 all_line j server = record { of = one_of j true refl; runs = λ S o. refl; begins = refl; each = λ S past own. (refl, tt) }
 
 breaks_acts : (j : ℕ) (c : ClientState) (place : ℕ) (head : Head) (call : FsCall) → head.to ≡ Client j → Acts j (who_at c) c.gifts (breaks (Client j) c place head call)
-breaks_acts j c place head (calls.CallBack fs callbacks) to = replies_acts j (who_at c) c.gifts _ place head _ _ refl refl (drops_quiet j fs) tt to tt tt
-breaks_acts j c place head calls.InitCallBackState to = replies_acts j (who_at c) c.gifts _ place head _ _ refl refl (all_line j head.from) tt to tt tt
-breaks_acts j c place head calls.Probe to = replies_acts j (who_at c) c.gifts c place head [] _ refl refl (no_lines j) tt to tt tt
-breaks_acts j c place head call to = replies_acts j (who_at c) c.gifts c place head [] _ refl refl (no_lines j) tt to tt refl
+breaks_acts j c place head (calls.CallBack fs callbacks) to = replies_acts j (who_at c) c.gifts _ place head _ _ refl refl (drops_quiet j fs) tt to tt refl
+breaks_acts j c place head calls.InitCallBackState to = replies_acts j (who_at c) c.gifts _ place head _ _ refl refl (all_line j head.from) tt to tt refl
+breaks_acts j c place head calls.Probe to = replies_acts j (who_at c) c.gifts c place head [] _ refl refl (no_lines j) tt to tt refl
+breaks_acts j c place head call to = replies_acts j (who_at c) c.gifts c place head [] _ refl refl (no_lines j) tt to tt (refl, refl)
 
 carried_acts : (j : ℕ) (c : ClientState) (place : ℕ) (head : Head) (x : Carried) → head.to ≡ Client j → Acts j (who_at c) c.gifts (runs_carried (Client j) c place head x)
 carried_acts j c place head (carried.Call user (ask.File call)) to = breaks_acts j c place head call to
-carried_acts j c place head (carried.Call user call) to = replies_acts j (who_at c) c.gifts c place head [] _ refl refl (no_lines j) tt to tt refl
+carried_acts j c place head (carried.Call user call) to = replies_acts j (who_at c) c.gifts c place head [] _ refl refl (no_lines j) tt to tt (refl, refl)
 carried_acts j c place head x to = ignores_acts j c place
 
 admits_acts : (K L : Head → Type 0) (j : ℕ) (c : ClientState) (place : ℕ) (head : Head) (x : Carried) (o : Admitted Message) → AreReplies K L c.seats → AreSeated (Client j) c.seats → head.to ≡ Client j → admitted c.epoch c.seats head ≡ o → Acts j (who_at c) c.gifts (admits_call (Client j) c place head (whole head x) o)

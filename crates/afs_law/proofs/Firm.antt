@@ -16,6 +16,7 @@ use Rattle.afs_num.specs.declared.messages.Carried.TheVariants as carried
 use Rattle.afs_num.specs.declared.messages.Message.{Message}
 use Rattle.afs_num.specs.declared.messages.Received.{Received}
 use Rattle.afs_num.specs.declared.types.Fid.{Fid}
+use Rattle.afs_num.specs.declared.types.Half.TheVariants as halves
 use Rattle.afs_num.specs.declared.types.Head.{Head}
 use Rattle.afs_num.specs.declared.types.Node.{Node}
 use Rattle.afs_records.specs.Durable.{Stored, has_room}
@@ -26,16 +27,17 @@ use Rattle.std.proofs.Common.{◌≡◌, ℕ, Bool, true, false, cond, List, [],
 use Rattle.std.specs.Prelude as outcome
 use Rattle.std.specs.Prelude.{⊤, Ok, Err}
 
--- a refusal tells something for good
-abbrev pub IsFirm : Carried → Type 0
-IsFirm (carried.Refusal code) = is_passing code.0 ≡ false
-IsFirm c = ⊤
+-- what tells a code is a reply by its header; and a refusal tells something for good
+abbrev pub IsFirm : Head → Carried → Type 0
+IsFirm head (carried.Refusal code) = (head.half ≡ halves.Reply) × (is_passing code.0 ≡ false)
+IsFirm head (carried.Reply reply) = head.half ≡ halves.Reply
+IsFirm head c = ⊤
 
--- this node sends it in its own name; a call is one by its header, a refusal is firm, and no server gives promises back
+-- this node sends it in its own name; a call and a reply are such by their headers, a refusal is firm, and no server gives promises back
 pub record IsSentBy (me : Node) (m : Message) : Type 0 where
   pub from : m.head.from ≡ me
   pub half : HasOwnHalf m
-  pub firm : IsFirm m.carried
+  pub firm : IsFirm m.head m.carried
   pub gift : is_client me ≡ false → (ls : List Line) → GoodGift m.head m.carried ls
 
 -- ---- what a server decides

@@ -207,14 +207,14 @@ spent_follows true j c place act b sp r e k =
     again_follows j c (calls_again (Client j) c place act) act sp (reading_by c act (call_of c act) r refl (none_read (volume_changed (call_of c act)) (both c.spoiled (is_reading (volume_changed (call_of c act))) e).1)) r refl refl (refl, λ f. refl)
 spent_follows false j c place act b sp r e k = k
 
-counts_follows : (j : ℕ) (c : ClientState) (clock place : ℕ) (act : Going) (head : Head) (x : Carried) → IsSpared c → c.running ≡ Some act → IsFirm x → Follows j c (counts (Client j) c clock place act head x)
+counts_follows : (j : ℕ) (c : ClientState) (clock place : ℕ) (act : Going) (head : Head) (x : Carried) → IsSpared c → c.running ≡ Some act → IsFirm head x → Follows j c (counts (Client j) c clock place act head x)
 counts_follows j c clock place act head (carried.Call user call) sp r firm = told_follows j c place [] sp
-counts_follows j c clock place act head (carried.Refusal code) sp r firm = spent_follows (is_spent c act) j c place act _ sp r refl (refuses_follows j c place act code firm)
+counts_follows j c clock place act head (carried.Refusal code) sp r firm = spent_follows (is_spent c act) j c place act _ sp r refl (refuses_follows j c place act code firm.1)
 counts_follows j c clock place act head (carried.Reply (tell.File reply)) sp r firm = spent_follows (is_spent c act) j c place act _ sp r refl (takes_follows j c clock place act (call_of c act) reply sp r refl)
 counts_follows j c clock place act head (carried.Reply reply) sp r firm = told_follows j c place [] sp
 counts_follows j c clock place act head carried.Notice sp r firm = rests_follows j c _ refl (record { none = sp.none; some = sp.some }) refl (refl, λ f. refl)
 
-awaits_follows : (j : ℕ) (c : ClientState) (clock place : ℕ) (head : Head) (x : Carried) (o : Option Going) → IsSpared c → c.running ≡ o → IsFirm x → Follows j c (awaits (Client j) c clock place head x o)
+awaits_follows : (j : ℕ) (c : ClientState) (clock place : ℕ) (head : Head) (x : Carried) (o : Option Going) → IsSpared c → c.running ≡ o → IsFirm head x → Follows j c (awaits (Client j) c clock place head x o)
 awaits_follows j c clock place head x None sp r firm = told_follows j c place [] sp
 awaits_follows j c clock place head x (Some act) sp r firm = either_follows (is_awaited c act head) j c _ _ (counts_follows j c clock place act head x sp r firm) (told_follows j c place [] sp)
 
@@ -246,13 +246,13 @@ admits_follows j c place head x pairs.in_progress sp = told_follows j c place []
 admits_follows j c place head x pairs.older sp = told_follows j c place [] sp
 admits_follows j c place head x (pairs.wrong_boot boot) sp = told_follows j c place _ sp
 
-hears_follows : (j : ℕ) (c : ClientState) (clock place : ℕ) (head : Head) (x : Carried) → IsSpared c → IsFirm x → Follows j c (hears (Client j) c clock place head x)
+hears_follows : (j : ℕ) (c : ClientState) (clock place : ℕ) (head : Head) (x : Carried) → IsSpared c → IsFirm head x → Follows j c (hears (Client j) c clock place head x)
 hears_follows j c clock place head (carried.Call user call) sp firm = admits_follows j c place head (carried.Call user call) (admitted c.epoch c.seats head) sp
 hears_follows j c clock place head x sp firm = awaits_follows j c clock place head x c.running sp refl firm
 
 -- ---- its steps
 
-pub given_follow : (j : ℕ) (c : ClientState) (clock place : ℕ) (m : Message) → IsSpared c → IsFirm m.carried → Follows j c (client_row (Client j) c clock place (Whole m))
+pub given_follow : (j : ℕ) (c : ClientState) (clock place : ℕ) (m : Message) → IsSpared c → IsFirm m.head m.carried → Follows j c (client_row (Client j) c clock place (Whole m))
 unfolding client_row
 given_follow j c clock place m sp firm = either_follows (same_node m.head.to (Client j)) j c _ _ (hears_follows j c clock place m.head m.carried sp firm) (told_follows j c place [] sp)
 

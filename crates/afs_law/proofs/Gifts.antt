@@ -31,20 +31,21 @@ use Rattle.afs_num.specs.declared.types.Node.{Node}
 use Rattle.afs_num.specs.declared.types.Node.TheVariants.{Client, Server}
 use Rattle.afs_rows.specs.Callbacks.{put}
 use Rattle.afs_rows.specs.Going.{ClientState}
-use Rattle.afs_rows.specs.Runs.{Cell, Entry, Moved, begun_by_disk, start}
+use Rattle.afs_rows.specs.Runs.{Cell, Entry, Moved, at_rest, begun_by_disk, blow_line, in_boot, in_step,  server_falls, server_moves, server_rises, server_set, server_stays, start, ticked, voided}
+use Rattle.afs_rows.specs.ServerSteps.{back_timeout_row, server_row, wake_row}
 use Rattle.afs_rows.specs.Steps.{Step}
-use Rattle.std.proofs.Common.{◌≡◌, ℕ, true, List, [], ◌∷◌, ◌++◌, refl, sym, subst}
+use Rattle.std.proofs.Common.{suc, ◌≡◌, ℕ, true, List, [], ◌∷◌, ◌++◌, refl, sym, subst}
 
 -- ---- no refusal asks to come again
 
 abbrev pub FirmIn : Cell → List Entry → Type 0
-FirmIn c past = Each (λ m. IsFirm m.carried) c.sent
+FirmIn c past = Each (λ m. IsFirm m.head m.carried) c.sent
 
 abbrev PostedFirm : Script → Cell → List Entry → Type 0
 PostedFirm s c past = Posted s c past × FirmIn c past
 
-firm_more : (me : Node) (sent ms : List Message) → Each (λ m. IsFirm m.carried) sent → Each (IsSentBy me) ms → Each (λ m. IsFirm m.carried) (sent ++ ms)
-firm_more me sent ms h k = each_more (λ m. IsFirm m.carried) sent ms h (each_map (IsSentBy me) (λ m. IsFirm m.carried) (λ m f. f.firm) ms k)
+firm_more : (me : Node) (sent ms : List Message) → Each (λ m. IsFirm m.head m.carried) sent → Each (IsSentBy me) ms → Each (λ m. IsFirm m.head m.carried) (sent ++ ms)
+firm_more me sent ms h k = each_more (λ m. IsFirm m.head m.carried) sent ms h (each_map (IsSentBy me) (λ m. IsFirm m.head m.carried) (λ m f. f.firm) ms k)
 
 firm_moves : (s : Script) → EachMove (PostedFirm s) (Behind FirmIn)
 firm_moves s = record {
@@ -92,25 +93,25 @@ client_gifts s c past n st h a f j =
 
 gift_moves : (s : Script) → EachMove (Given s) (Behind GiftsIn)
 gift_moves s = record {
-  void = λ c past h. idle_gifts s c.clients past _ h.1 refl;
-  ticked = λ c past n h. idle_gifts s c.clients past _ h.1 refl;
+  void = λ c past h. idle_gifts s c.clients past (voided c).entry h.1 refl;
+  ticked = λ c past n h. idle_gifts s c.clients past (ticked c (suc n)).entry h.1 refl;
   begun = λ c past n act h r. client_gifts s c past n _ h.1 (begins_acts n (c.clients n) c.clock act r) (begins_follow n (c.clients n) c.clock act (h.1 n).0 r);
-  told = λ c past n place m h at to. client_gifts s c past n _ h.1 (given_acts (by_key (IsKnown h.0.0.0.0.keys.callees c.clients)) any_told n (c.clients n) c.clock place m (h.0.0.0.0.keys.replies n) (h.0.0.0.1.seats n)) (given_follow n (c.clients n) c.clock place m (h.1 n).0 (each_at (λ m. IsFirm m.carried) c.sent place m at h.0.1));
+  told = λ c past n place m h at to. client_gifts s c past n _ h.1 (given_acts (by_key (IsKnown h.0.0.0.0.keys.callees c.clients)) any_told n (c.clients n) c.clock place m (h.0.0.0.0.keys.replies n) (h.0.0.0.1.seats n)) (given_follow n (c.clients n) c.clock place m (h.1 n).0 (each_at (λ m. IsFirm m.head m.carried) c.sent place m at h.0.1));
   waited = λ c past n act h r. client_gifts s c past n _ h.1 (waits_acts n (c.clients n) act r) (waits_follow n (c.clients n) act (h.1 n).0);
   fallen = λ c past n h. client_gifts s c past n _ h.1 (falls_acts n (c.clients n)) (falls_follow n (c.clients n));
   risen = λ c past n h. client_gifts s c past n _ h.1 (rises_acts n (c.clients n)) (rises_follow n (c.clients n) (h.1 n).0);
-  served = λ c past i place m armed h up at to. idle_gifts s c.clients past _ h.1 (idle_works any_message i (c.hosts i).state _ _ (serves_works any_message (Server i) (c.hosts i).state c.clock place m (λ rest. tt)));
-  cut = λ c past i place m t h up at to. idle_gifts s c.clients past _ h.1 (blow_idle i t);
-  stopped = λ c past i h up. idle_gifts s c.clients past _ h.1 refl;
-  stop_set = λ c past i calls pick armed h up. idle_gifts s c.clients past _ h.1 refl;
-  fail_set = λ c past i call armed h up. idle_gifts s c.clients past _ h.1 refl;
-  timed = λ c past i n b armed h up at. idle_gifts s c.clients past _ h.1 (idle_works any_message i (c.hosts i).state _ _ (times_works any_message (Server i) (c.hosts i).state c.clock n b));
-  woken = λ c past i armed h up. idle_gifts s c.clients past _ h.1 (idle_works any_message i (c.hosts i).state _ _ (wakes_works any_message (Server i) (c.hosts i).state c.clock));
-  started = λ c past i after fall h down. idle_gifts s c.clients past _ h.1
+  served = λ c past i place m armed h up at to. idle_gifts s c.clients past (server_moves c i armed (server_row (Server i) (c.hosts i).state c.clock place (Whole m))).entry h.1 (idle_works any_message i (c.hosts i).state _ _ (serves_works any_message (Server i) (c.hosts i).state c.clock place m (λ rest. tt)));
+  cut = λ c past i place m t h up at to. idle_gifts s c.clients past (server_falls c i (lines.Given place ∷ blow_line i t ∷ []) (in_step m c.clock)).entry h.1 (blow_idle i t);
+  stopped = λ c past i h up. idle_gifts s c.clients past (server_falls c i (lines.Crash (Server i) ∷ []) at_rest).entry h.1 refl;
+  stop_set = λ c past i calls pick armed h up. idle_gifts s c.clients past (server_set c i (lines.Stop (Server i) calls pick) armed).entry h.1 refl;
+  fail_set = λ c past i call armed h up. idle_gifts s c.clients past (server_set c i (lines.Fail (Server i) call) armed).entry h.1 refl;
+  timed = λ c past i n b armed h up at. idle_gifts s c.clients past (server_moves c i armed (back_timeout_row (Server i) (c.hosts i).state c.clock n b)).entry h.1 (idle_works any_message i (c.hosts i).state _ _ (times_works any_message (Server i) (c.hosts i).state c.clock n b));
+  woken = λ c past i armed h up. idle_gifts s c.clients past (server_moves c i armed (wake_row (Server i) (c.hosts i).state c.clock)).entry h.1 (idle_works any_message i (c.hosts i).state _ _ (wakes_works any_message (Server i) (c.hosts i).state c.clock));
+  started = λ c past i after fall h down. idle_gifts s c.clients past (server_rises c i (begun_by_disk (Server i) (c.hosts i).state after fall)).entry h.1
       (idle_works any_message i (c.hosts i).state _ _ (starts_works any_message (Server i) (c.hosts i).state c.clock c.count (begun_by_disk (Server i) (c.hosts i).state after fall) (disk_works any_message (Server i) (c.hosts i).state after fall (risen_lines (Server i) c.clock c.count (begun_by_disk (Server i) (c.hosts i).state after fall)) (any_cut fall) (risen_from (Server i) c.clock c.count (begun_by_disk (Server i) (c.hosts i).state after fall)))));
-  early = λ c past i fall h down. idle_gifts s c.clients past _ h.1 refl;
-  midway = λ c past i after fall h down. idle_gifts s c.clients past _ h.1 (idle_works any_message i (c.hosts i).state _ _ (disk_works any_message (Server i) (c.hosts i).state after fall (lines.Fault (Server i) ∷ []) (any_cut fall) (one_from (Server i) true refl)));
-  full = λ c past i after fall h down. idle_gifts s c.clients past _ h.1 (idle_works any_message i (c.hosts i).state _ _ (disk_works any_message (Server i) (c.hosts i).state after fall (lines.Full (Server i) ∷ []) (any_cut fall) (one_from (Server i) true refl)));
+  early = λ c past i fall h down. idle_gifts s c.clients past (server_falls c i (lines.Fault (Server i) ∷ []) fall).entry h.1 refl;
+  midway = λ c past i after fall h down. idle_gifts s c.clients past (server_stays c i (begun_by_disk (Server i) (c.hosts i).state after fall) (lines.Fault (Server i)) in_boot).entry h.1 (idle_works any_message i (c.hosts i).state _ _ (disk_works any_message (Server i) (c.hosts i).state after fall (lines.Fault (Server i) ∷ []) (any_cut fall) (one_from (Server i) true refl)));
+  full = λ c past i after fall h down. idle_gifts s c.clients past (server_stays c i (begun_by_disk (Server i) (c.hosts i).state after fall) (lines.Full (Server i)) at_rest).entry h.1 (idle_works any_message i (c.hosts i).state _ _ (disk_works any_message (Server i) (c.hosts i).state after fall (lines.Full (Server i) ∷ []) (any_cut fall) (one_from (Server i) true refl)));
 }
 
 pub given_kept : (s : Script) → IsKept (Given s)
@@ -150,18 +151,18 @@ fair_moves s = record {
   void = λ c past h. tt;
   ticked = λ c past n h. tt;
   begun = λ c past n act h r. acts_fair s c past n _ h (begins_acts n (c.clients n) c.clock act r) (begins_follow n (c.clients n) c.clock act (h.1 n).0 r);
-  told = λ c past n place m h at to. acts_fair s c past n _ h (given_acts (by_key (IsKnown h.0.0.0.0.keys.callees c.clients)) any_told n (c.clients n) c.clock place m (h.0.0.0.0.keys.replies n) (h.0.0.0.1.seats n)) (given_follow n (c.clients n) c.clock place m (h.1 n).0 (each_at (λ m. IsFirm m.carried) c.sent place m at h.0.1));
+  told = λ c past n place m h at to. acts_fair s c past n _ h (given_acts (by_key (IsKnown h.0.0.0.0.keys.callees c.clients)) any_told n (c.clients n) c.clock place m (h.0.0.0.0.keys.replies n) (h.0.0.0.1.seats n)) (given_follow n (c.clients n) c.clock place m (h.1 n).0 (each_at (λ m. IsFirm m.head m.carried) c.sent place m at h.0.1));
   waited = λ c past n act h r. acts_fair s c past n _ h (waits_acts n (c.clients n) act r) (waits_follow n (c.clients n) act (h.1 n).0);
   fallen = λ c past n h. tt;
   risen = λ c past n h. tt;
-  served = λ c past i place m armed h up at to. server_fair i _ _ (served_posts (Server i) (c.hosts i).state c.clock place m (h.0.0.1.0 i).seats (h.0.0.1.1 i)).0;
+  served = λ c past i place m armed h up at to. server_fair i ((server_moves c i armed (server_row (Server i) (c.hosts i).state c.clock place (Whole m))).entry ∷ past) _ (served_posts (Server i) (c.hosts i).state c.clock place m (h.0.0.1.0 i).seats (h.0.0.1.1 i)).0;
   cut = λ c past i place m t h up at to. tt;
   stopped = λ c past i h up. tt;
   stop_set = λ c past i calls pick armed h up. tt;
   fail_set = λ c past i call armed h up. tt;
-  timed = λ c past i n b armed h up at. server_fair i _ _ (times_posts (Server i) (c.hosts i).state c.clock n b (h.0.0.1.1 i)).0;
-  woken = λ c past i armed h up. server_fair i _ _ (wakes_posts (Server i) (c.hosts i).state c.clock (h.0.0.1.1 i)).0;
-  started = λ c past i after fall h down. server_fair i _ _ (rises_posts (Server i) c.clock c.count (begun_by_disk (Server i) (c.hosts i).state after fall)).0;
+  timed = λ c past i n b armed h up at. server_fair i ((server_moves c i armed (back_timeout_row (Server i) (c.hosts i).state c.clock n b)).entry ∷ past) _ (times_posts (Server i) (c.hosts i).state c.clock n b (h.0.0.1.1 i)).0;
+  woken = λ c past i armed h up. server_fair i ((server_moves c i armed (wake_row (Server i) (c.hosts i).state c.clock)).entry ∷ past) _ (wakes_posts (Server i) (c.hosts i).state c.clock (h.0.0.1.1 i)).0;
+  started = λ c past i after fall h down. server_fair i ((server_rises c i (begun_by_disk (Server i) (c.hosts i).state after fall)).entry ∷ past) _ (rises_posts (Server i) c.clock c.count (begun_by_disk (Server i) (c.hosts i).state after fall)).0;
   early = λ c past i fall h down. tt;
   midway = λ c past i after fall h down. tt;
   full = λ c past i after fall h down. tt;

@@ -45,10 +45,11 @@ use Rattle.afs_num.specs.declared.types.Node.TheVariants.{Admin, Client, Loc, Se
 use Rattle.afs_rows.specs.Callbacks.{put}
 use Rattle.afs_rows.specs.ClientRow.{call_of}
 use Rattle.afs_rows.specs.Going.{ClientState, Going, began, read_on}
-use Rattle.afs_rows.specs.Runs.{Cell, Entry, Input, begun_by_disk, locations, moved, start}
+use Rattle.afs_rows.specs.Runs.{Cell, Entry, Input, at_rest, begun_by_disk, blow_line, in_boot, in_step, locations, moved, server_falls, server_moves, server_rises, server_set, server_stays, start, ticked, voided}
+use Rattle.afs_rows.specs.ServerSteps.{back_timeout_row, server_row, wake_row}
 use Rattle.afs_rows.specs.ServerRow.{is_client, key_of}
 use Rattle.afs_rows.specs.Steps.{Step}
-use Rattle.std.proofs.Common.{◌≡◌, ℕ, ◌+◌, ◌⊎◌, inl, inr, Bool, true, false, cond, List, [], ◌∷◌, ◌++◌, Option, Some, None, refl, sym, ap, subst, ◌∙◌, arith}
+use Rattle.std.proofs.Common.{suc, ◌≡◌, ℕ, ◌+◌, ◌⊎◌, inl, inr, Bool, true, false, cond, List, [], ◌∷◌, ◌++◌, Option, Some, None, refl, sym, ap, subst, ◌∙◌, arith}
 use Rattle.std.specs.Prelude.{⊤, ◌&&◌}
 
 -- ---- of the act that runs only the client's last call may change something
@@ -245,27 +246,27 @@ void_aside e none begins j = record { begins = begins j; unsent = λ k node. ap 
 
 lone_moves : (s : Script) → EachMove (GivenLones s) (Behind LonesIn)
 lone_moves s = record {
-  void = λ c past h. aside_lones c.clients _ past (void_aside _ refl (λ j. refl)) h.1;
-  ticked = λ c past n h. aside_lones c.clients _ past (void_aside _ refl (λ j. refl)) h.1;
+  void = λ c past h. aside_lones c.clients (voided c).entry past (void_aside (voided c).entry refl (λ j. refl)) h.1;
+  ticked = λ c past n h. aside_lones c.clients (ticked c (suc n)).entry past (void_aside (ticked c (suc n)).entry refl (λ j. refl)) h.1;
   begun = λ c past n act h r. client_lones s c past n _ h.0.0.0.0.0.hears.told h.0.0.0.0.1 h.1 (begins_acts n (c.clients n) c.clock act r) (begins_follow n (c.clients n) c.clock act (h.0.1 n).0 r);
-  told = λ c past n place m h at to. client_lones s c past n _ h.0.0.0.0.0.hears.told h.0.0.0.0.1 h.1 (given_acts (by_key (IsKnown h.0.0.0.0.0.keys.callees c.clients)) any_told n (c.clients n) c.clock place m (h.0.0.0.0.0.keys.replies n) (h.0.0.0.0.1.seats n)) (given_follow n (c.clients n) c.clock place m (h.0.1 n).0 (each_at (λ m. IsFirm m.carried) c.sent place m at h.0.0.1));
+  told = λ c past n place m h at to. client_lones s c past n _ h.0.0.0.0.0.hears.told h.0.0.0.0.1 h.1 (given_acts (by_key (IsKnown h.0.0.0.0.0.keys.callees c.clients)) any_told n (c.clients n) c.clock place m (h.0.0.0.0.0.keys.replies n) (h.0.0.0.0.1.seats n)) (given_follow n (c.clients n) c.clock place m (h.0.1 n).0 (each_at (λ m. IsFirm m.head m.carried) c.sent place m at h.0.0.1));
   waited = λ c past n act h r. client_lones s c past n _ h.0.0.0.0.0.hears.told h.0.0.0.0.1 h.1 (waits_acts n (c.clients n) act r) (waits_follow n (c.clients n) act (h.0.1 n).0);
   fallen = λ c past n h. client_lones s c past n _ h.0.0.0.0.0.hears.told h.0.0.0.0.1 h.1 (falls_acts n (c.clients n)) (falls_follow n (c.clients n));
   risen = λ c past n h. client_lones s c past n _ h.0.0.0.0.0.hears.told h.0.0.0.0.1 h.1 (rises_acts n (c.clients n)) (rises_follow n (c.clients n) (h.0.1 n).0);
-  served = λ c past i place m armed h up at to. aside_lones c.clients _ past (server_aside s i _ past (idle_works any_message i (c.hosts i).state _ _ (serves_works any_message (Server i) (c.hosts i).state c.clock place m (λ rest. tt))) (served_posts (Server i) (c.hosts i).state c.clock place m (h.0.0.0.1.0 i).seats (h.0.0.0.1.1 i)).0) h.1;
-  cut = λ c past i place m t h up at to. aside_lones c.clients _ past (server_aside s i _ past (blow_idle i t) tt) h.1;
-  stopped = λ c past i h up. aside_lones c.clients _ past (void_aside _ refl (λ j. refl)) h.1;
-  stop_set = λ c past i calls pick armed h up. aside_lones c.clients _ past (void_aside _ refl (λ j. refl)) h.1;
-  fail_set = λ c past i call armed h up. aside_lones c.clients _ past (void_aside _ refl (λ j. refl)) h.1;
-  timed = λ c past i n b armed h up at. aside_lones c.clients _ past (server_aside s i _ past (idle_works any_message i (c.hosts i).state _ _ (times_works any_message (Server i) (c.hosts i).state c.clock n b)) (times_posts (Server i) (c.hosts i).state c.clock n b (h.0.0.0.1.1 i)).0) h.1;
-  woken = λ c past i armed h up. aside_lones c.clients _ past (server_aside s i _ past (idle_works any_message i (c.hosts i).state _ _ (wakes_works any_message (Server i) (c.hosts i).state c.clock)) (wakes_posts (Server i) (c.hosts i).state c.clock (h.0.0.0.1.1 i)).0) h.1;
-  started = λ c past i after fall h down. aside_lones c.clients _ past
-      (server_aside s i _ past
+  served = λ c past i place m armed h up at to. aside_lones c.clients (server_moves c i armed (server_row (Server i) (c.hosts i).state c.clock place (Whole m))).entry past (server_aside s i (server_moves c i armed (server_row (Server i) (c.hosts i).state c.clock place (Whole m))).entry past (idle_works any_message i (c.hosts i).state _ _ (serves_works any_message (Server i) (c.hosts i).state c.clock place m (λ rest. tt))) (served_posts (Server i) (c.hosts i).state c.clock place m (h.0.0.0.1.0 i).seats (h.0.0.0.1.1 i)).0) h.1;
+  cut = λ c past i place m t h up at to. aside_lones c.clients (server_falls c i (lines.Given place ∷ blow_line i t ∷ []) (in_step m c.clock)).entry past (server_aside s i (server_falls c i (lines.Given place ∷ blow_line i t ∷ []) (in_step m c.clock)).entry past (blow_idle i t) tt) h.1;
+  stopped = λ c past i h up. aside_lones c.clients (server_falls c i (lines.Crash (Server i) ∷ []) at_rest).entry past (void_aside (server_falls c i (lines.Crash (Server i) ∷ []) at_rest).entry refl (λ j. refl)) h.1;
+  stop_set = λ c past i calls pick armed h up. aside_lones c.clients (server_set c i (lines.Stop (Server i) calls pick) armed).entry past (void_aside (server_set c i (lines.Stop (Server i) calls pick) armed).entry refl (λ j. refl)) h.1;
+  fail_set = λ c past i call armed h up. aside_lones c.clients (server_set c i (lines.Fail (Server i) call) armed).entry past (void_aside (server_set c i (lines.Fail (Server i) call) armed).entry refl (λ j. refl)) h.1;
+  timed = λ c past i n b armed h up at. aside_lones c.clients (server_moves c i armed (back_timeout_row (Server i) (c.hosts i).state c.clock n b)).entry past (server_aside s i (server_moves c i armed (back_timeout_row (Server i) (c.hosts i).state c.clock n b)).entry past (idle_works any_message i (c.hosts i).state _ _ (times_works any_message (Server i) (c.hosts i).state c.clock n b)) (times_posts (Server i) (c.hosts i).state c.clock n b (h.0.0.0.1.1 i)).0) h.1;
+  woken = λ c past i armed h up. aside_lones c.clients (server_moves c i armed (wake_row (Server i) (c.hosts i).state c.clock)).entry past (server_aside s i (server_moves c i armed (wake_row (Server i) (c.hosts i).state c.clock)).entry past (idle_works any_message i (c.hosts i).state _ _ (wakes_works any_message (Server i) (c.hosts i).state c.clock)) (wakes_posts (Server i) (c.hosts i).state c.clock (h.0.0.0.1.1 i)).0) h.1;
+  started = λ c past i after fall h down. aside_lones c.clients (server_rises c i (begun_by_disk (Server i) (c.hosts i).state after fall)).entry past
+      (server_aside s i (server_rises c i (begun_by_disk (Server i) (c.hosts i).state after fall)).entry past
       (idle_works any_message i (c.hosts i).state _ _ (starts_works any_message (Server i) (c.hosts i).state c.clock c.count (begun_by_disk (Server i) (c.hosts i).state after fall) (disk_works any_message (Server i) (c.hosts i).state after fall (risen_lines (Server i) c.clock c.count (begun_by_disk (Server i) (c.hosts i).state after fall)) (any_cut fall) (risen_from (Server i) c.clock c.count (begun_by_disk (Server i) (c.hosts i).state after fall)))))
       (rises_posts (Server i) c.clock c.count (begun_by_disk (Server i) (c.hosts i).state after fall)).0) h.1;
-  early = λ c past i fall h down. aside_lones c.clients _ past (void_aside _ refl (λ j. refl)) h.1;
-  midway = λ c past i after fall h down. aside_lones c.clients _ past (server_aside s i _ past (idle_works any_message i (c.hosts i).state _ _ (disk_works any_message (Server i) (c.hosts i).state after fall (lines.Fault (Server i) ∷ []) (any_cut fall) (one_from (Server i) true refl))) tt) h.1;
-  full = λ c past i after fall h down. aside_lones c.clients _ past (server_aside s i _ past (idle_works any_message i (c.hosts i).state _ _ (disk_works any_message (Server i) (c.hosts i).state after fall (lines.Full (Server i) ∷ []) (any_cut fall) (one_from (Server i) true refl))) tt) h.1;
+  early = λ c past i fall h down. aside_lones c.clients (server_falls c i (lines.Fault (Server i) ∷ []) fall).entry past (void_aside (server_falls c i (lines.Fault (Server i) ∷ []) fall).entry refl (λ j. refl)) h.1;
+  midway = λ c past i after fall h down. aside_lones c.clients (server_stays c i (begun_by_disk (Server i) (c.hosts i).state after fall) (lines.Fault (Server i)) in_boot).entry past (server_aside s i (server_stays c i (begun_by_disk (Server i) (c.hosts i).state after fall) (lines.Fault (Server i)) in_boot).entry past (idle_works any_message i (c.hosts i).state _ _ (disk_works any_message (Server i) (c.hosts i).state after fall (lines.Fault (Server i) ∷ []) (any_cut fall) (one_from (Server i) true refl))) tt) h.1;
+  full = λ c past i after fall h down. aside_lones c.clients (server_stays c i (begun_by_disk (Server i) (c.hosts i).state after fall) (lines.Full (Server i)) at_rest).entry past (server_aside s i (server_stays c i (begun_by_disk (Server i) (c.hosts i).state after fall) (lines.Full (Server i)) at_rest).entry past (idle_works any_message i (c.hosts i).state _ _ (disk_works any_message (Server i) (c.hosts i).state after fall (lines.Full (Server i) ∷ []) (any_cut fall) (one_from (Server i) true refl))) tt) h.1;
 }
 
 -- ---- what the history alone tells: a key that changed something is that of a changing call, and acts run at clients alone

@@ -29,7 +29,7 @@ use Rattle.afs_num.specs.declared.types.Node.{Node}
 use Rattle.afs_num.specs.declared.types.Node.TheVariants.{Client, Server}
 use Rattle.afs_rows.specs.Callbacks.{put}
 use Rattle.afs_rows.specs.Runs.{Cell, Entry, Fall, Host, RunsTo, at_rest, begun_by_disk, in_boot, in_step, start}
-use Rattle.afs_rows.specs.ServerRow.{Begun, Change, Decision, admits, begun_after, carried_by, decides, does, drops, hears, is_client, not_served, promise_ticks, refuses, repeats, replied, runs_received, saves, seat_for, seat_placed, serves_call, shows, tells_boot, whole}
+use Rattle.afs_rows.specs.ServerRow.{Begun, Change, Decision, admits, begun_after, carried_by, decides, does, drops, hears, is_client, not_served, promise_ticks, refuses, repeats, replied, reply_head, runs_received, saves, seat_for, seat_placed, serves_call, shows, tells_boot, whole}
 use Rattle.afs_rows.specs.ServerSteps.{back_timeout_row, server_row, start_row, wake_row}
 use Rattle.afs_rows.specs.States.{BackCall, Seat, ServerState}
 use Rattle.std.proofs.Common.{◌≡◌, ℕ, ◌+◌, Bool, true, false, cond, List, [], ◌∷◌, Option, Some, None, refl, sym, ap, subst, nat_eq, ◌∙◌}
@@ -92,7 +92,7 @@ pub record IsReplyOf (me n : Node) (seat : Seat) (m : Message) : Type 0 where
   pub epoch : m.head.epoch ≡ seat.epoch
   pub number : m.head.number ≡ seat.number
   pub reply : IsReply m
-  pub firm : IsFirm m.carried
+  pub firm : IsFirm m.head m.carried
 
 abbrev pub AreSeated : Node → List Seat → Type 0
 AreSeated me seats = (n : Node) (seat : Seat) (m : Message) → call_seat n seats ≡ Some seat → seat.reply ≡ Some m → IsReplyOf me n seat m
@@ -101,16 +101,16 @@ AreSeated me seats = (n : Node) (seat : Seat) (m : Message) → call_seat n seat
 abbrev IsSeat : Node → Node → Option Seat → Type 0
 IsSeat me n o = (seat : Seat) (m : Message) → o ≡ Some seat → seat.reply ≡ Some m → IsReplyOf me n seat m
 
-own_reply : (me : Node) (boot : ℕ) (head : Head) (c : Carried) (n : Node) → head.to ≡ me → HasCode c → IsFirm c → head.from ≡ n → IsSeat me n (Some (seat_for head (replied boot head c)))
+own_reply : (me : Node) (boot : ℕ) (head : Head) (c : Carried) (n : Node) → head.to ≡ me → HasCode c → IsFirm (reply_head boot head) c → head.from ≡ n → IsSeat me n (Some (seat_for head (replied boot head c)))
 own_reply me boot head c n to code firm from seat m e r =
     let same : seat_for head (replied boot head c) ≡ seat = some_of (seat_for head (replied boot head c)) seat e in
     let is : replied boot head c ≡ m = some_of (replied boot head c) m (ap (λ (s : Seat). s.reply) same ∙ r) in
     subst (IsReplyOf me n seat) is (subst (λ (s : Seat). IsReplyOf me n s (replied boot head c)) same (record { from = to; to = from; epoch = refl; number = refl; reply = (refl, code); firm = firm }))
 
-pub seated : (me : Node) (boot : ℕ) (head : Head) (c : Carried) (seats : List Seat) → head.to ≡ me → HasCode c → IsFirm c → AreSeated me seats → AreSeated me (call_seated (seat_for head (replied boot head c)) seats)
+pub seated : (me : Node) (boot : ℕ) (head : Head) (c : Carried) (seats : List Seat) → head.to ≡ me → HasCode c → IsFirm (reply_head boot head) c → AreSeated me seats → AreSeated me (call_seated (seat_for head (replied boot head c)) seats)
 seated me boot head c seats to code firm h n = at_seat (seat_for head (replied boot head c)) n seats (IsSeat me n) (λ own. own_reply me boot head c n to code firm own) (λ other. h n)
 
-placed : (me : Node) (boot : ℕ) (head : Head) (c : Carried) (seats : List Seat) → head.to ≡ me → HasCode c → IsFirm c → AreSeated me seats → AreSeated me (seat_placed (seat_for head (replied boot head c)) seats)
+placed : (me : Node) (boot : ℕ) (head : Head) (c : Carried) (seats : List Seat) → head.to ≡ me → HasCode c → IsFirm (reply_head boot head) c → AreSeated me seats → AreSeated me (seat_placed (seat_for head (replied boot head c)) seats)
 placed me boot head c seats to code firm h n = at_placed (seat_for head (replied boot head c)) n seats (IsSeat me n) (λ own. own_reply me boot head c n to code firm own) (λ other. h n)
 
 both_not : (c : Carried) → HasCode c → IsCall c → ⊥
@@ -143,9 +143,9 @@ pub change_code : (expiry : ℕ) (o : Option FsReply) → HasCode (carried_by ex
 change_code expiry None = tt
 change_code expiry (Some reply) = tt
 
-pub change_firm : (expiry : ℕ) (o : Option FsReply) → IsFirm (carried_by expiry o)
-change_firm expiry None = refl
-change_firm expiry (Some reply) = tt
+pub change_firm : (boot : ℕ) (head : Head) (expiry : ℕ) (o : Option FsReply) → IsFirm (reply_head boot head) (carried_by expiry o)
+change_firm boot head expiry None = (refl, refl)
+change_firm boot head expiry (Some reply) = refl
 
 -- in memory, and on the disk
 pub record Sits (me : Node) (x : ServerState) : Type 0 where
@@ -154,16 +154,16 @@ pub record Sits (me : Node) (x : ServerState) : Type 0 where
 
 saved_sits : (me : Node) (x : ServerState) (clock : ℕ) (head : Head) (c : Change) → head.to ≡ me → Sits me x → Sits me (begun_after me x clock (saves head c)).state
 saved_sits me x clock head c to h = record {
-  seats = seated me x.lasting.boot head (carried_by (clock + promise_ticks) _) x.seats to (change_code (clock + promise_ticks) _) (change_firm (clock + promise_ticks) _) h.seats;
-  kept = placed me x.lasting.boot head (carried_by (clock + promise_ticks) _) x.lasting.kept to (change_code (clock + promise_ticks) _) (change_firm (clock + promise_ticks) _) h.kept;
+  seats = seated me x.lasting.boot head (carried_by (clock + promise_ticks) _) x.seats to (change_code (clock + promise_ticks) _) (change_firm x.lasting.boot head (clock + promise_ticks) _) h.seats;
+  kept = placed me x.lasting.boot head (carried_by (clock + promise_ticks) _) x.lasting.kept to (change_code (clock + promise_ticks) _) (change_firm x.lasting.boot head (clock + promise_ticks) _) h.kept;
 }
 
 does_sits : (me : Node) (x : ServerState) (clock place : ℕ) (d : Decision) → IfRuns (λ h. h.to ≡ me) d → IfFirm d → Sits me x → Sits me (does me x clock place d []).state
 does_sits me x clock place drops r f h = h
 does_sits me x clock place (tells_boot head) r f h = h
 does_sits me x clock place (repeats reply) r f h = h
-does_sits me x clock place (refuses head code) r f h = record { seats = seated me x.lasting.boot head _ x.seats r tt f h.seats; kept = h.kept }
-does_sits me x clock place (shows head g) r f h = record { seats = seated me x.lasting.boot head _ x.seats r tt tt h.seats; kept = h.kept }
+does_sits me x clock place (refuses head code) r f h = record { seats = seated me x.lasting.boot head _ x.seats r tt (refl, f) h.seats; kept = h.kept }
+does_sits me x clock place (shows head g) r f h = record { seats = seated me x.lasting.boot head _ x.seats r tt refl h.seats; kept = h.kept }
 does_sits me x clock place (saves head c) r f h = let z : Sits me (begun_after me x clock (saves head c)).state = saved_sits me x clock head c r h in record { seats = z.seats; kept = z.kept }
 
 served_sits : (i : ℕ) (x : ServerState) (clock place : ℕ) (m : Message) → Sits (Server i) x → Sits (Server i) (server_row (Server i) x clock place (Whole m)).state

@@ -104,7 +104,7 @@ break_sent : (me : Node) (boot : ℕ) (n : Node) (known : ℕ) (c : BackCall) �
 break_sent me boot n known c = record { from = refl; half = λ z. refl; firm = tt; gift = λ z ls. breaks_gift (break_message me boot n known c).head c.breaks ls }
 
 change_sent : (me : Node) (x : ServerState) (clock : ℕ) (head : Head) (c : Change) → head.to ≡ me → IsSentBy me (change_reply_to x.lasting.boot head clock c)
-change_sent me x clock head c to = record { from = to; half = code_half (change_reply_to x.lasting.boot head clock c) (change_code (clock + promise_ticks) _); firm = change_firm (clock + promise_ticks) _; gift = λ z ls. code_gift (reply_head x.lasting.boot head) _ ls (change_code (clock + promise_ticks) _) }
+change_sent me x clock head c to = record { from = to; half = code_half (change_reply_to x.lasting.boot head clock c) (change_code (clock + promise_ticks) _); firm = change_firm x.lasting.boot head (clock + promise_ticks) _; gift = λ z ls. code_gift (reply_head x.lasting.boot head) _ ls (change_code (clock + promise_ticks) _) }
 
 record Posts (me : Node) (t : Turn) : Type 0 where
   sent : Each (IsSentBy me) t.sent
@@ -127,8 +127,8 @@ for_posts : (me : Node) (x : ServerState) (clock : ℕ) (b : Backs) (d : Decisio
 for_posts me x clock b drops d f h = none_posts me b h
 for_posts me x clock b (tells_boot head) d f h = record { sent = (record { from = d; half = λ z. absurd z; firm = tt; gift = λ z ls. tt }, tt); outs = tt; held = h }
 for_posts me x clock b (repeats reply) d f h = repeats_posts me b reply (held_under (key_answered reply) b.held) (is_seat_of reply (call_seat reply.head.to x.lasting.kept)) d h
-for_posts me x clock b (refuses head code) d f h = record { sent = tt; outs = (record { from = d; half = λ z. absurd z; firm = f; gift = λ z ls. tt }, tt); held = h }
-for_posts me x clock b (shows head r) d f h = record { sent = tt; outs = (record { from = d; half = λ z. absurd z; firm = tt; gift = λ z ls. tt }, tt); held = h }
+for_posts me x clock b (refuses head code) d f h = record { sent = tt; outs = (record { from = d; half = λ z. absurd z; firm = (refl, f); gift = λ z ls. tt }, tt); held = h }
+for_posts me x clock b (shows head r) d f h = record { sent = tt; outs = (record { from = d; half = λ z. absurd z; firm = refl; gift = λ z ls. tt }, tt); held = h }
 for_posts me x clock b (saves head c) d f h = record { sent = tt; outs = (change_sent me x clock head c d, tt); held = h }
 
 settled_posts : (me : Node) (boot : ℕ) (head : Head) (b : Backs) (o : Option BackCall) → Each (IsSentBy me) (replies_of b.held) → Posts me (settles_by me boot head b o)
