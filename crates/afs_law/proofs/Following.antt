@@ -9,6 +9,7 @@ use Rattle.afs_law.proofs.Facts.{fids_of_gifts, is_passing}
 use Rattle.afs_law.proofs.Firm.{IsFirm}
 use Rattle.afs_law.proofs.Giving.{ordered_dropped}
 use Rattle.afs_law.proofs.Passing.{all_dropped_onto, dropped_rest}
+use Rattle.afs_law.specs.Breaks.{HasTimeout}
 use Rattle.afs_law.specs.Grants.{has_fetched}
 use Rattle.afs_law.specs.Legal.{AreDropped, HasDropped}
 use Rattle.afs_law.specs.Past.{has_begun, onto}
@@ -40,7 +41,7 @@ use Rattle.afs_rows.specs.ClientRow.{Look, Walked, admits_call, awaits, batch, b
 use Rattle.afs_rows.specs.Going.{ClientState, Going, Need, answers, began, gives_back, next, with_read}
 use Rattle.afs_rows.specs.States.{CacheEntry, Gift}
 use Rattle.afs_rows.specs.Steps.{Step}
-use Rattle.std.proofs.Common.{zero, suc, ◌+◌, ◌≡◌, ℕ, ◌⊎◌, inl, inr, Bool, true, false, cond, List, [], ◌∷◌, ◌++◌, map, length, flat_map, Option, Some, None, refl, sym, subst, filter, not, ap, ◌∙◌}
+use Rattle.std.proofs.Common.{zero, suc, ◌+◌, ◌≡◌, ℕ, ◌⊎◌, inl, inr, Bool, true, false, cond, List, [], ◌∷◌, ◌++◌, map, length, flat_map, Option, Some, None, refl, sym, subst, filter, not, ap, ◌∙◌, arith}
 use Rattle.std.specs.List.{list_any}
 use Rattle.std.specs.Prelude.{◌&&◌, ◌||◌, nat_lt, ⊤}
 
@@ -57,10 +58,20 @@ IsReading c = (act : Going) → c.running ≡ Some act → volume_changed (call_
 abbrev pub IsStill : ℕ → List Line → Type 0
 IsStill j ls = (has_begun (Client j) ls ≡ false) × ((f : Fid) → has_fetched (Client j) f ls ≡ false)
 
+-- it waits for the call for which it waited, and each timeout of that was told
+pub record WaitsOn (j : ℕ) (c : ClientState) (s : Step ClientState) : Type 0 where
+  pub running : s.state.running ≡ c.running
+  pub callee : s.state.callee ≡ c.callee
+  pub epoch : s.state.epoch ≡ c.epoch
+  pub last : s.state.last ≡ c.last
+  pub tries : (s.state.tries ≡ c.tries) ⊎ ((s.state.tries ≡ c.tries + 1) × ((o : List Line) → HasTimeout (Client j) c.callee c.epoch c.last (c.tries + 1) (onto o s.lines)))
+
 pub record Follows (j : ℕ) (c : ClientState) (s : Step ClientState) : Type 0 where
   pub spared : IsSpared s.state
   pub dropped : (o : List Line) → AreDropped (Client j) (fids_of_gifts c.gifts) o → AreDropped (Client j) (fids_of_gifts s.state.gifts) (onto o s.lines)
   pub reads : (b : Going) → s.state.running ≡ Some b → (s.state.last ≡ c.last → ⊥) → IsReading c
+  pub fresh : (b : Going) → s.state.running ≡ Some b → (s.state.last ≡ c.last → ⊥) → s.state.tries ≡ 0
+  pub stays : (b : Going) → s.state.running ≡ Some b → s.state.last ≡ c.last → WaitsOn j c s
 
 -- ---- ways of a step
 
@@ -70,27 +81,35 @@ none_runs o act e f = let no : None ≡ Some act = sym e ∙ f in absurd cc
 no_gifts : (j : ℕ) (gs : List Gift) (ls : List Line) → gs ≡ [] → AreDropped (Client j) (fids_of_gifts gs) ls
 no_gifts j gs ls e = subst (λ (xs : List Gift). AreDropped (Client j) (fids_of_gifts xs) ls) (sym e) tt
 
+pub more_not : (a b : ℕ) → a ≡ b + 1 → a ≡ b → ⊥
+more_not a b e f = absurd (omega arith)
+
+on_same : (j : ℕ) (c : ClientState) (s : Step ClientState) → s.state.running ≡ c.running → s.state.callee ≡ c.callee → s.state.epoch ≡ c.epoch → s.state.last ≡ c.last → s.state.tries ≡ c.tries → WaitsOn j c s
+on_same j c s r q e l t = record { running = r; callee = q; epoch = e; last = l; tries = inl t }
+
 -- its act ends
 ends_follows : (j : ℕ) (c : ClientState) (s : Step ClientState) → s.state.running ≡ None → s.state.gifts ≡ [] → Follows j c s
-ends_follows j c s n e = record { spared = record { none = λ r. e; some = λ a r k. e }; dropped = λ o h. no_gifts j s.state.gifts (onto o s.lines) e; reads = λ b r. absurd (none_runs s.state.running b n r) }
+ends_follows j c s n e = record { spared = record { none = λ r. e; some = λ a r k. e }; dropped = λ o h. no_gifts j s.state.gifts (onto o s.lines) e; reads = λ b r. absurd (none_runs s.state.running b n r); fresh = λ b r. absurd (none_runs s.state.running b n r); stays = λ b r. absurd (none_runs s.state.running b n r) }
 
 -- it goes on with nothing to give back
-bare_follows : (j : ℕ) (c : ClientState) (s : Step ClientState) → IsReading c → s.state.gifts ≡ [] → Follows j c s
-bare_follows j c s v e = record { spared = record { none = λ r. e; some = λ a r k. e }; dropped = λ o h. no_gifts j s.state.gifts (onto o s.lines) e; reads = λ b r k. v }
+bare_follows : (j : ℕ) (c : ClientState) (s : Step ClientState) → IsReading c → s.state.gifts ≡ [] → s.state.last ≡ c.last + 1 → s.state.tries ≡ 0 → Follows j c s
+bare_follows j c s v e l t = record { spared = record { none = λ r. e; some = λ a r k. e }; dropped = λ o h. no_gifts j s.state.gifts (onto o s.lines) e; reads = λ b r k. v; fresh = λ b r k. t; stays = λ b r z. absurd (more_not s.state.last c.last l z) }
 
 still_dropped : (j : ℕ) (gs hs : List Gift) (ls o : List Line) → hs ≡ gs → IsStill j ls → AreDropped (Client j) (fids_of_gifts gs) o → AreDropped (Client j) (fids_of_gifts hs) (onto o ls)
 still_dropped j gs hs ls o e st h = subst (λ (xs : List Gift). AreDropped (Client j) (fids_of_gifts xs) (onto o ls)) (sym e) (all_dropped_onto (Client j) (fids_of_gifts gs) ls o st.0 st.1 h)
 
 -- it makes no call
-rests_follows : (j : ℕ) (c : ClientState) (s : Step ClientState) → s.state.last ≡ c.last → IsSpared s.state → s.state.gifts ≡ c.gifts → IsStill j s.lines → Follows j c s
-rests_follows j c s l sp e st = record { spared = sp; dropped = λ o h. still_dropped j c.gifts s.state.gifts s.lines o e st h; reads = λ b r k. absurd (k l) }
+rests_follows : (j : ℕ) (c : ClientState) (s : Step ClientState) → WaitsOn j c s → IsSpared s.state → s.state.gifts ≡ c.gifts → IsStill j s.lines → Follows j c s
+rests_follows j c s p sp e st = record { spared = sp; dropped = λ o h. still_dropped j c.gifts s.state.gifts s.lines o e st h; reads = λ b r k. absurd (k p.last); fresh = λ b r k. absurd (k p.last); stays = λ b r z. p }
 
 -- it calls again
-again_follows : (j : ℕ) (c : ClientState) (s : Step ClientState) (act : Going) → IsSpared c → IsReading c → c.running ≡ Some act → s.state.running ≡ Some act → s.state.gifts ≡ c.gifts → IsStill j s.lines → Follows j c s
-again_follows j c s act sp v r run e st = record {
+again_follows : (j : ℕ) (c : ClientState) (s : Step ClientState) (act : Going) → IsSpared c → IsReading c → c.running ≡ Some act → s.state.running ≡ Some act → s.state.gifts ≡ c.gifts → IsStill j s.lines → s.state.last ≡ c.last + 1 → s.state.tries ≡ 0 → Follows j c s
+again_follows j c s act sp v r run e st l t = record {
   spared = record { none = λ q. absurd (none_runs s.state.running act q run); some = λ a q k. e ∙ sp.some a (r ∙ (sym run ∙ q)) k };
   dropped = λ o h. still_dropped j c.gifts s.state.gifts s.lines o e st h;
   reads = λ b q k. v;
+  fresh = λ b q k. t;
+  stays = λ b q z. absurd (more_not s.state.last c.last l z);
 }
 
 reading_by : (c : ClientState) (act : Going) (call : FsCall) → c.running ≡ Some act → call_of c act ≡ call → volume_changed call ≡ None → IsReading c
@@ -111,23 +130,23 @@ either_follows false j c a b h k = k
 -- ---- replies to its calls
 
 told_follows : (j : ℕ) (c : ClientState) (place : ℕ) (ms : List Message) → IsSpared c → Follows j c (told_step c place ms)
-told_follows j c place ms sp = rests_follows j c (told_step c place ms) refl sp refl (refl, λ f. refl)
+told_follows j c place ms sp = rests_follows j c (told_step c place ms) (on_same j c (told_step c place ms) refl refl refl refl refl) sp refl (refl, λ f. refl)
 
-goes_follows : (j : ℕ) (c y : ClientState) (front : List Line → List Line) (w : Walked) (need : Need) → IsReading c → y.gifts ≡ [] → Follows j c (goes_by (Client j) y front w need)
-goes_follows j c y front w (answers n) v e = ends_follows j c (goes_by (Client j) y front w (answers n)) refl refl
-goes_follows j c y front w need v e = bare_follows j c (goes_by (Client j) y front w need) v e
+goes_follows : (j : ℕ) (c y : ClientState) (front : List Line → List Line) (w : Walked) (need : Need) → IsReading c → y.gifts ≡ [] → y.last ≡ c.last → Follows j c (goes_by (Client j) y front w need)
+goes_follows j c y front w (answers n) v e l = ends_follows j c (goes_by (Client j) y front w (answers n)) refl refl
+goes_follows j c y front w need v e l = bare_follows j c (goes_by (Client j) y front w need) v e (ap (λ (n : ℕ). n + 1) l) refl
 
-walks_follows : (j : ℕ) (c y : ClientState) (clock : ℕ) (front : List Line → List Line) (act : Going) (cache : List CacheEntry) → IsReading c → y.gifts ≡ [] → Follows j c (walks_on (Client j) y clock front act cache)
-walks_follows j c y clock front act cache v e = let w : Walked = walked (most_reads act) clock act cache in goes_follows j c y front w (next w.act) v e
+walks_follows : (j : ℕ) (c y : ClientState) (clock : ℕ) (front : List Line → List Line) (act : Going) (cache : List CacheEntry) → IsReading c → y.gifts ≡ [] → y.last ≡ c.last → Follows j c (walks_on (Client j) y clock front act cache)
+walks_follows j c y clock front act cache v e l = let w : Walked = walked (most_reads act) clock act cache in goes_follows j c y front w (next w.act) v e l
 
 entry_follows : (j : ℕ) (c : ClientState) (clock place : ℕ) (act : Going) (e : CacheEntry) (body : ReadBody) → IsReading c → c.gifts ≡ [] → Follows j c (takes_entry (Client j) c clock place act e body)
 entry_follows j c clock place act e body v none =
-    either_follows (is_trusted clock e) j c _ _ (walks_follows j c c clock (read_lines (Client j) place (look_at Fetched e body)) (with_read e.fid body act) (put_entry c.capacity e c.cache) v none) (bare_follows j c (calls_again (Client j) c place act) v none)
+    either_follows (is_trusted clock e) j c _ _ (walks_follows j c c clock (read_lines (Client j) place (look_at Fetched e body)) (with_read e.fid body act) (put_entry c.capacity e c.cache) v none refl) (bare_follows j c (calls_again (Client j) c place act) v none refl refl)
 
 entries_follows : (j : ℕ) (c : ClientState) (clock place : ℕ) (act : Going) (es : List CacheEntry) → IsReading c → c.gifts ≡ [] → Follows j c (takes_entries (Client j) c clock place act es)
 entries_follows j c clock place act es v none =
-    either_follows (list_any (λ e. not (is_trusted clock e)) es) j c _ _ (bare_follows j c (calls_again (Client j) c place act) v none)
-    (walks_follows j c c clock (λ ls. given place (looked (Client j) (map status_look es) ls)) (with_statuses es act) (put_entries c.capacity es c.cache) v none)
+    either_follows (list_any (λ e. not (is_trusted clock e)) es) j c _ _ (bare_follows j c (calls_again (Client j) c place act) v none refl refl)
+    (walks_follows j c c clock (λ ls. given place (looked (Client j) (map status_look es) ls)) (with_statuses es act) (put_entries c.capacity es c.cache) v none refl)
 
 status_follows : (j : ℕ) (c : ClientState) (clock place : ℕ) (f : Fid) (status : AfsFetchStatus) (call : FsCall) → Follows j c (takes_status (Client j) c clock place f status call)
 status_follows j c clock place f status call = either_follows (not c.spoiled && is_below clock status.sync_counter (find_cached f c.cache)) j c _ _ (ends_follows j c _ refl refl) (ends_follows j c _ refl refl)
@@ -144,7 +163,7 @@ shown_follows j c clock place act status callback sync call sp r same = ends_fol
 
 list_follows : (j : ℕ) (c : ClientState) (clock place : ℕ) (act : Going) (text : List ℕ) (status : AfsFetchStatus) (sync : AfsVolSync) (call : FsCall) → IsSpared c → c.running ≡ Some act → call_of c act ≡ call → Follows j c (takes_list (Client j) c clock place act text status sync call)
 list_follows j c clock place act text status sync (calls.FetchAcl f) sp r same =
-    walks_follows j c c clock (λ ls. read_lines (Client j) place (record { fid = f; index = status.sync_counter; source = Fetched; body = seen.AccessList text }) (dropped (Client j) (filter (is_older f status.sync_counter sync.release) c.cache) ls)) (with_read f (seen.AccessList text) act) (filter (λ e. not (is_older f status.sync_counter sync.release e)) c.cache) (reading_by c act (calls.FetchAcl f) r same refl) (bare_by c act (calls.FetchAcl f) sp r same tt)
+    walks_follows j c c clock (λ ls. read_lines (Client j) place (record { fid = f; index = status.sync_counter; source = Fetched; body = seen.AccessList text }) (dropped (Client j) (filter (is_older f status.sync_counter sync.release) c.cache) ls)) (with_read f (seen.AccessList text) act) (filter (λ e. not (is_older f status.sync_counter sync.release e)) c.cache) (reading_by c act (calls.FetchAcl f) r same refl) (bare_by c act (calls.FetchAcl f) sp r same tt) refl
 list_follows j c clock place act text status sync call sp r same = ends_follows j c _ refl refl
 
 set_follows : (j : ℕ) (c : ClientState) (clock place : ℕ) (status : AfsFetchStatus) (call : FsCall) → Follows j c (takes_set (Client j) c clock place status call)
@@ -168,6 +187,8 @@ more_follows j c place act (g ∷ more) sp v r is = record {
   };
   dropped = λ o h. subst (λ (xs : List Gift). AreDropped (Client j) (fids_of_gifts xs) (lines.Given place ∷ o)) is (dropped_rest (Client j) (length (batch c.gifts)) c.gifts (lines.Given place ∷ o) (all_dropped_onto (Client j) (fids_of_gifts c.gifts) (lines.Given place ∷ []) o refl (λ f. refl) h));
   reads = λ b q k. v;
+  fresh = λ b q k. refl;
+  stays = λ b q z. absurd (more_not (c.last + 1) c.last refl z);
 }
 
 given_follows : (j : ℕ) (c : ClientState) (place : ℕ) (act : Going) (call : FsCall) → IsSpared c → c.running ≡ Some act → call_of c act ≡ call → Follows j c (takes_given (Client j) c place act call)
@@ -204,7 +225,7 @@ none_read (Some id) e = absurd cc
 -- a reply that a break overtook is one to a call that reads
 spent_follows : (t : Bool) (j : ℕ) (c : ClientState) (place : ℕ) (act : Going) (b : Step ClientState) → IsSpared c → c.running ≡ Some act → is_spent c act ≡ t → Follows j c b → Follows j c (cond t (calls_again (Client j) c place act) b)
 spent_follows true j c place act b sp r e k =
-    again_follows j c (calls_again (Client j) c place act) act sp (reading_by c act (call_of c act) r refl (none_read (volume_changed (call_of c act)) (both c.spoiled (is_reading (volume_changed (call_of c act))) e).1)) r refl refl (refl, λ f. refl)
+    again_follows j c (calls_again (Client j) c place act) act sp (reading_by c act (call_of c act) r refl (none_read (volume_changed (call_of c act)) (both c.spoiled (is_reading (volume_changed (call_of c act))) e).1)) r refl refl (refl, λ f. refl) refl refl
 spent_follows false j c place act b sp r e k = k
 
 counts_follows : (j : ℕ) (c : ClientState) (clock place : ℕ) (act : Going) (head : Head) (x : Carried) → IsSpared c → c.running ≡ Some act → IsFirm head x → Follows j c (counts (Client j) c clock place act head x)
@@ -212,7 +233,7 @@ counts_follows j c clock place act head (carried.Call user call) sp r firm = tol
 counts_follows j c clock place act head (carried.Refusal code) sp r firm = spent_follows (is_spent c act) j c place act _ sp r refl (refuses_follows j c place act code firm.1)
 counts_follows j c clock place act head (carried.Reply (tell.File reply)) sp r firm = spent_follows (is_spent c act) j c place act _ sp r refl (takes_follows j c clock place act (call_of c act) reply sp r refl)
 counts_follows j c clock place act head (carried.Reply reply) sp r firm = told_follows j c place [] sp
-counts_follows j c clock place act head carried.Notice sp r firm = rests_follows j c _ refl (record { none = sp.none; some = sp.some }) refl (refl, λ f. refl)
+counts_follows j c clock place act head carried.Notice sp r firm = rests_follows j c _ (on_same j c _ refl refl refl refl refl) (record { none = sp.none; some = sp.some }) refl (refl, λ f. refl)
 
 awaits_follows : (j : ℕ) (c : ClientState) (clock place : ℕ) (head : Head) (x : Carried) (o : Option Going) → IsSpared c → c.running ≡ o → IsFirm head x → Follows j c (awaits (Client j) c clock place head x o)
 awaits_follows j c clock place head x None sp r firm = told_follows j c place [] sp
@@ -224,19 +245,19 @@ drops_still : (j : ℕ) (fs : List Fid) → IsStill j (map (drop_line (Client j)
 drops_still j [] = (refl, λ f. refl)
 drops_still j (g ∷ fs) = drops_still j fs
 
-replies_follows : (j : ℕ) (c y : ClientState) (place : ℕ) (head : Head) (ls : List Line) (x : Carried) → IsSpared c → y.last ≡ c.last → y.running ≡ c.running → y.gifts ≡ c.gifts → IsStill j ls → Follows j c (replies_step y place head ls x)
+replies_follows : (j : ℕ) (c y : ClientState) (place : ℕ) (head : Head) (ls : List Line) (x : Carried) → IsSpared c → WaitsOn j c (replies_step y place head ls x) → y.running ≡ c.running → y.gifts ≡ c.gifts → IsStill j ls → Follows j c (replies_step y place head ls x)
 replies_follows j c y place head ls x sp l r g st =
     rests_follows j c (replies_step y place head ls x) l (record { none = λ q. g ∙ sp.none (sym r ∙ q); some = λ a q k. g ∙ sp.some a (sym r ∙ q) k }) g st
 
 breaks_follows : (j : ℕ) (c : ClientState) (place : ℕ) (head : Head) (call : FsCall) → IsSpared c → Follows j c (breaks (Client j) c place head call)
-breaks_follows j c place head (calls.CallBack fs callbacks) sp = replies_follows j c _ place head _ _ sp refl refl refl (drops_still j fs)
-breaks_follows j c place head calls.InitCallBackState sp = replies_follows j c _ place head _ _ sp refl refl refl (refl, λ f. refl)
-breaks_follows j c place head calls.Probe sp = replies_follows j c c place head [] _ sp refl refl refl (refl, λ f. refl)
-breaks_follows j c place head call sp = replies_follows j c c place head [] _ sp refl refl refl (refl, λ f. refl)
+breaks_follows j c place head (calls.CallBack fs callbacks) sp = replies_follows j c _ place head _ _ sp (on_same j c _ refl refl refl refl refl) refl refl (drops_still j fs)
+breaks_follows j c place head calls.InitCallBackState sp = replies_follows j c _ place head _ _ sp (on_same j c _ refl refl refl refl refl) refl refl (refl, λ f. refl)
+breaks_follows j c place head calls.Probe sp = replies_follows j c c place head [] _ sp (on_same j c _ refl refl refl refl refl) refl refl (refl, λ f. refl)
+breaks_follows j c place head call sp = replies_follows j c c place head [] _ sp (on_same j c _ refl refl refl refl refl) refl refl (refl, λ f. refl)
 
 carried_follows : (j : ℕ) (c : ClientState) (place : ℕ) (head : Head) (x : Carried) → IsSpared c → Follows j c (runs_carried (Client j) c place head x)
 carried_follows j c place head (carried.Call user (ask.File call)) sp = breaks_follows j c place head call sp
-carried_follows j c place head (carried.Call user call) sp = replies_follows j c c place head [] _ sp refl refl refl (refl, λ f. refl)
+carried_follows j c place head (carried.Call user call) sp = replies_follows j c c place head [] _ sp (on_same j c _ refl refl refl refl refl) refl refl (refl, λ f. refl)
 carried_follows j c place head x sp = told_follows j c place [] sp
 
 admits_follows : (j : ℕ) (c : ClientState) (place : ℕ) (head : Head) (x : Carried) (o : Admitted Message) → IsSpared c → Follows j c (admits_call (Client j) c place head (whole head x) o)
@@ -265,28 +286,30 @@ dropped_each : (j : ℕ) (es : List CacheEntry) (o : List Line) → AreDropped (
 dropped_each j [] o = tt
 dropped_each j (u ∷ es) o = (dropped_here j es u.fid (lines.Drop (Client j) u.fid ∷ o) (inl (refl, refl)), dropped_each j es (lines.Drop (Client j) u.fid ∷ o))
 
-first_gives : (j : ℕ) (c y : ClientState) (act : Act) (going : Going) (es : List CacheEntry) (gs : List Gift) → c.running ≡ None → next going ≡ gives_back → in_order (map gift_of es) ≡ gs → Follows j c (gives_by (Client j) y (λ ls. lines.Begin (Client j) act ∷ dropped (Client j) es ls) going gs)
-first_gives j c y act going es [] idle by is = ends_follows j c _ refl refl
-first_gives j c y act going es (g ∷ gs) idle by is = record {
+first_gives : (j : ℕ) (c y : ClientState) (act : Act) (going : Going) (es : List CacheEntry) (gs : List Gift) → c.running ≡ None → y.last ≡ c.last → next going ≡ gives_back → in_order (map gift_of es) ≡ gs → Follows j c (gives_by (Client j) y (λ ls. lines.Begin (Client j) act ∷ dropped (Client j) es ls) going gs)
+first_gives j c y act going es [] idle l by is = ends_follows j c _ refl refl
+first_gives j c y act going es (g ∷ gs) idle l by is = record {
   spared = record { none = λ q. absurd cc; some = λ a q k. absurd (k (ap next (some_of a going (sym q)) ∙ by)) };
   dropped = λ o h. subst (λ (xs : List Gift). AreDropped (Client j) (fids_of_gifts xs) (onto (lines.Begin (Client j) act ∷ o) (dropped (Client j) es []))) is
       (ordered_dropped (Client j) (map gift_of es) (onto (lines.Begin (Client j) act ∷ o) (dropped (Client j) es [])) (dropped_each j es (lines.Begin (Client j) act ∷ o)));
   reads = λ b q k a z. absurd (none_runs c.running a idle z);
+  fresh = λ b q k. refl;
+  stays = λ b q z. absurd (more_not (y.last + 1) c.last (ap (λ (n : ℕ). n + 1) l) z);
 }
 
-first_follows : (j : ℕ) (c y : ClientState) (clock : ℕ) (act : Act) (going : Going) (need : Need) → IsSpared c → c.running ≡ None → y.gifts ≡ c.gifts → next going ≡ need → Follows j c (begins_by (Client j) y clock (λ ls. lines.Begin (Client j) act ∷ ls) going need)
-first_follows j c y clock act going gives_back sp idle g by = first_gives j c (record y { cache = untrusted_in clock y.cache }) act going (trusted_in clock y.cache) (in_order (map gift_of (trusted_in clock y.cache))) idle by refl
-first_follows j c y clock act going need sp idle g by = walks_follows j c y clock (λ ls. lines.Begin (Client j) act ∷ ls) going y.cache (λ a z. absurd (none_runs c.running a idle z)) (g ∙ sp.none idle)
+first_follows : (j : ℕ) (c y : ClientState) (clock : ℕ) (act : Act) (going : Going) (need : Need) → IsSpared c → c.running ≡ None → y.last ≡ c.last → y.gifts ≡ c.gifts → next going ≡ need → Follows j c (begins_by (Client j) y clock (λ ls. lines.Begin (Client j) act ∷ ls) going need)
+first_follows j c y clock act going gives_back sp idle l g by = first_gives j c (record y { cache = untrusted_in clock y.cache }) act going (trusted_in clock y.cache) (in_order (map gift_of (trusted_in clock y.cache))) idle l by refl
+first_follows j c y clock act going need sp idle l g by = walks_follows j c y clock (λ ls. lines.Begin (Client j) act ∷ ls) going y.cache (λ a z. absurd (none_runs c.running a idle z)) (g ∙ sp.none idle) l
 
 pub begins_follow : (j : ℕ) (c : ClientState) (clock : ℕ) (act : Act) → IsSpared c → c.running ≡ None → Follows j c (begin_row (Client j) c clock act)
 unfolding begin_row
-begins_follow j c clock act sp idle = first_follows j c (record c { busy = 0 }) clock act (began c.table act) (next (began c.table act)) sp idle refl refl
+begins_follow j c clock act sp idle = first_follows j c (record c { busy = 0 }) clock act (began c.table act) (next (began c.table act)) sp idle refl refl refl
 
 pub waits_follow : (j : ℕ) (c : ClientState) (act : Going) → IsSpared c → Follows j c (timeout_row (Client j) c act)
-waits_follow j c act sp = either_follows (nat_lt c.tries 2) j c _ _ (rests_follows j c _ refl (record { none = sp.none; some = sp.some }) refl (refl, λ f. refl)) (ends_follows j c _ refl refl)
+waits_follow j c act sp = either_follows (nat_lt c.tries 2) j c _ _ (rests_follows j c _ (record { running = refl; callee = refl; epoch = refl; last = refl; tries = inr (refl, λ o. inl (refl, (refl, (refl, (refl, refl))))) }) (record { none = sp.none; some = sp.some }) refl (refl, λ f. refl)) (ends_follows j c _ refl refl)
 
 pub falls_follow : (j : ℕ) (c : ClientState) → Follows j c (record { state = reborn c; lines = lines.Crash (Client j) ∷ []; sent = [] })
 falls_follow j c = ends_follows j c _ refl refl
 
 pub rises_follow : (j : ℕ) (c : ClientState) → IsSpared c → Follows j c (record { state = c; lines = lines.Restart (Client j) c.epoch ∷ []; sent = [] })
-rises_follow j c sp = rests_follows j c _ refl sp refl (refl, λ f. refl)
+rises_follow j c sp = rests_follows j c _ (on_same j c _ refl refl refl refl refl) sp refl (refl, λ f. refl)

@@ -59,6 +59,8 @@ pub mod Placing
 pub mod Sending
 pub mod Gifts
 pub mod Lone
+pub mod Trying
+pub mod Due
 pub mod Entering
 pub mod Dying
 pub mod Made

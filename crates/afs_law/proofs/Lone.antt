@@ -3,7 +3,7 @@
 use Rattle.afs_history.specs.declared.lines.Line.{Line}
 use Rattle.afs_history.specs.declared.lines.Line.TheVariants as lines
 use Rattle.afs_history.specs.declared.scripts.Script.{Script}
-use Rattle.afs_ideal.specs.Operations.{volume_changed}
+use Rattle.afs_ideal.specs.Operations.{the_user, volume_changed}
 use Rattle.afs_law.proofs.Acting.{Acts, Asks, IsTheCall, Rests, Stops, begins_acts, falls_acts, given_acts, last_key, rises_acts, waits_acts, who_at}
 use Rattle.afs_law.proofs.Backing.{all_lines}
 use Rattle.afs_law.proofs.Basics.{ByClient, Each, IfCall, UpTo, at_put, both, by_client, client_number, each_at, node_apart, same_key-true, same_node-true, some_of}
@@ -11,7 +11,7 @@ use Rattle.afs_law.proofs.Changing.{HeldCuts, IdealStep, cuts_first, cuts_kept, 
 use Rattle.afs_law.proofs.Choosing.{disk_works, one_from, risen_from, risen_lines, serves_works, starts_works, times_works, wakes_works}
 use Rattle.afs_law.proofs.Facts.{AreLone, IsChangingUnder, IsLone}
 use Rattle.afs_law.proofs.Firm.{IsFirm, IsSentBy}
-use Rattle.afs_law.proofs.Following.{Follows, begins_follow, falls_follow, given_follow, rises_follow, waits_follow}
+use Rattle.afs_law.proofs.Following.{Follows, begins_follow, falls_follow, given_follow, more_not, rises_follow, waits_follow}
 use Rattle.afs_law.proofs.Gifts.{Given, given_first, given_kept}
 use Rattle.afs_law.proofs.KeysOnce.{IsKnown, any_told, by_key, known_pair}
 use Rattle.afs_law.proofs.Law.{first_passed}
@@ -23,7 +23,7 @@ use Rattle.afs_law.proofs.Placing.{Placed, PlacedStep, placed_first, placed_kept
 use Rattle.afs_law.proofs.Saving.{any_change, later_not}
 use Rattle.afs_law.proofs.Sending.{rises_posts, served_posts, times_posts, wakes_posts}
 use Rattle.afs_law.specs.ClientParts.{ChangesAreAlone, IsAlone, IsFirstOfAct}
-use Rattle.afs_law.specs.Ideal.{call_in, call_under, set_up}
+use Rattle.afs_law.specs.Ideal.{call_in, call_under, change_in, set_up}
 use Rattle.afs_law.specs.Legal.{HasChange, HasChangeBy, IdealChange, IsInPlace, IsLater, IsNew, IsNot, IsOfClient}
 use Rattle.afs_law.specs.Parts.{EachLine, IsIdeal}
 use Rattle.afs_law.specs.Past.{Called, Sends, called_key, has_begun, has_sent, is_called, is_of_act, is_sent_since, lines_of, onto, running, same_key, sent_of}
@@ -49,7 +49,7 @@ use Rattle.afs_rows.specs.Runs.{Cell, Entry, Input, at_rest, begun_by_disk, blow
 use Rattle.afs_rows.specs.ServerSteps.{back_timeout_row, server_row, wake_row}
 use Rattle.afs_rows.specs.ServerRow.{is_client, key_of}
 use Rattle.afs_rows.specs.Steps.{Step}
-use Rattle.std.proofs.Common.{suc, ◌≡◌, ℕ, ◌+◌, ◌⊎◌, inl, inr, Bool, true, false, cond, List, [], ◌∷◌, ◌++◌, Option, Some, None, refl, sym, ap, subst, ◌∙◌, arith}
+use Rattle.std.proofs.Common.{suc, ◌≡◌, ℕ, ◌+◌, ◌⊎◌, inl, inr, Bool, true, false, cond, List, [], ◌∷◌, ◌++◌, Option, Some, None, refl, sym, ap, subst, ◌∙◌}
 use Rattle.std.specs.Prelude.{⊤, ◌&&◌}
 
 -- ---- of the act that runs only the client's last call may change something
@@ -165,9 +165,6 @@ stays_idle s n (lines.Answer m code ∷ ls) o h r = stays_idle s n ls (lines.Ans
 stays_idle s n (lines.Crash m ∷ ls) o h r = stays_idle s n ls (lines.Crash m ∷ o) h (ended_by (same_node m n) (running s n o) r)
 stays_idle s n (l ∷ ls) o h r = stays_idle s n ls (l ∷ o) h r
 
-more_not : (a b : ℕ) → a ≡ b + 1 → a ≡ b → ⊥
-more_not a b e f = absurd (omega arith)
-
 -- where it has asked further, its last call changed nothing
 asked_last : (s : Script) (c : Cell) (past : List Entry) (n : ℕ) (st : Step ClientState) (o : Option Going) → sent_of past ≡ c.sent → AskedIn s c past → LastOf c.clients past → Acts n (who_at (c.clients n)) (c.clients n).gifts st → Follows n (c.clients n) st → Asks n (who_at (c.clients n)) st → (c.clients n).running ≡ o → has_begun (Client n) st.lines ≡ false
     → (k : Key) → is_of_act (Client n) k past ≡ true → IsChangingUnder k (sent_of past) → ⊥
@@ -275,7 +272,7 @@ abbrev AreChanging : List Entry → Type 0
 AreChanging past = (k : Key) → HasChange k (lines_of past) → IsChangingUnder k (sent_of past)
 
 ideal_changing : (s : Script) (server : Node) (k : Key) (count : ℕ) (past : List Entry) (own next : List Line) → IdealChange s server k count past own next → IsChangingUnder k (sent_of past)
-ideal_changing s server k count past own next i = record { user = i.user; call = i.call; one = i.one; changes = changes_is i.id _ i.call i.before i.edits i.shown i.of_volume i.result }
+ideal_changing s server k count past own next i = record { user = i.user; call = i.call; one = i.one; changes = changes_is i.id (the_user i.user) i.call i.before i.edits i.shown i.of_volume i.result }
 
 changed_by : (s : Script) (who : Actor) (l : Line) (past : List Entry) (own ls o : List Line) (k : Key) → IsIdeal s who l past own ls → HasChange k (l ∷ o) → IsChangingUnder k (sent_of past) ⊎ HasChange k o
 changed_by s who (lines.Change server m count) past own ls o k h (inl e) = inl (subst (λ (q : Key). IsChangingUnder q (sent_of past)) e (ideal_changing s server m count past own ls h.1))

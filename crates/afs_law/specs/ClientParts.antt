@@ -1,17 +1,23 @@
--- More parts of what a legal history is, proved of the runs of every script, with any number of servers: what clients give back, and that
--- an act changes things once.
-use Rattle.std.specs.Prelude.{◌≡◌, ℕ, List, [], ◌∷◌, ◌++◌, Option, Some, true, ⊤}
+-- More parts of what a legal history is, proved of the runs of every script, with any number of servers: what clients give back, that
+-- an act changes things once, and by what it reads and is answered.
+use Rattle.std.specs.Prelude.{◌≡◌, ℕ, List, [], ◌∷◌, ◌++◌, Bool, Option, Some, true, false, ℤ, pos, ⊤, ◌⊎◌}
 use Rattle.afs_history.specs.declared.lines.Line.{Line}
 use Rattle.afs_history.specs.declared.lines.Line.TheVariants as lines
 use Rattle.afs_history.specs.declared.scripts.Script.{Script}
-use Rattle.afs_law.specs.Ideal.{set_up}
-use Rattle.afs_law.specs.Legal.{GoodGift, HasChange, HasChangeBy, HasOwnHalf}
+use Rattle.afs_law.specs.Grants.{is_promised}
+use Rattle.afs_law.specs.Ideal.{set_up, user_of}
+use Rattle.afs_law.specs.Legal.{GoodGift, HasChange, HasChangeBy, HasOwnHalf, HasUsed, IsDead, IsDone, as_asked}
 use Rattle.afs_law.specs.Parts.{AllLines, EachEntry, EachSent, LineRule}
-use Rattle.afs_law.specs.Past.{is_of_act, lines_of, running}
+use Rattle.afs_law.specs.Past.{CalledSince, IsReply, answered_key, code_told, given_message, has_begun, is_of_act, lines_of, running, sent_of}
+use Rattle.afs_num.specs.declared.calls.FsCall.{FsCall}
+use Rattle.afs_num.specs.declared.histories.ReadSource.{ReadSource}
+use Rattle.afs_num.specs.declared.histories.ReadSource.TheVariants.{Fetched}
 use Rattle.afs_num.specs.declared.messages.Message.{Message}
+use Rattle.afs_num.specs.declared.types.Code.{Code}
+use Rattle.afs_num.specs.declared.types.Fid.{Fid}
 use Rattle.afs_num.specs.declared.types.Key.{Key}
 use Rattle.afs_num.specs.declared.types.Node.{Node}
-use Rattle.afs_rows.specs.Going.{Going}
+use Rattle.afs_rows.specs.Going.{Going, asked, gives_back, next, reads_rights}
 use Rattle.afs_rows.specs.Runs.{Cell, Entry, RunsTo}
 
 -- ---- messages
@@ -39,3 +45,57 @@ IsAlone s who l past own next = ⊤
 -- an act of a run changes things once, however often its call is repeated, and also when it is over
 abbrev pub ChangesAreAlone : Type 0
 ChangesAreAlone = (s : Script) (history : List Entry) (end : Cell) → RunsTo history s end → AllLines (IsAlone s) s history
+
+-- ---- reads
+
+-- the act needs these rights, and the entry was given a reply to its call for them
+pub record AreAskedFor (s : Script) (c : Node) (f : Fid) (source : ReadSource) (past : List Entry) (own : List Line) : Type 0 where
+  pub fetched : source ≡ Fetched
+  pub act : Going
+  pub runs : running s c (own ++ lines_of past) ≡ Some act
+  pub needs : next act ≡ reads_rights f
+  pub used : HasUsed s c past own
+  pub asks : used.call ≡ asked act
+
+-- what is promised and was fetched just now is of a reply with code 0 to a call of the running act; rights are such, too
+abbrev pub IsUsed : Script → Bool → Node → Fid → ReadSource → List Entry → List Line → Type 0
+IsUsed s true c f source past own = source ≡ Fetched → HasUsed s c past own
+IsUsed s false c f source past own = AreAskedFor s c f source past own
+
+-- ---- answers
+
+-- the entry was given a reply with this code to the call of this very act, which its client sent for its user since the act began, and
+-- that was in an entry before
+pub record IsReplied (s : Script) (c : Node) (act : Going) (code : ℤ) (past : List Entry) (own : List Line) : Type 0 where
+  pub reply : Message
+  pub by : given_message own (sent_of past) ≡ Some reply
+  pub is_reply : IsReply reply
+  pub told : code_told reply.carried ≡ Some code
+  pub to : reply.head.to ≡ c
+  pub before : has_begun c own ≡ false
+  pub call : FsCall
+  pub asks : as_asked call ≡ asked act
+  pub called : CalledSince (answered_key reply.head) (user_of s c) call past
+
+-- the act gives promises back, and is answered in the entry in which it began
+pub record IsGivenAtOnce (c : Node) (act : Going) (code : ℤ) (own : List Line) : Type 0 where
+  pub is : code ≡ pos 0
+  pub by : next act ≡ gives_back
+  pub begun : has_begun c own ≡ true
+
+-- an act runs, and its answer has its cause. That the ideal cell gives the code of the reply, that only the last call of an act answers it
+-- with 0, and that what is answered at once had nothing to give back isn't asked here
+pub record IsDueCode (s : Script) (c : Node) (code : Code) (past : List Entry) (own : List Line) : Type 0 where
+  pub act : Going
+  pub runs : running s c (own ++ lines_of past) ≡ Some act
+  pub cause : IsReplied s c act code.0 past own ⊎ (IsDone s c act code.0 past own ⊎ (IsDead s c act code.0 past own ⊎ IsGivenAtOnce c act code.0 own))
+
+abbrev pub IsDue : Script → LineRule
+IsDue s who (lines.Read c f index source body) past own next = IsUsed s (is_promised body) c f source past own
+IsDue s who (lines.Answer c code) past own next = IsDueCode s c code past own
+IsDue s who l past own next = ⊤
+
+-- what an act of a run fetches is of replies to its own calls, and it is answered by such a reply, by what it read, by the third timeout
+-- of its call, or at once
+abbrev pub AnswersAreDue : Type 0
+AnswersAreDue = (s : Script) (history : List Entry) (end : Cell) → RunsTo history s end → AllLines (IsDue s) s history
