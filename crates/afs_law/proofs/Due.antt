@@ -7,17 +7,18 @@ use Rattle.afs_ideal.specs.Operations.{volume_changed}
 use Rattle.afs_law.proofs.Acting.{last_key, read_all, walked_reads}
 use Rattle.afs_law.proofs.Asking.{call_is}
 use Rattle.afs_law.proofs.Backing.{all_lines}
-use Rattle.afs_law.proofs.Basics.{Each, a_key, both, each_at, same_node-refl, some_of}
+use Rattle.afs_law.proofs.Basics.{Each, a_key, at_put, both, each_at, same_node-refl, some_of}
 use Rattle.afs_law.proofs.Changing.{run_each}
 use Rattle.afs_law.proofs.Choosing.{disk_works, one_from, risen_from, risen_lines, serves_works, starts_works, times_works, wakes_works}
 use Rattle.afs_law.proofs.Firm.{IsFirm}
-use Rattle.afs_law.proofs.Moving.{EachMove, each_moved}
+use Rattle.afs_law.proofs.Moving.{Behind, EachMove, IsKept, each_moved}
 use Rattle.afs_law.proofs.Nexts.{asks_change}
 use Rattle.afs_law.proofs.Origins.{AskedIn, any_cut, any_message, blow_idle, idle_works, is_idle}
+use Rattle.afs_law.proofs.Ours.{AreNear, AreOurs, IsOurs, Ours, begins_our, given_our, near_all, none_trusted, trusted_ours', waits_our}
 use Rattle.afs_law.proofs.Passing.{sent_either}
 use Rattle.afs_law.proofs.Trying.{GivenWaits, Waits, waits_first, waits_kept}
 use Rattle.afs_law.specs.Breaks.{HasTimeout}
-use Rattle.afs_law.specs.ClientParts.{AnswersAreDue, AreAskedFor, IsDue, IsDueCode, IsReplied, IsUsed}
+use Rattle.afs_law.specs.ClientParts.{AnswersAreDue, AreAskedFor, IsDue, IsDueCode, IsOfCell, IsReplied, IsUsed}
 use Rattle.afs_law.specs.Grants.{is_promised}
 use Rattle.afs_law.specs.Ideal.{set_up, user_of}
 use Rattle.afs_law.specs.Legal.{HasUsed, IsAtOnce, has_read}
@@ -52,9 +53,10 @@ use Rattle.afs_num.specs.declared.types.Head.{Head}
 use Rattle.afs_num.specs.declared.types.Key.{Key}
 use Rattle.afs_num.specs.declared.types.Node.{Node}
 use Rattle.afs_num.specs.declared.types.Node.TheVariants.{Client, Server}
-use Rattle.afs_rows.specs.ClientRow.{Look, Walked, admits_call, awaits, begin_row, begins_by, behind_batch, body_seen, body_told, breaks, call_by, call_of, calls_again, client_row, counts, dead_code, drop_line, dropped, dropped_after, entries_told, entry_told, find_cached, gift_of, given, given_up_in, gives_by, gives_up, goes_by, hears, ignores, in_order, is_awaited, is_below, is_busy_code, is_older, is_spent, is_trusted, look_at, looked, most_busy, most_reads, opcode_of, put_entries, put_entry, read_lines, refuses, runs_carried, shown_by, status_look, status_told, stays, takes, takes_bulk, takes_bytes, takes_data, takes_entries, takes_entry, takes_given, takes_list, takes_set, takes_shown, takes_status, timeout_line, timeout_row, tries_again, trusted_in, untrusted_in, used_first, walked, walked_at, walked_by, walked_with, walks_on, whole, with_statuses, zero_code}
+use Rattle.afs_rows.specs.Callbacks.{put}
+use Rattle.afs_rows.specs.ClientRow.{Look, Walked, admits_call, awaits, begin_row, begins_by, behind_batch, body_seen, body_told, breaks, call_by, call_of, calls_again, client_row, counts, dead_code, drop_line, dropped, dropped_after, entries_told, entry_told, find_cached, gift_of, given, given_up_in, gives_by, gives_up, goes_by, hears, ignores, in_order, is_awaited, is_below, is_busy_code, is_older, is_spent, is_trusted, look_at, looked, most_busy, most_reads, opcode_of, put_entries, put_entry, read_lines, reborn, refuses, runs_carried, server_at, shown_by, status_look, status_told, stays, takes, takes_bulk, takes_bytes, takes_data, takes_entries, takes_entry, takes_given, takes_list, takes_set, takes_shown, takes_status, timeout_line, timeout_row, tries_again, trusted_in, untrusted_in, used_first, walked, walked_at, walked_by, walked_with, walks_on, whole, with_statuses, zero_code}
 use Rattle.afs_rows.specs.Going.{ClientState, Going, Need, answers, asked, asks_for, began, call_for, gives_back, next, reads, reads_rights, reads_status, reads_statuses, with_read}
-use Rattle.afs_rows.specs.Runs.{Armed, Cell, Entry, Moved, at_rest, begun_by_disk, in_boot, locations, message_at, start, user_at}
+use Rattle.afs_rows.specs.Runs.{Armed, Cell, Entry, Moved, at_rest, begun_by_disk, blow_line, in_boot, locations, message_at, start, user_at}
 use Rattle.afs_rows.specs.States.{CacheEntry, Gift, Location}
 use Rattle.afs_rows.specs.Steps.{Step}
 use Rattle.std.proofs.Common.{zero, suc, ◌+◌, ◌≡◌, ◌≤◌, ℕ, ◌⊎◌, inl, inr, Bool, true, false, cond, List, [], ◌∷◌, ◌++◌, map, Option, Some, None, refl, sym, ap, subst, ◌∙◌, filter, not, pos, ℤ, eqb-true, ltb-false, arith}
@@ -287,7 +289,7 @@ list_due s n clock place c act m past text status sync (calls.FetchAcl f) same q
     walks_due s n past (IsRead n m past) (read_steady n m past) (read_enough s n place c act m past q z) c clock
     (λ ls. read_lines (Client n) place (record { fid = f; index = status.sync_counter; source = Fetched; body = seen.AccessList text }) (dropped (Client n) (filter (is_older f status.sync_counter sync.release) c.cache) ls)) (with_read f body act) (filter (λ e. not (is_older f status.sync_counter sync.release e)) c.cache)
     (λ ls w. (tt, (
-      record { fetched = refl; act = act; runs = q.runs; needs = need; used = now_used s n place c act m past (lines.Given place ∷ []) q z (q.at, refl); asks = same ∙ sym (ap call_for need) },
+      record { fetched = refl; act = act; runs = q.runs; needs = need; used = record { reply = m; by = q.at; is_reply = q.reply; told = z; to = q.to; before = refl; call = call_of c act; called = q.called }; asks = same ∙ sym (ap call_for need) },
       drops_due s n past (IsRead n m past) (read_steady n m past) es (lines.Read (Client n) f status.sync_counter Fetched body ∷ lines.Given place ∷ []) ls (with_read f body act) (has_now n m past place f status.sync_counter Fetched body q.at) (read_runs s n (lines_of past) f status.sync_counter Fetched body act q.runs) w,
     )))
 list_due s n clock place c act m past text status sync call same q z = plain_due s n place c act m past call q z
@@ -408,19 +410,21 @@ record HasBegun (s : Script) (n : ℕ) (act : Act) (g : Going) (past : List Entr
   once : IsAtOnce (Client n) (lines.Begin (Client n) act ∷ [])
   runs : Runs s n past (lines.Begin (Client n) act ∷ []) g
 
-first_gives : (s : Script) (n : ℕ) (y : ClientState) (act : Act) (g : Going) (past : List Entry) (es : List CacheEntry) (gs : List Gift) → next g ≡ gives_back → HasBegun s n act g past → Due s n past [] (gives_by (Client n) y (λ ls. lines.Begin (Client n) act ∷ dropped (Client n) es ls) g gs).lines
-first_gives s n y act g past es [] by b =
-    (tt, drops_due s n past (IsAtOnce (Client n)) (once_steady n) es (lines.Begin (Client n) act ∷ []) (lines.Answer (Client n) zero_code ∷ []) g b.once b.runs (λ o k r. (record { act = g; runs = r; cause = inr (inr (inr (record { is = refl; by = by; begun = k.0 }))) }, tt)))
-first_gives s n y act g past es (x ∷ gs) by b = (tt, drops_due s n past (IsAtOnce (Client n)) (once_steady n) es (lines.Begin (Client n) act ∷ []) [] g b.once b.runs (λ o k r. tt))
+first_gives : (s : Script) (n : ℕ) (y : ClientState) (act : Act) (g : Going) (past : List Entry) (es : List CacheEntry) (gs : List Gift) → (IsOfCell s → AreOurs es) → in_order (map gift_of es) ≡ gs → next g ≡ gives_back → HasBegun s n act g past → Due s n past [] (gives_by (Client n) y (λ ls. lines.Begin (Client n) act ∷ dropped (Client n) es ls) g gs).lines
+first_gives s n y act g past [] [] ours is by b = (tt, (record { act = g; runs = b.runs; cause = inr (inr (inr (record { is = refl; by = by; begun = b.once.0; none = λ z. refl }))) }, tt))
+first_gives s n y act g past (u ∷ es) [] ours is by b =
+    let some : IsOfCell s → ⊥ = λ z. (let none : u ∷ es ≡ [] = none_trusted (u ∷ es) (ours z) is in absurd cc) in
+    (tt, drops_due s n past (IsAtOnce (Client n)) (once_steady n) (u ∷ es) (lines.Begin (Client n) act ∷ []) (lines.Answer (Client n) zero_code ∷ []) g b.once b.runs (λ o k r. (record { act = g; runs = r; cause = inr (inr (inr (record { is = refl; by = by; begun = k.0; none = λ z. absurd (some z) }))) }, tt)))
+first_gives s n y act g past es (x ∷ gs) ours is by b = (tt, drops_due s n past (IsAtOnce (Client n)) (once_steady n) es (lines.Begin (Client n) act ∷ []) [] g b.once b.runs (λ o k r. tt))
 
-first_due : (s : Script) (n clock : ℕ) (y : ClientState) (act : Act) (g : Going) (need : Need) (past : List Entry) → next g ≡ need → HasBegun s n act g past → Due s n past [] (begins_by (Client n) y clock (λ ls. lines.Begin (Client n) act ∷ ls) g need).lines
-first_due s n clock y act g gives_back past by b = first_gives s n (record y { cache = untrusted_in clock y.cache }) act g past (trusted_in clock y.cache) (in_order (map gift_of (trusted_in clock y.cache))) by b
-first_due s n clock y act g need past by b = walks_due s n past (IsAtOnce (Client n)) (once_steady n) (λ o k. inl k) y clock (λ ls. lines.Begin (Client n) act ∷ ls) g y.cache (λ ls w. (tt, w (lines.Begin (Client n) act ∷ []) b.once b.runs))
+first_due : (s : Script) (n clock : ℕ) (y : ClientState) (act : Act) (g : Going) (need : Need) (past : List Entry) → (IsOfCell s → AreOurs y.cache) → next g ≡ need → HasBegun s n act g past → Due s n past [] (begins_by (Client n) y clock (λ ls. lines.Begin (Client n) act ∷ ls) g need).lines
+first_due s n clock y act g gives_back past ours by b = first_gives s n (record y { cache = untrusted_in clock y.cache }) act g past (trusted_in clock y.cache) (in_order (map gift_of (trusted_in clock y.cache))) (λ z. trusted_ours' clock y.cache (ours z)) refl by b
+first_due s n clock y act g need past ours by b = walks_due s n past (IsAtOnce (Client n)) (once_steady n) (λ o k. inl k) y clock (λ ls. lines.Begin (Client n) act ∷ ls) g y.cache (λ ls w. (tt, w (lines.Begin (Client n) act ∷ []) b.once b.runs))
 
-begins_due : (s : Script) (n clock : ℕ) (c : ClientState) (act : Act) (past : List Entry) → c.table ≡ locations s → Due s n past [] (begin_row (Client n) c clock act).lines
+begins_due : (s : Script) (n clock : ℕ) (c : ClientState) (act : Act) (past : List Entry) → (IsOfCell s → Ours c) → c.table ≡ locations s → Due s n past [] (begin_row (Client n) c clock act).lines
 unfolding begin_row
-begins_due s n clock c act past t =
-    first_due s n clock (record c { busy = 0 }) act (began c.table act) (next (began c.table act)) past refl
+begins_due s n clock c act past ours t =
+    first_due s n clock (record c { busy = 0 }) act (began c.table act) (next (began c.table act)) past (λ z. (ours z).cache) refl
     (record { once = (ap (λ (b : Bool). cond b true false) (same_node-refl (Client n)), refl); runs = ap (λ (b : Bool). cond b (Some (began (locations s) act)) (running s (Client n) (lines_of past))) (same_node-refl (Client n)) ∙ ap (λ (l : List Location). Some (began l act)) (sym t) })
 
 -- ---- its call is dead
@@ -458,6 +462,45 @@ waits_due : (s : Script) (c : Cell) (past : List Entry) (n : ℕ) (act : Going) 
 waits_due s c past n act true A W r e = (tt, tt)
 waits_due s c past n act false A W r e = dead_due s c past n act (given_up_in (volume_changed (call_of (c.clients n) act)) (c.clients n).cache) A W r (ltb-false (c.clients n).tries 2 e)
 
+-- ---- what a client keeps is of its cell's servers
+
+abbrev OursIn : Script → Cell → List Entry → Type 0
+OursIn s c past = IsOfCell s → (j : ℕ) → Ours (c.clients j)
+
+abbrev DueFacts : Script → Cell → List Entry → Type 0
+DueFacts s c past = GivenWaits s c past × OursIn s c past
+
+near_now : (s : Script) (c : Cell) (past : List Entry) (n : ℕ) → GivenWaits s c past → IsOfCell s → AreNear (c.clients n)
+near_now s c past n h z id = subst (λ (ls : List Location). IsOurs (Server (server_at ls id))) (sym (h.0.0.0.0.1.table n)) (near_all s z id)
+
+client_ours : (s : Script) (c : Cell) (past : List Entry) (n : ℕ) (y : ClientState) → OursIn s c past → (IsOfCell s → Ours y) → IsOfCell s → (j : ℕ) → Ours (put n y c.clients j)
+client_ours s c past n y h w z j = at_put n j (λ (x : ClientState). Ours x) y c.clients (λ same. w z) (λ other. h z j)
+
+ours_moves : (s : Script) → EachMove (DueFacts s) (Behind (OursIn s))
+ours_moves s = record {
+  void = λ c past h. h.1;
+  ticked = λ c past n h. h.1;
+  begun = λ c past n act h r. client_ours s c past n _ h.1 (λ z. begins_our n c.clock (c.clients n) act (near_now s c past n h.0 z) (h.1 z n));
+  told = λ c past n place m h at to. client_ours s c past n _ h.1 (λ z. given_our n c.clock place (c.clients n) m (near_now s c past n h.0 z) (h.1 z n));
+  waited = λ c past n act h r. client_ours s c past n _ h.1 (λ z. waits_our n (c.clients n) act (h.1 z n));
+  fallen = λ c past n h. client_ours s c past n (reborn (c.clients n)) h.1 (λ z. record { cache = tt; callee = λ act e. absurd cc });
+  risen = λ c past n h. client_ours s c past n (c.clients n) h.1 (λ z. h.1 z n);
+  served = λ c past i place m armed h up at to. h.1;
+  cut = λ c past i place m t h up at to. h.1;
+  stopped = λ c past i h up. h.1;
+  stop_set = λ c past i calls pick armed h up. h.1;
+  fail_set = λ c past i call armed h up. h.1;
+  timed = λ c past i n b armed h up at. h.1;
+  woken = λ c past i armed h up. h.1;
+  started = λ c past i after fall h down. h.1;
+  early = λ c past i fall h down. h.1;
+  midway = λ c past i after fall h down. h.1;
+  full = λ c past i after fall h down. h.1;
+}
+
+due_kept : (s : Script) → IsKept (DueFacts s)
+due_kept s c past x h = (waits_kept s c past x h.0, each_moved (DueFacts s) (Behind (OursIn s)) (ours_moves s) c past x h)
+
 -- ---- every step
 
 abbrev DueStep : Script → Cell → List Entry → Moved → Type 0
@@ -475,17 +518,17 @@ waiting_for s c past n place m h at to = record {
 works_due : (s : Script) (i : ℕ) (past : List Entry) (ls : List Line) → all_lines is_idle ls ≡ true → EachLine (IsDue s) (actors.Node (Server i)) past [] ls
 works_due s i past ls h = idle_due s (actors.Node (Server i)) past [] ls h
 
-due_moves : (s : Script) → EachMove (GivenWaits s) (DueStep s)
+due_moves : (s : Script) → EachMove (DueFacts s) (DueStep s)
 due_moves s = record {
   void = λ c past h. (tt, tt);
   ticked = λ c past n h. (tt, tt);
-  begun = λ c past n act h r. begins_due s n c.clock (c.clients n) act past (h.0.0.0.0.1.table n);
-  told = λ c past n place m h at to. told_due s n c.clock place (c.clients n) m past (waiting_for s c past n place m h at to);
-  waited = λ c past n act h r. waits_due s c past n act (nat_lt (c.clients n).tries 2) h.0.0.0.0.1 (h.1 n) r refl;
+  begun = λ c past n act h r. begins_due s n c.clock (c.clients n) act past (λ z. h.1 z n) (h.0.0.0.0.0.1.table n);
+  told = λ c past n place m h at to. told_due s n c.clock place (c.clients n) m past (waiting_for s c past n place m h.0 at to);
+  waited = λ c past n act h r. waits_due s c past n act (nat_lt (c.clients n).tries 2) h.0.0.0.0.0.1 (h.0.1 n) r refl;
   fallen = λ c past n h. (tt, tt);
   risen = λ c past n h. (tt, tt);
   served = λ c past i place m armed h up at to. works_due s i past _ (idle_works any_message i (c.hosts i).state _ _ (serves_works any_message (Server i) (c.hosts i).state c.clock place m (λ rest. tt)));
-  cut = λ c past i place m t h up at to. works_due s i past _ (blow_idle i t);
+  cut = λ c past i place m t h up at to. works_due s i past (lines.Given place ∷ blow_line i t ∷ []) (blow_idle i t);
   stopped = λ c past i h up. (tt, tt);
   stop_set = λ c past i calls pick armed h up. (tt, tt);
   fail_set = λ c past i call armed h up. (tt, tt);
@@ -499,4 +542,4 @@ due_moves s = record {
 }
 
 pub run_due : AnswersAreDue
-run_due s h end r = run_each (GivenWaits s) (λ past e. EachLine (IsDue s) e.actor past [] e.lines) (waits_kept s) (λ c past x k. each_moved (GivenWaits s) (DueStep s) (due_moves s) c past x k) r.inputs (start s) (set_up s ∷ []) h end (waits_first s) r.leads
+run_due s h end r = run_each (DueFacts s) (λ past e. EachLine (IsDue s) e.actor past [] e.lines) (due_kept s) (λ c past x k. each_moved (DueFacts s) (DueStep s) (due_moves s) c past x k) r.inputs (start s) (set_up s ∷ []) h end (waits_first s, λ z j. record { cache = tt; callee = λ act e. absurd cc }) r.leads

@@ -116,7 +116,7 @@ reading_by : (c : ClientState) (act : Going) (call : FsCall) → c.running ≡ S
 reading_by c act call r same v a q = ap (λ (g : Going). volume_changed (call_of c g)) (some_of a act (sym q ∙ r)) ∙ (ap volume_changed same ∙ v)
 
 -- a call that doesn't give promises back
-abbrev IsNoGift : FsCall → Type 0
+abbrev pub IsNoGift : FsCall → Type 0
 IsNoGift (calls.GiveUpCallBacks fids callbacks) = ⊥
 IsNoGift call = ⊤
 

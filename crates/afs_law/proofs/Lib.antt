@@ -60,6 +60,7 @@ pub mod Sending
 pub mod Gifts
 pub mod Lone
 pub mod Trying
+pub mod Ours
 pub mod Due
 pub mod Entering
 pub mod Dying

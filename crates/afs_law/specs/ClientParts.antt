@@ -1,12 +1,13 @@
 -- More parts of what a legal history is, proved of the runs of every script, with any number of servers: what clients give back, that
 -- an act changes things once, and by what it reads and is answered.
-use Rattle.std.specs.Prelude.{◌≡◌, ℕ, List, [], ◌∷◌, ◌++◌, Bool, Option, Some, true, false, ℤ, pos, ⊤, ◌⊎◌}
+use Rattle.std.specs.Prelude.{◌≡◌, ◌≤◌, ℕ, List, [], ◌∷◌, ◌++◌, Bool, Option, Some, true, false, ℤ, pos, ⊤, ◌⊎◌}
 use Rattle.afs_history.specs.declared.lines.Line.{Line}
 use Rattle.afs_history.specs.declared.lines.Line.TheVariants as lines
 use Rattle.afs_history.specs.declared.scripts.Script.{Script}
+use Rattle.afs_history.specs.declared.scripts.VolumeLine.{VolumeLine}
 use Rattle.afs_law.specs.Grants.{is_promised}
 use Rattle.afs_law.specs.Ideal.{set_up, user_of}
-use Rattle.afs_law.specs.Legal.{GoodGift, HasChange, HasChangeBy, HasOwnHalf, HasUsed, IsDead, IsDone, as_asked}
+use Rattle.afs_law.specs.Legal.{GoodGift, HasChange, HasChangeBy, HasOwnHalf, HasUsed, IsDead, IsDone, as_asked, has_dropped}
 use Rattle.afs_law.specs.Parts.{AllLines, EachEntry, EachSent, LineRule}
 use Rattle.afs_law.specs.Past.{CalledSince, IsReply, answered_key, code_told, given_message, has_begun, is_of_act, lines_of, running, sent_of}
 use Rattle.afs_num.specs.declared.calls.FsCall.{FsCall}
@@ -77,18 +78,29 @@ pub record IsReplied (s : Script) (c : Node) (act : Going) (code : ℤ) (past : 
   pub asks : as_asked call ≡ asked act
   pub called : CalledSince (answered_key reply.head) (user_of s c) call past
 
--- the act gives promises back, and is answered in the entry in which it began
-pub record IsGivenAtOnce (c : Node) (act : Going) (code : ℤ) (own : List Line) : Type 0 where
+-- each volume is at a server of the cell, and the cell has eight at most
+abbrev pub AreInCell : ℕ → List VolumeLine → Type 0
+AreInCell n [] = ⊤
+AreInCell n (v ∷ vs) = ((1 ≤ v.server) × (v.server ≤ n)) × AreInCell n vs
+
+pub record IsOfCell (s : Script) : Type 0 where
+  pub servers : s.servers ≤ 8
+  pub volumes : AreInCell s.servers s.volumes
+
+-- The act gives promises back, and is answered in the entry in which it began: then that drops nothing. Of a script with a volume
+-- elsewhere this isn't said, for promises are given back to eight servers at most
+pub record IsGivenAtOnce (s : Script) (c : Node) (act : Going) (code : ℤ) (own : List Line) : Type 0 where
   pub is : code ≡ pos 0
   pub by : next act ≡ gives_back
   pub begun : has_begun c own ≡ true
+  pub none : IsOfCell s → has_dropped c own ≡ false
 
--- an act runs, and its answer has its cause. That the ideal cell gives the code of the reply, that only the last call of an act answers it
--- with 0, and that what is answered at once had nothing to give back isn't asked here
+-- an act runs, and its answer has its cause. That the ideal cell gives the code of the reply, and that only the last call of an act
+-- answers it with 0, isn't asked here
 pub record IsDueCode (s : Script) (c : Node) (code : Code) (past : List Entry) (own : List Line) : Type 0 where
   pub act : Going
   pub runs : running s c (own ++ lines_of past) ≡ Some act
-  pub cause : IsReplied s c act code.0 past own ⊎ (IsDone s c act code.0 past own ⊎ (IsDead s c act code.0 past own ⊎ IsGivenAtOnce c act code.0 own))
+  pub cause : IsReplied s c act code.0 past own ⊎ (IsDone s c act code.0 past own ⊎ (IsDead s c act code.0 past own ⊎ IsGivenAtOnce s c act code.0 own))
 
 abbrev pub IsDue : Script → LineRule
 IsDue s who (lines.Read c f index source body) past own next = IsUsed s (is_promised body) c f source past own
