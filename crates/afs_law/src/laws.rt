@@ -1,7 +1,7 @@
 //! Laws about the runs of a script. Each is the contract of a function that does nothing.
 
 ghost use Rattle.afs_law.specs.Laws.{AcknowledgedAreKept, AcknowledgedAreMade, AnswersAreRecent, ChangesAreFolded, EffectsAreTold, KeysRunOnce, ReadsAreNewest, RunsAreLegal, RunsAreOne, SetUpsAreFirst, StartsAreFolded, VolumesAreTold, PairsAreKnown, TrustedIsGood, RoomlessAreRefused, UnservedAreRefused, CallsRunOnce, RepliesAreCaused, RepliesWereRun, KeptWereRun, DurableAreChanges, GrantsAreKept, BreaksAreOwed, RepliesFollowDrops, UnawaitedAreUntrusted, DeadAreUntrusted};
-ghost use Rattle.afs_law.specs.ClientParts.{ChangesAreAlone, GiftsAreDropped};
+ghost use Rattle.afs_law.specs.ClientParts.{AnswersAreDue, ChangesAreAlone, GiftsAreDropped};
 ghost use Rattle.afs_law.specs.Parts.{ActsAreTold, CallsAreAsked, ChangesAreIdeal, EntriesAreSound, LinesAreInPlace, MessagesAreOwn};
 
 /// Every run of a script for one server is legal.
@@ -166,6 +166,12 @@ pub fn gifts_are_dropped()
 /// An act changes things once, however often its call is repeated, and also when it is over.
 pub fn changes_are_alone()
     ensures { ChangesAreAlone }
+{}
+
+/// What an act fetches is of replies to its own calls, and its answer has a cause: such a reply, what it read, the third timeout of its
+/// call, or that it had nothing to give back.
+pub fn answers_are_due()
+    ensures { AnswersAreDue }
 {}
 
 /// Each message is sent by the node that its header names as sender, and each call of a client under a key that no file call had
