@@ -41,7 +41,7 @@ use Rattle.afs_num.specs.declared.types.Head.{Head}
 use Rattle.afs_num.specs.declared.types.Key.{Key}
 use Rattle.afs_num.specs.declared.types.Node.{Node}
 use Rattle.afs_num.specs.declared.types.Node.TheVariants.{Client}
-use Rattle.afs_rows.specs.ClientRow.{Look, Walked, admits_call, awaits, begin_row, begins_by, behind_batch, body_told, breaks, call_message, call_of, calls_again, calls_step, client_row, counts, dead_code, drop_line, dropped, dropped_after, ends_step, entries_told, entry_told, find_cached, gift_of, given, given_up_in, gives_by, goes_by, hears, ignores, in_order, is_awaited, is_busy_code, is_older, is_spent, is_trusted, look_at, looked, most_busy, most_reads, put_entries, put_entry, read_lines, reborn, refuses, replies_step, runs_carried, shown_by, status_look, status_told, stays, takes, takes_bulk, takes_bytes, takes_data, takes_entries, takes_entry, takes_given, takes_list, takes_plain, takes_rights, takes_set, takes_shown, takes_status, takes_stored, timeout_line, timeout_row, told_step, trusted_in, untrusted_in, used_first, walked, walked_at, walked_by, walked_with, walks_on, whole, with_statuses}
+use Rattle.afs_rows.specs.ClientRow.{Look, Walked, admits_call, asking, awaits, begin_row, begins_by, behind_batch, body_told, breaks, call_message, call_of, callee_by, calls_again, calls_step, client_row, counts, dead_code, drop_line, dropped, dropped_after, ends_step, entries_told, entry_told, find_cached, gift_of, given, given_up_in, gives_by, goes_by, hears, ignores, in_order, is_awaited, is_busy_code, is_older, is_spent, is_trusted, look_at, looked, most_busy, most_reads, put_entries, put_entry, read_lines, reborn, refuses, replies_step, runs_carried, shown_by, status_look, status_told, stays, takes, takes_bulk, takes_bytes, takes_data, takes_entries, takes_entry, takes_given, takes_list, takes_plain, takes_rights, takes_set, takes_shown, takes_status, takes_stored, timeout_line, timeout_row, told_step, trusted_in, untrusted_in, used_first, walked, walked_at, walked_by, walked_with, walks_on, whole, with_statuses}
 use Rattle.afs_rows.specs.Going.{ClientState, Going, Need, answers, began, gives_back, next, reads, reads_status, with_read}
 use Rattle.afs_rows.specs.Runs.{Entry, locations}
 use Rattle.afs_rows.specs.ServerRow.{boot_told, key_of, replied, reply_head}
@@ -93,6 +93,7 @@ pub record IsTheCall (j : ℕ) (c : ClientState) (head : Head) (user : List ℕ)
   pub runs : c.running ≡ Some act
   pub user' : user ≡ c.user
   pub asks : call ≡ call_of c act
+  pub to : head.to ≡ c.callee
 
 -- it has the pair that it had, and goes on with the act that ran or with none; or it asks for an act, under the next pair; or it stopped
 pub record Rests (j : ℕ) (x : Who) (gs : List Gift) (s : Step ClientState) : Type 0 where
@@ -107,6 +108,7 @@ pub record Asks (j : ℕ) (x : Who) (s : Step ClientState) : Type 0 where
   pub act : Going
   pub runs : s.state.running ≡ Some act
   pub sent : s.sent ≡ call_message (Client j) s.state act ∷ []
+  pub callee : s.state.callee ≡ callee_by s.state (next act)
 
 pub record Stops (j : ℕ) (x : Who) (s : Step ClientState) : Type 0 where
   pub epoch : s.state.epoch ≡ x.epoch + 1
@@ -263,13 +265,17 @@ ends_acts j gs c cache front code g f = record {
   from = tt;
 }
 
+asking_callee : (c : ClientState) (act : Going) (need : Need) → callee_by c need ≡ callee_by (asking c act) need
+asking_callee c act gives_back = refl
+asking_callee c act need = refl
+
 calls_acts : (j : ℕ) (gs : List Gift) (c : ClientState) (act : Going) (front : List Line → List Line) → Front j c.table c.running act front → Acts j (who_at c) gs (calls_step (Client j) c act front)
 calls_acts j gs c act front f = record {
   user = refl;
   table = refl;
   of = f.of [] refl;
   runs = λ S t o r. let a : Comes j act S o front = f.comes S t o r in ap (running S (Client j)) (a.on []) ∙ a.runs;
-  goes = inr (inl (record { epoch = refl; last = refl; act = act; runs = refl; sent = refl }));
+  goes = inr (inl (record { epoch = refl; last = refl; act = act; runs = refl; sent = refl; callee = asking_callee c act (next act) }));
   each = λ S past t r. f.each S past [] t r (refl, refl) (λ own q. tt);
   seats = λ k. k;
   from = (record { from = refl; half = λ z. refl; firm = tt; gift = λ z ls. absurd cc }, tt);
@@ -404,7 +410,7 @@ counts_acts j c clock place act head (carried.Call user call) r = ignores_acts j
 counts_acts j c clock place act head (carried.Refusal code) r = either_acts (is_spent c act) j (who_at c) c.gifts _ _ (again_acts j c.gifts c place act r) (refuses_acts j c.gifts c place act code r)
 counts_acts j c clock place act head (carried.Reply (tell.File reply)) r = either_acts (is_spent c act) j (who_at c) c.gifts _ _ (again_acts j c.gifts c place act r) (takes_acts j c.gifts c clock place act _ reply r)
 counts_acts j c clock place act head (carried.Reply reply) r = ignores_acts j c place
-counts_acts j c clock place act head carried.Notice r = record { user = refl; table = refl; of = refl; runs = λ S t o q. q; goes = inl (record { epoch = refl; last = refl; act = inr (refl, (refl, refl)); sent = (record { key = refl; act = act; runs = r; user' = refl; asks = refl }, tt) }); each = λ S past t q. (refl, tt); seats = λ k. k; from = (record { from = refl; half = λ z. refl; firm = tt; gift = λ z ls. absurd cc }, tt) }
+counts_acts j c clock place act head carried.Notice r = record { user = refl; table = refl; of = refl; runs = λ S t o q. q; goes = inl (record { epoch = refl; last = refl; act = inr (refl, (refl, refl)); sent = (record { key = refl; act = act; runs = r; user' = refl; asks = refl; to = refl }, tt) }); each = λ S past t q. (refl, tt); seats = λ k. k; from = (record { from = refl; half = λ z. refl; firm = tt; gift = λ z ls. absurd cc }, tt) }
 
 awaited_acts : (t : Bool) (j : ℕ) (c : ClientState) (clock place : ℕ) (act : Going) (head : Head) (x : Carried) → c.running ≡ Some act → Acts j (who_at c) c.gifts (cond t (counts (Client j) c clock place act head x) (ignores c place))
 awaited_acts true j c clock place act head x r = counts_acts j c clock place act head x r
@@ -469,7 +475,7 @@ begins_acts j c clock act r = first_acts j c.gifts (record c { busy = 0 }) clock
 
 pub waits_acts : (j : ℕ) (c : ClientState) (act : Going) → c.running ≡ Some act → Acts j (who_at c) c.gifts (timeout_row (Client j) c act)
 waits_acts j c act r = either_acts (nat_lt c.tries 2) j (who_at c) c.gifts _ _
-    (record { user = refl; table = refl; of = one_of j true refl; runs = λ S t o q. q; goes = inl (record { epoch = refl; last = refl; act = inr (refl, (refl, refl)); sent = (record { key = refl; act = act; runs = r; user' = refl; asks = refl }, tt) }); each = λ S past t q. ((refl, ((refl, refl), (refl, refl))), tt); seats = λ k. k; from = (record { from = refl; half = λ z. refl; firm = tt; gift = λ z ls. absurd cc }, tt) })
+    (record { user = refl; table = refl; of = one_of j true refl; runs = λ S t o q. q; goes = inl (record { epoch = refl; last = refl; act = inr (refl, (refl, refl)); sent = (record { key = refl; act = act; runs = r; user' = refl; asks = refl; to = refl }, tt) }); each = λ S past t q. ((refl, ((refl, refl), (refl, refl))), tt); seats = λ k. k; from = (record { from = refl; half = λ z. refl; firm = tt; gift = λ z ls. absurd cc }, tt) })
     (ends_acts j c.gifts c _ (λ ls. timeout_line (Client j) c 3 ∷ dropped (Client j) (given_up_in (volume_changed (call_of c act)) c.cache) ls) dead_code act
     (subst (λ (o : Option Going). Front j c.table o act (λ ls. timeout_line (Client j) c 3 ∷ dropped (Client j) (given_up_in (volume_changed (call_of c act)) c.cache) ls)) (sym r)
     (then_front j c.table (Some act) act act (λ ls. timeout_line (Client j) c 3 ∷ ls) (dropped (Client j) (given_up_in (volume_changed (call_of c act)) c.cache)) (timeout_front j c c.table act 3) (dropped_more j act (given_up_in (volume_changed (call_of c act)) c.cache)))))

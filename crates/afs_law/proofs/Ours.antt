@@ -22,6 +22,7 @@ use Rattle.afs_num.specs.declared.calls.FsReply.TheVariants as replies
 use Rattle.afs_num.specs.declared.histories.Body.{Body}
 use Rattle.afs_num.specs.declared.histories.ReadBody.{ReadBody}
 use Rattle.afs_num.specs.declared.histories.ReadBody.TheVariants as seen
+use Rattle.afs_num.specs.declared.histories.ReadSource.TheVariants.{Fetched}
 use Rattle.afs_num.specs.declared.histories.ReadStatus.{ReadStatus}
 use Rattle.afs_num.specs.declared.messages.Call.TheVariants as ask
 use Rattle.afs_num.specs.declared.messages.Carried.{Carried}
@@ -34,9 +35,10 @@ use Rattle.afs_num.specs.declared.types.Fid.{Fid}
 use Rattle.afs_num.specs.declared.types.Head.{Head}
 use Rattle.afs_num.specs.declared.types.Node.{Node}
 use Rattle.afs_num.specs.declared.types.Node.TheVariants.{Admin, Client, Loc, Server}
-use Rattle.afs_rows.specs.ClientRow.{Walked, admits_call, asking, awaits, begin_row, begins_by, behind_batch, body_told, breaks, call_by, call_of, calls_again, callee_by, client_row, counts, ended, entries_told, entry_told, find_cached, gift_of, gifts_to, given, gives_by, goes_by, hears, ignores, in_order, is_awaited, is_below, is_busy_code, is_older, is_spent, is_trusted, joined, left_in, most_busy, most_reads, put_entries, put_entry, refreshed, refuses, replies_step, runs_carried, server_at, server_or_first, shown_by, status_told, stays, takes, takes_bulk, takes_data, takes_entries, takes_entry, takes_given, takes_list, takes_set, takes_shown, takes_status, timeout_row, told_step, trusted_in, untrusted_in, used_first, volume_asked, walked, walked_at, walked_by, walked_with, walks_on, whole}
+use Rattle.afs_rows.specs.ClientRow.{Walked, admits_call, asking, awaits, begin_row, begins_by, behind_batch, body_told, breaks, call_by, call_of, calls_again, callee_by, client_row, counts, dropped, ended, entries_told, entry_told, find_cached, gift_of, gifts_to, given, gives_by, goes_by, hears, ignores, in_order, is_awaited, is_below, is_busy_code, is_older, is_spent, is_trusted, joined, left_after, left_in, look_at, looked, most_busy, most_reads, put_entries, put_entry, read_lines, refreshed, refuses, replies_step, runs_carried, server_at, server_or_first, shown_by, status_told, status_look, stays, takes, takes_bulk, takes_data, takes_entries, takes_entry, takes_given, takes_list, takes_set, takes_shown, takes_status, timeout_row, told_step, trusted_in, untrusted_in, used_first, volume_asked, walked, walked_at, walked_by, walked_with, walks_on, whole, with_statuses}
 use Rattle.afs_rows.specs.Going.{ClientState, Going, Need, answers, began, call_for, gives_back, next, reads, reads_status, with_read}
 use Rattle.afs_rows.specs.Runs.{counts_later, location_by, locations, locations_in}
+use Rattle.afs_rows.specs.Scopes.{is_in_scope}
 use Rattle.afs_rows.specs.States.{CacheEntry, Gift, Location}
 use Rattle.afs_rows.specs.Steps.{Step}
 use Rattle.std.proofs.Common.{zero, suc, ◌+◌, ◌≡◌, ◌≤◌, ℕ, Bool, true, false, cond, List, [], ◌∷◌, ◌++◌, map, flat_map, Option, Some, None, refl, sym, ap, subst, ◌∙◌, filter, find, take, not, nat_eq, arith}
@@ -168,45 +170,45 @@ callee_is c act call h r same plain = h.callee act r (λ z. subst IsNoGift (sym 
 
 -- ---- replies
 
-plain_ours : (c : ClientState) (p : CacheEntry → Bool) → Ours c → Ours (ended c (filter p c.cache))
-plain_ours c p h = ends_ours c (filter p c.cache) (ours_filter p c.cache h.cache)
+plain_ours : (c : ClientState) (call : FsCall) → Ours c → Ours (ended c (left_after call c.cache))
+plain_ours c call h = ends_ours c (left_after call c.cache) (ours_filter (λ e. not (is_in_scope call e.fid)) c.cache h.cache)
 
 entry_ours : (n clock place : ℕ) (c : ClientState) (act : Going) (e : CacheEntry) (body : ReadBody) → AreNear c → Ours c → IsOurs e.server → Ours (takes_entry (Client n) c clock place act e body).state
-entry_ours n clock place c act e body t h x = either_state (is_trusted clock e) _ _ (walks_ours n clock c _ (with_read e.fid body act) (put_entry c.capacity e c.cache) t (ours_put c.capacity e c.cache x h.cache)) (asks_ours c act t h.cache)
+entry_ours n clock place c act e body t h x = either_state (is_trusted clock e) _ _ (walks_ours n clock c (read_lines (Client n) place (look_at Fetched e body)) (with_read e.fid body act) (put_entry c.capacity e c.cache) t (ours_put c.capacity e c.cache x h.cache)) (asks_ours c act t h.cache)
 
 data_ours : (n clock place : ℕ) (c : ClientState) (act : Going) (contents : List ℕ) (status : AfsFetchStatus) (callback : AfsCallBack) (sync : AfsVolSync) (call : FsCall) → AreNear c → Ours c → c.running ≡ Some act → call_of c act ≡ call → Ours (takes_data (Client n) c clock place act contents status callback sync call).state
 data_ours n clock place c act contents status callback sync (calls.FetchData f position wanted) t h r same =
     entry_ours n clock place c act (entry_told c.callee f status callback sync (Some (body_told status.file_type contents))) (seen.Contents (body_told status.file_type contents)) t h (callee_is c act (calls.FetchData f position wanted) h r same tt)
-data_ours n clock place c act contents status callback sync call t h r same = plain_ours c _ h
+data_ours n clock place c act contents status callback sync call t h r same = plain_ours c call h
 
 shown_ours : (n clock place : ℕ) (c : ClientState) (act : Going) (status : AfsFetchStatus) (callback : AfsCallBack) (sync : AfsVolSync) (call : FsCall) → AreNear c → Ours c → c.running ≡ Some act → call_of c act ≡ call → Ours (takes_shown (Client n) c clock place act status callback sync call).state
 shown_ours n clock place c act status callback sync (calls.FetchStatus f) t h r same =
     entry_ours n clock place c act (entry_told c.callee f status callback sync None) (seen.Status (status_told status)) t h (callee_is c act (calls.FetchStatus f) h r same tt)
-shown_ours n clock place c act status callback sync call t h r same = plain_ours c _ h
+shown_ours n clock place c act status callback sync call t h r same = plain_ours c call h
 
 list_ours : (n clock place : ℕ) (c : ClientState) (act : Going) (text : List ℕ) (status : AfsFetchStatus) (sync : AfsVolSync) (call : FsCall) → AreNear c → Ours c → Ours (takes_list (Client n) c clock place act text status sync call).state
 list_ours n clock place c act text status sync (calls.FetchAcl f) t h =
     let left : List CacheEntry = filter (λ e. not (is_older f status.sync_counter sync.release e)) c.cache in
-    walks_ours n clock c _ (with_read f (seen.AccessList text) act) left t (ours_filter (λ e. not (is_older f status.sync_counter sync.release e)) c.cache h.cache)
-list_ours n clock place c act text status sync call t h = plain_ours c _ h
+    walks_ours n clock c (λ ls. read_lines (Client n) place (record { fid = f; index = status.sync_counter; source = Fetched; body = seen.AccessList text }) (dropped (Client n) (filter (is_older f status.sync_counter sync.release) c.cache) ls)) (with_read f (seen.AccessList text) act) left t (ours_filter (λ e. not (is_older f status.sync_counter sync.release e)) c.cache h.cache)
+list_ours n clock place c act text status sync call t h = plain_ours c call h
 
 stored_ours : (clock : ℕ) (c : ClientState) (f : Fid) (index : ℕ) (status : ReadStatus) (made : Option Body → Option Body) → Ours c → Ours (ended c (map (refreshed clock f index status made) c.cache))
 stored_ours clock c f index status made h = ends_ours c (map (refreshed clock f index status made) c.cache) (ours_refreshed clock f index status made c.cache h.cache)
 
 status_ours : (n clock place : ℕ) (c : ClientState) (f : Fid) (status : AfsFetchStatus) (call : FsCall) → Ours c → Ours (takes_status (Client n) c clock place f status call).state
-status_ours n clock place c f status call h = either_state (not c.spoiled && is_below clock status.sync_counter (find_cached f c.cache)) _ _ (stored_ours clock c f _ _ _ h) (plain_ours c _ h)
+status_ours n clock place c f status call h = either_state (not c.spoiled && is_below clock status.sync_counter (find_cached f c.cache)) _ _ (stored_ours clock c f _ _ _ h) (plain_ours c call h)
 
 set_ours : (n clock place : ℕ) (c : ClientState) (status : AfsFetchStatus) (call : FsCall) → Ours c → Ours (takes_set (Client n) c clock place status call).state
-set_ours n clock place c status (calls.StoreData f set position wanted file_length contents) h = either_state c.spoiled _ _ (plain_ours c _ h) (stored_ours clock c f _ _ _ h)
+set_ours n clock place c status (calls.StoreData f set position wanted file_length contents) h = either_state c.spoiled _ _ (plain_ours c (calls.StoreData f set position wanted file_length contents) h) (stored_ours clock c f _ _ _ h)
 set_ours n clock place c status (calls.StoreAcl f acl) h = status_ours n clock place c f status (calls.StoreAcl f acl) h
 set_ours n clock place c status (calls.StoreStatus f set) h = status_ours n clock place c f status (calls.StoreStatus f set) h
-set_ours n clock place c status call h = plain_ours c _ h
+set_ours n clock place c status call h = plain_ours c call h
 
 bulk_ours : (n clock place : ℕ) (c : ClientState) (act : Going) (statuses : List AfsFetchStatus) (callbacks : List AfsCallBack) (sync : AfsVolSync) (call : FsCall) → AreNear c → Ours c → c.running ≡ Some act → call_of c act ≡ call → Ours (takes_bulk (Client n) c clock place act statuses callbacks sync call).state
 bulk_ours n clock place c act statuses callbacks sync (calls.BulkStatus fids) t h r same =
     let es : List CacheEntry = entries_told c.callee sync fids statuses callbacks in
-    either_state (list_any (λ e. not (is_trusted clock e)) es) _ _ (asks_ours c act t h.cache) (walks_ours n clock c _ _ (put_entries c.capacity es c.cache) t (ours_puts c.capacity es c.cache (ours_told c.callee sync fids statuses callbacks (callee_is c act (calls.BulkStatus fids) h r same tt)) h.cache))
-bulk_ours n clock place c act statuses callbacks sync call t h r same = plain_ours c _ h
+    either_state (list_any (λ e. not (is_trusted clock e)) es) _ _ (asks_ours c act t h.cache) (walks_ours n clock c (λ ls. given place (looked (Client n) (map status_look es) ls)) (with_statuses es act) (put_entries c.capacity es c.cache) t (ours_puts c.capacity es c.cache (ours_told c.callee sync fids statuses callbacks (callee_is c act (calls.BulkStatus fids) h r same tt)) h.cache))
+bulk_ours n clock place c act statuses callbacks sync call t h r same = plain_ours c call h
 
 gives_ours : (n : ℕ) (y : ClientState) (front : List Line → List Line) (act : Going) (gs : List Gift) → AreNear y → AreOurs y.cache → Ours (gives_by (Client n) y front act gs).state
 gives_ours n y front act [] t h = ends_ours y y.cache h
@@ -214,7 +216,7 @@ gives_ours n y front act (g ∷ gs) t h = asks_ours (record y { gifts = g ∷ gs
 
 given_ours : (n place : ℕ) (c : ClientState) (act : Going) (call : FsCall) → AreNear c → Ours c → Ours (takes_given (Client n) c place act call).state
 given_ours n place c act (calls.GiveUpCallBacks fids callbacks) t h = gives_ours n c (given place) act (behind_batch c.gifts) t h.cache
-given_ours n place c act call t h = plain_ours c _ h
+given_ours n place c act call t h = plain_ours c call h
 
 takes_ours : (n clock place : ℕ) (c : ClientState) (act : Going) (call : FsCall) (reply : FsReply) → AreNear c → Ours c → c.running ≡ Some act → call_of c act ≡ call → Ours (takes (Client n) c clock place act call reply).state
 takes_ours n clock place c act call (replies.FetchData contents status callback sync) t h r same = data_ours n clock place c act contents status callback sync call t h r same
@@ -225,7 +227,7 @@ takes_ours n clock place c act call (replies.StoreAcl status sync) t h r same = 
 takes_ours n clock place c act call (replies.StoreStatus status sync) t h r same = set_ours n clock place c status call h
 takes_ours n clock place c act call (replies.BulkStatus statuses callbacks sync) t h r same = bulk_ours n clock place c act statuses callbacks sync call t h r same
 takes_ours n clock place c act call replies.GiveUpCallBacks t h r same = given_ours n place c act call t h
-takes_ours n clock place c act call reply t h r same = plain_ours c _ h
+takes_ours n clock place c act call reply t h r same = plain_ours c call h
 
 counts_ours : (n clock place : ℕ) (c : ClientState) (act : Going) (head : Head) (x : Carried) → AreNear c → Ours c → c.running ≡ Some act → Ours (counts (Client n) c clock place act head x).state
 counts_ours n clock place c act head (carried.Call user call) t h r = h
@@ -270,7 +272,7 @@ unfolding client_row
 given_our n clock place c m t h = either_state (same_node m.head.to (Client n)) _ _ (hears_ours n clock place c m.head m.carried t h) h
 
 first_ours : (n clock : ℕ) (y : ClientState) (front : List Line → List Line) (act : Going) (need : Need) → AreNear y → AreOurs y.cache → Ours (begins_by (Client n) y clock front act need).state
-first_ours n clock y front act gives_back t h = gives_ours n (record y { cache = untrusted_in clock y.cache }) _ act _ t (ours_filter (λ e. not (is_trusted clock e)) y.cache h)
+first_ours n clock y front act gives_back t h = gives_ours n (record y { cache = untrusted_in clock y.cache }) (λ ls. front (dropped (Client n) (trusted_in clock y.cache) ls)) act (in_order (map gift_of (trusted_in clock y.cache))) t (ours_filter (λ e. not (is_trusted clock e)) y.cache h)
 first_ours n clock y front act need t h = walks_ours n clock y front act y.cache t h
 
 pub begins_our : (n clock : ℕ) (c : ClientState) (act : Act) → AreNear c → Ours c → Ours (begin_row (Client n) c clock act).state
