@@ -216,10 +216,13 @@ entry_due : (s : Script) (n clock place : ℕ) (c : ClientState) (act : Going) (
 entry_due s n clock place c act m past e body p q zero_told =
     either_due s n past (is_trusted clock e) _ _
     (walks_due s n past (IsRead n m past) (read_steady n m past) (read_enough s n place c act m past q zero_told) c clock (read_lines (Client n) place (look_at Fetched e body)) (with_read e.fid body act) (put_entry c.capacity e c.cache)
-    (λ ls w. (tt, (
-      use_by s (Client n) e.fid past (lines.Given place ∷ []) (is_promised body) p (now_used s n place c act m past (lines.Given place ∷ []) q zero_told (q.at, refl)),
-      w (lines.Read (Client n) e.fid e.index Fetched body ∷ lines.Given place ∷ []) (has_now n m past place e.fid e.index Fetched body q.at) (read_runs s n (lines_of past) e.fid e.index Fetched body act q.runs),
-    )))) (tt, tt)
+    (λ ls w. (
+      tt,
+      (
+        use_by s (Client n) e.fid past (lines.Given place ∷ []) (is_promised body) p (now_used s n place c act m past (lines.Given place ∷ []) q zero_told (q.at, refl)),
+        w (lines.Read (Client n) e.fid e.index Fetched body ∷ lines.Given place ∷ []) (has_now n m past place e.fid e.index Fetched body q.at) (read_runs s n (lines_of past) e.fid e.index Fetched body act q.runs),
+      ),
+    ))) (tt, tt)
 
 -- several statuses
 statuses_due : (s : Script) (n place : ℕ) (c : ClientState) (act : Going) (m : Message) (past : List Entry) (es : List CacheEntry) (own ls : List Line) (g : Going) → IsTold s n place c act m past → code_told m.carried ≡ Some (pos 0) → IsRead n m past own → Runs s n past own g → Rest s n past (IsRead n m past) (with_statuses es g) ls → Due s n past own (looked (Client n) (map status_look es) ls)
@@ -244,10 +247,13 @@ entries_due s n clock place c act m past [] fids need q zero_told = none_due s n
 entries_due s n clock place c act m past (e ∷ es) fids need q zero_told =
     either_due s n past (list_any (λ e. not (is_trusted clock e)) (e ∷ es)) _ _ (tt, tt)
     (walks_due s n past (IsRead n m past) (read_steady n m past) (read_enough s n place c act m past q zero_told) c clock (λ ls. given place (looked (Client n) (map status_look (e ∷ es)) ls)) (with_statuses (e ∷ es) act) (put_entries c.capacity (e ∷ es) c.cache)
-    (λ ls w. (tt, (
-      (λ z. now_used s n place c act m past (lines.Given place ∷ []) q zero_told (q.at, refl)),
-      statuses_due s n place c act m past es (lines.Read (Client n) e.fid e.index Fetched (seen.Status e.status) ∷ lines.Given place ∷ []) ls (with_read e.fid (seen.Status e.status) act) q zero_told (has_now n m past place e.fid e.index Fetched (seen.Status e.status) q.at) (read_runs s n (lines_of past) e.fid e.index Fetched (seen.Status e.status) act q.runs) w,
-    ))))
+    (λ ls w. (
+      tt,
+      (
+        (λ z. now_used s n place c act m past (lines.Given place ∷ []) q zero_told (q.at, refl)),
+        statuses_due s n place c act m past es (lines.Read (Client n) e.fid e.index Fetched (seen.Status e.status) ∷ lines.Given place ∷ []) ls (with_read e.fid (seen.Status e.status) act) q zero_told (has_now n m past place e.fid e.index Fetched (seen.Status e.status) q.at) (read_runs s n (lines_of past) e.fid e.index Fetched (seen.Status e.status) act q.runs) w,
+      ),
+    )))
 
 -- which need a call is for
 statuses_needed : (gs : List Gift) (need : Need) (fids : List Fid) → ((call : FsCall) → need ≡ asks_for call → volume_changed call ≡ None → ⊥) → call_by gs need ≡ calls.BulkStatus fids → need ≡ reads_statuses fids
@@ -288,10 +294,13 @@ list_due s n clock place c act m past text status sync (calls.FetchAcl f) same q
     let es : List CacheEntry = filter (is_older f status.sync_counter sync.release) c.cache in
     walks_due s n past (IsRead n m past) (read_steady n m past) (read_enough s n place c act m past q z) c clock
     (λ ls. read_lines (Client n) place (record { fid = f; index = status.sync_counter; source = Fetched; body = seen.AccessList text }) (dropped (Client n) (filter (is_older f status.sync_counter sync.release) c.cache) ls)) (with_read f body act) (filter (λ e. not (is_older f status.sync_counter sync.release e)) c.cache)
-    (λ ls w. (tt, (
-      record { fetched = refl; act = act; runs = q.runs; needs = need; used = record { reply = m; by = q.at; is_reply = q.reply; told = z; to = q.to; before = refl; call = call_of c act; called = q.called }; asks = same ∙ sym (ap call_for need) },
-      drops_due s n past (IsRead n m past) (read_steady n m past) es (lines.Read (Client n) f status.sync_counter Fetched body ∷ lines.Given place ∷ []) ls (with_read f body act) (has_now n m past place f status.sync_counter Fetched body q.at) (read_runs s n (lines_of past) f status.sync_counter Fetched body act q.runs) w,
-    )))
+    (λ ls w. (
+      tt,
+      (
+        record { fetched = refl; act = act; runs = q.runs; needs = need; used = record { reply = m; by = q.at; is_reply = q.reply; told = z; to = q.to; before = refl; call = call_of c act; called = q.called }; asks = same ∙ sym (ap call_for need) },
+        drops_due s n past (IsRead n m past) (read_steady n m past) es (lines.Read (Client n) f status.sync_counter Fetched body ∷ lines.Given place ∷ []) ls (with_read f body act) (has_now n m past place f status.sync_counter Fetched body q.at) (read_runs s n (lines_of past) f status.sync_counter Fetched body act q.runs) w,
+      ),
+    ))
 list_due s n clock place c act m past text status sync call same q z = plain_due s n place c act m past call q z
 
 -- the client's own store
@@ -371,12 +380,12 @@ awaits_due s n clock place c head x past (Some act) w r = awaited_due s n clock 
 
 -- ---- calls to it
 
-all_dropped : (n : ℕ) (fs : List Fid) → all_lines is_idle (map (drop_line (Client n)) fs) ≡ true
-all_dropped n [] = refl
-all_dropped n (f ∷ fs) = all_dropped n fs
+all_dropped : (s : Script) (n : ℕ) (past : List Entry) (own : List Line) (fs : List Fid) → Due s n past own (map (drop_line (Client n)) fs)
+all_dropped s n past own [] = tt
+all_dropped s n past own (f ∷ fs) = (tt, all_dropped s n past (lines.Drop (Client n) f ∷ own) fs)
 
 breaks_due : (s : Script) (n place : ℕ) (c : ClientState) (head : Head) (call : FsCall) (past : List Entry) → Due s n past [] (breaks (Client n) c place head call).lines
-breaks_due s n place c head (calls.CallBack fs callbacks) past = (tt, idle_due s (actors.Node (Client n)) past (lines.Given place ∷ []) (map (drop_line (Client n)) fs) (all_dropped n fs))
+breaks_due s n place c head (calls.CallBack fs callbacks) past = (tt, all_dropped s n past (lines.Given place ∷ []) fs)
 breaks_due s n place c head calls.InitCallBackState past = (tt, (tt, tt))
 breaks_due s n place c head calls.Probe past = (tt, tt)
 breaks_due s n place c head call past = (tt, tt)
@@ -437,26 +446,31 @@ third_steady n c = record { reads' = λ own f index source body k. k; drops' = �
 
 dead_due : (s : Script) (c : Cell) (past : List Entry) (n : ℕ) (act : Going) (es : List CacheEntry) → AskedIn s c past → Waits n (c.clients n) past → (c.clients n).running ≡ Some act → 2 ≤ (c.clients n).tries → Due s n past [] (timeout_line (Client n) (c.clients n) 3 ∷ dropped (Client n) es (lines.Answer (Client n) dead_code ∷ []))
 dead_due s c past n act es A W r le =
-    let x : ClientState = c.clients n in
-    (tt, drops_due s n past (IsThird n x) (third_steady n x) es (timeout_line (Client n) x 3 ∷ []) (lines.Answer (Client n) dead_code ∷ []) act (inl (refl, (refl, (refl, (refl, refl)))), refl) (A.acts n ∙ r)
-    (λ o k q. (record {
-      act = act;
-      runs = q;
-      cause = inr (inr (inl (record {
-        is = refl;
-        callee = x.callee;
-        epoch = x.epoch;
-        number = x.last;
-        third = k.0;
-        first = W.tried act r 1 (omega arith) (omega arith);
-        second = W.tried act r 2 (omega arith) le;
-        before = k.1;
-        call = call_of x act;
-        asks = call_is x act;
-        called = A.asked n act r;
-        to = subst (λ (u : List ℕ). WasSent x.callee (last_key n x) u (call_of x act) past) (A.user n) (W.sent act r);
-      })));
-    }, tt)))
+    let x : ClientState = c.clients n in (
+      tt,
+      drops_due s n past (IsThird n x) (third_steady n x) es (timeout_line (Client n) x 3 ∷ []) (lines.Answer (Client n) dead_code ∷ []) act (inl (refl, (refl, (refl, (refl, refl)))), refl) (A.acts n ∙ r)
+          (λ o k q. (
+            record {
+              act = act;
+              runs = q;
+              cause = inr (inr (inl (record {
+                is = refl;
+                callee = x.callee;
+                epoch = x.epoch;
+                number = x.last;
+                third = k.0;
+                first = W.tried act r 1 (omega arith) (omega arith);
+                second = W.tried act r 2 (omega arith) le;
+                before = k.1;
+                call = call_of x act;
+                asks = call_is x act;
+                called = A.asked n act r;
+                to = subst (λ (u : List ℕ). WasSent x.callee (last_key n x) u (call_of x act) past) (A.user n) (W.sent act r);
+              })));
+            },
+            tt,
+          )),
+    )
 
 waits_due : (s : Script) (c : Cell) (past : List Entry) (n : ℕ) (act : Going) (t : Bool) → AskedIn s c past → Waits n (c.clients n) past → (c.clients n).running ≡ Some act → nat_lt (c.clients n).tries 2 ≡ t → Due s n past [] (cond t (tries_again (Client n) (c.clients n) act) (gives_up (Client n) (c.clients n) (call_of (c.clients n) act))).lines
 waits_due s c past n act true A W r e = (tt, tt)

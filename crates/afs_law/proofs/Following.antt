@@ -4,17 +4,19 @@ use Rattle.afs_history.specs.declared.acts.Act.{Act}
 use Rattle.afs_history.specs.declared.lines.Line.{Line}
 use Rattle.afs_history.specs.declared.lines.Line.TheVariants as lines
 use Rattle.afs_ideal.specs.Operations.{is_number, volume_changed}
-use Rattle.afs_law.proofs.Basics.{both, some_of}
+use Rattle.afs_law.proofs.Basics.{both, same_node-refl, some_of}
 use Rattle.afs_law.proofs.Facts.{fids_of_gifts, is_passing}
 use Rattle.afs_law.proofs.Firm.{IsFirm}
 use Rattle.afs_law.proofs.Giving.{ordered_dropped}
 use Rattle.afs_law.proofs.Passing.{all_dropped_onto, dropped_rest}
-use Rattle.afs_law.specs.Breaks.{HasTimeout}
-use Rattle.afs_law.specs.Grants.{has_fetched}
+use Rattle.afs_law.specs.Breaks.{HasTimeout, IsNamedIn}
+use Rattle.afs_law.specs.ClientParts.{is_silent}
+use Rattle.afs_law.specs.Grants.{IsDropped, has_fetched}
 use Rattle.afs_law.specs.Legal.{AreDropped, HasDropped}
 use Rattle.afs_law.specs.Past.{has_begun, onto}
 use Rattle.afs_model.specs.Calls as pairs
 use Rattle.afs_model.specs.Calls.{Admitted, admitted}
+use Rattle.afs_num.specs.Fids.{same_fid}
 use Rattle.afs_num.specs.Nodes.{same_node}
 use Rattle.afs_num.specs.declared.calls.AfsCallBack.{AfsCallBack}
 use Rattle.afs_num.specs.declared.calls.AfsFetchStatus.{AfsFetchStatus}
@@ -37,7 +39,7 @@ use Rattle.afs_num.specs.declared.types.Fid.{Fid}
 use Rattle.afs_num.specs.declared.types.Head.{Head}
 use Rattle.afs_num.specs.declared.types.Node.{Node}
 use Rattle.afs_num.specs.declared.types.Node.TheVariants.{Client}
-use Rattle.afs_rows.specs.ClientRow.{Look, Walked, admits_call, awaits, batch, begin_row, begins_by, behind_batch, body_told, breaks, call_by, call_of, calls_again, client_row, counts, drop_line, dropped, entries_told, entry_told, find_cached, gift_call, gift_of, gifts_to, given, gives_by, goes_by, hears, ignores, in_order, is_awaited, is_below, is_busy_code, is_older, is_reading, is_spent, is_trusted, look_at, looked, most_busy, most_reads, put_entries, put_entry, read_lines, reborn, refuses, replies_step, runs_carried, status_look, status_told, takes, takes_bulk, takes_bytes, takes_data, takes_entries, takes_entry, takes_given, takes_list, takes_rights, takes_set, takes_shown, takes_status, timeout_row, told_step, trusted_in, untrusted_in, walked, walks_on, whole, with_statuses}
+use Rattle.afs_rows.specs.ClientRow.{Look, Walked, admits_call, awaits, batch, begin_row, begins_by, behind_batch, body_told, breaks, call_by, call_of, calls_again, client_row, counts, drop_line, dropped, entries_told, entry_told, find_cached, gift_call, gift_of, gifts_to, given, gives_by, goes_by, hears, ignores, in_order, is_awaited, is_below, is_busy_code, is_named, is_older, is_reading, is_spent, is_spoiled_by_all, is_trusted, is_waiting, look_at, looked, most_busy, most_reads, names_act, names_call, put_entries, put_entry, read_lines, reborn, refuses, replies_step, runs_carried, status_look, status_told, takes, takes_bulk, takes_bytes, takes_data, takes_entries, takes_entry, takes_given, takes_list, takes_rights, takes_set, takes_shown, takes_status, timeout_row, told_step, trusted_in, untrusted_in, walked, walks_on, whole, with_statuses}
 use Rattle.afs_rows.specs.Going.{ClientState, Going, Need, answers, began, gives_back, next, with_read}
 use Rattle.afs_rows.specs.States.{CacheEntry, Gift}
 use Rattle.afs_rows.specs.Steps.{Step}
@@ -58,13 +60,17 @@ IsReading c = (act : Going) → c.running ≡ Some act → volume_changed (call_
 abbrev pub IsStill : ℕ → List Line → Type 0
 IsStill j ls = (has_begun (Client j) ls ≡ false) × ((f : Fid) → has_fetched (Client j) f ls ≡ false)
 
--- it waits for the call for which it waited, and each timeout of that was told
+-- It waits for the call for which it waited, and each timeout of that was told. It reads nothing and is answered nothing; and unless its
+-- reply is spoiled now, it was not before, and nothing was dropped that this may promise
 pub record WaitsOn (j : ℕ) (c : ClientState) (s : Step ClientState) : Type 0 where
   pub running : s.state.running ≡ c.running
   pub callee : s.state.callee ≡ c.callee
   pub epoch : s.state.epoch ≡ c.epoch
   pub last : s.state.last ≡ c.last
   pub tries : (s.state.tries ≡ c.tries) ⊎ ((s.state.tries ≡ c.tries + 1) × ((o : List Line) → HasTimeout (Client j) c.callee c.epoch c.last (c.tries + 1) (onto o s.lines)))
+  pub silent : is_silent s.lines ≡ true
+  pub unspoiled : s.state.spoiled ≡ false → c.spoiled ≡ false
+  pub undropped : s.state.spoiled ≡ false → (act : Going) → c.running ≡ Some act → (f : Fid) → names_call (f ∷ []) (call_of c act) ≡ true → (o : List Line) → IsDropped c.callee (Client j) f (onto o s.lines) → IsDropped c.callee (Client j) f o
 
 pub record Follows (j : ℕ) (c : ClientState) (s : Step ClientState) : Type 0 where
   pub spared : IsSpared s.state
@@ -84,8 +90,8 @@ no_gifts j gs ls e = subst (λ (xs : List Gift). AreDropped (Client j) (fids_of_
 pub more_not : (a b : ℕ) → a ≡ b + 1 → a ≡ b → ⊥
 more_not a b e f = absurd (omega arith)
 
-on_same : (j : ℕ) (c : ClientState) (s : Step ClientState) → s.state.running ≡ c.running → s.state.callee ≡ c.callee → s.state.epoch ≡ c.epoch → s.state.last ≡ c.last → s.state.tries ≡ c.tries → WaitsOn j c s
-on_same j c s r q e l t = record { running = r; callee = q; epoch = e; last = l; tries = inl t }
+on_same : (j : ℕ) (c : ClientState) (s : Step ClientState) → s.state.running ≡ c.running → s.state.callee ≡ c.callee → s.state.epoch ≡ c.epoch → s.state.last ≡ c.last → s.state.tries ≡ c.tries → is_silent s.lines ≡ true → (s.state.spoiled ≡ false → c.spoiled ≡ false) → (s.state.spoiled ≡ false → (act : Going) → c.running ≡ Some act → (f : Fid) → names_call (f ∷ []) (call_of c act) ≡ true → (o : List Line) → IsDropped c.callee (Client j) f (onto o s.lines) → IsDropped c.callee (Client j) f o) → WaitsOn j c s
+on_same j c s r q e l t quiet u d = record { running = r; callee = q; epoch = e; last = l; tries = inl t; silent = quiet; unspoiled = u; undropped = d }
 
 -- its act ends
 ends_follows : (j : ℕ) (c : ClientState) (s : Step ClientState) → s.state.running ≡ None → s.state.gifts ≡ [] → Follows j c s
@@ -130,7 +136,7 @@ either_follows false j c a b h k = k
 -- ---- replies to its calls
 
 told_follows : (j : ℕ) (c : ClientState) (place : ℕ) (ms : List Message) → IsSpared c → Follows j c (told_step c place ms)
-told_follows j c place ms sp = rests_follows j c (told_step c place ms) (on_same j c (told_step c place ms) refl refl refl refl refl) sp refl (refl, λ f. refl)
+told_follows j c place ms sp = rests_follows j c (told_step c place ms) (on_same j c (told_step c place ms) refl refl refl refl refl refl (λ z. z) (λ z act r f n o x. x)) sp refl (refl, λ f. refl)
 
 goes_follows : (j : ℕ) (c y : ClientState) (front : List Line → List Line) (w : Walked) (need : Need) → IsReading c → y.gifts ≡ [] → y.last ≡ c.last → Follows j c (goes_by (Client j) y front w need)
 goes_follows j c y front w (answers n) v e l = ends_follows j c (goes_by (Client j) y front w (answers n)) refl refl
@@ -206,6 +212,14 @@ takes_follows j c clock place act call (replies.BulkStatus statuses callbacks sy
 takes_follows j c clock place act call replies.GiveUpCallBacks sp r same = given_follows j c place act call sp r same
 takes_follows j c clock place act call reply sp r same = ends_follows j c _ refl refl
 
+or_left : (p q : Bool) → p ≡ true → (p || q) ≡ true
+or_left true q e = refl
+or_left false q e = absurd cc
+
+or_right : (p q : Bool) → q ≡ true → (p || q) ≡ true
+or_right true q e = refl
+or_right false q e = e
+
 -- a firm refusal ends the act
 firm_busy : (a b : Bool) → (a || b) ≡ false → b ≡ false
 firm_busy true b e = absurd cc
@@ -233,7 +247,7 @@ counts_follows j c clock place act head (carried.Call user call) sp r firm = tol
 counts_follows j c clock place act head (carried.Refusal code) sp r firm = spent_follows (is_spent c act) j c place act _ sp r refl (refuses_follows j c place act code firm.1)
 counts_follows j c clock place act head (carried.Reply (tell.File reply)) sp r firm = spent_follows (is_spent c act) j c place act _ sp r refl (takes_follows j c clock place act (call_of c act) reply sp r refl)
 counts_follows j c clock place act head (carried.Reply reply) sp r firm = told_follows j c place [] sp
-counts_follows j c clock place act head carried.Notice sp r firm = rests_follows j c _ (on_same j c _ refl refl refl refl refl) (record { none = sp.none; some = sp.some }) refl (refl, λ f. refl)
+counts_follows j c clock place act head carried.Notice sp r firm = rests_follows j c _ (on_same j c _ refl refl refl refl refl refl (λ z. z) (λ z act r f n o x. x)) (record { none = sp.none; some = sp.some }) refl (refl, λ f. refl)
 
 awaits_follows : (j : ℕ) (c : ClientState) (clock place : ℕ) (head : Head) (x : Carried) (o : Option Going) → IsSpared c → c.running ≡ o → IsFirm head x → Follows j c (awaits (Client j) c clock place head x o)
 awaits_follows j c clock place head x None sp r firm = told_follows j c place [] sp
@@ -245,19 +259,104 @@ drops_still : (j : ℕ) (fs : List Fid) → IsStill j (map (drop_line (Client j)
 drops_still j [] = (refl, λ f. refl)
 drops_still j (g ∷ fs) = drops_still j fs
 
+drops_silent : (j : ℕ) (fs : List Fid) → is_silent (map (drop_line (Client j)) fs) ≡ true
+drops_silent j [] = refl
+drops_silent j (g ∷ fs) = drops_silent j fs
+
+spoiled_by : (t b : Bool) → cond t true b ≡ false → b ≡ false
+spoiled_by true b e = absurd cc
+spoiled_by false b e = e
+
+not_spoiled : (t b : Bool) → cond t true b ≡ false → t ≡ false
+not_spoiled true b e = absurd cc
+not_spoiled false b e = refl
+
+-- a call that names a fid is named by a list that has it
+same_if : (t b : Bool) → (t ≡ true → b ≡ true) → cond t true false ≡ true → b ≡ true
+same_if true b w e = w refl
+same_if false b w e = absurd cc
+
+named_first : (t b : Bool) → t ≡ true → cond t true b ≡ true
+named_first true b e = refl
+named_first false b e = absurd cc
+
+named_later : (t b : Bool) → b ≡ true → cond t true b ≡ true
+named_later true b e = refl
+named_later false b e = e
+
+in_named : (g f : Fid) (fs : List Fid) → same_fid f g ≡ true → IsNamedIn f fs → is_named g fs ≡ true
+in_named g f [] e x = absurd x
+in_named g f (h ∷ fs) e (inl q) = named_first (same_fid h g) (is_named g fs) (ap (λ (y : Fid). same_fid y g) q ∙ e)
+in_named g f (h ∷ fs) e (inr x) = named_later (same_fid h g) (is_named g fs) (in_named g f fs e x)
+
+more_named : (g f : Fid) (fs : List Fid) → is_named g (f ∷ []) ≡ true → IsNamedIn f fs → is_named g fs ≡ true
+more_named g f fs e x = same_if (same_fid f g) (is_named g fs) (λ z. in_named g f fs z x) e
+
+either_true : (a b p q : Bool) → (a || b) ≡ true → (a ≡ true → p ≡ true) → (b ≡ true → q ≡ true) → (p || q) ≡ true
+either_true true b p q e u w = or_left p q (u refl)
+either_true false b p q e u w = or_right p q (w e)
+
+any_named : (gs : List Fid) (f : Fid) (fs : List Fid) → list_any (λ g. is_named g (f ∷ [])) gs ≡ true → IsNamedIn f fs → list_any (λ g. is_named g fs) gs ≡ true
+any_named [] f fs e x = absurd cc
+any_named (g ∷ gs) f fs e x = either_true (is_named g (f ∷ [])) (list_any (λ y. is_named y (f ∷ [])) gs) (is_named g fs) (list_any (λ y. is_named y fs) gs) e (λ z. more_named g f fs z x) (λ z. any_named gs f fs z x)
+
+names_more : (call : FsCall) (f : Fid) (fs : List Fid) → names_call (f ∷ []) call ≡ true → IsNamedIn f fs → names_call fs call ≡ true
+names_more (calls.FetchData g position wanted) f fs e x = more_named g f fs e x
+names_more (calls.FetchAcl g) f fs e x = more_named g f fs e x
+names_more (calls.FetchStatus g) f fs e x = more_named g f fs e x
+names_more (calls.StoreData g status position wanted file_length contents) f fs e x = more_named g f fs e x
+names_more (calls.StoreAcl g acl) f fs e x = more_named g f fs e x
+names_more (calls.StoreStatus g status) f fs e x = more_named g f fs e x
+names_more (calls.RemoveFile g name) f fs e x = more_named g f fs e x
+names_more (calls.CreateFile g name status) f fs e x = more_named g f fs e x
+names_more (calls.Rename g name h other) f fs e x = either_true (is_named g (f ∷ [])) (is_named h (f ∷ [])) (is_named g fs) (is_named h fs) e (λ z. more_named g f fs z x) (λ z. more_named h f fs z x)
+names_more (calls.Symlink g name target status) f fs e x = more_named g f fs e x
+names_more (calls.Link g name h) f fs e x = either_true (is_named g (f ∷ [])) (is_named h (f ∷ [])) (is_named g fs) (is_named h fs) e (λ z. more_named g f fs z x) (λ z. more_named h f fs z x)
+names_more (calls.MakeDir g name status) f fs e x = more_named g f fs e x
+names_more (calls.RemoveDir g name) f fs e x = more_named g f fs e x
+names_more (calls.BulkStatus gs) f fs e x = any_named gs f fs e x
+names_more call f fs e x = absurd cc
+
+names_spoiled : (call : FsCall) (f : Fid) → names_call (f ∷ []) call ≡ true → is_spoiled_by_all call ≡ true
+names_spoiled (calls.GiveUpCallBacks fids callbacks) f e = absurd cc
+names_spoiled call f e = refl
+
+-- what a break drops is what it names
+dropped_named : (q : Node) (j : ℕ) (f : Fid) (fs : List Fid) (o : List Line) → IsDropped q (Client j) f (onto o (map (drop_line (Client j)) fs)) → IsNamedIn f fs ⊎ IsDropped q (Client j) f o
+dropped_named q j f [] o x = inr x
+dropped_named q j f (g ∷ fs) o x = elim (dropped_named q j f fs (lines.Drop (Client j) g ∷ o) x) [
+  | inl y ↦ inl (inr y)
+  | inr y ↦ elim y [
+    | inl z ↦ inl (inl z.1)
+    | inr z ↦ inr z
+  ]
+]
+
+drops_kept : (j : ℕ) (c : ClientState) (fs : List Fid) (act : Going) (f : Fid) (o : List Line) → c.running ≡ Some act → names_act c fs c.running ≡ false → names_call (f ∷ []) (call_of c act) ≡ true → IsDropped c.callee (Client j) f (onto o (map (drop_line (Client j)) fs)) → IsDropped c.callee (Client j) f o
+drops_kept j c fs act f o r none names x = elim (dropped_named c.callee j f fs o x) [
+  | inl y ↦ (let no_ : false ≡ true = sym none ∙ (ap (names_act c fs) r ∙ names_more (call_of c act) f fs names y) in absurd cc)
+  | inr y ↦ y
+]
+
+all_kept : (j : ℕ) (c : ClientState) (q : Node) (act : Going) (f : Fid) (o : List Line) → c.running ≡ Some act → is_waiting c q c.running ≡ false → names_call (f ∷ []) (call_of c act) ≡ true → IsDropped c.callee (Client j) f (lines.DropAll (Client j) q ∷ o) → IsDropped c.callee (Client j) f o
+all_kept j c q act f o r none names (inl e) =
+    let yes : (same_node c.callee q && is_spoiled_by_all (call_of c act)) ≡ true = rw (names_spoiled (call_of c act) f names, ap (same_node c.callee) e.1 ∙ same_node-refl c.callee) refl in
+    let no_ : false ≡ true = sym none ∙ (ap (is_waiting c q) r ∙ yes) in absurd cc
+all_kept j c q act f o r none names (inr x) = x
+
 replies_follows : (j : ℕ) (c y : ClientState) (place : ℕ) (head : Head) (ls : List Line) (x : Carried) → IsSpared c → WaitsOn j c (replies_step y place head ls x) → y.running ≡ c.running → y.gifts ≡ c.gifts → IsStill j ls → Follows j c (replies_step y place head ls x)
 replies_follows j c y place head ls x sp l r g st =
     rests_follows j c (replies_step y place head ls x) l (record { none = λ q. g ∙ sp.none (sym r ∙ q); some = λ a q k. g ∙ sp.some a (sym r ∙ q) k }) g st
 
 breaks_follows : (j : ℕ) (c : ClientState) (place : ℕ) (head : Head) (call : FsCall) → IsSpared c → Follows j c (breaks (Client j) c place head call)
-breaks_follows j c place head (calls.CallBack fs callbacks) sp = replies_follows j c _ place head _ _ sp (on_same j c _ refl refl refl refl refl) refl refl (drops_still j fs)
-breaks_follows j c place head calls.InitCallBackState sp = replies_follows j c _ place head _ _ sp (on_same j c _ refl refl refl refl refl) refl refl (refl, λ f. refl)
-breaks_follows j c place head calls.Probe sp = replies_follows j c c place head [] _ sp (on_same j c _ refl refl refl refl refl) refl refl (refl, λ f. refl)
-breaks_follows j c place head call sp = replies_follows j c c place head [] _ sp (on_same j c _ refl refl refl refl refl) refl refl (refl, λ f. refl)
+breaks_follows j c place head (calls.CallBack fs callbacks) sp = replies_follows j c _ place head _ _ sp (on_same j c _ refl refl refl refl refl (drops_silent j fs) (λ z. spoiled_by (names_act c fs c.running) c.spoiled z) (λ z act r f n o x. drops_kept j c fs act f (lines.Given place ∷ o) r (not_spoiled (names_act c fs c.running) c.spoiled z) n x)) refl refl (drops_still j fs)
+breaks_follows j c place head calls.InitCallBackState sp = replies_follows j c _ place head _ _ sp (on_same j c _ refl refl refl refl refl refl (λ z. spoiled_by (is_waiting c head.from c.running) c.spoiled z) (λ z act r f n o x. all_kept j c head.from act f (lines.Given place ∷ o) r (not_spoiled (is_waiting c head.from c.running) c.spoiled z) n x)) refl refl (refl, λ f. refl)
+breaks_follows j c place head calls.Probe sp = replies_follows j c c place head [] _ sp (on_same j c _ refl refl refl refl refl refl (λ z. z) (λ z act r f n o x. x)) refl refl (refl, λ f. refl)
+breaks_follows j c place head call sp = replies_follows j c c place head [] _ sp (on_same j c _ refl refl refl refl refl refl (λ z. z) (λ z act r f n o x. x)) refl refl (refl, λ f. refl)
 
 carried_follows : (j : ℕ) (c : ClientState) (place : ℕ) (head : Head) (x : Carried) → IsSpared c → Follows j c (runs_carried (Client j) c place head x)
 carried_follows j c place head (carried.Call user (ask.File call)) sp = breaks_follows j c place head call sp
-carried_follows j c place head (carried.Call user call) sp = replies_follows j c c place head [] _ sp (on_same j c _ refl refl refl refl refl) refl refl (refl, λ f. refl)
+carried_follows j c place head (carried.Call user call) sp = replies_follows j c c place head [] _ sp (on_same j c _ refl refl refl refl refl refl (λ z. z) (λ z act r f n o x. x)) refl refl (refl, λ f. refl)
 carried_follows j c place head x sp = told_follows j c place [] sp
 
 admits_follows : (j : ℕ) (c : ClientState) (place : ℕ) (head : Head) (x : Carried) (o : Admitted Message) → IsSpared c → Follows j c (admits_call (Client j) c place head (whole head x) o)
@@ -306,10 +405,10 @@ unfolding begin_row
 begins_follow j c clock act sp idle = first_follows j c (record c { busy = 0 }) clock act (began c.table act) (next (began c.table act)) sp idle refl refl refl
 
 pub waits_follow : (j : ℕ) (c : ClientState) (act : Going) → IsSpared c → Follows j c (timeout_row (Client j) c act)
-waits_follow j c act sp = either_follows (nat_lt c.tries 2) j c _ _ (rests_follows j c _ (record { running = refl; callee = refl; epoch = refl; last = refl; tries = inr (refl, λ o. inl (refl, (refl, (refl, (refl, refl))))) }) (record { none = sp.none; some = sp.some }) refl (refl, λ f. refl)) (ends_follows j c _ refl refl)
+waits_follow j c act sp = either_follows (nat_lt c.tries 2) j c _ _ (rests_follows j c _ (record { running = refl; callee = refl; epoch = refl; last = refl; tries = inr (refl, λ o. inl (refl, (refl, (refl, (refl, refl))))); silent = refl; unspoiled = λ z. z; undropped = λ z act r f n o x. x }) (record { none = sp.none; some = sp.some }) refl (refl, λ f. refl)) (ends_follows j c _ refl refl)
 
 pub falls_follow : (j : ℕ) (c : ClientState) → Follows j c (record { state = reborn c; lines = lines.Crash (Client j) ∷ []; sent = [] })
 falls_follow j c = ends_follows j c _ refl refl
 
 pub rises_follow : (j : ℕ) (c : ClientState) → IsSpared c → Follows j c (record { state = c; lines = lines.Restart (Client j) c.epoch ∷ []; sent = [] })
-rises_follow j c sp = rests_follows j c _ (on_same j c _ refl refl refl refl refl) sp refl (refl, λ f. refl)
+rises_follow j c sp = rests_follows j c _ (on_same j c _ refl refl refl refl refl refl (λ z. z) (λ z act r f n o x. x)) sp refl (refl, λ f. refl)

@@ -59,6 +59,7 @@ pub mod Placing
 pub mod Sending
 pub mod Gifts
 pub mod Lone
+pub mod Silent
 pub mod Addressed
 pub mod Trying
 pub mod Ours

@@ -217,7 +217,7 @@ own_lone s c past n st None told A h a f run k l x y w v =
     (λ begun z. since_case (has_sent l st.sent) (has_begun (Client n) st.lines) (is_sent_since (Client n) l past) (k ≡ l) q.1
     (λ u. absurd (unsent l (same_node-true l.node (Client n) q.0) u))
     (λ begun' u. let x' : is_of_act (Client n) k past ≡ true = rw (p.0, z) refl in let y' : is_of_act (Client n) l past ≡ true = rw (q.0, u) refl in
-        lone_first (sent_of past) past h.1 n k l x' y' (changing_before n k e past x' w) (changing_before n l e past y' v)))
+    lone_first (sent_of past) past h.1 n k l x' y' (changing_before n k e past x' w) (changing_before n l e past y' v)))
 
 client_lones : (s : Script) (c : Cell) (past : List Entry) (n : ℕ) (st : Step ClientState) → sent_of past ≡ c.sent → AskedIn s c past → LonesIn c past → Acts n (who_at (c.clients n)) (c.clients n).gifts st → Follows n (c.clients n) st → LonesOf (put n st.state c.clients) (of_client n st ∷ past)
 client_lones s c past n st told A h a f =

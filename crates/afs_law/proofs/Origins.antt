@@ -17,7 +17,7 @@ use Rattle.afs_law.proofs.Knowing.{Known, known_first, known_kept, served_uncall
 use Rattle.afs_law.proofs.Law.{first_passed}
 use Rattle.afs_law.proofs.Moving.{Behind, EachMove, IsKept, each_moved, run_keeps}
 use Rattle.afs_law.proofs.Seating.{AreSeated}
-use Rattle.afs_law.specs.Grants.{has_fetched, is_promised}
+use Rattle.afs_law.specs.Grants.{IsDropped, has_fetched, is_promised}
 use Rattle.afs_law.specs.Ideal.{call_in, call_under, set_up, user_of}
 use Rattle.afs_law.specs.Legal.{as_asked}
 use Rattle.afs_law.specs.Once.{past_of}
@@ -58,6 +58,8 @@ is_idle (lines.Begin n act) = false
 is_idle (lines.Read n f index source body) = false
 is_idle (lines.Answer n code) = false
 is_idle (lines.Crash n) = is_server n
+is_idle (lines.Drop n f) = is_server n
+is_idle (lines.DropAll n q) = is_server n
 is_idle l = true
 
 server_apart : (n : Node) (j : ℕ) → is_server n ≡ true → same_node n (Client j) ≡ false
@@ -66,11 +68,12 @@ server_apart (Client i) j h = absurd cc
 server_apart (Admin i) j h = absurd cc
 server_apart Loc j h = absurd cc
 
--- an act, what begins and what was fetched, of a client
+-- the act of a client, and what it began, fetched and dropped
 pub record Leaves (s : Script) (j : ℕ) (ls o : List Line) : Type 0 where
   pub runs : running s (Client j) (onto o ls) ≡ running s (Client j) o
   pub begins : has_begun (Client j) ls ≡ false
   pub fetched : (f : Fid) → has_fetched (Client j) f ls ≡ false
+  pub dropped : (q : Node) (f : Fid) → IsDropped q (Client j) f (onto o ls) → IsDropped q (Client j) f o
 
 idle_line : (s : Script) (j : ℕ) (l : Line) (o : List Line) → is_idle l ≡ true → running s (Client j) (l ∷ o) ≡ running s (Client j) o
 idle_line s j (lines.Begin n act) o h = absurd cc
@@ -87,12 +90,22 @@ idle_fetched : (j : ℕ) (f : Fid) (l : Line) (ls : List Line) → is_idle l ≡
 idle_fetched j f (lines.Read n g index source body) ls h = absurd cc
 idle_fetched j f l ls h = refl
 
+no_server : (n : Node) (j : ℕ) → is_server n ≡ true → n ≡ Client j → ⊥
+no_server n j h e = let no_ : is_server (Client j) ≡ true = ap is_server (sym e) ∙ h in absurd cc
+
+idle_dropped : (q : Node) (j : ℕ) (f : Fid) (l : Line) (o : List Line) → is_idle l ≡ true → IsDropped q (Client j) f (l ∷ o) → IsDropped q (Client j) f o
+idle_dropped q j f (lines.Drop n g) o h (inl e) = absurd (no_server n j h e.0)
+idle_dropped q j f (lines.Drop n g) o h (inr x) = x
+idle_dropped q j f (lines.DropAll n s) o h (inl e) = absurd (no_server n j h e.0)
+idle_dropped q j f (lines.DropAll n s) o h (inr x) = x
+idle_dropped q j f l o h x = x
+
 pub idle_leaves : (s : Script) (j : ℕ) (ls o : List Line) → all_lines is_idle ls ≡ true → Leaves s j ls o
-idle_leaves s j [] o h = record { runs = refl; begins = refl; fetched = λ f. refl }
+idle_leaves s j [] o h = record { runs = refl; begins = refl; fetched = λ f. refl; dropped = λ q f x. x }
 idle_leaves s j (l ∷ ls) o h =
     let q = both (is_idle l) (all_lines is_idle ls) h in
     let r : Leaves s j ls (l ∷ o) = idle_leaves s j ls (l ∷ o) q.1 in
-    record { runs = r.runs ∙ idle_line s j l o q.0; begins = idle_begins j l ls q.0 ∙ r.begins; fetched = λ f. idle_fetched j f l ls q.0 ∙ r.fetched f }
+    record { runs = r.runs ∙ idle_line s j l o q.0; begins = idle_begins j l ls q.0 ∙ r.begins; fetched = λ f. idle_fetched j f l ls q.0 ∙ r.fetched f; dropped = λ s f x. idle_dropped s j f l o q.0 (r.dropped s f x) }
 
 -- those of another client
 other_node : (n : Node) (i j : ℕ) → same_node n (Client i) ≡ true → (i ≡ j → ⊥) → same_node n (Client j) ≡ false
@@ -117,12 +130,22 @@ other_fetched : (i j : ℕ) (f : Fid) (l : Line) (ls : List Line) → is_of i l 
 other_fetched i j f (lines.Read n g index Fetched body) ls h ne = ap (λ (t : Bool). cond (is_promised body && (t && same_fid g f)) true (has_fetched (Client j) f ls)) (other_node n i j h ne) ∙ fetched_off (is_promised body) (same_fid g f) (has_fetched (Client j) f ls)
 other_fetched i j f l ls h ne = refl
 
+no_other : (n : Node) (i j : ℕ) → same_node n (Client i) ≡ true → (i ≡ j → ⊥) → n ≡ Client j → ⊥
+no_other n i j h ne e = ne (client_number i j (sym (same_node-true n (Client i) h) ∙ e))
+
+other_dropped : (q : Node) (i j : ℕ) (f : Fid) (l : Line) (o : List Line) → is_of i l ≡ true → (i ≡ j → ⊥) → IsDropped q (Client j) f (l ∷ o) → IsDropped q (Client j) f o
+other_dropped q i j f (lines.Drop n g) o h ne (inl e) = absurd (no_other n i j h ne e.0)
+other_dropped q i j f (lines.Drop n g) o h ne (inr x) = x
+other_dropped q i j f (lines.DropAll n s) o h ne (inl e) = absurd (no_other n i j h ne e.0)
+other_dropped q i j f (lines.DropAll n s) o h ne (inr x) = x
+other_dropped q i j f l o h ne x = x
+
 pub other_leaves : (s : Script) (i j : ℕ) (ls o : List Line) → all_lines (is_of i) ls ≡ true → (i ≡ j → ⊥) → Leaves s j ls o
-other_leaves s i j [] o h ne = record { runs = refl; begins = refl; fetched = λ f. refl }
+other_leaves s i j [] o h ne = record { runs = refl; begins = refl; fetched = λ f. refl; dropped = λ q f x. x }
 other_leaves s i j (l ∷ ls) o h ne =
     let q = both (is_of i l) (all_lines (is_of i) ls) h in
     let r : Leaves s j ls (l ∷ o) = other_leaves s i j ls (l ∷ o) q.1 ne in
-    record { runs = r.runs ∙ other_line s i j l o q.0 ne; begins = other_begins i j l ls q.0 ne ∙ r.begins; fetched = λ f. other_fetched i j f l ls q.0 ne ∙ r.fetched f }
+    record { runs = r.runs ∙ other_line s i j l o q.0 ne; begins = other_begins i j l ls q.0 ne ∙ r.begins; fetched = λ f. other_fetched i j f l ls q.0 ne ∙ r.fetched f; dropped = λ s f x. other_dropped s i j f l o q.0 ne (r.dropped s f x) }
 
 -- a server's
 from_server : (n : Node) (i : ℕ) → same_node n (Server i) ≡ true → is_server n ≡ true
@@ -133,6 +156,8 @@ from_idle i (lines.Begin n act) h = absurd cc
 from_idle i (lines.Read n f index source body) h = absurd cc
 from_idle i (lines.Answer n code) h = absurd cc
 from_idle i (lines.Crash n) h = from_server n i h
+from_idle i (lines.Drop n f) h = absurd cc
+from_idle i (lines.DropAll n q) h = absurd cc
 from_idle i l h = refl
 
 all_idle : (i : ℕ) (ls : List Line) → AreFrom (Server i) ls → all_lines is_idle ls ≡ true

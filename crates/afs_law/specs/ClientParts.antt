@@ -1,16 +1,19 @@
 -- More parts of what a legal history is, proved of the runs of every script, with any number of servers: what clients give back, that
--- an act changes things once, and by what it reads and is answered.
+-- an act changes things once, by what it reads and is answered, and what it
+-- waits for.
 use Rattle.std.specs.Prelude.{◌≡◌, ◌≤◌, ℕ, List, [], ◌∷◌, ◌++◌, Bool, Option, Some, true, false, ℤ, pos, ⊤, ◌⊎◌}
 use Rattle.afs_history.specs.declared.lines.Line.{Line}
 use Rattle.afs_history.specs.declared.lines.Line.TheVariants as lines
 use Rattle.afs_history.specs.declared.scripts.Script.{Script}
 use Rattle.afs_history.specs.declared.scripts.VolumeLine.{VolumeLine}
-use Rattle.afs_law.specs.Grants.{is_promised}
+use Rattle.afs_law.specs.Grants.{IsDropped, is_promised}
 use Rattle.afs_law.specs.Ideal.{set_up, user_of}
 use Rattle.afs_law.specs.Legal.{GoodGift, HasChange, HasChangeBy, HasOwnHalf, HasUsed, IsDead, IsDone, as_asked, has_dropped}
-use Rattle.afs_law.specs.Parts.{AllLines, EachEntry, EachSent, LineRule}
-use Rattle.afs_law.specs.Past.{CalledSince, IsReply, answered_key, code_told, given_message, has_begun, is_of_act, lines_of, running, sent_of}
+use Rattle.afs_law.specs.Once.{past_of}
+use Rattle.afs_law.specs.Parts.{AllLines, EachEntry, EachSent, LineRule, waited_key}
+use Rattle.afs_law.specs.Past.{CalledSince, IsReply, answered_key, code_told, given_message, has_begun, has_sent, is_of_act, lines_of, lines_on, running, sent_of}
 use Rattle.afs_num.specs.declared.calls.FsCall.{FsCall}
+use Rattle.afs_num.specs.declared.histories.Actor.TheVariants as actors
 use Rattle.afs_num.specs.declared.histories.ReadSource.{ReadSource}
 use Rattle.afs_num.specs.declared.histories.ReadSource.TheVariants.{Fetched}
 use Rattle.afs_num.specs.declared.messages.Message.{Message}
@@ -18,7 +21,9 @@ use Rattle.afs_num.specs.declared.types.Code.{Code}
 use Rattle.afs_num.specs.declared.types.Fid.{Fid}
 use Rattle.afs_num.specs.declared.types.Key.{Key}
 use Rattle.afs_num.specs.declared.types.Node.{Node}
-use Rattle.afs_rows.specs.Going.{Going, asked, gives_back, next, reads_rights}
+use Rattle.afs_num.specs.declared.types.Node.TheVariants.{Client}
+use Rattle.afs_rows.specs.ClientRow.{call_of, names_call}
+use Rattle.afs_rows.specs.Going.{ClientState, Going, asked, gives_back, next, reads_rights}
 use Rattle.afs_rows.specs.Runs.{Cell, Entry, RunsTo}
 
 -- ---- messages
@@ -111,3 +116,34 @@ IsDue s who l past own next = ⊤
 -- of its call, or at once
 abbrev pub AnswersAreDue : Type 0
 AnswersAreDue = (s : Script) (history : List Entry) (end : Cell) → RunsTo history s end → AllLines (IsDue s) s history
+
+-- ---- what a client waits for
+
+-- these lines begin no act, read nothing and answer none
+abbrev pub is_silent : List Line → Bool
+is_silent [] = true
+is_silent (lines.Begin n act ∷ ls) = false
+is_silent (lines.Read n f index source body ∷ ls) = false
+is_silent (lines.Answer n code ∷ ls) = false
+is_silent (l ∷ ls) = is_silent ls
+
+-- nor do the client's entries among these
+abbrev pub AreSilent : Node → List Entry → Type 0
+AreSilent c [] = ⊤
+AreSilent c (e ∷ es) = (e.actor ≡ actors.Node c → is_silent e.lines ≡ true) × AreSilent c es
+
+-- The past, split at the entry in which the client first sent the call for which it waits: it reads nothing and is answered nothing since.
+-- And unless the reply is spoiled, it dropped no object since that the call names, nor all that the callee promised
+pub record IsUnspoiled (j : ℕ) (x : ClientState) (act : Going) (past : List Entry) : Type 0 where
+  pub newer : List Entry
+  pub at : Entry
+  pub older : List Entry
+  pub split : past ≡ newer ++ (at ∷ older)
+  pub sent : has_sent (waited_key j x) at.sent ≡ true
+  pub first : has_sent (waited_key j x) (sent_of older) ≡ false
+  pub silent : AreSilent (Client j) newer
+  pub kept : x.spoiled ≡ false → (f : Fid) → names_call (f ∷ []) (call_of x act) ≡ true → IsDropped x.callee (Client j) f (lines_on [] newer) → ⊥
+
+-- so it is of every client that waits
+abbrev pub WaitsAreSilent : Type 0
+WaitsAreSilent = (s : Script) (history : List Entry) (end : Cell) → RunsTo history s end → (j : ℕ) (act : Going) → (end.clients j).running ≡ Some act → IsUnspoiled j (end.clients j) act (past_of (set_up s ∷ []) history)

@@ -1,7 +1,7 @@
 //! Laws about the runs of a script. Each is the contract of a function that does nothing.
 
 ghost use Rattle.afs_law.specs.Laws.{AcknowledgedAreKept, AcknowledgedAreMade, AnswersAreRecent, ChangesAreFolded, EffectsAreTold, KeysRunOnce, ReadsAreNewest, RunsAreLegal, RunsAreOne, SetUpsAreFirst, StartsAreFolded, VolumesAreTold, PairsAreKnown, TrustedIsGood, RoomlessAreRefused, UnservedAreRefused, CallsRunOnce, RepliesAreCaused, RepliesWereRun, KeptWereRun, DurableAreChanges, GrantsAreKept, BreaksAreOwed, RepliesFollowDrops, UnawaitedAreUntrusted, DeadAreUntrusted};
-ghost use Rattle.afs_law.specs.ClientParts.{AnswersAreDue, ChangesAreAlone, GiftsAreDropped};
+ghost use Rattle.afs_law.specs.ClientParts.{AnswersAreDue, ChangesAreAlone, GiftsAreDropped, WaitsAreSilent};
 ghost use Rattle.afs_law.specs.Parts.{ActsAreTold, CallsAreAsked, ChangesAreIdeal, EntriesAreSound, LinesAreInPlace, MessagesAreOwn};
 
 /// Every run of a script for one server is legal.
@@ -172,6 +172,12 @@ pub fn changes_are_alone()
 /// call, or that it had nothing to give back.
 pub fn answers_are_due()
     ensures { AnswersAreDue }
+{}
+
+/// While a client waits for a call it reads nothing and is answered nothing; and unless the reply is spoiled it dropped nothing since that
+/// the call names.
+pub fn waits_are_silent()
+    ensures { WaitsAreSilent }
 {}
 
 /// Each message is sent by the node that its header names as sender, and each call of a client under a key that no file call had
