@@ -45,8 +45,10 @@ pub mod Standing
 pub mod Hearing
 pub mod Members
 pub mod Moving
+pub mod Firm
 pub mod Seating
 pub mod Acting
+pub mod Following
 pub mod Choosing
 pub mod Knowing
 pub mod Origins
@@ -67,6 +69,13 @@ pub mod Telling
 pub mod Owning
 pub mod Remaining
 pub mod Sending
+pub mod Gifts
+pub mod Lone
+pub mod Silent
+pub mod Addressed
+pub mod Trying
+pub mod Ours
+pub mod Due
 pub mod Entering
 pub mod Dying
 pub mod Made

@@ -786,7 +786,7 @@ new_not c n h r l same above =
     let own : Above (call_seat (Client n) (seat_placed (taken n h r) c.server.lasting.kept)) h.epoch h.number = subst (λ (x : Key). Above (call_seat x.node (seat_placed (taken n h r) c.server.lasting.kept)) x.epoch x.number) same above in
     below_not h.epoch h.number h.epoch h.number (subst (λ (o : Option Seat). Above o h.epoch h.number) (own_placed (taken n h r) c.server.lasting.kept) own) (up_to_same h.epoch h.number h.epoch h.number refl refl)
 
-any_change : (s : Node) (l : Key) (ls : List Line) → HasChangeBy s l ls → HasChange l ls
+pub any_change : (s : Node) (l : Key) (ls : List Line) → HasChangeBy s l ls → HasChange l ls
 any_change s l [] h = absurd h
 any_change s l (lines.Change q k count ∷ ls) (inl x) = inl x.1
 any_change s l (lines.Change q k count ∷ ls) (inr h) = inr (any_change s l ls h)
@@ -802,7 +802,7 @@ later_by None k l a not = absurd (not tt)
 later_by (Some seat) k l a not = later_seat (pair_below seat.epoch seat.number l.epoch l.number) seat.epoch seat.number k l refl a not
 
 -- none is later than the client's last call
-later_not : (k l : Key) (epoch last : ℕ) → l.epoch ≡ epoch → l.number ≡ last → UpTo k.epoch k.number epoch last → IsLater k l → ⊥
+pub later_not : (k l : Key) (epoch last : ℕ) → l.epoch ≡ epoch → l.number ≡ last → UpTo k.epoch k.number epoch last → IsLater k l → ⊥
 later_not k l epoch last e n (inl x) (inl y) = let a : k.epoch < epoch = x in let b : l.epoch < k.epoch = y in absurd (omega arith)
 later_not k l epoch last e n (inl x) (inr y) = let a : k.epoch < epoch = x in let b : l.epoch ≡ k.epoch = y.0 in absurd (omega arith)
 later_not k l epoch last e n (inr x) (inl y) = let a : k.epoch ≡ epoch = x.0 in let b : l.epoch < k.epoch = y in absurd (omega arith)

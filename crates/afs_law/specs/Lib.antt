@@ -8,3 +8,4 @@ pub mod Once
 pub mod Laws
 pub mod Parts
 pub mod ServerParts
+pub mod ClientParts

@@ -1,6 +1,7 @@
 //! Laws about the runs of a script. Each is the contract of a function that does nothing.
 
 ghost use Rattle.afs_law.specs.Laws.{AcknowledgedAreKept, AcknowledgedAreMade, AnswersAreRecent, ChangesAreFolded, EffectsAreTold, KeysRunOnce, ReadsAreNewest, RunsAreLegal, RunsAreOne, SetUpsAreFirst, StartsAreFolded, VolumesAreTold, PairsAreKnown, TrustedIsGood, RoomlessAreRefused, UnservedAreRefused, CallsRunOnce, RepliesAreCaused, RepliesWereRun, KeptWereRun, DurableAreChanges, GrantsAreKept, BreaksAreOwed, RepliesFollowDrops, UnawaitedAreUntrusted, DeadAreUntrusted};
+ghost use Rattle.afs_law.specs.ClientParts.{AnswersAreDue, ChangesAreAlone, GiftsAreDropped, WaitsAreSilent};
 ghost use Rattle.afs_law.specs.Parts.{ActsAreTold, CallsAreAsked, ChangesAreIdeal, EntriesAreSound, LinesAreInPlace, MessagesAreOwn};
 ghost use Rattle.afs_law.specs.ServerParts.{BreaksAreGood, GrantsAreGood, RepliesWait};
 
@@ -155,6 +156,29 @@ pub fn entries_are_sound()
 /// Each line stands in an entry of its node, and not beside what excludes it.
 pub fn lines_are_in_place()
     ensures { LinesAreInPlace }
+{}
+
+/// What carries a call is a call by its header; and what a client's call gives back that dropped in the very act, and fetched nothing of
+/// since.
+pub fn gifts_are_dropped()
+    ensures { GiftsAreDropped }
+{}
+
+/// An act changes things once, however often its call is repeated, and also when it is over.
+pub fn changes_are_alone()
+    ensures { ChangesAreAlone }
+{}
+
+/// What an act fetches is of replies to its own calls, and its answer has a cause: such a reply, what it read, the third timeout of its
+/// call, or that it had nothing to give back.
+pub fn answers_are_due()
+    ensures { AnswersAreDue }
+{}
+
+/// While a client waits for a call it reads nothing and is answered nothing; and unless the reply is spoiled it dropped nothing since that
+/// the call names.
+pub fn waits_are_silent()
+    ensures { WaitsAreSilent }
 {}
 
 /// Each message is sent by the node that its header names as sender, and each call of a client under a key that no file call had
