@@ -73,6 +73,8 @@ pub mod Gifts
 pub mod Lone
 pub mod Silent
 pub mod Addressed
+pub mod Truthful
+pub mod Caused
 pub mod Trying
 pub mod Ours
 pub mod Due

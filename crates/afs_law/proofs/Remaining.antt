@@ -18,7 +18,7 @@ use Rattle.afs_num.specs.declared.types.Node.TheVariants.{Server}
 use Rattle.afs_rows.specs.Runs.{Cell, Entry, Fall, Host, Moved, RunsTo, begun_by_disk, in_boot, server_stays, start, unarmed}
 use Rattle.afs_rows.specs.ServerRow.{Begun}
 use Rattle.afs_rows.specs.States.{volume_in}
-use Rattle.std.proofs.Common.{◌≡◌, ℕ, List, [], ◌∷◌, ◌++◌, Option, Some, None, refl, sym, ap, ◌∙◌}
+use Rattle.std.proofs.Common.{◌≡◌, ℕ, true, List, [], ◌∷◌, ◌++◌, Option, Some, None, refl, sym, ap, ◌∙◌}
 
 -- a fault changes nothing
 fault_key : (ls : List Line) (n : Node) → change_key (ls ++ lines.Fault n ∷ []) ≡ change_key ls

@@ -10,6 +10,7 @@ use Rattle.afs_law.proofs.Acting.{begins_acts, given_acts, waits_acts}
 use Rattle.afs_law.proofs.Choosing.{risen_lines}
 use Rattle.afs_law.proofs.Cutting.{comes_first, now_up}
 use Rattle.afs_law.proofs.Facts.{IsOne}
+use Rattle.afs_law.proofs.Firm.{IsSentBy}
 use Rattle.afs_law.proofs.Hearing.{ran_later}
 use Rattle.afs_law.proofs.Housed.{HomesIn, IsHome, home_held}
 use Rattle.afs_law.proofs.Hosting.{HasHead, does_given, served_head}
@@ -19,7 +20,7 @@ use Rattle.afs_law.proofs.Moving.{Behind, EachMove}
 use Rattle.afs_law.proofs.Ops.{changes_is}
 use Rattle.afs_law.proofs.Promised.{are_ideal, is_file, reading_code}
 use Rattle.afs_law.proofs.Reasons.{AreAmong, IsFile, IsMaking, IsNo, IsRead, IsReading, Ran as RanFor, Runs, Why, answer_of, answers_after, answers_in, answers_same, held_by, read_to, why}
-use Rattle.afs_law.proofs.Replying.{AreTold, Makes, MakesCut, Replied, Replies, Spares, disk_replies, serves_replies, starts_replies, times_replies, wakes_replies}
+use Rattle.afs_law.proofs.Replying.{AreTold, Leaves, Makes, MakesCut, Replied, Replies, Spares, disk_replies, serves_replies, starts_replies, times_replies, wakes_replies}
 use Rattle.afs_law.proofs.Serving.{IsAmong}
 use Rattle.afs_law.proofs.Standing.{runs_admitted}
 use Rattle.afs_law.specs.Breaks.{HasStopped}
@@ -47,7 +48,7 @@ use Rattle.afs_num.specs.declared.types.Key.{Key}
 use Rattle.afs_num.specs.declared.types.Node.{Node}
 use Rattle.afs_num.specs.declared.types.Node.TheVariants.{Client, Server}
 use Rattle.afs_rows.specs.Callbacks.{expired, put, replies_of, turn_for, turned_by}
-use Rattle.afs_rows.specs.ClientRow.{begin_row, client_row, timeout_row}
+use Rattle.afs_rows.specs.ClientRow.{begin_row, client_row, reborn, timeout_row}
 use Rattle.afs_rows.specs.Runs.{Armed, Cell, Entry, Fall, Host, at_rest, begun_by_disk, blow_line, client_moves, in_boot, in_step, message_at, server_falls, server_moves, server_rises, server_stays, start, unarmed}
 use Rattle.afs_rows.specs.ServerRow.{Begun, Change, Decision, Reading, admits, begun_after, carried_by, change_reply_to, decides, does, drops, granted, granted_in, hears, is_client, key_of, made, not_served, promise_ticks, promised_in, read_reply_to, refusal, refuses, repeats, reply_head, result, saves, serves_call, shows, stored_by, tells_boot, versioned, whole}
 use Rattle.afs_rows.specs.ServerSteps.{back_timeout_row, server_row, start_row, wake_row}
@@ -211,7 +212,7 @@ pub record Place (i : ℕ) (x : ServerState) (m : Message) (past : List Entry) :
   pub first : (j : ℕ) → m.head.from ≡ Client j → admitted x.lasting.boot x.seats m.head ≡ pairs.runs → IsToCome (Server i) (called_key m.head) x.lasting.boot older
   pub ideal : AreAmong (held_by x) (λ id. volume_after id older)
 
-ran_at : (i j : ℕ) (x : ServerState) (m : Message) (past : List Entry) → Place i x m past → Runs (Server i) x m j → Ran (reply_head x.lasting.boot m.head) past
+abbrev ran_at : (i j : ℕ) (x : ServerState) (m : Message) (past : List Entry) → Place i x m past → Runs (Server i) x m j → Ran (reply_head x.lasting.boot m.head) past
 ran_at i j x m past p r = record {
   newer = p.newer;
   at = p.at;
@@ -265,7 +266,7 @@ served_lines me x clock place m d = (does me x clock place d (turned_by me x clo
 turn_lines : (me : Node) (x : ServerState) (clock : ℕ) (d : Decision) (m : Message) (user : List ℕ) (call : FsCall) → m.carried ≡ carried.Call user (ask.File call) → (turned_by me x clock (expired clock x.backs) d m.head m.carried).lines ≡ (turn_for me x clock (expired clock x.backs) d).lines
 turn_lines me x clock d m user call is = ap (λ (c : Carried). (turned_by me x clock (expired clock x.backs) d m.head c).lines) is
 
-place_here : (s : Script) (c : Cell) (past : List Entry) (e : Entry) (i place : ℕ) (m : Message) (d : Decision) → Held s c past → (c.hosts i).down ≡ None → message_at c.sent place ≡ Some m → e.actor ≡ actors.Node (Server i) → e.lines ≡ served_lines (Server i) (c.hosts i).state c.clock place m d → Place i (c.hosts i).state m (e ∷ past)
+abbrev place_here : (s : Script) (c : Cell) (past : List Entry) (e : Entry) (i place : ℕ) (m : Message) (d : Decision) → Held s c past → (c.hosts i).down ≡ None → message_at c.sent place ≡ Some m → e.actor ≡ actors.Node (Server i) → e.lines ≡ served_lines (Server i) (c.hosts i).state c.clock place m d → Place i (c.hosts i).state m (e ∷ past)
 place_here s c past e i place m d h up at actor ls = record {
   newer = [];
   at = e;
@@ -419,7 +420,7 @@ pub record CutHeld (i : ℕ) (x : ServerState) (m : Message) (past : List Entry)
   pub place : Place i x m past
   pub stopped : HasStopped (Server i) place.at.lines
 
-place_later : (i : ℕ) (x : ServerState) (m : Message) (e : Entry) (past : List Entry) → Place i x m past → Place i x m (e ∷ past)
+abbrev place_later : (i : ℕ) (x : ServerState) (m : Message) (e : Entry) (past : List Entry) → Place i x m past → Place i x m (e ∷ past)
 place_later i x m e past p = record { newer = e ∷ p.newer; at = p.at; older = p.older; split = ap (λ (es : List Entry). e ∷ es) p.split; actor = p.actor; given = p.given; up = p.up; first = p.first; ideal = p.ideal }
 
 cut_later : (i : ℕ) (x : ServerState) (m : Message) (e : Entry) (past : List Entry) → CutHeld i x m past → CutHeld i x m (e ∷ past)
@@ -483,10 +484,10 @@ no_server n i e = absurd cc
 client_told : (n : ℕ) (past : List Entry) (m : Message) → m.head.from ≡ Client n → IsTold past m
 client_told n past m own i j from to told = absurd (no_server n i (sym own ∙ from))
 
-acts_told : (c : Cell) (past : List Entry) (n : ℕ) (st : Step ClientState) → Told c.hosts c.sent past → Each (λ m. m.head.from ≡ Client n) st.sent → Told c.hosts (c.sent ++ st.sent) ((client_moves c n st).entry ∷ past)
+acts_told : (c : Cell) (past : List Entry) (n : ℕ) (st : Step ClientState) → Told c.hosts c.sent past → Each (IsSentBy (Client n)) st.sent → Told c.hosts (c.sent ++ st.sent) ((client_moves c n st).entry ∷ past)
 acts_told c past n st h from =
     let e : Entry = (client_moves c n st).entry in
-    others_told c.hosts c.sent (c.sent ++ st.sent) past e h (each_more (IsTold (e ∷ past)) c.sent st.sent (all_later e past c.sent h.sends) (each_map (λ m. m.head.from ≡ Client n) (IsTold (e ∷ past)) (client_told n (e ∷ past)) st.sent from))
+    others_told c.hosts c.sent (c.sent ++ st.sent) past e h (each_more (IsTold (e ∷ past)) c.sent st.sent (all_later e past c.sent h.sends) (each_map (IsSentBy (Client n)) (IsTold (e ∷ past)) (λ m k. client_told n (e ∷ past) m k.from) st.sent from))
 
 moves_told : (c : Cell) (past : List Entry) (i : ℕ) (armed : Armed) (st : Step ServerState) → Told c.hosts c.sent past → Replied (IsTold ((server_moves c i armed st).entry ∷ past)) st → Behind ToldIn c past (server_moves c i armed st)
 moves_told c past i armed st h r =
@@ -556,8 +557,8 @@ told_moves s = record {
   begun = λ c past n act h r. acts_told c past n (begin_row (Client n) (c.clients n) c.clock act) h.1 (begins_acts n (c.clients n) c.clock act r).from;
   told = λ c past n place m h at to. acts_told c past n (client_row (Client n) (c.clients n) c.clock place (Whole m)) h.1 (given_acts (by_key (IsKnown h.0.0.0.0.keys.callees c.clients)) any_told n (c.clients n) c.clock place m (h.0.0.0.0.keys.replies n) (h.0.0.0.1.seats n)).from;
   waited = λ c past n act h r. acts_told c past n (timeout_row (Client n) (c.clients n) act) h.1 (waits_acts n (c.clients n) act r).from;
-  fallen = λ c past n h. others_told c.hosts c.sent c.sent past _ h.1 (all_later _ past c.sent h.1.sends);
-  risen = λ c past n h. others_told c.hosts c.sent c.sent past _ h.1 (all_later _ past c.sent h.1.sends);
+  fallen = λ c past n h. acts_told c past n (record { state = reborn (c.clients n); lines = lines.Crash (Client n) ∷ []; sent = [] }) h.1 tt;
+  risen = λ c past n h. acts_told c past n (record { state = c.clients n; lines = lines.Restart (Client n) (c.clients n).epoch ∷ []; sent = [] }) h.1 tt;
   served = λ c past i place m armed h up at to. served_told s c past i place m armed h up at;
   cut = λ c past i place m t h up at to. falls_told c past i _ (server_falls c i (lines.Given place ∷ blow_line i t ∷ []) (in_step m c.clock)).entry h.1 refl
       (λ k clock d. subst (λ (y : Message). CutHeld i (c.hosts i).state y ((server_falls c i (lines.Given place ∷ blow_line i t ∷ []) (in_step m c.clock)).entry ∷ past)) (same_cut m k c.clock clock d) (cut_here s c past i place m t (server_falls c i (lines.Given place ∷ blow_line i t ∷ []) (in_step m c.clock)).entry h.0.0 up at refl refl));

@@ -3,7 +3,7 @@
 ghost use Rattle.afs_law.specs.Laws.{AcknowledgedAreKept, AcknowledgedAreMade, AnswersAreRecent, ChangesAreFolded, EffectsAreTold, KeysRunOnce, ReadsAreNewest, RunsAreLegal, RunsAreOne, SetUpsAreFirst, StartsAreFolded, VolumesAreTold, PairsAreKnown, TrustedIsGood, RoomlessAreRefused, UnservedAreRefused, CallsRunOnce, RepliesAreCaused, RepliesWereRun, KeptWereRun, DurableAreChanges, GrantsAreKept, BreaksAreOwed, RepliesFollowDrops, UnawaitedAreUntrusted, DeadAreUntrusted};
 ghost use Rattle.afs_law.specs.ClientParts.{AnswersAreDue, ChangesAreAlone, GiftsAreDropped, WaitsAreSilent};
 ghost use Rattle.afs_law.specs.Parts.{ActsAreTold, CallsAreAsked, ChangesAreIdeal, EntriesAreSound, LinesAreInPlace, MessagesAreOwn};
-ghost use Rattle.afs_law.specs.ServerParts.{BreaksAreGood, GrantsAreGood, RepliesWait};
+ghost use Rattle.afs_law.specs.ServerParts.{BreaksAreGood, FallsAreKept, GrantsAreGood, RepliesAreTrue, RepliesWait};
 
 /// Every run of a script for one server is legal.
 pub fn runs_are_legal()
@@ -205,4 +205,14 @@ pub fn breaks_are_good()
 /// A server's reply with code 0 waits until no break is open that an entry given its call owes, or, where that changed something, any on all.
 pub fn replies_wait()
     ensures { RepliesWait }
+{}
+
+/// Each reply of a server to a client tells what the ideal operation made of the call that its entry was given, and is of that call's kind.
+pub fn replies_are_true()
+    ensures { RepliesAreTrue }
+{}
+
+/// While a server is down, what its interrupted step may have left holds the ideal volumes, behind what a restart tells of that step.
+pub fn falls_are_kept()
+    ensures { FallsAreKept }
 {}
