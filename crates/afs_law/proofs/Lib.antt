@@ -79,6 +79,7 @@ pub mod Trying
 pub mod Ours
 pub mod Due
 pub mod Entering
+pub mod Assembled
 pub mod Dying
 pub mod Made
 pub mod Surviving

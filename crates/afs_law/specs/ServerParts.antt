@@ -1,7 +1,8 @@
 -- What a legal history asks of the promises of servers, each proved of the runs of every script, with any number of servers.
 use Rattle.afs_law.specs.Breaks.{GoodQuit, GoodSettle, HasOwe, lines_at, live_grant}
+use Rattle.afs_law.specs.Grants.{is_promised}
 use Rattle.afs_law.specs.Ideal.{Accepts, clock_of, set_up, volume_after}
-use Rattle.afs_law.specs.Legal.{GoodGrant, GoodOwe, GoodReply, IsChanged, IsResult, answer_at, versions_first}
+use Rattle.afs_law.specs.Legal.{GoodCode, GoodGrant, GoodOwe, GoodReadBy, GoodReply, IsChanged, IsResult, Legal, answer_at, versions_first}
 use Rattle.afs_law.specs.Once.{past_of}
 use Rattle.afs_law.specs.Parts.{AllLines, EachEntry, EachSent, LineRule}
 use Rattle.afs_law.specs.Past.{HasCode, Ran, answered_key, code_told, lines_of}
@@ -91,3 +92,17 @@ abbrev pub FallsAreKept : Type 0
 FallsAreKept =
     (s : Script) (history : List Entry) (end : Cell) → RunsTo history s end → (i : ℕ) (fall : Fall) → (end.hosts i).down ≡ Some fall → (id : ℕ) → Accepts s id (Server i) (lines_of (past_of (set_up s ∷ []) history))
     → volume_in id (begun_by_disk (Server i) (end.hosts i).state true fall).state.lasting.volumes ≡ volume_after id (told_by_restart i (end.hosts i) fall ∷ past_of (set_up s ∷ []) history)
+
+-- ---- all of it
+
+abbrev pub IsReadGood : Script → LineRule
+IsReadGood s who (lines.Read c f index source body) past own next = GoodReadBy s (is_promised body) c f index source body past own
+IsReadGood s who l past own next = ⊤
+
+abbrev pub IsCodeGood : Script → LineRule
+IsCodeGood s who (lines.Answer c code) past own next = GoodCode s c code past own
+IsCodeGood s who l past own next = ⊤
+
+-- a run is legal where what its clients read and answer is good: of all else that is asked of a history, nothing is left
+abbrev pub GoodReadsAreLegal : Type 0
+GoodReadsAreLegal = (s : Script) (history : List Entry) (end : Cell) → RunsTo history s end → AllLines (IsReadGood s) s history → AllLines (IsCodeGood s) s history → Legal history s

@@ -3,7 +3,7 @@
 ghost use Rattle.afs_law.specs.Laws.{AcknowledgedAreKept, AcknowledgedAreMade, AnswersAreRecent, ChangesAreFolded, EffectsAreTold, KeysRunOnce, ReadsAreNewest, RunsAreLegal, RunsAreOne, SetUpsAreFirst, StartsAreFolded, VolumesAreTold, PairsAreKnown, TrustedIsGood, RoomlessAreRefused, UnservedAreRefused, CallsRunOnce, RepliesAreCaused, RepliesWereRun, KeptWereRun, DurableAreChanges, GrantsAreKept, BreaksAreOwed, RepliesFollowDrops, UnawaitedAreUntrusted, DeadAreUntrusted};
 ghost use Rattle.afs_law.specs.ClientParts.{AnswersAreDue, ChangesAreAlone, GiftsAreDropped, WaitsAreSilent};
 ghost use Rattle.afs_law.specs.Parts.{ActsAreTold, CallsAreAsked, ChangesAreIdeal, EntriesAreSound, LinesAreInPlace, MessagesAreOwn};
-ghost use Rattle.afs_law.specs.ServerParts.{BreaksAreGood, FallsAreKept, GrantsAreGood, RepliesAreTrue, RepliesWait};
+ghost use Rattle.afs_law.specs.ServerParts.{BreaksAreGood, FallsAreKept, GoodReadsAreLegal, GrantsAreGood, RepliesAreTrue, RepliesWait};
 
 /// Every run of a script for one server is legal.
 pub fn runs_are_legal()
@@ -215,4 +215,9 @@ pub fn replies_are_true()
 /// While a server is down, what its interrupted step may have left holds the ideal volumes, behind what a restart tells of that step.
 pub fn falls_are_kept()
     ensures { FallsAreKept }
+{}
+
+/// A run, of any number of servers, is legal where what its clients read and answer is good.
+pub fn good_reads_are_legal()
+    ensures { GoodReadsAreLegal }
 {}
