@@ -538,4 +538,3 @@ backed_fall me d fall b boot seats after cs clock sent e past oweless still stop
     } in
     backed_step me d (Some fall) b b boot seats after cs cs clock clock sent [] e past s h (λ x. absurd cc)
     (λ j f x l t. absurd (live_stop me j f x e.lines (before_own me e past) [] still (λ y z. y) (stop (h.promised j f x (live_given me j f x e past (live_back me j f x e.lines (before_own me e past) still l)) t).0 []) l)) (numbered_fall me d b.lists.last_owed e past oweless stop h.numbered) (rising_over me e past oweless h.rising) (λ x. absurd cc) (λ x. absurd cc) (λ x. absurd cc) (λ x. absurd cc) tt tt (λ j seat m x y. seated_over me d (Some fall) b b boot clock clock e past s j m (h.seated j seat m x y))
-

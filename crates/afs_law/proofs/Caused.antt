@@ -13,7 +13,7 @@ use Rattle.afs_law.proofs.Users.{given_each, older_each}
 use Rattle.afs_law.specs.Ideal.{call_under, set_up, user_of}
 use Rattle.afs_law.specs.Legal.{Cause, as_asked}
 use Rattle.afs_law.specs.Once.{past_of}
-use Rattle.afs_law.specs.Past.{HasCode, IsReply, Ran, answered_key, called_key, sent_of}
+use Rattle.afs_law.specs.Past.{HasCode, IsReply, Ran, answered_key, sent_of}
 use Rattle.afs_num.specs.declared.calls.FsCall.{FsCall}
 use Rattle.afs_num.specs.declared.messages.Call.TheVariants as ask
 use Rattle.afs_num.specs.declared.messages.Carried.{Carried}
@@ -26,7 +26,7 @@ use Rattle.afs_num.specs.declared.types.Node.TheVariants.{Client, Server}
 use Rattle.afs_rows.specs.ClientRow.{call_of}
 use Rattle.afs_rows.specs.Going.{Going, asked}
 use Rattle.afs_rows.specs.Runs.{Cell, Entry, RunsTo, message_at, start}
-use Rattle.std.proofs.Common.{◌≡◌, ℕ, ℤ, List, ◌∷◌, ◌++◌, [], Option, Some, refl, sym, ap, subst, ◌∙◌}
+use Rattle.std.proofs.Common.{◌≡◌, ℕ, ℤ, List, ◌∷◌, ◌++◌, [], Some, sym, ap, subst, ◌∙◌}
 
 -- the call that an entry was given is the one under its key
 ran_one : (past : List Entry) (j : ℕ) (m : Message) (ran : Ran m.head past) (user : List ℕ) (call : FsCall) → ran.message.carried ≡ carried.Call user (ask.File call) → m.head.to ≡ Client j → (sent : List Message) → Each (IfCall (IsOne sent)) sent → sent_of past ≡ sent → call_under (answered_key m.head) sent ≡ Some (user, call)
@@ -56,17 +56,22 @@ caused_in s c past i j place m act h at code from to runs epoch number =
     let t : Tells m past = each_at (IsTold past) c.sent place m at h.1.sends i j from to code in
     let key : answered_key m.head ≡ last_key j (c.clients j) = key_is j m.head (c.clients j).epoch (c.clients j).last to epoch number in
     let same : Some (t.user, t.call) ≡ Some ((c.clients j).user, call_of (c.clients j) act) = sym (ran_one past j m t.ran t.user t.call t.carries to c.sent a.1.ones a.0.hears.told) ∙ (ap (λ (k : Key). call_under k c.sent) key ∙ a.1.last j act runs) in
-    let both : (t.user, t.call) ≡ ((c.clients j).user, call_of (c.clients j) act) = some_of (t.user, t.call) ((c.clients j).user, call_of (c.clients j) act) same in
-    (t.code, (record {
-      is_reply = is_reply m.head m.carried code (each_at (λ (x : Message). IsFirm x.head x.carried) c.sent place m at h.0.1.0.0.1);
-      told = t.told;
-      ran = t.ran;
-      user = t.user;
-      call = t.call;
-      carries = t.carries;
-      asks = ap (λ (p : List ℕ × FsCall). as_asked p.1) both ∙ asks_is (c.clients j).gifts act;
-      result = t.result;
-    }, ap (λ (p : List ℕ × FsCall). p.0) both ∙ a.1.user j))
+    let both : (t.user, t.call) ≡ ((c.clients j).user, call_of (c.clients j) act) = some_of (t.user, t.call) ((c.clients j).user, call_of (c.clients j) act) same in (
+      t.code,
+      (
+        record {
+          is_reply = is_reply m.head m.carried code (each_at (λ (x : Message). IsFirm x.head x.carried) c.sent place m at h.0.1.0.0.1);
+          told = t.told;
+          ran = t.ran;
+          user = t.user;
+          call = t.call;
+          carries = t.carries;
+          asks = ap (λ (p : List ℕ × FsCall). as_asked p.1) both ∙ asks_is (c.clients j).gifts act;
+          result = t.result;
+        },
+        ap (λ (p : List ℕ × FsCall). p.0) both ∙ a.1.user j,
+      ),
+    )
 
 pub truthful_at : (s : Script) (h : List Entry) (end : Cell) → RunsTo h s end → Truthful s end (past_of (set_up s ∷ []) h)
 truthful_at s h end r = run_keeps (Truthful s) (truthful_kept s) r.inputs (start s) (set_up s ∷ []) h end (truthful_first s) r.leads

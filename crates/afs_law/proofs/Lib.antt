@@ -68,6 +68,8 @@ pub mod Housed
 pub mod Telling
 pub mod Owning
 pub mod Remaining
+pub mod Latest
+pub mod Ascending
 pub mod Sending
 pub mod Gifts
 pub mod Lone

@@ -755,8 +755,11 @@ grant_promised true n j f g x y o ps e h l =
 grant_promised false n j f g x y o ps e h l = in_first (promise_to j g y) (filter (λ z. not (is_promise n f z)) ps) (promise_to n f x ∷ []) (kept_in (λ z. not (is_promise n f z)) (promise_to j g y) ps (h l) (not_promise (same_node j n && same_fid g f) n j f g refl e))
 
 promised_now : (me : Node) (n : Node) (f : Fid) (x index clock : ℕ) (base : List Line) (ps : List Promise) → Promised me None ps clock base → Promised me None (with_promise n x f ps) clock (lines.Grant me n f index x ∷ base)
-promised_now me n f x index clock base ps h j g y l t = (refl, grant_promised (same_node n j && same_fid f g) n j f g x y (live_grant me j g base) ps refl (λ k. (h j g y k t).1)
-    (subst (λ (own : Bool). cond (own && (same_node n j && same_fid f g)) (Some x) (live_grant me j g base) ≡ Some y) (same_node-refl me) l))
+promised_now me n f x index clock base ps h j g y l t = (
+  refl,
+  grant_promised (same_node n j && same_fid f g) n j f g x y (live_grant me j g base) ps refl (λ k. (h j g y k t).1)
+      (subst (λ (own : Bool). cond (own && (same_node n j && same_fid f g)) (Some x) (live_grant me j g base) ≡ Some y) (same_node-refl me) l),
+)
 
 -- grants, and lines behind them
 pub onto_granted : (me : Node) (n : Node) (x : ℕ) (fs : List Found) (tail o : List Line) → onto o (granted me n x fs tail) ≡ onto (onto o (granted me n x fs [])) tail
@@ -1071,4 +1074,3 @@ rise_loaded me count d b boot seats now cs clock sent e past pre ne h time are o
       dones = each_map (IfDone (DoneIn me d b.calls b.last_call boot past)) (IfDone (DoneIn me None (λ n. None) 0 (boot + 1) (e ∷ past))) (if_done (DoneIn me d b.calls b.last_call boot past) (DoneIn me None (λ n. None) 0 (boot + 1) (e ∷ past)) (λ m x. record { client = x.client; from = x.from; done = λ own. record { booted = le_trans (x.done own).booted (omega arith); below = λ y z. absurd (not_now m.head.epoch boot (x.done own).booted z); dropped = λ c y z. absurd (not_now m.head.epoch boot (x.done own).booted z) } })) sent h.dones;
       seated = λ j seat m x y. let z = h.seated j seat m x y in record { to = z.to; from = z.from; is_reply = z.is_reply; done = record { booted = le_trans z.done.booted (omega arith); below = λ u v. absurd (not_now m.head.epoch boot z.done.booted v); dropped = λ c u v. absurd (not_now m.head.epoch boot z.done.booted v) } };
     }
-

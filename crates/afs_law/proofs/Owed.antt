@@ -350,8 +350,8 @@ kept_reply s c past i m j reply B from e =
     let kept : IsKept (Server i) x reply = record { client = j; seat = l.seat; at = at; kept = l.reply; is = is; answers = code_answers reply.carried is.reply.1 } in (
       kept,
       λ t. fresh_key s c past i (key_answered reply) B (subst (λ (q : Node). IsKnown callees c.clients q (answered_key reply.head)) is.from answer)
-      (durable_above (call_seat reply.head.to x.lasting.kept) reply.head.epoch reply.head.number reply refl refl t
-      (λ d k b. (B.held.0.0.0.keys.sound i).lower reply.head.to d k (subst (λ (o : Option Seat). Above o d k) (sym (ap (λ (n : Node). call_seat n x.seats) is.to ∙ at)) (subst (λ (u : ℕ). Below u l.seat.number d k) is.epoch (subst (λ (u : ℕ). Below reply.head.epoch u d k) is.number b))))),
+          (durable_above (call_seat reply.head.to x.lasting.kept) reply.head.epoch reply.head.number reply refl refl t
+          (λ d k b. (B.held.0.0.0.keys.sound i).lower reply.head.to d k (subst (λ (o : Option Seat). Above o d k) (sym (ap (λ (n : Node). call_seat n x.seats) is.to ∙ at)) (subst (λ (u : ℕ). Below u l.seat.number d k) is.epoch (subst (λ (u : ℕ). Below reply.head.epoch u d k) is.number b))))),
     )
 
 facing : (s : Script) (c : Cell) (past : List Entry) (i place : ℕ) (m : Message) (user : List ℕ) (call : FsCall) → (B : Breaks s c past) → (c.hosts i).down ≡ None → message_at c.sent place ≡ Some m → m.head.to ≡ Server i → m.carried ≡ carried.Call user (ask.File call) → Facing (Server i) (c.hosts i).state m place past
@@ -606,13 +606,18 @@ saves_rules s c past i place m ch B up =
     let first : versions_first (versioned vs tl) ≡ vs = first_on vs tl (no_versions me n y fs os) in
     let owed : IsBreakGood s who (lines.Change me k (length vs)) past (lines.Given place ∷ []) (versioned vs tl) = λ j f z ne changed l t.
     owe_behind me (Client j) (Some f) vs tl (owe_granted me (Client j) n (Some f) y fs owes
-    (has_owe me (Client j) f z b.lists.last_owed (hits n vs ps) (touched_hit n (Client j) f z vs ps ne (subst (IsChanged f) first changed) (U.promised (Client j) f z l (subst (λ (u : ℕ). u < z) B.held.1 t)).1))) in
-    (tt, (owed, versions_rules s who past front vs tl (granted_rules s who past (on_top vs front) me n y fs owes (rules_of s who past own owes
-    (numbers_good me refl s b.lists.last_owed (hits n vs ps) past own (subst (λ (u : ℕ). u ≤ b.lists.last_owed) (sym (granted_top me n y fs (on_top vs front) (lines_of past) ∙ versions_top me vs front (lines_of past))) U.numbered)
-    (granted_stopped me me n y fs (on_top vs front) (λ z. over_stopped me vs front z))
-    (all_map (IsHit n vs) (λ (o : Promise). IsChangedByOther me o.client o.fid own) (λ o z. granted_others me o.client me n o.fid y fs (on_top vs front) (on_others me o.client o.fid vs front (refl, λ q. z.1 (sym q)) z.0)) (hits n vs ps) (hits_hit n vs ps))
-    (two_all (IsGranted me (lines_of past)) (λ (o : Promise). c.clock < o.expiry) (λ (o : Promise). IsUnbroken me o.client o.fid past) (λ o was lasts. (o.expiry, (was, subst (λ (u : ℕ). u < o.expiry) (sym B.held.1) lasts))) (hits n vs ps) (all_hits (IsGranted me (lines_of past)) n vs ps (U.granted refl))
-    (all_hits (λ (o : Promise). c.clock < o.expiry) n vs ps (all_map (λ (o : Promise). nat_lt c.clock o.expiry ≡ true) (λ (o : Promise). c.clock < o.expiry) (λ o lasts. ltb-true _ _ lasts) ps (filtered (λ o. nat_lt c.clock o.expiry) x.backs.lists.promises)))))))))
+    (has_owe me (Client j) f z b.lists.last_owed (hits n vs ps) (touched_hit n (Client j) f z vs ps ne (subst (IsChanged f) first changed) (U.promised (Client j) f z l (subst (λ (u : ℕ). u < z) B.held.1 t)).1))) in (
+      tt,
+      (
+        owed,
+        versions_rules s who past front vs tl (granted_rules s who past (on_top vs front) me n y fs owes (rules_of s who past own owes
+            (numbers_good me refl s b.lists.last_owed (hits n vs ps) past own (subst (λ (u : ℕ). u ≤ b.lists.last_owed) (sym (granted_top me n y fs (on_top vs front) (lines_of past) ∙ versions_top me vs front (lines_of past))) U.numbered)
+            (granted_stopped me me n y fs (on_top vs front) (λ z. over_stopped me vs front z))
+            (all_map (IsHit n vs) (λ (o : Promise). IsChangedByOther me o.client o.fid own) (λ o z. granted_others me o.client me n o.fid y fs (on_top vs front) (on_others me o.client o.fid vs front (refl, λ q. z.1 (sym q)) z.0)) (hits n vs ps) (hits_hit n vs ps))
+            (two_all (IsGranted me (lines_of past)) (λ (o : Promise). c.clock < o.expiry) (λ (o : Promise). IsUnbroken me o.client o.fid past) (λ o was lasts. (o.expiry, (was, subst (λ (u : ℕ). u < o.expiry) (sym B.held.1) lasts))) (hits n vs ps) (all_hits (IsGranted me (lines_of past)) n vs ps (U.granted refl))
+            (all_hits (λ (o : Promise). c.clock < o.expiry) n vs ps (all_map (λ (o : Promise). nat_lt c.clock o.expiry ≡ true) (λ (o : Promise). c.clock < o.expiry) (λ o lasts. ltb-true _ _ lasts) ps (filtered (λ o. nat_lt c.clock o.expiry) x.backs.lists.promises))))))),
+      ),
+    )
 
 abbrev DoesRules : Script → Cell → List Entry → ℕ → ℕ → Decision → List Line → Type 0
 DoesRules s c past i place d tail = EachLine (IsBreakGood s) (actors.Node (Server i)) past [] (does (Server i) (c.hosts i).state c.clock place d tail).lines

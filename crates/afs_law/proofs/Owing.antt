@@ -181,4 +181,3 @@ pub record BackedIn (me : Node) (d : Option Fall) (b : Backs) (boot : ℕ) (seat
   pub calls : Each (IfBack (BackIn me d b.calls b.last_call boot)) sent
   pub dones : Each (IfDone (DoneIn me d b.calls b.last_call boot past)) sent
   pub seated : (j : ℕ) (seat : Seat) (m : Message) → cs j ≡ Some seat → seat.reply ≡ Some m → SeatedIn me d b.calls b.last_call boot past j m
-

@@ -270,15 +270,22 @@ does_rules s c past i place m drops tail h up at y t = (tt, all_still (actors.No
 does_rules s c past i place m (tells_boot head) tail h up at y t = (tt, all_still (actors.Node (Server i)) past (lines.Given place ∷ []) tail t)
 does_rules s c past i place m (repeats reply) tail h up at y t = (tt, all_still (actors.Node (Server i)) past (lines.Given place ∷ []) tail t)
 does_rules s c past i place m (refuses head code) tail h up at y t = (tt, all_still (actors.Node (Server i)) past (lines.Given place ∷ []) tail t)
-does_rules s c past i place m (shows head r) tail h up at y t =
-    (tt, subst (λ (x : Head). EachLine IsGrantGood (actors.Node (Server i)) past (lines.Given place ∷ []) (granted (Server i) x.from (c.clock + promise_ticks) r.granted tail)) (sym y.1.why.0)
-    (granted_rules (Server i) m.head.from (actors.Node (Server i)) past (lines.Given place ∷ []) (c.clock + promise_ticks) r.granted tail (λ f z. shows_grant s c past i y.0 place m r f h up at y.1.run y.1.why.1 z) t))
+does_rules s c past i place m (shows head r) tail h up at y t = (
+  tt,
+  subst (λ (x : Head). EachLine IsGrantGood (actors.Node (Server i)) past (lines.Given place ∷ []) (granted (Server i) x.from (c.clock + promise_ticks) r.granted tail)) (sym y.1.why.0)
+      (granted_rules (Server i) m.head.from (actors.Node (Server i)) past (lines.Given place ∷ []) (c.clock + promise_ticks) r.granted tail (λ f z. shows_grant s c past i y.0 place m r f h up at y.1.run y.1.why.1 z) t),
+)
 does_rules s c past i place m (saves head ch) tail h up at y t =
     let who : Actor = actors.Node (Server i) in
     let all : Head → List Line = λ x. lines.Given place ∷ lines.Change (Server i) (key_of x) (length (made ch)) ∷ versioned (made ch) (granted (Server i) x.from (c.clock + promise_ticks) (granted_in ch) tail) in
-    subst (λ (x : Head). EachLine IsGrantGood who past [] (all x)) (sym y.1.why.0)
-    (tt, (tt, version_rules who past (lines.Change (Server i) (key_of m.head) (length (made ch)) ∷ lines.Given place ∷ []) (made ch) (granted (Server i) m.head.from (c.clock + promise_ticks) (granted_in ch) tail)
-    (granted_rules (Server i) m.head.from who past (on_top (made ch) (lines.Change (Server i) (key_of m.head) (length (made ch)) ∷ lines.Given place ∷ [])) (c.clock + promise_ticks) (granted_in ch) tail (λ f z. saves_grant s c past i y.0 place m ch f h up at y.1.run y.1.why.1 z) t)))
+    subst (λ (x : Head). EachLine IsGrantGood who past [] (all x)) (sym y.1.why.0) (
+      tt,
+      (
+        tt,
+        version_rules who past (lines.Change (Server i) (key_of m.head) (length (made ch)) ∷ lines.Given place ∷ []) (made ch) (granted (Server i) m.head.from (c.clock + promise_ticks) (granted_in ch) tail)
+            (granted_rules (Server i) m.head.from who past (on_top (made ch) (lines.Change (Server i) (key_of m.head) (length (made ch)) ∷ lines.Given place ∷ [])) (c.clock + promise_ticks) (granted_in ch) tail (λ f z. saves_grant s c past i y.0 place m ch f h up at y.1.run y.1.why.1 z) t),
+      ),
+    )
 
 -- all calls that are sent are file calls
 file_of : (P : Head → List ℕ → FsCall → Type 0) (head : Head) (c : Carried) → OfCall (ByClient P) head c → OfCall (λ h user call. ⊤) head c

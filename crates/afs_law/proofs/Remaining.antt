@@ -5,7 +5,6 @@ use Rattle.afs_history.specs.declared.scripts.Script.{Script}
 use Rattle.afs_law.proofs.Basics.{at_put}
 use Rattle.afs_law.proofs.Booting.{disk_front}
 use Rattle.afs_law.proofs.Ideals.{Held, VolumesIn, held_kept, volumes_first, volumes_moves}
-use Rattle.afs_law.proofs.Law.{any_home}
 use Rattle.afs_law.proofs.Moving.{run_keeps}
 use Rattle.afs_law.proofs.Origins.{asked_first}
 use Rattle.afs_law.specs.Ideal.{Accepts, change_in, change_key, changed_under, first_key, is_at, set_up, volume_after}
@@ -18,14 +17,14 @@ use Rattle.afs_num.specs.declared.types.Node.TheVariants.{Server}
 use Rattle.afs_rows.specs.Runs.{Cell, Entry, Fall, Host, Moved, RunsTo, begun_by_disk, in_boot, server_stays, start, unarmed}
 use Rattle.afs_rows.specs.ServerRow.{Begun}
 use Rattle.afs_rows.specs.States.{volume_in}
-use Rattle.std.proofs.Common.{◌≡◌, ℕ, true, List, [], ◌∷◌, ◌++◌, Option, Some, None, refl, sym, ap, ◌∙◌}
+use Rattle.std.proofs.Common.{◌≡◌, ℕ, true, List, [], ◌∷◌, ◌++◌, Option, Some, refl, ap, ◌∙◌}
 
 -- a fault changes nothing
 fault_key : (ls : List Line) (n : Node) → change_key (ls ++ lines.Fault n ∷ []) ≡ change_key ls
 fault_key [] n = refl
 fault_key (l ∷ ls) n = ap (first_key (change_in l)) (fault_key ls n)
 
-accepted : (s : Script) (id i : ℕ) (ls : List Line) → Accepts s id (Server i) ls → is_at id (Server i) s.volumes
+pub accepted : (s : Script) (id i : ℕ) (ls : List Line) → Accepts s id (Server i) ls → is_at id (Server i) s.volumes
 accepted s id i [] h = h
 accepted s id i (l ∷ ls) h = accepted s id i ls h
 

@@ -240,7 +240,7 @@ saves_told i j x m past clock ch front rest o p r k ls g =
     let answer : answer_at r.user r.call p.older ≡ Some (changes ch.edits ch.shown) = sym (answers_after p.older r.user r.call) ∙ (answer_of V r.user r.call ch.id (Some ch.before.volume) k.of_volume at ∙ ap Some k.result) in
     let some : volume_changed r.call ≡ None → ⊥ = changes_is ch.id (the_user r.user) r.call ch.before.volume ch.edits ch.shown k.of_volume k.result in
     let well : IsWell r.call (change_reply_to x.lasting.boot m.head clock ch).carried = subst (λ (y : FsCall). IsWell r.call (carried_by (clock + promise_ticks) (change_reply ch.id ch.caller (time_in (stored_by clock ch)) (result ch) ch.shown y))) (sym k.called)
-        (made_well r.call (clock + promise_ticks) ch.id ch.caller (time_in (stored_by clock ch)) (result ch) ch.shown some) in
+    (made_well r.call (clock + promise_ticks) ch.id ch.caller (time_in (stored_by clock ch)) (result ch) ch.shown some) in
     record {
       ran = ran_at i j x m past p r;
       user = r.user;
@@ -255,7 +255,7 @@ saves_told i j x m past clock ch front rest o p r k ls g =
         clock = clock;
         is = refl;
         making = record { of_volume = k.of_volume; at = at; result = k.result; caller = k.caller; called = k.called };
-        granted = elim g [ | inl y ↦ inl y | inr y ↦ inr (subst (λ (q : Node). HasStopped q p.at.lines) (sym r.to) y) ];
+        granted = elim g [ inl y ↦ inl y | inr y ↦ inr (subst (λ (q : Node). HasStopped q p.at.lines) (sym r.to) y) ];
       }));
     }
 

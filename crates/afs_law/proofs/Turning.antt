@@ -481,4 +481,3 @@ pumps me boot seats cs clock sent e past t serving by is time h s up =
 
 pub break_good : (me : Node) (past : List Entry) (boot : ℕ) (n : Node) (known : ℕ) (c : BackCall) → IsServing me → IsBy me past → AreGoodSent past (break_message me boot n known c ∷ [])
 break_good me past boot n known c is by = let m : Message = break_message me boot n known c in (record { sender = by; half = λ z. refl; reply = call_good past m.head [] (breaks_call c.breaks); gift = break_gift c.breaks m.head (lines_of past); key = serving_key me (called_key m.head) past is }, tt)
-

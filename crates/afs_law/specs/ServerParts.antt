@@ -1,7 +1,8 @@
 -- What a legal history asks of the promises of servers, each proved of the runs of every script, with any number of servers.
 use Rattle.afs_law.specs.Breaks.{GoodQuit, GoodSettle, HasOwe, lines_at, live_grant}
 use Rattle.afs_law.specs.Grants.{is_promised}
-use Rattle.afs_law.specs.Ideal.{Accepts, clock_of, set_up, volume_after}
+use Rattle.afs_law.specs.Ideal.{Accepts, HasVersion, clock_of, set_up, volume_after}
+use Rattle.afs_law.specs.Laws.{IsKept}
 use Rattle.afs_law.specs.Legal.{GoodCode, GoodGrant, GoodOwe, GoodReadBy, GoodReply, IsChanged, IsResult, Legal, answer_at, versions_first}
 use Rattle.afs_law.specs.Once.{past_of}
 use Rattle.afs_law.specs.Parts.{AllLines, EachEntry, EachSent, LineRule}
@@ -9,6 +10,7 @@ use Rattle.afs_law.specs.Past.{HasCode, Ran, answered_key, code_told, lines_of}
 use Rattle.afs_model.specs.FsRows.{call_number, reply_number}
 use Rattle.afs_num.specs.declared.calls.FsCall.{FsCall}
 use Rattle.afs_num.specs.declared.histories.Actor.TheVariants as actors
+use Rattle.afs_num.specs.declared.histories.Version.{Version}
 use Rattle.afs_num.specs.declared.messages.Call.TheVariants as ask
 use Rattle.afs_num.specs.declared.messages.Carried.{Carried}
 use Rattle.afs_num.specs.declared.messages.Carried.TheVariants as carried
@@ -92,6 +94,13 @@ abbrev pub FallsAreKept : Type 0
 FallsAreKept =
     (s : Script) (history : List Entry) (end : Cell) → RunsTo history s end → (i : ℕ) (fall : Fall) → (end.hosts i).down ≡ Some fall → (id : ℕ) → Accepts s id (Server i) (lines_of (past_of (set_up s ∷ []) history))
     → volume_in id (begun_by_disk (Server i) (end.hosts i).state true fall).state.lasting.volumes ≡ volume_after id (told_by_restart i (end.hosts i) fall ∷ past_of (set_up s ∷ []) history)
+
+-- the server of a version's volume holds that version of its object or a later one, and so does what an interrupted step may have left
+abbrev pub VersionsAreKept : Type 0
+VersionsAreKept =
+    (s : Script) (history : List Entry) (end : Cell) → RunsTo history s end → (i : ℕ) (v : Version) → Accepts s v.fid.volume (Server i) (lines_of (past_of (set_up s ∷ []) history)) → HasVersion v.fid v.index v.body (lines_of (past_of (set_up s ∷ []) history))
+    → IsKept v (end.hosts i).state.lasting.volumes (lines_of (past_of (set_up s ∷ []) history))
+    × ((fall : Fall) → (end.hosts i).down ≡ Some fall → IsKept v (begun_by_disk (Server i) (end.hosts i).state true fall).state.lasting.volumes (lines_of (told_by_restart i (end.hosts i) fall ∷ past_of (set_up s ∷ []) history)))
 
 -- ---- all of it
 

@@ -3,7 +3,7 @@
 ghost use Rattle.afs_law.specs.Laws.{AcknowledgedAreKept, AcknowledgedAreMade, AnswersAreRecent, ChangesAreFolded, EffectsAreTold, KeysRunOnce, ReadsAreNewest, RunsAreLegal, RunsAreOne, SetUpsAreFirst, StartsAreFolded, VolumesAreTold, PairsAreKnown, TrustedIsGood, RoomlessAreRefused, UnservedAreRefused, CallsRunOnce, RepliesAreCaused, RepliesWereRun, KeptWereRun, DurableAreChanges, GrantsAreKept, BreaksAreOwed, RepliesFollowDrops, UnawaitedAreUntrusted, DeadAreUntrusted};
 ghost use Rattle.afs_law.specs.ClientParts.{AnswersAreDue, ChangesAreAlone, GiftsAreDropped, WaitsAreSilent};
 ghost use Rattle.afs_law.specs.Parts.{ActsAreTold, CallsAreAsked, ChangesAreIdeal, EntriesAreSound, LinesAreInPlace, MessagesAreOwn};
-ghost use Rattle.afs_law.specs.ServerParts.{BreaksAreGood, FallsAreKept, GoodReadsAreLegal, GrantsAreGood, RepliesAreTrue, RepliesWait};
+ghost use Rattle.afs_law.specs.ServerParts.{BreaksAreGood, FallsAreKept, GoodReadsAreLegal, GrantsAreGood, RepliesAreTrue, RepliesWait, VersionsAreKept};
 
 /// Every run of a script for one server is legal.
 pub fn runs_are_legal()
@@ -220,4 +220,10 @@ pub fn falls_are_kept()
 /// A run, of any number of servers, is legal where what its clients read and answer is good.
 pub fn good_reads_are_legal()
     ensures { GoodReadsAreLegal }
+{}
+
+/// Each version that was told, or a later one of its object, is held by the server that accepts stores of its volume, and by what an
+/// interrupted step of that may have left.
+pub fn versions_are_kept()
+    ensures { VersionsAreKept }
 {}
