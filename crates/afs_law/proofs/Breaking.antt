@@ -330,7 +330,7 @@ repeated_by : (t : Bool) (b : Backs) (reply : Message) (h : Held) → (cond t (a
 repeated_by true b reply h = refl
 repeated_by false b reply h = refl
 
-repeated_lines : (b : Backs) (reply : Message) (held : Option Held) (good : Bool) → (repeats_by b reply held good).lines ≡ []
+pub repeated_lines : (b : Backs) (reply : Message) (held : Option Held) (good : Bool) → (repeats_by b reply held good).lines ≡ []
 repeated_lines b reply (Some h) good = repeated_by (h.again && is_ready b.lists.owed h) b reply h
 repeated_lines b reply None true = refl
 repeated_lines b reply None false = refl

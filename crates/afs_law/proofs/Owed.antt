@@ -67,6 +67,7 @@ use Rattle.afs_rows.specs.States.{BackCall, Backs, Gift, Held, Seat, ServerState
 use Rattle.afs_rows.specs.Steps.{Step}
 use Rattle.afs_law.proofs.Calling.{IsAnswer}
 use Rattle.afs_law.proofs.Facts.{IsOne, up_boot}
+use Rattle.afs_law.proofs.Firm.{IsSentBy}
 use Rattle.afs_law.proofs.Hearing.{HearsIn}
 use Rattle.afs_law.proofs.Law.{AreVersions, all_versions, first_oweless, first_still, lines_none}
 use Rattle.std.proofs.Common.{suc, ◌≡◌, ℕ, ◌+◌, ◌<◌, ◌≤◌, ◌⊎◌, inl, inr, Bool, true, false, cond, nat_eq, nat_lt, List, [], ◌∷◌, ◌++◌, map, length, Option, Some, None, refl, sym, ap, subst, ◌∙◌, arith, append-nil, le_of_eq, ltb-true, eqb-true}
@@ -202,14 +203,14 @@ client_backed s c past n st B a t =
     let file : Each IsFile st.sent = acts_file n (who_at (c.clients n)) (c.clients n).gifts st a in
     record {
       count = B.count;
-      fair = each_more FairCall c.sent st.sent B.fair (each_zip (λ m. m.head.from ≡ Client n) IsFile FairCall (λ m. fair_of n m.head m.carried) st.sent a.from file);
+      fair = each_more FairCall c.sent st.sent B.fair (each_zip (λ m. m.head.from ≡ Client n) IsFile FairCall (λ m. fair_of n m.head m.carried) st.sent (each_map (IsSentBy (Client n)) (λ m. m.head.from ≡ Client n) (λ m k. k.from) st.sent a.from) file);
       all = λ i.
           let h : Host = c.hosts i in
           let b : Backs = h.state.backs in
           let boot : ℕ = h.state.lasting.boot in
           let cs : ℕ → Option Seat = λ j. call_seat (Server i) (c.clients j).seats in
           let p : Plain (Server i) st.lines = of_plain n i st.lines a.of in
-          backed_plain (Server i) h.down b boot h.state.seats cs (λ j. call_seat (Server i) (put n st.state c.clients j).seats) c.clock c.clock c.sent st.sent e past p (le_refl _) (B.all i) (each_zip (λ m. m.head.from ≡ Client n) IsFile (IfBack (BackIn (Server i) h.down b.calls b.last_call boot)) (λ m. client_back (BackIn (Server i) h.down b.calls b.last_call boot) n m.head m.carried) st.sent a.from file) (t i).dones
+          backed_plain (Server i) h.down b boot h.state.seats cs (λ j. call_seat (Server i) (put n st.state c.clients j).seats) c.clock c.clock c.sent st.sent e past p (le_refl _) (B.all i) (each_zip (λ m. m.head.from ≡ Client n) IsFile (IfBack (BackIn (Server i) h.down b.calls b.last_call boot)) (λ m. client_back (BackIn (Server i) h.down b.calls b.last_call boot) n m.head m.carried) st.sent (each_map (IsSentBy (Client n)) (λ m. m.head.from ≡ Client n) (λ m k. k.from) st.sent a.from) file) (t i).dones
           (λ j seat m. at_put n j (λ (x : ClientState). call_seat (Server i) x.seats ≡ Some seat → seat.reply ≡ Some m → SeatedIn (Server i) h.down b.calls b.last_call boot (e ∷ past) j m) st.state c.clients
           (λ same x y. subst (λ (k : ℕ). SeatedIn (Server i) h.down b.calls b.last_call boot (e ∷ past) k m) same ((t i).seated seat m x y))
           (λ other x y. old_seated (Server i) h.down b boot h.state.seats cs c.clock c.sent e past j p (B.all i) seat m x y));
