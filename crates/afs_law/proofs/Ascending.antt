@@ -57,7 +57,7 @@ pub record Ascend (ls : List Line) : Type 0 where
 blank_ascend : (ls o : List Line) → AreBlank ls → Ascend o → Ascend (onto o ls)
 blank_ascend ls o h a = record {
   top = λ f i b x. subst (λ (v : Option Version). i ≤ index_in v) (sym (blank_last f ls o h)) (a.top f i b (blank_has f i b ls o h x));
-  one = λ f i b d x y. a.one f i b d (blank_has f i b ls o h x) (blank_has f i b ls o h y);
+  one = λ f i b d x y. a.one f i b d (blank_has f i b ls o h x) (blank_has f i d ls o h y);
 }
 
 under_change : (q : Node) (k : Key) (n : ℕ) (o : List Line) → Ascend o → Ascend (lines.Change q k n ∷ o)
@@ -102,7 +102,7 @@ stays_ascend s c past i after fall now l h down from = works_ascend s c past i _
 
 ascend_moves : (s : Script) → EachMove (HeldAscend s) (Behind AscendIn)
 ascend_moves s = record {
-  void = λ c past h. h.1;
+  void = λ c past h. blank_ascend (lines.Void ∷ []) (lines_of past) refl h.1;
   ticked = λ c past n h. blank_ascend (lines.Tick (suc n) ∷ []) (lines_of past) refl h.1;
   begun = λ c past n act h r. acts_ascend past n (begin_row (Client n) (c.clients n) c.clock act).lines h.1 (begins_acts n (c.clients n) c.clock act r).of;
   told = λ c past n place m h at to. acts_ascend past n (client_row (Client n) (c.clients n) c.clock place (Whole m)).lines h.1 (given_acts (by_key (IsKnown h.0.0.0.keys.callees c.clients)) any_told n (c.clients n) c.clock place m (h.0.0.0.keys.replies n) (h.0.0.1.seats n)).of;

@@ -781,7 +781,7 @@ still_all : (s : Script) (c : Cell) (past : List Entry) (e : Entry) (then : ℕ)
 still_all s c past e then p le B i = subst (λ (ms : List Message). BackedAt i (c.hosts i) c.clients then ms (e ∷ past)) (append-nil c.sent) (plain_at i (c.hosts i) c.clients c.clock then c.sent e past (p i) le (B.all i))
 
 client_steps : (s : Script) (c : Cell) (past : List Entry) (n : ℕ) (st : Step ClientState) → Breaks s c past → Acts n (who_at (c.clients n)) (c.clients n).gifts st → TellsAll c past n st → Steps s c past (client_moves c n st)
-client_steps s c past n st B a t = record { backed = client_backed s c past n st B.backed a t; rules = free_rules s (actors.Node (Client n)) past [] st.lines (all_free n st.lines a.of); replies = client_good n (of_client n st ∷ past) st.sent a.from }
+client_steps s c past n st B a t = record { backed = client_backed s c past n st B.backed a t; rules = free_rules s (actors.Node (Client n)) past [] st.lines (all_free n st.lines a.of); replies = client_good n (of_client n st ∷ past) st.sent (each_map (IsSentBy (Client n)) (λ m. m.head.from ≡ Client n) (λ m k. k.from) st.sent a.from) }
 
 speaks_steps : (s : Script) (c : Cell) (past : List Entry) (n : ℕ) (st : Step ClientState) → Breaks s c past → Acts n (who_at (c.clients n)) (c.clients n).gifts st → Speaks (c.clients n).seats st → Steps s c past (client_moves c n st)
 speaks_steps s c past n st B a h = client_steps s c past n st B a (speaks_all s c past n st B.backed a h)
