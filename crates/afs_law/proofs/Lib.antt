@@ -64,6 +64,8 @@ pub mod Addressed
 pub mod Trying
 pub mod Ours
 pub mod Due
+pub mod Kept
+pub mod Later
 pub mod Entering
 pub mod Dying
 pub mod Made
