@@ -351,7 +351,7 @@ list_keeps n clock place c past act text status sync (calls.FetchAcl g) apart =
     walks_keeps n c clock c.cache (filter (λ e. not (is_older g status.sync_counter sync.release e)) c.cache) past
     (λ ls. read_lines (Client n) place (record { fid = g; index = status.sync_counter; source = Fetched; body = seen.AccessList text }) (dropped (Client n) (filter (is_older g status.sync_counter sync.release) c.cache) ls)) (with_read g (seen.AccessList text) act)
     (λ ls t f e found. (let x : IsOldEntry n c.cache (dropped (Client n) (filter (is_older g status.sync_counter sync.release) c.cache) ls) f e = left_old n c.cache (is_older g status.sync_counter sync.release) ls apart t f e found in
-        inl (record { was = x.was; found = x.found; server = x.server; fetched = x.fetched; spares = λ o d. x.spares (lines.Read (Client n) g status.sync_counter Fetched (seen.AccessList text) ∷ lines.Given place ∷ o) d })))
+    inl (record { was = x.was; found = x.found; server = x.server; fetched = x.fetched; spares = λ o d. x.spares (lines.Read (Client n) g status.sync_counter Fetched (seen.AccessList text) ∷ lines.Given place ∷ o) d })))
     (apart_filter (λ e. not (is_older g status.sync_counter sync.release e)) c.cache apart)
 list_keeps n clock place c past act text status sync call apart = plain_keeps n place c past call zero_code apart
 
@@ -503,8 +503,11 @@ waits_keep n c act past apart =
     let o : Option ℕ = volume_changed (call_of c act) in
     either_keeps (nat_lt c.tries 2) n c.cache past _ _
     (record { apart = apart; each = λ f e found. same_entries n c.cache past (timeout_line (Client n) c (c.tries + 1) ∷ []) (record { fetched = λ g. refl; spares = λ q g o x. x }) f e found })
-    (record { apart = dead_apart c.cache o apart; each = λ f e found. (let x : IsOldEntry n c.cache (dropped (Client n) (given_up_in o c.cache) (lines.Answer (Client n) dead_code ∷ [])) f e = dead_old n c.cache o apart f e found in
-        inl (record { was = x.was; found = x.found; server = x.server; fetched = x.fetched; spares = λ p d. x.spares (timeout_line (Client n) c 3 ∷ p) d })) })
+    (record {
+      apart = dead_apart c.cache o apart;
+      each = λ f e found. (let x : IsOldEntry n c.cache (dropped (Client n) (given_up_in o c.cache) (lines.Answer (Client n) dead_code ∷ [])) f e = dead_old n c.cache o apart f e found in
+          inl (record { was = x.was; found = x.found; server = x.server; fetched = x.fetched; spares = λ p d. x.spares (timeout_line (Client n) c 3 ∷ p) d }));
+    })
 
 -- ---- every step
 
@@ -551,7 +554,7 @@ client_kept s c past n st h a k j =
     at_put n j (λ (x : ClientState). AreApart x.cache × ((f : Fid) (e : CacheEntry) → find_cached f x.cache ≡ Some e → IsFetchedEntry j f e (of_client n st ∷ past))) st.state c.clients
     (λ same. subst (λ (i : ℕ). AreApart st.state.cache × ((f : Fid) (e : CacheEntry) → find_cached f st.state.cache ≡ Some e → IsFetchedEntry i f e (of_client n st ∷ past))) same (k.apart, own_kept n (c.clients n) st past (h n).1 k))
     (λ other. let l : Leaves s j st.lines (lines_of past) = other_leaves s n j st.lines (lines_of past) a.of other in
-        ((h j).0, λ f e found. stays_kept j f e e (of_client n st) past refl (l.fetched f) (λ o d. (other_leaves s n j st.lines o a.of other).dropped e.server f d) ((h j).1 f e found)))
+    ((h j).0, λ f e found. stays_kept j f e e (of_client n st) past refl (l.fetched f) (λ o d. (other_leaves s n j st.lines o a.of other).dropped e.server f d) ((h j).1 f e found)))
 
 idle_kept : (s : Script) (c : Cell) (past : List Entry) (x : Entry) → KeptIn c past → all_lines is_idle x.lines ≡ true → Rested c.clients (x ∷ past)
 idle_kept s c past x h idle j = ((h j).0, λ f e found. stays_kept j f e e x past refl ((idle_leaves s j x.lines (lines_of past) idle).fetched f) (λ o d. (idle_leaves s j x.lines o idle).dropped e.server f d) ((h j).1 f e found))

@@ -89,12 +89,12 @@ cut_apart s (y ∷ newer) at older (z ∷ later) cut before e node h x f =
 pub later_key : (s : Script) (server : Node) (k : Key) (count : ℕ) (past : List Entry) (own next : List Line) → IdealChange s server k count past own next → (r : HasRunSince server k past) → IsLater k (called_key r.message.head)
 later_key s server k count past own next i r = elim i.place [
   | inl x ↦
-    (let boot : server_boot server (lines_of past) ≡ Some r.message.head.boot = ap (λ (p : List Entry). server_boot server (lines_of p)) r.split ∙ boot_since server r.newer r.at r.older r.message.head.boot r.going r.up in
-     let same : r.message.head.boot ≡ x.boot = some_of r.message.head.boot x.boot (sym boot ∙ x.up) in
-     elim (up_by k.epoch k.number r.message.head.epoch r.message.head.number (nat_lt k.epoch r.message.head.epoch) (nat_lt r.message.head.epoch k.epoch) (nat_lt r.message.head.number k.number) refl refl refl) [
-       | inl u ↦ absurd (to_come_at server k x.boot r.newer r.at r.older (subst (IsToCome server k x.boot) r.split x.first)
-             (subst (IsCallFrom server k x.boot) (sym r.given) ((r.is_call, r.to), ((r.from, u), same))))
-       | inr w ↦ w
-     ])
+      (let boot : server_boot server (lines_of past) ≡ Some r.message.head.boot = ap (λ (p : List Entry). server_boot server (lines_of p)) r.split ∙ boot_since server r.newer r.at r.older r.message.head.boot r.going r.up in
+      let same : r.message.head.boot ≡ x.boot = some_of r.message.head.boot x.boot (sym boot ∙ x.up) in
+      elim (up_by k.epoch k.number r.message.head.epoch r.message.head.number (nat_lt k.epoch r.message.head.epoch) (nat_lt r.message.head.epoch k.epoch) (nat_lt r.message.head.number k.number) refl refl refl) [
+        | inl u ↦ absurd (to_come_at server k x.boot r.newer r.at r.older (subst (IsToCome server k x.boot) r.split x.first)
+            (subst (IsCallFrom server k x.boot) (sym r.given) ((r.is_call, r.to), ((r.from, u), same))))
+        | inr w ↦ w
+      ])
   | inr y ↦ absurd (cut_apart server r.newer r.at r.older y.newer y.at y.older (sym r.split ∙ y.split) r.node r.going y.stopped y.since)
 ]
