@@ -6,7 +6,7 @@ use Rattle.afs_history.specs.declared.acts.Operand.TheVariants as operands
 use Rattle.afs_history.specs.declared.acts.Path.{Path}
 use Rattle.afs_history.specs.declared.scripts.Script.{Script}
 use Rattle.afs_ideal.specs.Operations.{volume_called, volume_changed}
-use Rattle.afs_law.proofs.Acting.{Acts, Asks, IsTheCall, Rests, Stops, begins_acts, falls_acts, given_acts, rises_acts, waits_acts, who_at}
+use Rattle.afs_law.proofs.Acting.{Acts, IsTheCall, begins_acts, falls_acts, given_acts, rises_acts, waits_acts, who_at}
 use Rattle.afs_law.proofs.Basics.{Each, IfCall, at_put, each_at, each_map, each_more, if_call, some_of}
 use Rattle.afs_law.proofs.Calling.{IsUncalled, uncalled_any}
 use Rattle.afs_law.proofs.Firm.{IsFirm}
@@ -25,18 +25,16 @@ use Rattle.afs_num.specs.declared.histories.Body.{Body}
 use Rattle.afs_num.specs.declared.histories.Body.TheVariants as bodies
 use Rattle.afs_num.specs.declared.histories.ReadStatus.{ReadStatus}
 use Rattle.afs_num.specs.declared.messages.Message.{Message}
-use Rattle.afs_num.specs.declared.messages.Received.TheVariants.{Whole}
 use Rattle.afs_num.specs.declared.types.Fid.{Fid}
 use Rattle.afs_num.specs.declared.types.Head.{Head}
-use Rattle.afs_num.specs.declared.types.Node.{Node}
-use Rattle.afs_num.specs.declared.types.Node.TheVariants.{Client, Server}
+use Rattle.afs_num.specs.declared.types.Node.TheVariants.{Server}
 use Rattle.afs_rows.specs.Callbacks.{put}
-use Rattle.afs_rows.specs.ClientRow.{call_by, call_of, callee_by, first_server_of, number_or_none, server_at, volume_asked}
-use Rattle.afs_rows.specs.Going.{ClientState, Going, Homes, Need, Parted, Shown, Taken, act_needs, answers, asked, asks_for, at_parent, by_body, by_kind, by_statuses, call_for, fid_of, first_body, by_status, first_status, gives_back, has_rights, in_directory, in_home, is_even, is_last_name, is_root, looked_up, named_first, next, no_entry, of_one, parted, reading, reading_rights, reading_status, reading_statuses, reads, reads_rights, reads_status, reads_statuses, root_of, shows, statuses_in, step_to, to_object, to_parent, walk}
+use Rattle.afs_rows.specs.ClientRow.{call_by, callee_by, first_server_of, number_or_none, server_at, volume_asked}
+use Rattle.afs_rows.specs.Going.{ClientState, Going, Homes, Need, Parted, Shown, Taken, act_needs, answers, asks_for, at_parent, by_body, by_kind, by_statuses, call_for, fid_of, first_body, by_status, first_status, gives_back, has_rights, in_directory, in_home, is_even, is_last_name, is_root, looked_up, named_first, next, of_one, parted, reading, reading_rights, reading_status, reading_statuses, reads, reads_rights, reads_status, reads_statuses, root_of, shows, statuses_in, step_to, to_object, to_parent, walk}
 use Rattle.afs_rows.specs.Runs.{Cell, Entry, locations, start}
-use Rattle.afs_rows.specs.States.{Gift, Location}
+use Rattle.afs_rows.specs.States.{Location}
 use Rattle.afs_rows.specs.Steps.{Step}
-use Rattle.std.proofs.Common.{◌≡◌, ℕ, ◌⊎◌, inl, inr, Bool, true, false, cond, List, [], ◌∷◌, ◌++◌, map, take, Option, Some, None, refl, sym, ap, subst, ◌∙◌, not, nat_eq}
+use Rattle.std.proofs.Common.{◌≡◌, ℕ, ◌⊎◌, inl, inr, Bool, true, false, cond, List, [], ◌∷◌, ◌++◌, map, Option, Some, None, refl, sym, ap, subst, ◌∙◌, not, nat_eq}
 use Rattle.std.specs.Prelude.{⊤, ◌&&◌, ◌||◌}
 
 -- ---- the volumes of which a call asks

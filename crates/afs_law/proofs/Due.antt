@@ -7,7 +7,7 @@ use Rattle.afs_ideal.specs.Operations.{volume_changed}
 use Rattle.afs_law.proofs.Acting.{last_key, read_all, walked_reads}
 use Rattle.afs_law.proofs.Asking.{call_is}
 use Rattle.afs_law.proofs.Backing.{all_lines}
-use Rattle.afs_law.proofs.Basics.{Each, a_key, at_put, both, each_at, same_node-refl, some_of}
+use Rattle.afs_law.proofs.Basics.{a_key, at_put, both, each_at, same_node-refl, some_of}
 use Rattle.afs_law.proofs.Changing.{run_each}
 use Rattle.afs_law.proofs.Choosing.{disk_works, one_from, risen_from, risen_lines, serves_works, starts_works, times_works, wakes_works}
 use Rattle.afs_law.proofs.Firm.{IsFirm}
@@ -18,12 +18,12 @@ use Rattle.afs_law.proofs.Ours.{AreNear, AreOurs, IsOurs, Ours, begins_our, give
 use Rattle.afs_law.proofs.Passing.{sent_either}
 use Rattle.afs_law.proofs.Trying.{GivenWaits, Waits, waits_first, waits_kept}
 use Rattle.afs_law.specs.Breaks.{HasTimeout}
-use Rattle.afs_law.specs.ClientParts.{AnswersAreDue, AreAskedFor, IsDue, IsDueCode, IsOfCell, IsReplied, IsUsed}
+use Rattle.afs_law.specs.ClientParts.{AnswersAreDue, IsDue, IsDueCode, IsOfCell, IsUsed}
 use Rattle.afs_law.specs.Grants.{is_promised}
 use Rattle.afs_law.specs.Ideal.{set_up, user_of}
 use Rattle.afs_law.specs.Legal.{HasUsed, IsAtOnce, has_read}
 use Rattle.afs_law.specs.Parts.{EachLine}
-use Rattle.afs_law.specs.Past.{CalledSince, IsReply, WasSent, answered_key, code_told, given_message, has_begun, has_given, lines_of, running, sent_of}
+use Rattle.afs_law.specs.Past.{CalledSince, IsReply, WasSent, answered_key, code_told, given_message, has_begun, lines_of, running, sent_of}
 use Rattle.afs_model.specs.Calls as pairs
 use Rattle.afs_model.specs.Calls.{Admitted, admitted}
 use Rattle.afs_num.specs.Nodes.{same_node}
@@ -54,9 +54,9 @@ use Rattle.afs_num.specs.declared.types.Key.{Key}
 use Rattle.afs_num.specs.declared.types.Node.{Node}
 use Rattle.afs_num.specs.declared.types.Node.TheVariants.{Client, Server}
 use Rattle.afs_rows.specs.Callbacks.{put}
-use Rattle.afs_rows.specs.ClientRow.{Look, Walked, admits_call, awaits, begin_row, begins_by, behind_batch, body_seen, body_told, breaks, call_by, call_of, calls_again, client_row, counts, dead_code, drop_line, dropped, dropped_after, entries_told, entry_told, find_cached, gift_of, given, given_up_in, gives_by, gives_up, goes_by, hears, ignores, in_order, is_awaited, is_below, is_busy_code, is_older, is_spent, is_trusted, look_at, looked, most_busy, most_reads, opcode_of, put_entries, put_entry, read_lines, reborn, refuses, runs_carried, server_at, shown_by, status_look, status_told, stays, takes, takes_bulk, takes_bytes, takes_data, takes_entries, takes_entry, takes_given, takes_list, takes_set, takes_shown, takes_status, timeout_line, timeout_row, tries_again, trusted_in, untrusted_in, used_first, walked, walked_at, walked_by, walked_with, walks_on, whole, with_statuses, zero_code}
+use Rattle.afs_rows.specs.ClientRow.{Look, Walked, admits_call, awaits, begin_row, begins_by, behind_batch, body_seen, body_told, breaks, call_by, call_of, client_row, counts, dead_code, drop_line, dropped, dropped_after, entries_told, entry_told, find_cached, gift_of, given, given_up_in, gives_by, gives_up, goes_by, hears, ignores, in_order, is_awaited, is_below, is_busy_code, is_older, is_spent, is_trusted, look_at, looked, most_busy, most_reads, put_entries, put_entry, read_lines, reborn, runs_carried, server_at, shown_by, status_look, status_told, stays, takes, takes_bulk, takes_data, takes_entries, takes_entry, takes_given, takes_list, takes_set, takes_shown, takes_status, timeout_line, tries_again, trusted_in, untrusted_in, used_first, walked, walked_at, walked_by, walked_with, walks_on, whole, with_statuses, zero_code}
 use Rattle.afs_rows.specs.Going.{ClientState, Going, Need, answers, asked, asks_for, began, call_for, gives_back, next, reads, reads_rights, reads_status, reads_statuses, with_read}
-use Rattle.afs_rows.specs.Runs.{Armed, Cell, Entry, Moved, at_rest, begun_by_disk, blow_line, in_boot, locations, message_at, start, user_at}
+use Rattle.afs_rows.specs.Runs.{Cell, Entry, Moved, begun_by_disk, blow_line, locations, message_at, start, user_at}
 use Rattle.afs_rows.specs.States.{CacheEntry, Gift, Location}
 use Rattle.afs_rows.specs.Steps.{Step}
 use Rattle.std.proofs.Common.{zero, suc, ◌+◌, ◌≡◌, ◌≤◌, ℕ, ◌⊎◌, inl, inr, Bool, true, false, cond, List, [], ◌∷◌, ◌++◌, map, Option, Some, None, refl, sym, ap, subst, ◌∙◌, filter, not, pos, ℤ, eqb-true, ltb-false, arith}
@@ -95,7 +95,7 @@ read_runs s n o f index source body g r = rw (same_node-refl (Client n), r) refl
 
 -- ---- reads from the cache
 
-abbrev AreCached : List Look → Type 0
+abbrev pub AreCached : List Look → Type 0
 AreCached [] = ⊤
 AreCached (l ∷ looks) = ((l.source ≡ Cached) × (is_promised l.body ≡ true)) × AreCached looks
 
@@ -110,7 +110,7 @@ looks_due s n past K st (l ∷ looks) h own ls g k r w = (
   looks_due s n past K st looks h.1 (lines.Read (Client n) l.fid l.index l.source l.body ∷ own) ls (with_read l.fid l.body g) (st.reads' own l.fid l.index l.source l.body k) (read_runs s n (own ++ lines_of past) l.fid l.index l.source l.body g r) w,
 )
 
-abbrev Caches : (Going → List CacheEntry → Walked) → Type 0
+abbrev pub Caches : (Going → List CacheEntry → Walked) → Type 0
 Caches more = (act : Going) (cache : List CacheEntry) → AreCached (more act cache).looks
 
 abbrev ArePromised : Option ReadBody → Type 0
@@ -140,7 +140,7 @@ by_cached more clock act cache (reads f) w = at_cached more clock act cache (rea
 by_cached more clock act cache (reads_status f) w = at_cached more clock act cache (reads_status f) (find_cached f cache) status_promised w
 by_cached more clock act cache need w = tt
 
-walked_cached : (k clock : ℕ) → Caches (walked k clock)
+pub walked_cached : (k clock : ℕ) → Caches (walked k clock)
 walked_cached zero clock act cache = tt
 walked_cached (suc k) clock act cache = by_cached (walked k clock) clock act cache (next act) (walked_cached k clock)
 

@@ -1,6 +1,6 @@
 -- No server refuses a call with a code that asks to come again, however many servers a cell has: no volume is out of service or busy.
 use Rattle.afs_history.specs.declared.lines.Line.{Line}
-use Rattle.afs_ideal.specs.Operations.{Caller, Found, Result, Shown, changes, no_operation, op, reads, refused, shows_acl, shows_body, shows_status, shows_statuses, shows_volume, the_user, volume_called}
+use Rattle.afs_ideal.specs.Operations.{Caller, Result, changes, no_operation, op, reads, refused, shows_acl, shows_body, shows_status, shows_statuses, shows_volume, the_user, volume_called}
 use Rattle.afs_ideal.specs.Tables.{Table, get}
 use Rattle.afs_law.proofs.Facts.{is_passing}
 use Rattle.afs_law.proofs.Ops.{op_code}
@@ -20,7 +20,7 @@ use Rattle.afs_num.specs.declared.types.Half.TheVariants as halves
 use Rattle.afs_num.specs.declared.types.Head.{Head}
 use Rattle.afs_num.specs.declared.types.Node.{Node}
 use Rattle.afs_records.specs.Durable.{Stored, has_room}
-use Rattle.afs_rows.specs.ServerRow.{Change, Decision, Sight, admits, decided, drops, hears, in_volume, is_client, not_served, record_of, refuses, repeats, runs_received, saves, serves_call, several, shows, sight_by, sight_in, sights, tells_boot, whole, with_volume}
+use Rattle.afs_rows.specs.ServerRow.{Change, Decision, Sight, admits, decided, drops, hears, in_volume, is_client, not_served, record_of, refuses, runs_received, saves, serves_call, several, sight_by, sight_in, sights, whole, with_volume}
 use Rattle.afs_rows.specs.States.{ServerState, durable_of}
 use Rattle.afs_shape.specs.Reading.{◌>>=◌}
 use Rattle.std.proofs.Common.{◌≡◌, ℕ, Bool, true, false, cond, List, [], ◌∷◌, Option, Some, None, refl, sym, subst, pos}

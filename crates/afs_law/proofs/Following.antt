@@ -39,11 +39,11 @@ use Rattle.afs_num.specs.declared.types.Fid.{Fid}
 use Rattle.afs_num.specs.declared.types.Head.{Head}
 use Rattle.afs_num.specs.declared.types.Node.{Node}
 use Rattle.afs_num.specs.declared.types.Node.TheVariants.{Client}
-use Rattle.afs_rows.specs.ClientRow.{Look, Walked, admits_call, awaits, batch, begin_row, begins_by, behind_batch, body_told, breaks, call_by, call_of, calls_again, client_row, counts, drop_line, dropped, entries_told, entry_told, find_cached, gift_call, gift_of, gifts_to, given, gives_by, goes_by, hears, ignores, in_order, is_awaited, is_below, is_busy_code, is_named, is_older, is_reading, is_spent, is_spoiled_by_all, is_trusted, is_waiting, look_at, looked, most_busy, most_reads, names_act, names_call, put_entries, put_entry, read_lines, reborn, refuses, replies_step, runs_carried, status_look, status_told, takes, takes_bulk, takes_bytes, takes_data, takes_entries, takes_entry, takes_given, takes_list, takes_rights, takes_set, takes_shown, takes_status, timeout_row, told_step, trusted_in, untrusted_in, walked, walks_on, whole, with_statuses}
+use Rattle.afs_rows.specs.ClientRow.{Walked, admits_call, awaits, batch, begin_row, begins_by, behind_batch, body_told, breaks, call_by, call_of, calls_again, client_row, counts, drop_line, dropped, entries_told, entry_told, find_cached, gift_of, given, gives_by, goes_by, hears, in_order, is_awaited, is_below, is_busy_code, is_named, is_older, is_reading, is_spent, is_spoiled_by_all, is_trusted, is_waiting, look_at, looked, most_busy, most_reads, names_act, names_call, put_entries, put_entry, read_lines, reborn, refuses, replies_step, runs_carried, status_look, status_told, takes, takes_bulk, takes_data, takes_entries, takes_entry, takes_given, takes_list, takes_set, takes_shown, takes_status, timeout_row, told_step, trusted_in, untrusted_in, walked, walks_on, whole, with_statuses}
 use Rattle.afs_rows.specs.Going.{ClientState, Going, Need, answers, began, gives_back, next, with_read}
 use Rattle.afs_rows.specs.States.{CacheEntry, Gift}
 use Rattle.afs_rows.specs.Steps.{Step}
-use Rattle.std.proofs.Common.{zero, suc, ◌+◌, ◌≡◌, ℕ, ◌⊎◌, inl, inr, Bool, true, false, cond, List, [], ◌∷◌, ◌++◌, map, length, flat_map, Option, Some, None, refl, sym, subst, filter, not, ap, ◌∙◌, arith}
+use Rattle.std.proofs.Common.{◌+◌, ◌≡◌, ℕ, ◌⊎◌, inl, inr, Bool, true, false, cond, List, [], ◌∷◌, map, length, Option, Some, None, refl, sym, subst, filter, not, ap, ◌∙◌, arith}
 use Rattle.std.specs.List.{list_any}
 use Rattle.std.specs.Prelude.{◌&&◌, ◌||◌, nat_lt, ⊤}
 
@@ -284,7 +284,7 @@ named_later : (t b : Bool) → b ≡ true → cond t true b ≡ true
 named_later true b e = refl
 named_later false b e = e
 
-in_named : (g f : Fid) (fs : List Fid) → same_fid f g ≡ true → IsNamedIn f fs → is_named g fs ≡ true
+pub in_named : (g f : Fid) (fs : List Fid) → same_fid f g ≡ true → IsNamedIn f fs → is_named g fs ≡ true
 in_named g f [] e x = absurd x
 in_named g f (h ∷ fs) e (inl q) = named_first (same_fid h g) (is_named g fs) (ap (λ (y : Fid). same_fid y g) q ∙ e)
 in_named g f (h ∷ fs) e (inr x) = named_later (same_fid h g) (is_named g fs) (in_named g f fs e x)
@@ -322,7 +322,7 @@ names_spoiled (calls.GiveUpCallBacks fids callbacks) f e = absurd cc
 names_spoiled call f e = refl
 
 -- what a break drops is what it names
-dropped_named : (q : Node) (j : ℕ) (f : Fid) (fs : List Fid) (o : List Line) → IsDropped q (Client j) f (onto o (map (drop_line (Client j)) fs)) → IsNamedIn f fs ⊎ IsDropped q (Client j) f o
+pub dropped_named : (q : Node) (j : ℕ) (f : Fid) (fs : List Fid) (o : List Line) → IsDropped q (Client j) f (onto o (map (drop_line (Client j)) fs)) → IsNamedIn f fs ⊎ IsDropped q (Client j) f o
 dropped_named q j f [] o x = inr x
 dropped_named q j f (g ∷ fs) o x = elim (dropped_named q j f fs (lines.Drop (Client j) g ∷ o) x) [
   | inl y ↦ inl (inr y)

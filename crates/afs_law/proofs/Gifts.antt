@@ -1,7 +1,7 @@
 -- What clients give back they dropped in the very act, and a call is one by its header, however many servers a cell has.
 use Rattle.afs_history.specs.declared.lines.Line.TheVariants as lines
 use Rattle.afs_history.specs.declared.scripts.Script.{Script}
-use Rattle.afs_law.proofs.Acting.{Acts, IsTheCall, begins_acts, falls_acts, given_acts, is_of, rises_acts, waits_acts, who_at}
+use Rattle.afs_law.proofs.Acting.{Acts, IsTheCall, begins_acts, falls_acts, given_acts, rises_acts, waits_acts, who_at}
 use Rattle.afs_law.proofs.Backing.{all_lines}
 use Rattle.afs_law.proofs.Basics.{ByClient, Each, IfCall, OfCall, at_put, by_client, each_at, each_map, each_more}
 use Rattle.afs_law.proofs.Changing.{run_each}

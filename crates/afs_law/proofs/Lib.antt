@@ -80,6 +80,8 @@ pub mod Caused
 pub mod Trying
 pub mod Ours
 pub mod Due
+pub mod Kept
+pub mod Later
 pub mod Entering
 pub mod Assembled
 pub mod Dying

@@ -4,12 +4,12 @@ use Rattle.afs_history.specs.declared.lines.Line.{Line}
 use Rattle.afs_history.specs.declared.lines.Line.TheVariants as lines
 use Rattle.afs_history.specs.declared.scripts.Script.{Script}
 use Rattle.afs_ideal.specs.Operations.{the_user, volume_changed}
-use Rattle.afs_law.proofs.Acting.{Acts, Asks, IsTheCall, Rests, Stops, begins_acts, falls_acts, given_acts, last_key, rises_acts, waits_acts, who_at}
+use Rattle.afs_law.proofs.Acting.{Acts, Asks, IsTheCall, begins_acts, falls_acts, given_acts, last_key, rises_acts, waits_acts, who_at}
 use Rattle.afs_law.proofs.Backing.{all_lines}
 use Rattle.afs_law.proofs.Basics.{ByClient, Each, IfCall, UpTo, at_put, both, by_client, client_number, each_at, node_apart, same_key-true, same_node-true, some_of}
 use Rattle.afs_law.proofs.Changing.{HeldCuts, IdealStep, cuts_first, cuts_kept, ideal_moves, run_each}
 use Rattle.afs_law.proofs.Choosing.{disk_works, one_from, risen_from, risen_lines, serves_works, starts_works, times_works, wakes_works}
-use Rattle.afs_law.proofs.Facts.{AreLone, IsChangingUnder, IsLone}
+use Rattle.afs_law.proofs.Facts.{AreLone, IsChangingUnder}
 use Rattle.afs_law.proofs.Firm.{IsFirm, IsSentBy}
 use Rattle.afs_law.proofs.Following.{Follows, begins_follow, falls_follow, given_follow, more_not, rises_follow, waits_follow}
 use Rattle.afs_law.proofs.Gifts.{Given, given_first, given_kept}
@@ -17,20 +17,19 @@ use Rattle.afs_law.proofs.KeysOnce.{IsKnown, any_told, by_key, known_pair}
 use Rattle.afs_law.proofs.Law.{first_passed}
 use Rattle.afs_law.proofs.Moving.{Behind, EachMove, IsKept, each_moved}
 use Rattle.afs_law.proofs.Ops.{changes_is}
-use Rattle.afs_law.proofs.Origins.{AskedIn, Leaves, any_cut, any_message, blow_idle, idle_leaves, idle_works, is_idle, none_runs, of_client, other_leaves, same_key_at, the_calls}
-use Rattle.afs_law.proofs.Passing.{IsAmong, among, changing_back, changing_more, lone_at, lone_first, lone_more, no_change, sent_left, sent_right, was_sent}
+use Rattle.afs_law.proofs.Origins.{AskedIn, any_cut, any_message, blow_idle, idle_leaves, idle_works, is_idle, none_runs, of_client, other_leaves, same_key_at, the_calls}
+use Rattle.afs_law.proofs.Passing.{IsAmong, among, changing_back, changing_more, lone_at, lone_first, lone_more, no_change, was_sent}
 use Rattle.afs_law.proofs.Placing.{Placed, PlacedStep, placed_first, placed_kept, placed_moves}
 use Rattle.afs_law.proofs.Saving.{any_change, later_not}
 use Rattle.afs_law.proofs.Sending.{rises_posts, served_posts, times_posts, wakes_posts}
 use Rattle.afs_law.specs.ClientParts.{ChangesAreAlone, IsAlone, IsFirstOfAct}
 use Rattle.afs_law.specs.Ideal.{call_in, call_under, change_in, set_up}
-use Rattle.afs_law.specs.Legal.{HasChange, HasChangeBy, IdealChange, IsInPlace, IsLater, IsNew, IsNot, IsOfClient}
+use Rattle.afs_law.specs.Legal.{HasChange, HasChangeBy, IdealChange, IsInPlace, IsNew, IsNot, IsOfClient}
 use Rattle.afs_law.specs.Parts.{EachLine, IsIdeal}
-use Rattle.afs_law.specs.Past.{Called, Sends, called_key, has_begun, has_sent, is_called, is_of_act, is_sent_since, lines_of, onto, running, same_key, sent_of}
+use Rattle.afs_law.specs.Past.{Called, called_key, has_begun, has_sent, is_called, is_of_act, is_sent_since, lines_of, onto, running, sent_of}
 use Rattle.afs_num.specs.Nodes.{same_node}
 use Rattle.afs_num.specs.declared.calls.FsCall.{FsCall}
 use Rattle.afs_num.specs.declared.histories.Actor.{Actor}
-use Rattle.afs_num.specs.declared.histories.Actor.TheVariants as actors
 use Rattle.afs_num.specs.declared.histories.ReadBody.{ReadBody}
 use Rattle.afs_num.specs.declared.messages.Call.TheVariants as ask
 use Rattle.afs_num.specs.declared.messages.Carried.{Carried}
@@ -45,12 +44,12 @@ use Rattle.afs_num.specs.declared.types.Node.TheVariants.{Admin, Client, Loc, Se
 use Rattle.afs_rows.specs.Callbacks.{put}
 use Rattle.afs_rows.specs.ClientRow.{call_of}
 use Rattle.afs_rows.specs.Going.{ClientState, Going, began, read_on}
-use Rattle.afs_rows.specs.Runs.{Cell, Entry, Input, at_rest, begun_by_disk, blow_line, in_boot, in_step, locations, moved, server_falls, server_moves, server_rises, server_set, server_stays, start, ticked, voided}
+use Rattle.afs_rows.specs.Runs.{Cell, Entry, at_rest, begun_by_disk, blow_line, in_boot, in_step, locations, moved, server_falls, server_moves, server_rises, server_set, server_stays, start, ticked, voided}
 use Rattle.afs_rows.specs.ServerSteps.{back_timeout_row, server_row, wake_row}
 use Rattle.afs_rows.specs.ServerRow.{is_client, key_of}
 use Rattle.afs_rows.specs.Steps.{Step}
 use Rattle.std.proofs.Common.{suc, ◌≡◌, ℕ, ◌+◌, ◌⊎◌, inl, inr, Bool, true, false, cond, List, [], ◌∷◌, ◌++◌, Option, Some, None, refl, sym, ap, subst, ◌∙◌}
-use Rattle.std.specs.Prelude.{⊤, ◌&&◌}
+use Rattle.std.specs.Prelude.{⊤}
 
 -- ---- of the act that runs only the client's last call may change something
 

@@ -5,8 +5,9 @@ use Rattle.afs_history.specs.declared.lines.Line.TheVariants as lines
 use Rattle.afs_history.specs.declared.scripts.Script.{Script}
 use Rattle.afs_history.specs.declared.scripts.VolumeLine.{VolumeLine}
 use Rattle.afs_ideal.specs.Operations.{volume_changed}
-use Rattle.afs_law.proofs.Basics.{at_put, same_node-refl, some_of}
+use Rattle.afs_law.proofs.Basics.{same_node-refl, some_of}
 use Rattle.afs_law.proofs.Following.{IsNoGift}
+use Rattle.afs_law.proofs.Walking.{walked_keeps}
 use Rattle.afs_law.specs.ClientParts.{AreInCell, IsOfCell}
 use Rattle.afs_model.specs.Calls as pairs
 use Rattle.afs_model.specs.Calls.{Admitted, admitted}
@@ -30,13 +31,12 @@ use Rattle.afs_num.specs.declared.messages.Carried.TheVariants as carried
 use Rattle.afs_num.specs.declared.messages.Message.{Message}
 use Rattle.afs_num.specs.declared.messages.Received.TheVariants.{Whole}
 use Rattle.afs_num.specs.declared.messages.Reply.TheVariants as tell
-use Rattle.afs_num.specs.declared.types.Code.{Code}
 use Rattle.afs_num.specs.declared.types.Fid.{Fid}
 use Rattle.afs_num.specs.declared.types.Head.{Head}
 use Rattle.afs_num.specs.declared.types.Node.{Node}
 use Rattle.afs_num.specs.declared.types.Node.TheVariants.{Admin, Client, Loc, Server}
-use Rattle.afs_rows.specs.ClientRow.{Walked, admits_call, asking, awaits, begin_row, begins_by, behind_batch, body_told, breaks, call_by, call_of, calls_again, callee_by, client_row, counts, dropped, ended, entries_told, entry_told, find_cached, gift_of, gifts_to, given, gives_by, goes_by, hears, ignores, in_order, is_awaited, is_below, is_busy_code, is_older, is_spent, is_trusted, joined, left_after, left_in, look_at, looked, most_busy, most_reads, put_entries, put_entry, read_lines, refreshed, refuses, replies_step, runs_carried, server_at, server_or_first, shown_by, status_told, status_look, stays, takes, takes_bulk, takes_data, takes_entries, takes_entry, takes_given, takes_list, takes_set, takes_shown, takes_status, timeout_row, told_step, trusted_in, untrusted_in, used_first, volume_asked, walked, walked_at, walked_by, walked_with, walks_on, whole, with_statuses}
-use Rattle.afs_rows.specs.Going.{ClientState, Going, Need, answers, began, call_for, gives_back, next, reads, reads_status, with_read}
+use Rattle.afs_rows.specs.ClientRow.{Walked, admits_call, asking, awaits, begin_row, begins_by, behind_batch, body_told, breaks, call_by, call_of, callee_by, client_row, counts, dropped, ended, entries_told, entry_told, find_cached, gift_of, gifts_to, given, gives_by, goes_by, hears, in_order, is_awaited, is_below, is_busy_code, is_older, is_spent, is_trusted, joined, left_after, left_in, look_at, looked, most_busy, most_reads, put_entries, put_entry, read_lines, refreshed, runs_carried, server_at, server_or_first, status_told, status_look, takes, takes_bulk, takes_data, takes_entry, takes_given, takes_list, takes_set, takes_shown, takes_status, timeout_row, trusted_in, untrusted_in, used_first, volume_asked, walked, walks_on, whole, with_statuses}
+use Rattle.afs_rows.specs.Going.{ClientState, Going, Need, answers, began, call_for, gives_back, next, with_read}
 use Rattle.afs_rows.specs.Runs.{counts_later, location_by, locations, locations_in}
 use Rattle.afs_rows.specs.Scopes.{is_in_scope}
 use Rattle.afs_rows.specs.States.{CacheEntry, Gift, Location}
@@ -113,30 +113,8 @@ ours_told server sync (f ∷ fs) [] cs h = tt
 ours_told server sync (f ∷ fs) (s ∷ ss) [] h = tt
 ours_told server sync (f ∷ fs) (s ∷ ss) (c ∷ cs) h = (h, ours_told server sync fs ss cs h)
 
--- what is used of it goes first
-abbrev Keeps : (Going → List CacheEntry → Walked) → Type 0
-Keeps more = (act : Going) (cache : List CacheEntry) → AreOurs cache → AreOurs (more act cache).cache
-
-with_ours : (more : Going → List CacheEntry → Walked) (act : Going) (cache : List CacheEntry) (e : CacheEntry) (o : Option ReadBody) → IsOurs e.server → Keeps more → AreOurs cache → AreOurs (walked_with more act cache e o).cache
-with_ours more act cache e None x w h = h
-with_ours more act cache e (Some body) x w h = w (with_read e.fid body act) (used_first e cache) (ours_first e cache x h)
-
-trusted_ours : (t : Bool) (more : Going → List CacheEntry → Walked) (act : Going) (cache : List CacheEntry) (e : CacheEntry) (o : Option ReadBody) → IsOurs e.server → Keeps more → AreOurs cache → AreOurs (cond t (walked_with more act cache e o) (stays act cache)).cache
-trusted_ours true more act cache e o x w h = with_ours more act cache e o x w h
-trusted_ours false more act cache e o x w h = h
-
-at_ours : (more : Going → List CacheEntry → Walked) (clock : ℕ) (act : Going) (cache : List CacheEntry) (need : Need) (f : Fid) (o : Option CacheEntry) → find_cached f cache ≡ o → Keeps more → AreOurs cache → AreOurs (walked_at more clock act cache need o).cache
-at_ours more clock act cache need f None q w h = h
-at_ours more clock act cache need f (Some e) q w h = trusted_ours (is_trusted clock e) more act cache e (shown_by need e) (ours_found f cache e h q) w h
-
-by_ours : (more : Going → List CacheEntry → Walked) (clock : ℕ) (act : Going) (cache : List CacheEntry) (need : Need) → Keeps more → AreOurs cache → AreOurs (walked_by more clock act cache need).cache
-by_ours more clock act cache (reads f) w h = at_ours more clock act cache (reads f) f (find_cached f cache) refl w h
-by_ours more clock act cache (reads_status f) w h = at_ours more clock act cache (reads_status f) f (find_cached f cache) refl w h
-by_ours more clock act cache need w h = h
-
-walked_ours : (k clock : ℕ) → Keeps (walked k clock)
-walked_ours zero clock act cache h = h
-walked_ours (suc k) clock act cache h = by_ours (walked k clock) clock act cache (next act) (walked_ours k clock) h
+walked_ours : (k clock : ℕ) (act : Going) (cache : List CacheEntry) → AreOurs cache → AreOurs (walked k clock act cache).cache
+walked_ours k clock act cache h = walked_keeps AreOurs (λ f u es found x. ours_first u es (ours_found u.fid es u x found) x) k clock act cache h
 
 -- ---- ways of a step
 

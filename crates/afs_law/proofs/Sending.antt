@@ -6,7 +6,7 @@ use Rattle.afs_history.specs.declared.scripts.Script.{Script}
 use Rattle.afs_law.proofs.Acting.{Acts, IsTheCall, begins_acts, given_acts, last_key, waits_acts, who_at}
 use Rattle.afs_law.proofs.Basics.{ByClient, Each, IfCall, OfCall, at_put, by_client, each_more, same_node-true}
 use Rattle.afs_law.proofs.Changing.{run_each}
-use Rattle.afs_law.proofs.Firm.{IfFirm, IsFirm, IsSentBy, hears_firm}
+use Rattle.afs_law.proofs.Firm.{IfFirm, IsSentBy, hears_firm}
 use Rattle.afs_law.proofs.Hosting.{HasHead, served_head}
 use Rattle.afs_law.proofs.KeysOnce.{IsKnown, any_told, by_key}
 use Rattle.afs_law.proofs.Moving.{Behind, EachMove, IsKept, each_moved}

@@ -3,24 +3,21 @@
 use Rattle.afs_history.specs.declared.lines.Line.{Line}
 use Rattle.afs_history.specs.declared.lines.Line.TheVariants as lines
 use Rattle.afs_history.specs.declared.scripts.Script.{Script}
-use Rattle.afs_law.proofs.Acting.{Acts, Asks, Rests, Stops, begins_acts, falls_acts, given_acts, is_of, last_key, rises_acts, waits_acts, who_at}
+use Rattle.afs_law.proofs.Acting.{Acts, begins_acts, falls_acts, given_acts, last_key, rises_acts, waits_acts, who_at}
 use Rattle.afs_law.proofs.Backing.{all_lines}
-use Rattle.afs_law.proofs.Basics.{Each, at_put, client_number, each_at, same_key-refl, some_of}
+use Rattle.afs_law.proofs.Basics.{at_put, client_number, each_at, same_key-refl}
 use Rattle.afs_law.proofs.Choosing.{disk_works, one_from, risen_from, risen_lines, serves_works, starts_works, times_works, wakes_works}
 use Rattle.afs_law.proofs.Firm.{IsFirm}
 use Rattle.afs_law.proofs.Following.{Follows, WaitsOn, begins_follow, falls_follow, given_follow, rises_follow, waits_follow}
 use Rattle.afs_law.proofs.Gifts.{Given, given_first, given_kept}
 use Rattle.afs_law.proofs.KeysOnce.{IsKnown, any_told, by_key}
 use Rattle.afs_law.proofs.Moving.{Behind, EachMove, IsKept, each_moved, run_keeps}
-use Rattle.afs_law.proofs.Origins.{AskedIn, Leaves, any_cut, any_message, blow_idle, idle_leaves, idle_works, is_idle, next_key, none_runs, of_client, other_leaves, same_key_at, unsent}
+use Rattle.afs_law.proofs.Origins.{AskedIn, any_cut, any_message, blow_idle, idle_leaves, idle_works, is_idle, next_key, none_runs, of_client, other_leaves, same_key_at, unsent}
 use Rattle.afs_law.proofs.Knowing.{Known}
-use Rattle.afs_law.specs.ClientParts.{AreSilent, IsUnspoiled, WaitsAreSilent, is_silent}
+use Rattle.afs_law.specs.ClientParts.{IsUnspoiled, WaitsAreSilent, is_silent}
 use Rattle.afs_law.specs.Grants.{IsDropped}
 use Rattle.afs_law.specs.Ideal.{set_up}
-use Rattle.afs_law.specs.Once.{past_of}
-use Rattle.afs_law.specs.Past.{has_sent, lines_of, lines_on, onto, sent_of}
-use Rattle.afs_num.specs.declared.calls.FsCall.{FsCall}
-use Rattle.afs_num.specs.declared.histories.Actor.{Actor}
+use Rattle.afs_law.specs.Past.{has_sent, lines_on, onto, sent_of}
 use Rattle.afs_num.specs.declared.histories.Actor.TheVariants as actors
 use Rattle.afs_num.specs.declared.messages.Message.{Message}
 use Rattle.afs_num.specs.declared.messages.Received.TheVariants.{Whole}
@@ -29,13 +26,13 @@ use Rattle.afs_num.specs.declared.types.Key.{Key}
 use Rattle.afs_num.specs.declared.types.Node.{Node}
 use Rattle.afs_num.specs.declared.types.Node.TheVariants.{Client, Server}
 use Rattle.afs_rows.specs.Callbacks.{put}
-use Rattle.afs_rows.specs.ClientRow.{call_by, call_message, call_of, names_call}
+use Rattle.afs_rows.specs.ClientRow.{call_by, call_of, names_call}
 use Rattle.afs_rows.specs.Going.{ClientState, Going, next}
 use Rattle.afs_rows.specs.Runs.{Cell, Entry, at_rest, begun_by_disk, blow_line, in_boot, in_step, server_falls, server_moves, server_rises, server_set, server_stays, start, ticked, voided}
 use Rattle.afs_rows.specs.ServerSteps.{back_timeout_row, server_row, wake_row}
 use Rattle.afs_rows.specs.States.{Gift}
 use Rattle.afs_rows.specs.Steps.{Step}
-use Rattle.std.proofs.Common.{suc, ◌≡◌, ℕ, ◌⊎◌, inl, inr, Bool, true, false, cond, List, [], ◌∷◌, ◌++◌, Option, Some, None, refl, sym, ap, subst, ◌∙◌}
+use Rattle.std.proofs.Common.{suc, ◌≡◌, ℕ, inl, inr, Bool, true, false, cond, List, [], ◌∷◌, Some, refl, sym, ap, subst, ◌∙◌}
 use Rattle.std.specs.Prelude.{⊤}
 
 -- one entry more, in which the client waits on

@@ -1,17 +1,17 @@
 -- More parts of what a legal history is, proved of the runs of every script, with any number of servers: what clients give back, that
 -- an act changes things once, by what it reads and is answered, and what it
 -- waits for.
-use Rattle.std.specs.Prelude.{◌≡◌, ◌≤◌, ℕ, List, [], ◌∷◌, ◌++◌, Bool, Option, Some, true, false, ℤ, pos, ⊤, ◌⊎◌}
+use Rattle.std.specs.Prelude.{◌≡◌, ◌≤◌, ℕ, List, [], ◌∷◌, ◌++◌, Bool, Some, true, false, ℤ, pos, if◌then◌else◌, ⊤, ◌⊎◌}
 use Rattle.afs_history.specs.declared.lines.Line.{Line}
 use Rattle.afs_history.specs.declared.lines.Line.TheVariants as lines
 use Rattle.afs_history.specs.declared.scripts.Script.{Script}
 use Rattle.afs_history.specs.declared.scripts.VolumeLine.{VolumeLine}
-use Rattle.afs_law.specs.Grants.{IsDropped, is_promised}
+use Rattle.afs_law.specs.Grants.{IsDropped, fetch_reply, has_fetched, is_promised}
 use Rattle.afs_law.specs.Ideal.{set_up, user_of}
 use Rattle.afs_law.specs.Legal.{GoodGift, HasChange, HasChangeBy, HasOwnHalf, HasUsed, IsDead, IsDone, as_asked, has_dropped}
 use Rattle.afs_law.specs.Once.{past_of}
 use Rattle.afs_law.specs.Parts.{AllLines, EachEntry, EachSent, LineRule, waited_key}
-use Rattle.afs_law.specs.Past.{CalledSince, IsReply, answered_key, code_told, given_message, has_begun, has_sent, is_of_act, lines_of, lines_on, running, sent_of}
+use Rattle.afs_law.specs.Past.{CalledSince, IsReply, answered_key, code_told, given_message, has_begun, has_sent, is_of_act, lines_of, lines_on, onto, running, sent_of}
 use Rattle.afs_num.specs.declared.calls.FsCall.{FsCall}
 use Rattle.afs_num.specs.declared.histories.Actor.TheVariants as actors
 use Rattle.afs_num.specs.declared.histories.ReadSource.{ReadSource}
@@ -22,9 +22,10 @@ use Rattle.afs_num.specs.declared.types.Fid.{Fid}
 use Rattle.afs_num.specs.declared.types.Key.{Key}
 use Rattle.afs_num.specs.declared.types.Node.{Node}
 use Rattle.afs_num.specs.declared.types.Node.TheVariants.{Client}
-use Rattle.afs_rows.specs.ClientRow.{call_of, names_call}
+use Rattle.afs_rows.specs.ClientRow.{call_of, find_cached, names_call}
 use Rattle.afs_rows.specs.Going.{ClientState, Going, asked, gives_back, next, reads_rights}
 use Rattle.afs_rows.specs.Runs.{Cell, Entry, RunsTo}
+use Rattle.afs_rows.specs.States.{CacheEntry}
 
 -- ---- messages
 
@@ -147,3 +148,24 @@ pub record IsUnspoiled (j : ℕ) (x : ClientState) (act : Going) (past : List En
 -- so it is of every client that waits
 abbrev pub WaitsAreSilent : Type 0
 WaitsAreSilent = (s : Script) (history : List Entry) (end : Cell) → RunsTo history s end → (j : ℕ) (act : Going) → (end.clients j).running ≡ Some act → IsUnspoiled j (end.clients j) act (past_of (set_up s ∷ []) history)
+
+-- ---- what a client keeps
+
+-- the lines since the client's last entry with a fetched read of the object, the newest first, and that entry's
+abbrev pub lines_since_fetch : Node → Fid → List Entry → List Line
+lines_since_fetch c f [] = []
+lines_since_fetch c f (e ∷ past) = if has_fetched c f e.lines then onto [] e.lines else onto (lines_since_fetch c f past) e.lines
+
+-- an entry of a cache is of the server whose reply, with code 0, was given to the client's last entry with a fetched read of its object;
+-- and since then the client dropped neither that nor all that the server promised
+pub record IsFetchedEntry (j : ℕ) (f : Fid) (e : CacheEntry) (past : List Entry) : Type 0 where
+  pub reply : Message
+  pub by : fetch_reply (Client j) f past ≡ Some reply
+  pub is_reply : IsReply reply
+  pub told : code_told reply.carried ≡ Some (pos 0)
+  pub to : reply.head.to ≡ Client j
+  pub from : reply.head.from ≡ e.server
+  pub kept : IsDropped e.server (Client j) f (lines_since_fetch (Client j) f past) → ⊥
+
+abbrev pub CachedAreFetched : Type 0
+CachedAreFetched = (s : Script) (history : List Entry) (end : Cell) → RunsTo history s end → (j : ℕ) (f : Fid) (e : CacheEntry) → find_cached f (end.clients j).cache ≡ Some e → IsFetchedEntry j f e (past_of (set_up s ∷ []) history)

@@ -1,7 +1,7 @@
 //! Laws about the runs of a script. Each is the contract of a function that does nothing.
 
 ghost use Rattle.afs_law.specs.Laws.{AcknowledgedAreKept, AcknowledgedAreMade, AnswersAreRecent, ChangesAreFolded, EffectsAreTold, KeysRunOnce, ReadsAreNewest, RunsAreLegal, RunsAreOne, SetUpsAreFirst, StartsAreFolded, VolumesAreTold, PairsAreKnown, TrustedIsGood, RoomlessAreRefused, UnservedAreRefused, CallsRunOnce, RepliesAreCaused, RepliesWereRun, KeptWereRun, DurableAreChanges, GrantsAreKept, BreaksAreOwed, RepliesFollowDrops, UnawaitedAreUntrusted, DeadAreUntrusted};
-ghost use Rattle.afs_law.specs.ClientParts.{AnswersAreDue, ChangesAreAlone, GiftsAreDropped, WaitsAreSilent};
+ghost use Rattle.afs_law.specs.ClientParts.{AnswersAreDue, CachedAreFetched, ChangesAreAlone, GiftsAreDropped, WaitsAreSilent};
 ghost use Rattle.afs_law.specs.Parts.{ActsAreTold, CallsAreAsked, ChangesAreIdeal, EntriesAreSound, LinesAreInPlace, MessagesAreOwn};
 ghost use Rattle.afs_law.specs.ServerParts.{BreaksAreGood, FallsAreKept, GoodReadsAreLegal, GrantsAreGood, RepliesAreTrue, RepliesWait, VersionsAreKept};
 
@@ -179,6 +179,12 @@ pub fn answers_are_due()
 /// the call names.
 pub fn waits_are_silent()
     ensures { WaitsAreSilent }
+{}
+
+/// An entry of a client's cache is of the server whose reply the client's last fetched read of that object was of, and since then the
+/// client dropped neither the object nor all that the server promised.
+pub fn cached_are_fetched()
+    ensures { CachedAreFetched }
 {}
 
 /// Each message is sent by the node that its header names as sender, and each call of a client under a key that no file call had
