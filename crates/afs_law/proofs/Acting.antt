@@ -8,7 +8,8 @@ use Rattle.afs_ideal.specs.Operations.{volume_changed}
 use Rattle.afs_law.proofs.Backing.{all_lines}
 use Rattle.afs_law.proofs.Basics.{Each, IfCall, same_node-refl, same_node-true}
 use Rattle.afs_law.proofs.Calling.{AreReplies, IsAnswer, kept_answer, uncalled_any}
-use Rattle.afs_law.proofs.Seating.{AreSeated, kept_from, seated}
+use Rattle.afs_law.proofs.Firm.{IsFirm, IsSentBy}
+use Rattle.afs_law.proofs.Seating.{AreSeated, code_half, kept_from, seated}
 use Rattle.afs_law.specs.Legal.{IsInPlace}
 use Rattle.afs_law.specs.Parts.{EachLine}
 use Rattle.afs_law.specs.Past.{HasCode, has_begun, has_given, lines_of, onto, running}
@@ -40,10 +41,10 @@ use Rattle.afs_num.specs.declared.types.Head.{Head}
 use Rattle.afs_num.specs.declared.types.Key.{Key}
 use Rattle.afs_num.specs.declared.types.Node.{Node}
 use Rattle.afs_num.specs.declared.types.Node.TheVariants.{Client}
-use Rattle.afs_rows.specs.ClientRow.{Look, Walked, admits_call, awaits, begin_row, begins_by, behind_batch, body_told, breaks, call_message, call_of, calls_again, calls_step, client_row, counts, dead_code, drop_line, dropped, dropped_after, ends_step, entries_told, entry_told, find_cached, gift_of, given, given_up_in, gives_by, goes_by, hears, ignores, in_order, is_awaited, is_busy_code, is_older, is_spent, is_trusted, look_at, looked, most_busy, most_reads, put_entries, put_entry, read_lines, reborn, refuses, replies_step, runs_carried, shown_by, status_look, status_told, stays, takes, takes_bulk, takes_bytes, takes_data, takes_entries, takes_entry, takes_given, takes_list, takes_plain, takes_rights, takes_set, takes_shown, takes_status, takes_stored, timeout_line, timeout_row, told_step, trusted_in, untrusted_in, used_first, walked, walked_at, walked_by, walked_with, walks_on, whole, with_statuses}
+use Rattle.afs_rows.specs.ClientRow.{Look, Walked, admits_call, asking, awaits, begin_row, begins_by, behind_batch, body_told, breaks, call_message, call_of, callee_by, calls_again, calls_step, client_row, counts, dead_code, drop_line, dropped, dropped_after, ends_step, entries_told, entry_told, find_cached, gift_of, given, given_up_in, gives_by, goes_by, hears, ignores, in_order, is_awaited, is_busy_code, is_older, is_spent, is_trusted, look_at, looked, most_busy, most_reads, put_entries, put_entry, read_lines, reborn, refuses, replies_step, runs_carried, shown_by, status_look, status_told, stays, takes, takes_bulk, takes_bytes, takes_data, takes_entries, takes_entry, takes_given, takes_list, takes_plain, takes_rights, takes_set, takes_shown, takes_status, takes_stored, timeout_line, timeout_row, told_step, trusted_in, untrusted_in, used_first, walked, walked_at, walked_by, walked_with, walks_on, whole, with_statuses}
 use Rattle.afs_rows.specs.Going.{ClientState, Going, Need, answers, began, gives_back, next, reads, reads_status, with_read}
 use Rattle.afs_rows.specs.Runs.{Entry, locations}
-use Rattle.afs_rows.specs.ServerRow.{boot_told, key_of, replied}
+use Rattle.afs_rows.specs.ServerRow.{boot_told, key_of, replied, reply_head}
 use Rattle.afs_rows.specs.States.{CacheEntry, Gift, Location, Seat}
 use Rattle.afs_rows.specs.Steps.{Step}
 use Rattle.std.proofs.Common.{zero, suc, ◌+◌, ◌≡◌, ℕ, ◌⊎◌, inl, inr, Bool, true, false, cond, List, [], ◌∷◌, ◌++◌, map, Option, Some, None, refl, sym, subst, filter, not, ap, ◌∙◌}
@@ -92,6 +93,7 @@ pub record IsTheCall (j : ℕ) (c : ClientState) (head : Head) (user : List ℕ)
   pub runs : c.running ≡ Some act
   pub user' : user ≡ c.user
   pub asks : call ≡ call_of c act
+  pub to : head.to ≡ c.callee
 
 -- it has the pair that it had, and goes on with the act that ran or with none; or it asks for an act, under the next pair; or it stopped
 pub record Rests (j : ℕ) (x : Who) (gs : List Gift) (s : Step ClientState) : Type 0 where
@@ -106,6 +108,7 @@ pub record Asks (j : ℕ) (x : Who) (s : Step ClientState) : Type 0 where
   pub act : Going
   pub runs : s.state.running ≡ Some act
   pub sent : s.sent ≡ call_message (Client j) s.state act ∷ []
+  pub callee : s.state.callee ≡ callee_by s.state (next act)
 
 pub record Stops (j : ℕ) (x : Who) (s : Step ClientState) : Type 0 where
   pub epoch : s.state.epoch ≡ x.epoch + 1
@@ -124,7 +127,7 @@ pub record Acts (j : ℕ) (x : Who) (gs : List Gift) (s : Step ClientState) : Ty
   pub goes : Rests j x gs s ⊎ (Asks j x s ⊎ Stops j x s)
   pub each : (S : Script) (past : List Entry) → x.table ≡ locations S → running S (Client j) (lines_of past) ≡ x.running → AreInPlace S j past [] s.lines
   pub seats : AreSeated (Client j) x.seats → AreSeated (Client j) s.state.seats
-  pub from : Each (λ m. m.head.from ≡ Client j) s.sent
+  pub from : Each (IsSentBy (Client j)) s.sent
 
 -- ---- what stands before further lines
 
@@ -241,7 +244,7 @@ status_reads (e ∷ es) act = status_reads es (with_read e.fid (seen.Status e.st
 
 -- ---- its ends
 
-told_acts : (j : ℕ) (c : ClientState) (place : ℕ) (ms : List Message) → Each (IfCall (IsTheCall j c)) ms → Each (λ m. m.head.from ≡ Client j) ms → Acts j (who_at c) c.gifts (told_step c place ms)
+told_acts : (j : ℕ) (c : ClientState) (place : ℕ) (ms : List Message) → Each (IfCall (IsTheCall j c)) ms → Each (IsSentBy (Client j)) ms → Acts j (who_at c) c.gifts (told_step c place ms)
 told_acts j c place ms h own = record { user = refl; table = refl; of = refl; runs = λ S t o r. r; goes = inl (record { epoch = refl; last = refl; act = inr (refl, (refl, refl)); sent = h }); each = λ S past t r. (refl, tt); seats = λ k. k; from = own }
 
 ignores_acts : (j : ℕ) (c : ClientState) (place : ℕ) → Acts j (who_at c) c.gifts (ignores c place)
@@ -262,16 +265,20 @@ ends_acts j gs c cache front code g f = record {
   from = tt;
 }
 
+asking_callee : (c : ClientState) (act : Going) (need : Need) → callee_by c need ≡ callee_by (asking c act) need
+asking_callee c act gives_back = refl
+asking_callee c act need = refl
+
 calls_acts : (j : ℕ) (gs : List Gift) (c : ClientState) (act : Going) (front : List Line → List Line) → Front j c.table c.running act front → Acts j (who_at c) gs (calls_step (Client j) c act front)
 calls_acts j gs c act front f = record {
   user = refl;
   table = refl;
   of = f.of [] refl;
   runs = λ S t o r. let a : Comes j act S o front = f.comes S t o r in ap (running S (Client j)) (a.on []) ∙ a.runs;
-  goes = inr (inl (record { epoch = refl; last = refl; act = act; runs = refl; sent = refl }));
+  goes = inr (inl (record { epoch = refl; last = refl; act = act; runs = refl; sent = refl; callee = asking_callee c act (next act) }));
   each = λ S past t r. f.each S past [] t r (refl, refl) (λ own q. tt);
   seats = λ k. k;
-  from = (refl, tt);
+  from = (record { from = refl; half = λ z. refl; firm = tt; gift = λ z ls. absurd cc }, tt);
 }
 
 goes_acts : (j : ℕ) (gs : List Gift) (c : ClientState) (front : List Line → List Line) (w : Walked) (need : Need) → Front j c.table c.running w.act (λ ls. front (looked (Client j) w.looks ls)) → Acts j (who_at c) gs (goes_by (Client j) c front w need)
@@ -298,16 +305,16 @@ drops_quiet : (j : ℕ) (fs : List Fid) → Quiet j (map (drop_line (Client j)) 
 drops_quiet j [] = record { of = refl; runs = λ S o. refl; begins = refl; each = λ S past own. tt }
 drops_quiet j (f ∷ fs) = let q : Quiet j (map (drop_line (Client j)) fs) = drops_quiet j fs in record { of = one_of j _ q.of; runs = λ S o. q.runs S (lines.Drop (Client j) f ∷ o); begins = q.begins; each = λ S past own. (refl, q.each S past (lines.Drop (Client j) f ∷ own)) }
 
-replies_acts : (j : ℕ) (x : Who) (gs : List Gift) (c : ClientState) (place : ℕ) (head : Head) (ls : List Line) (y : Carried) → who_at c ≡ x → c.gifts ≡ gs → Quiet j ls → IfCall (IsTheCall j (replies_step c place head ls y).state) (replied c.epoch head y) → head.to ≡ Client j → HasCode y → Acts j x gs (replies_step c place head ls y)
-replies_acts j x gs c place head ls y same gifts q h to code = record {
+replies_acts : (j : ℕ) (x : Who) (gs : List Gift) (c : ClientState) (place : ℕ) (head : Head) (ls : List Line) (y : Carried) → who_at c ≡ x → c.gifts ≡ gs → Quiet j ls → IfCall (IsTheCall j (replies_step c place head ls y).state) (replied c.epoch head y) → head.to ≡ Client j → HasCode y → IsFirm (reply_head c.epoch head) y → Acts j x gs (replies_step c place head ls y)
+replies_acts j x gs c place head ls y same gifts q h to code firm = record {
   user = ap (λ (w : Who). w.user) same;
   table = ap (λ (w : Who). w.table) same;
   of = q.of;
   runs = λ S t o r. q.runs S (lines.Given place ∷ o) ∙ (r ∙ sym (ap (λ (w : Who). w.running) same));
   goes = inl (record { epoch = ap (λ (w : Who). w.epoch) same; last = ap (λ (w : Who). w.last) same; act = inr (ap (λ (w : Who). w.running) same, (gifts, q.begins)); sent = (h, tt) });
   each = λ S past t r. (refl, q.each S past (lines.Given place ∷ []));
-  seats = λ k. seated (Client j) c.epoch head y c.seats to code (subst (AreSeated (Client j)) (sym (ap (λ (w : Who). w.seats) same)) k);
-  from = (to, tt);
+  seats = λ k. seated (Client j) c.epoch head y c.seats to code firm (subst (AreSeated (Client j)) (sym (ap (λ (w : Who). w.seats) same)) k);
+  from = (record { from = to; half = code_half (replied c.epoch head y) code; firm = firm; gift = λ z ls. absurd cc }, tt);
 }
 
 either_acts : (t : Bool) (j : ℕ) (x : Who) (gs : List Gift) (a b : Step ClientState) → Acts j x gs a → Acts j x gs b → Acts j x gs (cond t a b)
@@ -403,7 +410,7 @@ counts_acts j c clock place act head (carried.Call user call) r = ignores_acts j
 counts_acts j c clock place act head (carried.Refusal code) r = either_acts (is_spent c act) j (who_at c) c.gifts _ _ (again_acts j c.gifts c place act r) (refuses_acts j c.gifts c place act code r)
 counts_acts j c clock place act head (carried.Reply (tell.File reply)) r = either_acts (is_spent c act) j (who_at c) c.gifts _ _ (again_acts j c.gifts c place act r) (takes_acts j c.gifts c clock place act _ reply r)
 counts_acts j c clock place act head (carried.Reply reply) r = ignores_acts j c place
-counts_acts j c clock place act head carried.Notice r = record { user = refl; table = refl; of = refl; runs = λ S t o q. q; goes = inl (record { epoch = refl; last = refl; act = inr (refl, (refl, refl)); sent = (record { key = refl; act = act; runs = r; user' = refl; asks = refl }, tt) }); each = λ S past t q. (refl, tt); seats = λ k. k; from = (refl, tt) }
+counts_acts j c clock place act head carried.Notice r = record { user = refl; table = refl; of = refl; runs = λ S t o q. q; goes = inl (record { epoch = refl; last = refl; act = inr (refl, (refl, refl)); sent = (record { key = refl; act = act; runs = r; user' = refl; asks = refl; to = refl }, tt) }); each = λ S past t q. (refl, tt); seats = λ k. k; from = (record { from = refl; half = λ z. refl; firm = tt; gift = λ z ls. absurd cc }, tt) }
 
 awaited_acts : (t : Bool) (j : ℕ) (c : ClientState) (clock place : ℕ) (act : Going) (head : Head) (x : Carried) → c.running ≡ Some act → Acts j (who_at c) c.gifts (cond t (counts (Client j) c clock place act head x) (ignores c place))
 awaited_acts true j c clock place act head x r = counts_acts j c clock place act head x r
@@ -422,14 +429,14 @@ all_line : (j : ℕ) (server : Node) → Quiet j (lines.DropAll (Client j) serve
 all_line j server = record { of = one_of j true refl; runs = λ S o. refl; begins = refl; each = λ S past own. (refl, tt) }
 
 breaks_acts : (j : ℕ) (c : ClientState) (place : ℕ) (head : Head) (call : FsCall) → head.to ≡ Client j → Acts j (who_at c) c.gifts (breaks (Client j) c place head call)
-breaks_acts j c place head (calls.CallBack fs callbacks) to = replies_acts j (who_at c) c.gifts _ place head _ _ refl refl (drops_quiet j fs) tt to tt
-breaks_acts j c place head calls.InitCallBackState to = replies_acts j (who_at c) c.gifts _ place head _ _ refl refl (all_line j head.from) tt to tt
-breaks_acts j c place head calls.Probe to = replies_acts j (who_at c) c.gifts c place head [] _ refl refl (no_lines j) tt to tt
-breaks_acts j c place head call to = replies_acts j (who_at c) c.gifts c place head [] _ refl refl (no_lines j) tt to tt
+breaks_acts j c place head (calls.CallBack fs callbacks) to = replies_acts j (who_at c) c.gifts _ place head _ _ refl refl (drops_quiet j fs) tt to tt refl
+breaks_acts j c place head calls.InitCallBackState to = replies_acts j (who_at c) c.gifts _ place head _ _ refl refl (all_line j head.from) tt to tt refl
+breaks_acts j c place head calls.Probe to = replies_acts j (who_at c) c.gifts c place head [] _ refl refl (no_lines j) tt to tt refl
+breaks_acts j c place head call to = replies_acts j (who_at c) c.gifts c place head [] _ refl refl (no_lines j) tt to tt (refl, refl)
 
 carried_acts : (j : ℕ) (c : ClientState) (place : ℕ) (head : Head) (x : Carried) → head.to ≡ Client j → Acts j (who_at c) c.gifts (runs_carried (Client j) c place head x)
 carried_acts j c place head (carried.Call user (ask.File call)) to = breaks_acts j c place head call to
-carried_acts j c place head (carried.Call user call) to = replies_acts j (who_at c) c.gifts c place head [] _ refl refl (no_lines j) tt to tt
+carried_acts j c place head (carried.Call user call) to = replies_acts j (who_at c) c.gifts c place head [] _ refl refl (no_lines j) tt to tt (refl, refl)
 carried_acts j c place head x to = ignores_acts j c place
 
 admits_acts : (K L : Head → Type 0) (j : ℕ) (c : ClientState) (place : ℕ) (head : Head) (x : Carried) (o : Admitted Message) → AreReplies K L c.seats → AreSeated (Client j) c.seats → head.to ≡ Client j → admitted c.epoch c.seats head ≡ o → Acts j (who_at c) c.gifts (admits_call (Client j) c place head (whole head x) o)
@@ -439,7 +446,7 @@ admits_acts K L j c place head x (pairs.kept reply) k q to e =
     told_acts j c place (reply ∷ []) (uncalled_any (IsTheCall j c) reply a.0, tt) (kept_from (Client j) c.epoch c.seats head reply q e, tt)
 admits_acts K L j c place head x pairs.in_progress k q to e = ignores_acts j c place
 admits_acts K L j c place head x pairs.older k q to e = ignores_acts j c place
-admits_acts K L j c place head x (pairs.wrong_boot boot) k q to e = told_acts j c place (boot_told c.epoch head ∷ []) (tt, tt) (to, tt)
+admits_acts K L j c place head x (pairs.wrong_boot boot) k q to e = told_acts j c place (boot_told c.epoch head ∷ []) (tt, tt) (record { from = to; half = λ z. absurd z; firm = tt; gift = λ z ls. absurd cc }, tt)
 
 hears_acts : (K L : Head → Type 0) (j : ℕ) (c : ClientState) (clock place : ℕ) (head : Head) (x : Carried) → AreReplies K L c.seats → AreSeated (Client j) c.seats → head.to ≡ Client j → Acts j (who_at c) c.gifts (hears (Client j) c clock place head x)
 hears_acts K L j c clock place head (carried.Call user call) k q to = admits_acts K L j c place head (carried.Call user call) (admitted c.epoch c.seats head) k q to refl
@@ -468,7 +475,7 @@ begins_acts j c clock act r = first_acts j c.gifts (record c { busy = 0 }) clock
 
 pub waits_acts : (j : ℕ) (c : ClientState) (act : Going) → c.running ≡ Some act → Acts j (who_at c) c.gifts (timeout_row (Client j) c act)
 waits_acts j c act r = either_acts (nat_lt c.tries 2) j (who_at c) c.gifts _ _
-    (record { user = refl; table = refl; of = one_of j true refl; runs = λ S t o q. q; goes = inl (record { epoch = refl; last = refl; act = inr (refl, (refl, refl)); sent = (record { key = refl; act = act; runs = r; user' = refl; asks = refl }, tt) }); each = λ S past t q. ((refl, ((refl, refl), (refl, refl))), tt); seats = λ k. k; from = (refl, tt) })
+    (record { user = refl; table = refl; of = one_of j true refl; runs = λ S t o q. q; goes = inl (record { epoch = refl; last = refl; act = inr (refl, (refl, refl)); sent = (record { key = refl; act = act; runs = r; user' = refl; asks = refl; to = refl }, tt) }); each = λ S past t q. ((refl, ((refl, refl), (refl, refl))), tt); seats = λ k. k; from = (record { from = refl; half = λ z. refl; firm = tt; gift = λ z ls. absurd cc }, tt) })
     (ends_acts j c.gifts c _ (λ ls. timeout_line (Client j) c 3 ∷ dropped (Client j) (given_up_in (volume_changed (call_of c act)) c.cache) ls) dead_code act
     (subst (λ (o : Option Going). Front j c.table o act (λ ls. timeout_line (Client j) c 3 ∷ dropped (Client j) (given_up_in (volume_changed (call_of c act)) c.cache) ls)) (sym r)
     (then_front j c.table (Some act) act act (λ ls. timeout_line (Client j) c 3 ∷ ls) (dropped (Client j) (given_up_in (volume_changed (call_of c act)) c.cache)) (timeout_front j c c.table act 3) (dropped_more j act (given_up_in (volume_changed (call_of c act)) c.cache)))))

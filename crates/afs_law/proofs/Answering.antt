@@ -1637,7 +1637,7 @@ caller_by views n (Server j) head user call e to f w = (w (λ i x. absurd cc)).1
 caller_by views n (Admin j) head user call e to f w = (w (λ i x. absurd cc)).1
 caller_by views n Loc head user call e to f w = (w (λ i x. absurd cc)).1
 
-pub hears_goes : (s : Script) (c : Cell) (past : List Entry) (n p : ℕ) (head : Head) (x : Carried) → (h : Holds s c past) → message_at c.sent p ≡ Some (record { head = head; carried = x }) → head.to ≡ Client n → Heard c p (record { head = head; carried = x }) → OfCall (ByServer (BackIn c.down c.server.backs.calls c.server.backs.last_call c.server.lasting.boot)) head x
+pub hears_goes : (s : Script) (c : Cell) (past : List Entry) (n p : ℕ) (head : Head) (x : Carried) → (h : Holds s c past) → message_at c.sent p ≡ Some (record { head = head; carried = x }) → head.to ≡ Client n → Heard c p (record { head = head; carried = x }) → OfCall (ByServer (BackIn the_server c.down c.server.backs.calls c.server.backs.last_call c.server.lasting.boot)) head x
     → OfCall (ByClient (CallIn (view h.floors c))) head x → OfCall ToClient head x → IfReply (ReplyIn (view h.floors c) past) (record { head = head; carried = x }) → IfNotice (IsNoticed c.server.lasting.boot) (record { head = head; carried = x }) → Goes s past (client_moves c n (hears (Client n) (c.clients n) c.clock p head x))
 hears_goes s c past n p head (carried.Call user (ask.File call)) h at to heard b q w f k = called_goes s c past n p head user call h heard to (caller_by (view h.floors c) n head.from head user call refl to q w) b
 hears_goes s c past n p head (carried.Call user (ask.Volume call)) h at to heard b q w f k = absurd b
@@ -1654,7 +1654,7 @@ pub client_goes : (s : Script) (c : Cell) (past : List Entry) (n p : ℕ) (m : M
 unfolding client_row
 client_goes s c past n p m h at to =
     to_me s past c n (same_node m.head.to (Client n)) (hears (Client n) (c.clients n) c.clock p m.head m.carried) (ignores (c.clients n) p) (ap (λ (q : Node). same_node q (Client n)) to ∙ same_node-refl (Client n))
-    (hears_goes s c past n p m.head m.carried h at to (record { at = at; not_to = λ x. let y : Client n ≡ the_server = sym to ∙ x in absurd cc }) (each_at (IfBack (BackIn c.down c.server.backs.calls c.server.backs.last_call c.server.lasting.boot)) c.sent p m at (h.backs refl).calls)
+    (hears_goes s c past n p m.head m.carried h at to (record { at = at; not_to = λ x. let y : Client n ≡ the_server = sym to ∙ x in absurd cc }) (each_at (IfBack (BackIn the_server c.down c.server.backs.calls c.server.backs.last_call c.server.lasting.boot)) c.sent p m at (h.backs refl).calls)
     (each_at (IfCall (CallIn (view h.floors c))) c.sent p m at h.sent.calls) (each_at (λ z. OfCall ToClient z.head z.carried) c.sent p m at h.sent.to_clients)
     (each_at (IfReply (ReplyIn (view h.floors c) past)) c.sent p m at h.sent.replies) (each_at (IfNotice (IsNoticed c.server.lasting.boot)) c.sent p m at h.sent.notices))
 

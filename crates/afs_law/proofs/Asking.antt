@@ -61,7 +61,7 @@ pub record Passes (s : Script) (n : ℕ) (ls : List Line) (ms : List Message) (p
   pub clock : (o : List Line) → clock_of (onto o ls) ≡ clock_of o
   pub home : (id : ℕ) (o : List Line) → Accepts s id the_server o → Accepts s id the_server (onto o ls)
   pub boot : (o : List Line) → server_boot the_server (onto o ls) ≡ server_boot the_server o
-  pub plain : Plain ls
+  pub plain : Plain the_server ls
   pub ideal : (id : ℕ) → volume_after id (step_entry n ls ms ∷ past) ≡ volume_after id past
   pub dull : (k : Key) (boot : ℕ) → IsCallUnder the_server k boot (given_message ls (sent_of past)) → ⊥
 
@@ -87,14 +87,14 @@ calls_moved fl c n floor x sent w h = each_map (IfCall (CallIn (view fl c))) (If
 pub record Fresh (s : Script) (c : Cell) (n : ℕ) (views : ℕ → View) (past : List Entry) (ms : List Message) : Type 0 where
   pub news : News s ms views c.server.lasting.boot past
   pub good : AreGoodSent past ms
-  pub calls : Each (IfBack (BackIn c.down c.server.backs.calls c.server.backs.last_call c.server.lasting.boot)) ms
-  pub dones : Each (IfDone (DoneIn c.down c.server.backs.calls c.server.backs.last_call c.server.lasting.boot past)) ms
+  pub calls : Each (IfBack (BackIn the_server c.down c.server.backs.calls c.server.backs.last_call c.server.lasting.boot)) ms
+  pub dones : Each (IfDone (DoneIn the_server c.down c.server.backs.calls c.server.backs.last_call c.server.lasting.boot past)) ms
 
 abbrev pub KeepsSeat : Cell → ℕ → Option Seat → List Entry → Type 0
-KeepsSeat c n o past = (seat : Seat) (m : Message) → o ≡ Some seat → seat.reply ≡ Some m → SeatedIn c.down c.server.backs.calls c.server.backs.last_call c.server.lasting.boot past n m
+KeepsSeat c n o past = (seat : Seat) (m : Message) → o ≡ Some seat → seat.reply ≡ Some m → SeatedIn the_server c.down c.server.backs.calls c.server.backs.last_call c.server.lasting.boot past n m
 
-pub seat_put : (t : Bool) (c : Cell) (n j : ℕ) (x y : ClientState) (seat : Seat) (m : Message) (past : List Entry) → nat_eq n j ≡ t → back_seat (cond t x y) ≡ Some seat → seat.reply ≡ Some m → KeepsSeat c n (back_seat x) past → (back_seat y ≡ Some seat → SeatedIn c.down c.server.backs.calls c.server.backs.last_call c.server.lasting.boot past j m) → SeatedIn c.down c.server.backs.calls c.server.backs.last_call c.server.lasting.boot past j m
-seat_put true c n j x y seat m past e at is a b = subst (λ (k : ℕ). SeatedIn c.down c.server.backs.calls c.server.backs.last_call c.server.lasting.boot past k m) (eqb-true n j e) (a seat m at is)
+pub seat_put : (t : Bool) (c : Cell) (n j : ℕ) (x y : ClientState) (seat : Seat) (m : Message) (past : List Entry) → nat_eq n j ≡ t → back_seat (cond t x y) ≡ Some seat → seat.reply ≡ Some m → KeepsSeat c n (back_seat x) past → (back_seat y ≡ Some seat → SeatedIn the_server c.down c.server.backs.calls c.server.backs.last_call c.server.lasting.boot past j m) → SeatedIn the_server c.down c.server.backs.calls c.server.backs.last_call c.server.lasting.boot past j m
+seat_put true c n j x y seat m past e at is a b = subst (λ (k : ℕ). SeatedIn the_server c.down c.server.backs.calls c.server.backs.last_call c.server.lasting.boot past k m) (eqb-true n j e) (a seat m at is)
 seat_put false c n j x y seat m past e at is a b = b at
 
 pub moves_back : (s : Script) (c : Cell) (past : List Entry) (n : ℕ) (floor : Ghost) (st : Step ClientState) → (h : Holds s c past) → IsClient s n st.state → AreGood s (actors.Node (Client n)) past [] st.lines → Passes s n st.lines st.sent past
@@ -134,13 +134,13 @@ moves_back s c past n floor st h kind good p own w q fresh went keeps tried =
         clock = p.clock (lines_of past) ∙ h.clock;
         top = λ f i b x. subst (λ (o : Option Version). i ≤ index_in o) (sym (last f)) (h.top f i b (p.back f i b (lines_of past) x));
         one = λ f i a b x y. h.one f i a b (p.back f i a (lines_of past) x) (p.back f i b (lines_of past) y);
-        backs = λ z. backed_plain c.down c.server.backs c.server.lasting.boot c.server.seats (λ j. back_seat (c.clients j)) (λ j. back_seat (put n st.state c.clients j)) c.clock c.clock c.sent st.sent e past p.plain (le_refl _) b fresh.calls fresh.dones
-            (λ j seat m x y. seat_put (nat_eq n j) c n j st.state (c.clients j) seat m (e ∷ past) refl x y keeps (λ k. seated_over c.down c.down c.server.backs c.server.backs c.server.lasting.boot c.clock c.clock e past (plain_step c.down c.server.backs c.clock c.clock e past p.plain (le_refl _)) j m (b.seated j seat m k y)));
+        backs = λ z. backed_plain the_server c.down c.server.backs c.server.lasting.boot c.server.seats (λ j. back_seat (c.clients j)) (λ j. back_seat (put n st.state c.clients j)) c.clock c.clock c.sent st.sent e past p.plain (le_refl _) b fresh.calls fresh.dones
+            (λ j seat m x y. seat_put (nat_eq n j) c n j st.state (c.clients j) seat m (e ∷ past) refl x y keeps (λ k. seated_over the_server c.down c.down c.server.backs c.server.backs c.server.lasting.boot c.clock c.clock e past (plain_step the_server c.down c.server.backs c.clock c.clock e past p.plain (le_refl _)) j m (b.seated j seat m k y)));
       };
     }
 
-pub old_seat : (s : Script) (c : Cell) (past : List Entry) (n : ℕ) (e : Entry) → Plain e.lines → Holds s c past → KeepsSeat c n (back_seat (c.clients n)) (e ∷ past)
-old_seat s c past n e p h seat m x y = seated_over c.down c.down c.server.backs c.server.backs c.server.lasting.boot c.clock c.clock e past (plain_step c.down c.server.backs c.clock c.clock e past p (le_refl _)) n m ((h.backs refl).seated n seat m x y)
+pub old_seat : (s : Script) (c : Cell) (past : List Entry) (n : ℕ) (e : Entry) → Plain the_server e.lines → Holds s c past → KeepsSeat c n (back_seat (c.clients n)) (e ∷ past)
+old_seat s c past n e p h seat m x y = seated_over the_server c.down c.down c.server.backs c.server.backs c.server.lasting.boot c.clock c.clock e past (plain_step the_server c.down c.server.backs c.clock c.clock e past p (le_refl _)) n m ((h.backs refl).seated n seat m x y)
 
 -- the client keeps what it kept for the server
 pub moves : (s : Script) (c : Cell) (past : List Entry) (n : ℕ) (floor : Ghost) (st : Step ClientState) → (h : Holds s c past) → IsClient s n st.state → AreGood s (actors.Node (Client n)) past [] st.lines → Passes s n st.lines st.sent past

@@ -22,7 +22,6 @@ use Rattle.afs_law.specs.Legal.{HasChange}
 use Rattle.afs_history.specs.declared.lines.Line.{Line}
 use Rattle.afs_law.specs.Past.{onto, lines_on, lines_of, called_key, given_message, sent_of}
 use Rattle.afs_rows.specs.Runs.{Entry, Fall}
-use Rattle.afs_law.proofs.OneCell.{the_server}
 use Rattle.afs_rows.specs.States.{Seat, BackCall, Held, Backs}
 use Rattle.afs_model.specs.Calls.{call_seat}
 use Rattle.afs_num.specs.declared.messages.Carried.TheVariants as carried
@@ -36,10 +35,10 @@ all_lines q [] = true
 all_lines q (l ∷ ls) = q l && all_lines q ls
 
 -- the line stops no server
-abbrev pub is_up : Line → Bool
-is_up (lines.Crash n) = not (same_node n the_server)
-is_up (lines.Fault n) = not (same_node n the_server)
-is_up l = true
+abbrev pub is_up : Node → Line → Bool
+is_up me (lines.Crash n) = not (same_node n me)
+is_up me (lines.Fault n) = not (same_node n me)
+is_up me l = true
 
 -- it grants nothing
 abbrev pub is_still : Line → Bool
@@ -56,8 +55,8 @@ abbrev pub is_unchanging : Line → Bool
 is_unchanging (lines.Change s k count) = false
 is_unchanging l = true
 
-pub record Plain (ls : List Line) : Type 0 where
-  pub up : all_lines is_up ls ≡ true
+pub record Plain (me : Node) (ls : List Line) : Type 0 where
+  pub up : all_lines (is_up me) ls ≡ true
   pub still : all_lines is_still ls ≡ true
   pub oweless : all_lines is_oweless ls ≡ true
   pub unchanging : all_lines is_unchanging ls ≡ true
@@ -97,39 +96,39 @@ pub timeout_onto : (s c : Node) (e n k : ℕ) (ls o : List Line) → HasTimeout 
 timeout_onto s c e n k [] o h = h
 timeout_onto s c e n k (l ∷ ls) o h = timeout_onto s c e n k ls (l ∷ o) (timeout_more s c e n k l o h)
 
-stop_not : (n : Node) → not (same_node n the_server) ≡ true → n ≡ the_server → ⊥
-stop_not n h e = let yes : same_node n the_server ≡ true = ap (λ (m : Node). same_node m the_server) e ∙ same_node-refl the_server in absurd cc
+stop_not : (me : Node) (n : Node) → not (same_node n me) ≡ true → n ≡ me → ⊥
+stop_not me n h e = let yes : same_node n me ≡ true = ap (λ (m : Node). same_node m me) e ∙ same_node-refl me in absurd cc
 
-stopped_before : (l : Line) (o : List Line) → is_up l ≡ true → HasStopped the_server (l ∷ o) → HasStopped the_server o
-stopped_before (lines.Crash n) o h (inl e) = absurd (stop_not n h e)
-stopped_before (lines.Crash n) o h (inr x) = x
-stopped_before (lines.Fault n) o h (inl e) = absurd (stop_not n h e)
-stopped_before (lines.Fault n) o h (inr x) = x
-stopped_before l o h x = x
+stopped_before : (me : Node) (l : Line) (o : List Line) → is_up me l ≡ true → HasStopped me (l ∷ o) → HasStopped me o
+stopped_before me (lines.Crash n) o h (inl e) = absurd (stop_not me n h e)
+stopped_before me (lines.Crash n) o h (inr x) = x
+stopped_before me (lines.Fault n) o h (inl e) = absurd (stop_not me n h e)
+stopped_before me (lines.Fault n) o h (inr x) = x
+stopped_before me l o h x = x
 
-pub stopped_back : (ls o : List Line) → all_lines is_up ls ≡ true → HasStopped the_server (onto o ls) → HasStopped the_server o
-stopped_back [] o h x = x
-stopped_back (l ∷ ls) o h x = let q = both (is_up l) (all_lines is_up ls) h in stopped_before l o q.0 (stopped_back ls (l ∷ o) q.1 x)
+pub stopped_back : (me : Node) (ls o : List Line) → all_lines (is_up me) ls ≡ true → HasStopped me (onto o ls) → HasStopped me o
+stopped_back me [] o h x = x
+stopped_back me (l ∷ ls) o h x = let q = both (is_up me l) (all_lines (is_up me) ls) h in stopped_before me l o q.0 (stopped_back me ls (l ∷ o) q.1 x)
 
 none_but : (t : Bool) (o : Option ℕ) → not t ≡ true → cond t None o ≡ o
 none_but true o h = absurd cc
 none_but false o h = refl
 
-unbroken_before : (c : Node) (f : Fid) (l : Line) (o : List Line) → is_still l ≡ true → is_up l ≡ true → is_oweless l ≡ true → unbroken_grant the_server c f (l ∷ o) ≡ unbroken_grant the_server c f o
-unbroken_before c f (lines.Grant s d g index expiry) o still up oweless = absurd cc
-unbroken_before c f (lines.Crash n) o still up oweless = none_but (same_node n the_server) _ up
-unbroken_before c f (lines.Fault n) o still up oweless = none_but (same_node n the_server) _ up
-unbroken_before c f (lines.Owe s d what n) o still up oweless = absurd cc
-unbroken_before c f l o still up oweless = refl
+unbroken_before : (me : Node) (c : Node) (f : Fid) (l : Line) (o : List Line) → is_still l ≡ true → is_up me l ≡ true → is_oweless l ≡ true → unbroken_grant me c f (l ∷ o) ≡ unbroken_grant me c f o
+unbroken_before me c f (lines.Grant s d g index expiry) o still up oweless = absurd cc
+unbroken_before me c f (lines.Crash n) o still up oweless = none_but (same_node n me) _ up
+unbroken_before me c f (lines.Fault n) o still up oweless = none_but (same_node n me) _ up
+unbroken_before me c f (lines.Owe s d what n) o still up oweless = absurd cc
+unbroken_before me c f l o still up oweless = refl
 
 -- lines that grant nothing, stop no server and owe nothing leave it as it is
-pub unbroken_back : (c : Node) (f : Fid) (ls o : List Line) → all_lines is_still ls ≡ true → all_lines is_up ls ≡ true → all_lines is_oweless ls ≡ true → unbroken_grant the_server c f (onto o ls) ≡ unbroken_grant the_server c f o
-unbroken_back c f [] o still up oweless = refl
-unbroken_back c f (l ∷ ls) o still up oweless =
+pub unbroken_back : (me : Node) (c : Node) (f : Fid) (ls o : List Line) → all_lines is_still ls ≡ true → all_lines (is_up me) ls ≡ true → all_lines is_oweless ls ≡ true → unbroken_grant me c f (onto o ls) ≡ unbroken_grant me c f o
+unbroken_back me c f [] o still up oweless = refl
+unbroken_back me c f (l ∷ ls) o still up oweless =
     let a = both (is_still l) (all_lines is_still ls) still in
-    let b = both (is_up l) (all_lines is_up ls) up in
+    let b = both (is_up me l) (all_lines (is_up me) ls) up in
     let d = both (is_oweless l) (all_lines is_oweless ls) oweless in
-    unbroken_back c f ls (l ∷ o) a.1 b.1 d.1 ∙ unbroken_before c f l o a.0 b.0 d.0
+    unbroken_back me c f ls (l ∷ o) a.1 b.1 d.1 ∙ unbroken_before me c f l o a.0 b.0 d.0
 
 grants_by : (t : Bool) (x y : ℕ) (a b : Option ℕ) → (a ≡ Some x → b ≡ Some x) → cond t (Some y) a ≡ Some x → cond t (Some y) b ≡ Some x
 grants_by true x y a b w e = e
@@ -140,13 +139,13 @@ not_none true x o e = absurd cc
 not_none false x o e = e
 
 -- it is the last grant
-pub unbroken_last : (c : Node) (f : Fid) (x : ℕ) (ls : List Line) → unbroken_grant the_server c f ls ≡ Some x → last_grant the_server c f ls ≡ Some x
-unbroken_last c f x [] e = absurd cc
-unbroken_last c f x (lines.Grant s d g index expiry ∷ o) e = grants_by (same_node s the_server && (same_node d c && same_fid g f)) x expiry (unbroken_grant the_server c f o) (last_grant the_server c f o) (unbroken_last c f x o) e
-unbroken_last c f x (lines.Crash n ∷ o) e = unbroken_last c f x o (not_none (same_node n the_server) x _ e)
-unbroken_last c f x (lines.Fault n ∷ o) e = unbroken_last c f x o (not_none (same_node n the_server) x _ e)
-unbroken_last c f x (lines.Owe s d what n ∷ o) e = unbroken_last c f x o (not_none (same_node s the_server && (same_node d c && is_on f what)) x _ e)
-unbroken_last c f x (l ∷ o) e = unbroken_last c f x o e
+pub unbroken_last : (me : Node) (c : Node) (f : Fid) (x : ℕ) (ls : List Line) → unbroken_grant me c f ls ≡ Some x → last_grant me c f ls ≡ Some x
+unbroken_last me c f x [] e = absurd cc
+unbroken_last me c f x (lines.Grant s d g index expiry ∷ o) e = grants_by (same_node s me && (same_node d c && same_fid g f)) x expiry (unbroken_grant me c f o) (last_grant me c f o) (unbroken_last me c f x o) e
+unbroken_last me c f x (lines.Crash n ∷ o) e = unbroken_last me c f x o (not_none (same_node n me) x _ e)
+unbroken_last me c f x (lines.Fault n ∷ o) e = unbroken_last me c f x o (not_none (same_node n me) x _ e)
+unbroken_last me c f x (lines.Owe s d what n ∷ o) e = unbroken_last me c f x o (not_none (same_node s me && (same_node d c && is_on f what)) x _ e)
+unbroken_last me c f x (l ∷ o) e = unbroken_last me c f x o e
 
 -- it grants this client nothing
 abbrev pub is_still_to : Node → Line → Bool
@@ -158,13 +157,13 @@ granted_other true b s x o h = absurd cc
 granted_other false b true x o h = refl
 granted_other false b false x o h = refl
 
-grant_before_to : (c : Node) (f : Fid) (l : Line) (o : List Line) → is_still_to c l ≡ true → last_grant the_server c f (l ∷ o) ≡ last_grant the_server c f o
-grant_before_to c f (lines.Grant s d g index expiry) o h = granted_other (same_node d c) (same_fid g f) (same_node s the_server) expiry (last_grant the_server c f o) h
-grant_before_to c f l o h = refl
+grant_before_to : (me : Node) (c : Node) (f : Fid) (l : Line) (o : List Line) → is_still_to c l ≡ true → last_grant me c f (l ∷ o) ≡ last_grant me c f o
+grant_before_to me c f (lines.Grant s d g index expiry) o h = granted_other (same_node d c) (same_fid g f) (same_node s me) expiry (last_grant me c f o) h
+grant_before_to me c f l o h = refl
 
-pub grant_back_to : (c : Node) (f : Fid) (ls o : List Line) → all_lines (is_still_to c) ls ≡ true → last_grant the_server c f (onto o ls) ≡ last_grant the_server c f o
-grant_back_to c f [] o h = refl
-grant_back_to c f (l ∷ ls) o h = let q = both (is_still_to c l) (all_lines (is_still_to c) ls) h in grant_back_to c f ls (l ∷ o) q.1 ∙ grant_before_to c f l o q.0
+pub grant_back_to : (me : Node) (c : Node) (f : Fid) (ls o : List Line) → all_lines (is_still_to c) ls ≡ true → last_grant me c f (onto o ls) ≡ last_grant me c f o
+grant_back_to me c f [] o h = refl
+grant_back_to me c f (l ∷ ls) o h = let q = both (is_still_to c l) (all_lines (is_still_to c) ls) h in grant_back_to me c f ls (l ∷ o) q.1 ∙ grant_before_to me c f l o q.0
 
 change_before : (k : Key) (l : Line) (o : List Line) → is_unchanging l ≡ true → HasChange k (l ∷ o) → HasChange k o
 change_before k (lines.Change s q count) o h x = absurd cc
@@ -212,28 +211,28 @@ come_more : (o : Option ℕ) (t u : ℕ) → t ≤ u → HasCome o t → HasCome
 come_more None t u le h = h
 come_more (Some x) t u le h = le_trans h le
 
-pub ended_over : (e : Entry) (t u : ℕ) (newer : List Entry) (at : Entry) (older : List Entry) (before after : List Line) (c : Node) (what : Option Fid) (n : ℕ) → t ≤ u → EndedBy the_server t newer at older before after c what n → EndedBy the_server u (e ∷ newer) at older before after c what n
-ended_over e t u newer at older before after c what n le (inl x) = inl (settled_onto the_server c n e.lines _ x)
-ended_over e t u newer at older before after c what n le (inr (inl x)) = inr (inl (stopped_onto the_server e.lines _ x))
-ended_over e t u newer at older before after c what n le (inr (inr x)) = inr (inr (come_more _ t u le x))
+pub ended_over : (me : Node) (e : Entry) (t u : ℕ) (newer : List Entry) (at : Entry) (older : List Entry) (before after : List Line) (c : Node) (what : Option Fid) (n : ℕ) → t ≤ u → EndedBy me t newer at older before after c what n → EndedBy me u (e ∷ newer) at older before after c what n
+ended_over me e t u newer at older before after c what n le (inl x) = inl (settled_onto me c n e.lines _ x)
+ended_over me e t u newer at older before after c what n le (inr (inl x)) = inr (inl (stopped_onto me e.lines _ x))
+ended_over me e t u newer at older before after c what n le (inr (inr x)) = inr (inr (come_more _ t u le x))
 
 -- a reply that waits, over an entry that owes and changes nothing
-waits_or : (h : Held) (e : Entry) (t u : ℕ) (newer : List Entry) (at : Entry) (older : List Entry) (before after : List Line) (c : Node) (what : Option Fid) (n : ℕ) → t ≤ u → EndedBy the_server t newer at older before after c what n ⊎ IsNumberIn n h.waits → EndedBy the_server u (e ∷ newer) at older before after c what n ⊎ IsNumberIn n h.waits
-waits_or h e t u newer at older before after c what n le (inl x) = inl (ended_over e t u newer at older before after c what n le x)
-waits_or h e t u newer at older before after c what n le (inr x) = inr x
+waits_or : (me : Node) (h : Held) (e : Entry) (t u : ℕ) (newer : List Entry) (at : Entry) (older : List Entry) (before after : List Line) (c : Node) (what : Option Fid) (n : ℕ) → t ≤ u → EndedBy me t newer at older before after c what n ⊎ IsNumberIn n h.waits → EndedBy me u (e ∷ newer) at older before after c what n ⊎ IsNumberIn n h.waits
+waits_or me h e t u newer at older before after c what n le (inl x) = inl (ended_over me e t u newer at older before after c what n le x)
+waits_or me h e t u newer at older before after c what n le (inr x) = inr x
 
-pub waits_over : (seats now : List Seat) (t u : ℕ) (e : Entry) (past : List Entry) (h : Held) → t ≤ u → ((k : Key) → HasChange k (lines_of (e ∷ past)) → HasChange k (lines_of past) ⊎ Above (call_seat k.node seats) k.epoch k.number)
-    → ((before after : List Line) (c : Node) (what : Option Fid) (n : ℕ) → e.lines ≡ before ++ lines.Owe the_server c what n ∷ after → WaitedBy h u [] e past before after c what n × (what ≡ None → ⊥))
-    → ((m : Node) (x y : ℕ) → Above (call_seat m now) x y → Above (call_seat m seats) x y) → HeldWaits seats t past h → HeldWaits now u (e ∷ past) h
-waits_over seats now t u e past h le change new seat w = record {
+pub waits_over : (me : Node) (seats now : List Seat) (t u : ℕ) (e : Entry) (past : List Entry) (h : Held) → t ≤ u → (HasChange (key_answered h.reply) (lines_of (e ∷ past)) → HasChange (key_answered h.reply) (lines_of past) ⊎ Above (call_seat h.reply.head.to seats) h.reply.head.epoch h.reply.head.number)
+    → ((before after : List Line) (c : Node) (what : Option Fid) (n : ℕ) → e.lines ≡ before ++ lines.Owe me c what n ∷ after → WaitedBy me h u [] e past before after c what n × (what ≡ None → ⊥))
+    → ((m : Node) (x y : ℕ) → Above (call_seat m now) x y → Above (call_seat m seats) x y) → HeldWaits me seats t past h → HeldWaits me now u (e ∷ past) h
+waits_over me seats now t u e past h le change new seat w = record {
   client = w.client;
   to = w.to;
   from = w.from;
   is_reply = w.is_reply;
   under = λ x. w.under (seat _ _ _ x);
-  own = owes_over the_server (WaitedBy h t) (WaitedBy h u) e past (λ before after c what n line. (new before after c what n line).0) (λ newer at older before after c what n x boot y. waits_or h e t u newer at older before after c what n le (x boot y)) w.own;
-  all = λ x. elim (change (key_answered h.reply) x) [
-    | inl y ↦ owes_over the_server (AllWaitedBy h t) (AllWaitedBy h u) e past (λ before after c what n line z. absurd ((new before after c what n line).1 z)) (λ newer at older before after c what n y z. waits_or h e t u newer at older before after c what n le (y z)) (w.all y)
+  own = owes_over me (WaitedBy me h t) (WaitedBy me h u) e past (λ before after c what n line. (new before after c what n line).0) (λ newer at older before after c what n x boot y. waits_or me h e t u newer at older before after c what n le (x boot y)) w.own;
+  all = λ x. elim (change x) [
+    | inl y ↦ owes_over me (AllWaitedBy me h t) (AllWaitedBy me h u) e past (λ before after c what n line z. absurd ((new before after c what n line).1 z)) (λ newer at older before after c what n y z. waits_or me h e t u newer at older before after c what n le (y z)) (w.all y)
     | inr y ↦ absurd (w.under y)
   ];
 }
@@ -251,23 +250,23 @@ pub front_onto : (a b ls : List Line) → onto (a ++ b) ls ≡ onto a ls ++ b
 front_onto a b [] = refl
 front_onto a b (l ∷ ls) = front_onto (l ∷ a) b ls
 
-abbrev pub owe_over : (c : Node) (what : Option Fid) (n : ℕ) (e : Entry) (past : List Entry) → all_lines is_up e.lines ≡ true → OweAt the_server c what n (lines_of past) → OweAt the_server c what n (lines_of (e ∷ past))
-owe_over c what n e past up o = record {
+abbrev pub owe_over : (me : Node) (c : Node) (what : Option Fid) (n : ℕ) (e : Entry) (past : List Entry) → all_lines (is_up me) e.lines ≡ true → OweAt me c what n (lines_of past) → OweAt me c what n (lines_of (e ∷ past))
+owe_over me c what n e past up o = record {
   newer = onto o.newer e.lines;
   base = o.base;
   split = ap (λ (ls : List Line). onto ls e.lines) o.split ∙ front_onto o.newer _ e.lines;
-  up = λ x. o.up (stopped_back e.lines o.newer up x);
+  up = λ x. o.up (stopped_back me e.lines o.newer up x);
 }
 
-pub dropped_over : (j : Node) (e : Entry) (past : List Entry) (o : Owed) → all_lines is_up e.lines ≡ true → DroppedOwe j (lines_of past) o → DroppedOwe j (lines_of (e ∷ past)) o
-dropped_over j e past o up d = record { owe = owe_over j o.what o.number e past up d.owe; dropped = drop_onto the_server j o.what e.lines d.owe.newer d.dropped }
+pub dropped_over : (me : Node) (j : Node) (e : Entry) (past : List Entry) (o : Owed) → all_lines (is_up me) e.lines ≡ true → DroppedOwe me j (lines_of past) o → DroppedOwe me j (lines_of (e ∷ past)) o
+dropped_over me j e past o up d = record { owe = owe_over me j o.what o.number e past up d.owe; dropped = drop_onto me j o.what e.lines d.owe.newer d.dropped }
 
-pub call_over : (j : Node) (c : BackCall) (last more boot : ℕ) (e : Entry) (past : List Entry) → last ≤ more → all_lines is_up e.lines ≡ true → CallOut j c last boot past → CallOut j c more boot (e ∷ past)
-call_over j c last more boot e past le up h = record {
+pub call_over : (me : Node) (j : Node) (c : BackCall) (last more boot : ℕ) (e : Entry) (past : List Entry) → last ≤ more → all_lines (is_up me) e.lines ≡ true → CallOut me j c last boot past → CallOut me j c more boot (e ∷ past)
+call_over me j c last more boot e past le up h = record {
   number = le_trans h.number le;
   client = h.client;
-  owes = all_map (CarriedOwe j c.number c.tries boot (lines_of past)) (CarriedOwe j c.number c.tries boot (lines_of (e ∷ past)))
-      (λ o x. record { owe = owe_over j o.what o.number e past up x.owe; tries = λ t a b. timeout_onto the_server j boot c.number t e.lines x.owe.newer (x.tries t a b) }) c.breaks h.owes;
+  owes = all_map (CarriedOwe me j c.number c.tries boot (lines_of past)) (CarriedOwe me j c.number c.tries boot (lines_of (e ∷ past)))
+      (λ o x. record { owe = owe_over me j o.what o.number e past up x.owe; tries = λ t a b. timeout_onto me j boot c.number t e.lines x.owe.newer (x.tries t a b) }) c.breaks h.owes;
   sent = inr h.sent;
   carries = h.carries;
 }
@@ -275,26 +274,26 @@ call_over j c last more boot e past le up h = record {
 below_not : (n last : ℕ) (c : BackCall) → last < c.number → n ≤ last → n ≡ c.number → ⊥
 below_not n last c a b e = absurd (omega arith)
 
-pub back_pass : (d e : Option Fall) (old new : Node → Option BackCall) (last more boot : ℕ) (head : Head) (user : List ℕ) (call : FsCall) → (e ≡ None → d ≡ None) → last ≤ more → CallsPass old last new → BackIn d old last boot head user call → BackIn e new more boot head user call
-back_pass d e old new last more boot head user call up le pass h = record {
+pub back_pass : (me : Node) (d e : Option Fall) (old new : Node → Option BackCall) (last more boot : ℕ) (head : Head) (user : List ℕ) (call : FsCall) → (e ≡ None → d ≡ None) → last ≤ more → CallsPass old last new → BackIn me d old last boot head user call → BackIn me e new more boot head user call
+back_pass me d e old new last more boot head user call up le pass h = record {
   client = h.client;
   to = h.to;
   booted = h.booted;
-  below = λ x y. le_trans (h.below (up x) y) le;
-  is = λ c x y at q. elim (pass h.client c at) [
-    | inl l ↦ absurd (below_not head.number last c l (h.below (up x) y) q)
-    | inr z ↦ h.is z.0 (up x) y z.1.0 (q ∙ sym z.1.1.0) ∙ ap breaks_call z.1.1.1
+  below = λ own x y. le_trans (h.below own (up x) y) le;
+  is = λ c own x y at q. elim (pass h.client c at) [
+    | inl l ↦ absurd (below_not head.number last c l (h.below own (up x) y) q)
+    | inr z ↦ h.is z.0 own (up x) y z.1.0 (q ∙ sym z.1.1.0) ∙ ap breaks_call z.1.1.1
   ];
 }
 
-pub done_pass : (d e : Option Fall) (old new : Node → Option BackCall) (last more boot : ℕ) (past newer : List Entry) (j : Node) (epoch number : ℕ) → (e ≡ None → d ≡ None) → last ≤ more → CallsPass old last new → (e ≡ None → (o : Owed) → DroppedOwe j (lines_of past) o → DroppedOwe j (lines_of newer) o)
-    → IsDone d old last boot past j epoch number → IsDone e new more boot newer j epoch number
-done_pass d e old new last more boot past newer j epoch number up le pass over h = record {
+pub done_pass : (me : Node) (d e : Option Fall) (old new : Node → Option BackCall) (last more boot : ℕ) (past newer : List Entry) (j : Node) (epoch number : ℕ) → (e ≡ None → d ≡ None) → last ≤ more → CallsPass old last new → (e ≡ None → (o : Owed) → DroppedOwe me j (lines_of past) o → DroppedOwe me j (lines_of newer) o)
+    → IsDone me d old last boot past j epoch number → IsDone me e new more boot newer j epoch number
+done_pass me d e old new last more boot past newer j epoch number up le pass over h = record {
   booted = h.booted;
   below = λ x y. le_trans (h.below (up x) y) le;
   dropped = λ c x y at q. elim (pass j c at) [
     | inl l ↦ absurd (below_not number last c l (h.below (up x) y) q)
-    | inr z ↦ all_map (DroppedOwe j (lines_of past)) (DroppedOwe j (lines_of newer)) (over x) c.breaks (subst (λ (os : List Owed). AllOf (DroppedOwe j (lines_of past)) os) z.1.1.1 (h.dropped z.0 (up x) y z.1.0 (q ∙ sym z.1.1.0)))
+    | inr z ↦ all_map (DroppedOwe me j (lines_of past)) (DroppedOwe me j (lines_of newer)) (over x) c.breaks (subst (λ (os : List Owed). AllOf (DroppedOwe me j (lines_of past)) os) z.1.1.1 (h.dropped z.0 (up x) y z.1.0 (q ∙ sym z.1.1.0)))
   ];
 }
 
@@ -305,18 +304,18 @@ none_or : (t : Bool) (o : Option ℕ) (x : ℕ) → cond t None o ≡ Some x →
 none_or true o x e = absurd cc
 none_or false o x e = e
 
-live_before : (c : Node) (f : Fid) (x : ℕ) (l : Line) (o : List Line) → is_still l ≡ true → live_grant the_server c f (l ∷ o) ≡ Some x → live_grant the_server c f o ≡ Some x
-live_before c f x (lines.Grant s d g index expiry) o h e = absurd cc
-live_before c f x (lines.Crash n) o h e = none_or (same_node n the_server) _ x e
-live_before c f x (lines.Fault n) o h e = none_or (same_node n the_server) _ x e
-live_before c f x (lines.Drop m g) o h e = none_or (same_node m c && same_fid g f) _ x e
-live_before c f x (lines.DropAll m q) o h e = none_or (same_node m c && same_node q the_server) _ x e
-live_before c f x (lines.Owe q d w n) o h e = none_or (same_node q the_server && (same_node d c && is_on f w)) _ x e
-live_before c f x l o h e = e
+live_before : (me : Node) (c : Node) (f : Fid) (x : ℕ) (l : Line) (o : List Line) → is_still l ≡ true → live_grant me c f (l ∷ o) ≡ Some x → live_grant me c f o ≡ Some x
+live_before me c f x (lines.Grant s d g index expiry) o h e = absurd cc
+live_before me c f x (lines.Crash n) o h e = none_or (same_node n me) _ x e
+live_before me c f x (lines.Fault n) o h e = none_or (same_node n me) _ x e
+live_before me c f x (lines.Drop m g) o h e = none_or (same_node m c && same_fid g f) _ x e
+live_before me c f x (lines.DropAll m q) o h e = none_or (same_node m c && same_node q me) _ x e
+live_before me c f x (lines.Owe q d w n) o h e = none_or (same_node q me && (same_node d c && is_on f w)) _ x e
+live_before me c f x l o h e = e
 
-pub live_back : (c : Node) (f : Fid) (x : ℕ) (ls o : List Line) → all_lines is_still ls ≡ true → live_grant the_server c f (onto o ls) ≡ Some x → live_grant the_server c f o ≡ Some x
-live_back c f x [] o h e = e
-live_back c f x (l ∷ ls) o h e = let q = both (is_still l) (all_lines is_still ls) h in live_before c f x l o q.0 (live_back c f x ls (l ∷ o) q.1 e)
+pub live_back : (me : Node) (c : Node) (f : Fid) (x : ℕ) (ls o : List Line) → all_lines is_still ls ≡ true → live_grant me c f (onto o ls) ≡ Some x → live_grant me c f o ≡ Some x
+live_back me c f x [] o h e = e
+live_back me c f x (l ∷ ls) o h e = let q = both (is_still l) (all_lines is_still ls) h in live_before me c f x l o q.0 (live_back me c f x ls (l ∷ o) q.1 e)
 
 -- what clients gave up grants nothing
 drops_still : (c : Node) (fs : List Fid) → all_lines is_still (drops_of c fs) ≡ true
@@ -341,201 +340,201 @@ returned_still s e None past = refl
 returned_still s e (Some m) past = answered_still s (is_entry_of s e.actor && (runs_now s m.head past && has_answer (called_key m.head) e.sent)) m.head m.carried
 
 -- a grant that lasts behind an entry's own lines lasted before what clients gave up in it
-pub live_given : (c : Node) (f : Fid) (x : ℕ) (e : Entry) (past : List Entry) → live_grant the_server c f (onto (lines_at the_server past) (returned_in the_server e (given_message e.lines (sent_of past)) past)) ≡ Some x → live_grant the_server c f (lines_at the_server past) ≡ Some x
-live_given c f x e past l = live_back c f x (returned_in the_server e (given_message e.lines (sent_of past)) past) (lines_at the_server past) (returned_still the_server e (given_message e.lines (sent_of past)) past) l
+pub live_given : (me : Node) (c : Node) (f : Fid) (x : ℕ) (e : Entry) (past : List Entry) → live_grant me c f (onto (lines_at me past) (returned_in me e (given_message e.lines (sent_of past)) past)) ≡ Some x → live_grant me c f (lines_at me past) ≡ Some x
+live_given me c f x e past l = live_back me c f x (returned_in me e (given_message e.lines (sent_of past)) past) (lines_at me past) (returned_still me e (given_message e.lines (sent_of past)) past) l
 
 -- the lines before an entry's own
-abbrev pub before_own : Entry → List Entry → List Line
-before_own e past = onto (lines_at the_server past) (returned_in the_server e (given_message e.lines (sent_of past)) past)
+abbrev pub before_own : Node → Entry → List Entry → List Line
+before_own me e past = onto (lines_at me past) (returned_in me e (given_message e.lines (sent_of past)) past)
 
-pub promised_given : (d : Option Fall) (ps : List Promise) (clock : ℕ) (e : Entry) (past : List Entry) → Promised d ps clock (lines_at the_server past) → Promised d ps clock (before_own e past)
-promised_given d ps clock e past h j f x l t = h j f x (live_given j f x e past l) t
+pub promised_given : (me : Node) (d : Option Fall) (ps : List Promise) (clock : ℕ) (e : Entry) (past : List Entry) → Promised me d ps clock (lines_at me past) → Promised me d ps clock (before_own me e past)
+promised_given me d ps clock e past h j f x l t = h j f x (live_given me j f x e past l) t
 
-pub promised_over : (d : Option Fall) (ps : List Promise) (clock then : ℕ) (e : Entry) (past : List Entry) → all_lines is_still e.lines ≡ true → clock ≤ then → Promised d ps clock (lines_at the_server past) → Promised d ps then (lines_at the_server (e ∷ past))
-promised_over d ps clock then e past still le h j f x l t = h j f x (live_given j f x e past (live_back j f x e.lines (before_own e past) still l)) (omega arith)
+pub promised_over : (me : Node) (d : Option Fall) (ps : List Promise) (clock then : ℕ) (e : Entry) (past : List Entry) → all_lines is_still e.lines ≡ true → clock ≤ then → Promised me d ps clock (lines_at me past) → Promised me d ps then (lines_at me (e ∷ past))
+promised_over me d ps clock then e past still le h j f x l t = h j f x (live_given me j f x e past (live_back me j f x e.lines (before_own me e past) still l)) (omega arith)
 
 -- the breaks were owed in order
-rising_before : (l : Line) (o : List Line) → is_oweless l ≡ true → Rising o → Rising (l ∷ o)
-rising_before (lines.Owe s c what n) o e h = absurd cc
-rising_before l o e h = h
+rising_before : (me : Node) (l : Line) (o : List Line) → is_oweless l ≡ true → Rising me o → Rising me (l ∷ o)
+rising_before me (lines.Owe s c what n) o e h = absurd cc
+rising_before me l o e h = h
 
-pub rising_back : (ls o : List Line) → all_lines is_oweless ls ≡ true → Rising o → Rising (onto o ls)
-rising_back [] o e h = h
-rising_back (l ∷ ls) o e h = let q = both (is_oweless l) (all_lines is_oweless ls) e in rising_back ls (l ∷ o) q.1 (rising_before l o q.0 h)
+pub rising_back : (me : Node) (ls o : List Line) → all_lines is_oweless ls ≡ true → Rising me o → Rising me (onto o ls)
+rising_back me [] o e h = h
+rising_back me (l ∷ ls) o e h = let q = both (is_oweless l) (all_lines is_oweless ls) e in rising_back me ls (l ∷ o) q.1 (rising_before me l o q.0 h)
 
-pub rising_over : (e : Entry) (past : List Entry) → all_lines is_oweless e.lines ≡ true → Rising (lines_of past) → Rising (lines_of (e ∷ past))
-rising_over e past oweless h = rising_back e.lines (lines_of past) oweless h
+pub rising_over : (me : Node) (e : Entry) (past : List Entry) → all_lines is_oweless e.lines ≡ true → Rising me (lines_of past) → Rising me (lines_of (e ∷ past))
+rising_over me e past oweless h = rising_back me e.lines (lines_of past) oweless h
 
 -- none lasts where the server stopped
-stop_none : (t : Bool) (n : Node) (o : Option ℕ) (x : ℕ) → same_node n the_server ≡ t → n ≡ the_server → cond t None o ≡ Some x → ⊥
-stop_none true n o x t e l = absurd cc
-stop_none false n o x t e l = let yes : same_node n the_server ≡ true = ap (λ (m : Node). same_node m the_server) e in absurd cc
+stop_none : (me : Node) (t : Bool) (n : Node) (o : Option ℕ) (x : ℕ) → same_node n me ≡ t → n ≡ me → cond t None o ≡ Some x → ⊥
+stop_none me true n o x t e l = absurd cc
+stop_none me false n o x t e l = let yes : same_node n me ≡ true = ap (λ (m : Node). same_node m me) e ∙ same_node-refl me in absurd cc
 
-stop_line : (c : Node) (f : Fid) (x : ℕ) (l : Line) (o p : List Line) → is_still l ≡ true → (HasStopped the_server p → live_grant the_server c f o ≡ Some x → ⊥) → HasStopped the_server (l ∷ p) → live_grant the_server c f (l ∷ o) ≡ Some x → ⊥
-stop_line c f x (lines.Crash n) o p h w (inl e) k = stop_none (same_node n the_server) n _ x refl e k
-stop_line c f x (lines.Crash n) o p h w (inr s) k = w s (none_or (same_node n the_server) _ x k)
-stop_line c f x (lines.Fault n) o p h w (inl e) k = stop_none (same_node n the_server) n _ x refl e k
-stop_line c f x (lines.Fault n) o p h w (inr s) k = w s (none_or (same_node n the_server) _ x k)
-stop_line c f x l o p h w s k = w s (live_before c f x l o h k)
+stop_line : (me : Node) (c : Node) (f : Fid) (x : ℕ) (l : Line) (o p : List Line) → is_still l ≡ true → (HasStopped me p → live_grant me c f o ≡ Some x → ⊥) → HasStopped me (l ∷ p) → live_grant me c f (l ∷ o) ≡ Some x → ⊥
+stop_line me c f x (lines.Crash n) o p h w (inl e) k = stop_none me (same_node n me) n _ x refl e k
+stop_line me c f x (lines.Crash n) o p h w (inr s) k = w s (none_or (same_node n me) _ x k)
+stop_line me c f x (lines.Fault n) o p h w (inl e) k = stop_none me (same_node n me) n _ x refl e k
+stop_line me c f x (lines.Fault n) o p h w (inr s) k = w s (none_or (same_node n me) _ x k)
+stop_line me c f x l o p h w s k = w s (live_before me c f x l o h k)
 
-live_stop : (c : Node) (f : Fid) (x : ℕ) (ls o p : List Line) → all_lines is_still ls ≡ true → (HasStopped the_server p → live_grant the_server c f o ≡ Some x → ⊥) → HasStopped the_server (onto p ls) → live_grant the_server c f (onto o ls) ≡ Some x → ⊥
-live_stop c f x [] o p h w s k = w s k
-live_stop c f x (l ∷ ls) o p h w s k = let q = both (is_still l) (all_lines is_still ls) h in live_stop c f x ls (l ∷ o) (l ∷ p) q.1 (λ y z. stop_line c f x l o p q.0 w y z) s k
+live_stop : (me : Node) (c : Node) (f : Fid) (x : ℕ) (ls o p : List Line) → all_lines is_still ls ≡ true → (HasStopped me p → live_grant me c f o ≡ Some x → ⊥) → HasStopped me (onto p ls) → live_grant me c f (onto o ls) ≡ Some x → ⊥
+live_stop me c f x [] o p h w s k = w s k
+live_stop me c f x (l ∷ ls) o p h w s k = let q = both (is_still l) (all_lines is_still ls) h in live_stop me c f x ls (l ∷ o) (l ∷ p) q.1 (λ y z. stop_line me c f x l o p q.0 w y z) s k
 
 -- numbers over lines that owe nothing
 up_by : (t : Bool) (n : Node) (a : ℕ) → not t ≡ true → cond t 0 a ≡ a
 up_by true n a h = absurd cc
 up_by false n a h = refl
 
-number_before : (l : Line) (o : List Line) → is_up l ≡ true → is_oweless l ≡ true → last_number the_server (l ∷ o) ≡ last_number the_server o
-number_before (lines.Owe q d w n) o u h = absurd cc
-number_before (lines.Crash n) o u h = up_by (same_node n the_server) n _ u
-number_before (lines.Fault n) o u h = up_by (same_node n the_server) n _ u
-number_before l o u h = refl
+number_before : (me : Node) (l : Line) (o : List Line) → is_up me l ≡ true → is_oweless l ≡ true → last_number me (l ∷ o) ≡ last_number me o
+number_before me (lines.Owe q d w n) o u h = absurd cc
+number_before me (lines.Crash n) o u h = up_by (same_node n me) n _ u
+number_before me (lines.Fault n) o u h = up_by (same_node n me) n _ u
+number_before me l o u h = refl
 
-pub number_back : (ls o : List Line) → all_lines is_up ls ≡ true → all_lines is_oweless ls ≡ true → last_number the_server (onto o ls) ≡ last_number the_server o
-number_back [] o u h = refl
-number_back (l ∷ ls) o u h = let p = both (is_up l) (all_lines is_up ls) u in let q = both (is_oweless l) (all_lines is_oweless ls) h in number_back ls (l ∷ o) p.1 q.1 ∙ number_before l o p.0 q.0
+pub number_back : (me : Node) (ls o : List Line) → all_lines (is_up me) ls ≡ true → all_lines is_oweless ls ≡ true → last_number me (onto o ls) ≡ last_number me o
+number_back me [] o u h = refl
+number_back me (l ∷ ls) o u h = let p = both (is_up me l) (all_lines (is_up me) ls) u in let q = both (is_oweless l) (all_lines is_oweless ls) h in number_back me ls (l ∷ o) p.1 q.1 ∙ number_before me l o p.0 q.0
 
-pub numbered_over : (d : Option Fall) (last : ℕ) (e : Entry) (past : List Entry) → all_lines is_up e.lines ≡ true → all_lines is_oweless e.lines ≡ true → Numbered d last (lines_of past) → Numbered d last (lines_of (e ∷ past))
-numbered_over None last e past u h n = subst (λ (k : ℕ). k ≤ last) (sym (number_back e.lines (lines_of past) u h)) n
-numbered_over (Some fall) last e past u h n = number_back e.lines (lines_of past) u h ∙ n
+pub numbered_over : (me : Node) (d : Option Fall) (last : ℕ) (e : Entry) (past : List Entry) → all_lines (is_up me) e.lines ≡ true → all_lines is_oweless e.lines ≡ true → Numbered me d last (lines_of past) → Numbered me d last (lines_of (e ∷ past))
+numbered_over me None last e past u h n = subst (λ (k : ℕ). k ≤ last) (sym (number_back me e.lines (lines_of past) u h)) n
+numbered_over me (Some fall) last e past u h n = number_back me e.lines (lines_of past) u h ∙ n
 
 -- a stop ends the numbers
 zero_by : (t : Bool) (a : ℕ) → a ≡ 0 → cond t 0 a ≡ 0
 zero_by true a h = refl
 zero_by false a h = h
 
-zero_before : (l : Line) (o : List Line) → is_oweless l ≡ true → last_number the_server o ≡ 0 → last_number the_server (l ∷ o) ≡ 0
-zero_before (lines.Owe q d w n) o h z = absurd cc
-zero_before (lines.Crash n) o h z = zero_by (same_node n the_server) _ z
-zero_before (lines.Fault n) o h z = zero_by (same_node n the_server) _ z
-zero_before l o h z = z
+zero_before : (me : Node) (l : Line) (o : List Line) → is_oweless l ≡ true → last_number me o ≡ 0 → last_number me (l ∷ o) ≡ 0
+zero_before me (lines.Owe q d w n) o h z = absurd cc
+zero_before me (lines.Crash n) o h z = zero_by (same_node n me) _ z
+zero_before me (lines.Fault n) o h z = zero_by (same_node n me) _ z
+zero_before me l o h z = z
 
-pub zero_back : (ls o : List Line) → all_lines is_oweless ls ≡ true → last_number the_server o ≡ 0 → last_number the_server (onto o ls) ≡ 0
-zero_back [] o h z = z
-zero_back (l ∷ ls) o h z = let q = both (is_oweless l) (all_lines is_oweless ls) h in zero_back ls (l ∷ o) q.1 (zero_before l o q.0 z)
+pub zero_back : (me : Node) (ls o : List Line) → all_lines is_oweless ls ≡ true → last_number me o ≡ 0 → last_number me (onto o ls) ≡ 0
+zero_back me [] o h z = z
+zero_back me (l ∷ ls) o h z = let q = both (is_oweless l) (all_lines is_oweless ls) h in zero_back me ls (l ∷ o) q.1 (zero_before me l o q.0 z)
 
-zero_stop : (t : Bool) (n : Node) (a : ℕ) → same_node n the_server ≡ t → n ≡ the_server → cond t 0 a ≡ 0
-zero_stop true n a t e = refl
-zero_stop false n a t e = let yes : same_node n the_server ≡ true = ap (λ (m : Node). same_node m the_server) e in absurd cc
+zero_stop : (me : Node) (t : Bool) (n : Node) (a : ℕ) → same_node n me ≡ t → n ≡ me → cond t 0 a ≡ 0
+zero_stop me true n a t e = refl
+zero_stop me false n a t e = let yes : same_node n me ≡ true = ap (λ (m : Node). same_node m me) e ∙ same_node-refl me in absurd cc
 
-zero_line : (l : Line) (o p : List Line) → is_oweless l ≡ true → (HasStopped the_server p → last_number the_server o ≡ 0) → HasStopped the_server (l ∷ p) → last_number the_server (l ∷ o) ≡ 0
-zero_line (lines.Crash n) o p h w (inl e) = zero_stop (same_node n the_server) n _ refl e
-zero_line (lines.Crash n) o p h w (inr s) = zero_by (same_node n the_server) _ (w s)
-zero_line (lines.Fault n) o p h w (inl e) = zero_stop (same_node n the_server) n _ refl e
-zero_line (lines.Fault n) o p h w (inr s) = zero_by (same_node n the_server) _ (w s)
-zero_line l o p h w s = zero_before l o h (w s)
+zero_line : (me : Node) (l : Line) (o p : List Line) → is_oweless l ≡ true → (HasStopped me p → last_number me o ≡ 0) → HasStopped me (l ∷ p) → last_number me (l ∷ o) ≡ 0
+zero_line me (lines.Crash n) o p h w (inl e) = zero_stop me (same_node n me) n _ refl e
+zero_line me (lines.Crash n) o p h w (inr s) = zero_by (same_node n me) _ (w s)
+zero_line me (lines.Fault n) o p h w (inl e) = zero_stop me (same_node n me) n _ refl e
+zero_line me (lines.Fault n) o p h w (inr s) = zero_by (same_node n me) _ (w s)
+zero_line me l o p h w s = zero_before me l o h (w s)
 
-zero_stopped : (ls o p : List Line) → all_lines is_oweless ls ≡ true → (HasStopped the_server p → last_number the_server o ≡ 0) → HasStopped the_server (onto p ls) → last_number the_server (onto o ls) ≡ 0
-zero_stopped [] o p h w s = w s
-zero_stopped (l ∷ ls) o p h w s = let q = both (is_oweless l) (all_lines is_oweless ls) h in zero_stopped ls (l ∷ o) (l ∷ p) q.1 (λ y. zero_line l o p q.0 w y) s
+zero_stopped : (me : Node) (ls o p : List Line) → all_lines is_oweless ls ≡ true → (HasStopped me p → last_number me o ≡ 0) → HasStopped me (onto p ls) → last_number me (onto o ls) ≡ 0
+zero_stopped me [] o p h w s = w s
+zero_stopped me (l ∷ ls) o p h w s = let q = both (is_oweless l) (all_lines is_oweless ls) h in zero_stopped me ls (l ∷ o) (l ∷ p) q.1 (λ y. zero_line me l o p q.0 w y) s
 
-numbered_fall : (d : Option Fall) (last : ℕ) (e : Entry) (past : List Entry) → all_lines is_oweless e.lines ≡ true → (d ≡ None → (o : List Line) → HasStopped the_server (onto o e.lines)) → Numbered d last (lines_of past) → last_number the_server (lines_of (e ∷ past)) ≡ 0
-numbered_fall None last e past h stop n = zero_stopped e.lines (lines_of past) [] h (λ y. absurd y) (stop refl [])
-numbered_fall (Some fall) last e past h stop n = zero_back e.lines (lines_of past) h n
+numbered_fall : (me : Node) (d : Option Fall) (last : ℕ) (e : Entry) (past : List Entry) → all_lines is_oweless e.lines ≡ true → (d ≡ None → (o : List Line) → HasStopped me (onto o e.lines)) → Numbered me d last (lines_of past) → last_number me (lines_of (e ∷ past)) ≡ 0
+numbered_fall me None last e past h stop n = zero_stopped me e.lines (lines_of past) [] h (λ y. absurd y) (stop refl [])
+numbered_fall me (Some fall) last e past h stop n = zero_back me e.lines (lines_of past) h n
 
-pub record Stepping (d u : Option Fall) (b now : Backs) (clock then : ℕ) (e : Entry) (past : List Entry) : Type 0 where
+pub record Stepping (me : Node) (d u : Option Fall) (b now : Backs) (clock then : ℕ) (e : Entry) (past : List Entry) : Type 0 where
   pub was_up : u ≡ None → d ≡ None
-  pub up : u ≡ None → all_lines is_up e.lines ≡ true
-  pub or_stopped : d ≡ None → (u ≡ None) ⊎ ((o : List Line) → HasStopped the_server (onto o e.lines))
+  pub up : u ≡ None → all_lines (is_up me) e.lines ≡ true
+  pub or_stopped : d ≡ None → (u ≡ None) ⊎ ((o : List Line) → HasStopped me (onto o e.lines))
   pub later : clock ≤ then
-  pub new : (before after : List Line) (c : Node) (what : Option Fid) (n : ℕ) → e.lines ≡ before ++ lines.Owe the_server c what n ∷ after → AccountedBy u now.lists.owed now.held then [] e past before after c what n
-  pub gone : (o : Owed) → IsIn o b.lists.owed → IsIn o now.lists.owed ⊎ ((l : List Line) → HasSettled the_server o.client o.number (onto l e.lines))
+  pub new : (before after : List Line) (c : Node) (what : Option Fid) (n : ℕ) → e.lines ≡ before ++ lines.Owe me c what n ∷ after → AccountedBy me u now.lists.owed now.held then [] e past before after c what n
+  pub gone : (o : Owed) → IsIn o b.lists.owed → IsIn o now.lists.owed ⊎ ((l : List Line) → HasSettled me o.client o.number (onto l e.lines))
   pub held : (k : Key) → is_held k b.held ≡ true → is_held k now.held ≡ true
   pub last : b.last_call ≤ now.last_call
   pub calls : CallsPass b.calls b.last_call now.calls
 
-open_over : (d u : Option Fall) (b now : Backs) (clock then : ℕ) (e : Entry) (past : List Entry) → Stepping d u b now clock then e past → (newer : List Entry) (at : Entry) (older : List Entry) (before after : List Line) (c : Node) (what : Option Fid) (n : ℕ)
-    → AccountedBy d b.lists.owed b.held clock newer at older before after c what n → AccountedBy u now.lists.owed now.held then (e ∷ newer) at older before after c what n
-open_over d u b now clock then e past s newer at older before after c what n (inl x) = inl (ended_over e clock then newer at older before after c what n s.later x)
-open_over d u b now clock then e past s newer at older before after c what n (inr x) = elim (s.or_stopped x.0) [
+open_over : (me : Node) (d u : Option Fall) (b now : Backs) (clock then : ℕ) (e : Entry) (past : List Entry) → Stepping me d u b now clock then e past → (newer : List Entry) (at : Entry) (older : List Entry) (before after : List Line) (c : Node) (what : Option Fid) (n : ℕ)
+    → AccountedBy me d b.lists.owed b.held clock newer at older before after c what n → AccountedBy me u now.lists.owed now.held then (e ∷ newer) at older before after c what n
+open_over me d u b now clock then e past s newer at older before after c what n (inl x) = inl (ended_over me e clock then newer at older before after c what n s.later x)
+open_over me d u b now clock then e past s newer at older before after c what n (inr x) = elim (s.or_stopped x.0) [
   | inl up ↦ elim (s.gone x.1.o x.1.is_in) [
-    | inl is ↦ inr (up, record { o = x.1.o; is_in = is; number = x.1.number; client = x.1.client; on = x.1.on; expiry = x.1.expiry; waits = λ k boot y. elim (x.1.waits k boot y) [ inl z ↦ inl (ended_over e clock then newer at older before after c what n s.later z) | inr z ↦ inr (s.held k z) ] })
-    | inr gone ↦ inl (inl (subst (λ (m : Node). HasSettled the_server m n (onto (lines_on (onto [] after) newer) e.lines)) x.1.client (subst (λ (k : ℕ). HasSettled the_server x.1.o.client k (onto (lines_on (onto [] after) newer) e.lines)) x.1.number (gone _))))
+    | inl is ↦ inr (up, record { o = x.1.o; is_in = is; number = x.1.number; client = x.1.client; on = x.1.on; expiry = x.1.expiry; waits = λ k boot y. elim (x.1.waits k boot y) [ inl z ↦ inl (ended_over me e clock then newer at older before after c what n s.later z) | inr z ↦ inr (s.held k z) ] })
+    | inr gone ↦ inl (inl (subst (λ (m : Node). HasSettled me m n (onto (lines_on (onto [] after) newer) e.lines)) x.1.client (subst (λ (k : ℕ). HasSettled me x.1.o.client k (onto (lines_on (onto [] after) newer) e.lines)) x.1.number (gone _))))
   ]
   | inr stop ↦ inl (inr (inl (stop _)))
 ]
 
-pub backed_step : (d u : Option Fall) (b now : Backs) (boot : ℕ) (seats after : List Seat) (cs cz : ℕ → Option Seat) (clock then : ℕ) (sent ms : List Message) (e : Entry) (past : List Entry) → Stepping d u b now clock then e past → BackedIn d b boot seats cs clock sent past
-    → (u ≡ None → AllOf (IsGranted (lines_of (e ∷ past))) now.lists.promises) → Promised u now.lists.promises then (lines_at the_server (e ∷ past)) → Numbered u now.lists.last_owed (lines_of (e ∷ past)) → Rising (lines_of (e ∷ past)) → (u ≡ None → ToClients now.lists.promises now.lists.owed) → (u ≡ None → AllOf (λ (o : Owed). IsOwed o.client (lines_of (e ∷ past)) o) now.lists.owed) → (u ≡ None → AllOf (HeldWaits after then (e ∷ past)) now.held) → (u ≡ None → (j : Node) (c : BackCall) → now.calls j ≡ Some c → CallOut j c now.last_call boot (e ∷ past))
-    → Each (IfBack (BackIn u now.calls now.last_call boot)) ms → Each (IfDone (DoneIn u now.calls now.last_call boot (e ∷ past))) ms
-    → ((j : ℕ) (seat : Seat) (m : Message) → cz j ≡ Some seat → seat.reply ≡ Some m → SeatedIn u now.calls now.last_call boot (e ∷ past) j m)
-    → BackedIn u now boot after cz then (sent ++ ms) (e ∷ past)
-backed_step d u b now boot seats after cs cz clock then sent ms e past s h granted promised numbered rising clients owed waiting outs backs dones seated = record {
+pub backed_step : (me : Node) (d u : Option Fall) (b now : Backs) (boot : ℕ) (seats after : List Seat) (cs cz : ℕ → Option Seat) (clock then : ℕ) (sent ms : List Message) (e : Entry) (past : List Entry) → Stepping me d u b now clock then e past → BackedIn me d b boot seats cs clock sent past
+    → (u ≡ None → AllOf (IsGranted me (lines_of (e ∷ past))) now.lists.promises) → Promised me u now.lists.promises then (lines_at me (e ∷ past)) → Numbered me u now.lists.last_owed (lines_of (e ∷ past)) → Rising me (lines_of (e ∷ past)) → (u ≡ None → ToClients now.lists.promises now.lists.owed) → (u ≡ None → AllOf (λ (o : Owed). IsOwed me o.client (lines_of (e ∷ past)) o) now.lists.owed) → (u ≡ None → AllOf (HeldWaits me after then (e ∷ past)) now.held) → (u ≡ None → (j : Node) (c : BackCall) → now.calls j ≡ Some c → CallOut me j c now.last_call boot (e ∷ past))
+    → Each (IfBack (BackIn me u now.calls now.last_call boot)) ms → Each (IfDone (DoneIn me u now.calls now.last_call boot (e ∷ past))) ms
+    → ((j : ℕ) (seat : Seat) (m : Message) → cz j ≡ Some seat → seat.reply ≡ Some m → SeatedIn me u now.calls now.last_call boot (e ∷ past) j m)
+    → BackedIn me u now boot after cz then (sent ++ ms) (e ∷ past)
+backed_step me d u b now boot seats after cs cz clock then sent ms e past s h granted promised numbered rising clients owed waiting outs backs dones seated = record {
   granted = granted;
   promised = promised;
   numbered = numbered;
   rising = rising;
   clients = clients;
   owing = owed;
-  accounted = owes_over the_server (AccountedBy d b.lists.owed b.held clock) (AccountedBy u now.lists.owed now.held then) e past s.new (open_over d u b now clock then e past s) h.accounted;
+  accounted = owes_over me (AccountedBy me d b.lists.owed b.held clock) (AccountedBy me u now.lists.owed now.held then) e past s.new (open_over me d u b now clock then e past s) h.accounted;
   waiting = waiting;
   outs = outs;
-  calls = each_more (IfBack (BackIn u now.calls now.last_call boot)) sent ms (each_map (IfBack (BackIn d b.calls b.last_call boot)) (IfBack (BackIn u now.calls now.last_call boot)) (if_back (BackIn d b.calls b.last_call boot) (BackIn u now.calls now.last_call boot)
-      (λ head user call x. back_pass d u b.calls now.calls b.last_call now.last_call boot head user call s.was_up s.last s.calls x)) sent h.calls) backs;
-  dones = each_more (IfDone (DoneIn u now.calls now.last_call boot (e ∷ past))) sent ms (each_map (IfDone (DoneIn d b.calls b.last_call boot past)) (IfDone (DoneIn u now.calls now.last_call boot (e ∷ past))) (if_done (DoneIn d b.calls b.last_call boot past) (DoneIn u now.calls now.last_call boot (e ∷ past))
-      (λ m x. record { client = x.client; from = x.from; done = done_pass d u b.calls now.calls b.last_call now.last_call boot past (e ∷ past) x.client m.head.epoch m.head.number s.was_up s.last s.calls (λ y o z. dropped_over x.client e past o (s.up y) z) x.done })) sent h.dones) dones;
+  calls = each_more (IfBack (BackIn me u now.calls now.last_call boot)) sent ms (each_map (IfBack (BackIn me d b.calls b.last_call boot)) (IfBack (BackIn me u now.calls now.last_call boot)) (if_back (BackIn me d b.calls b.last_call boot) (BackIn me u now.calls now.last_call boot)
+      (λ head user call x. back_pass me d u b.calls now.calls b.last_call now.last_call boot head user call s.was_up s.last s.calls x)) sent h.calls) backs;
+  dones = each_more (IfDone (DoneIn me u now.calls now.last_call boot (e ∷ past))) sent ms (each_map (IfDone (DoneIn me d b.calls b.last_call boot past)) (IfDone (DoneIn me u now.calls now.last_call boot (e ∷ past))) (if_done (DoneIn me d b.calls b.last_call boot past) (DoneIn me u now.calls now.last_call boot (e ∷ past))
+      (λ m x. record { client = x.client; from = x.from; done = λ own. done_pass me d u b.calls now.calls b.last_call now.last_call boot past (e ∷ past) x.client m.head.epoch m.head.number s.was_up s.last s.calls (λ y o z. dropped_over me x.client e past o (s.up y) z) (x.done own) })) sent h.dones) dones;
   seated = seated;
 }
 
 -- what a client keeps for the server passes likewise
-pub seated_over : (d u : Option Fall) (b now : Backs) (boot clock then : ℕ) (e : Entry) (past : List Entry) → Stepping d u b now clock then e past → (j : ℕ) (m : Message) → SeatedIn d b.calls b.last_call boot past j m → SeatedIn u now.calls now.last_call boot (e ∷ past) j m
-seated_over d u b now boot clock then e past s j m x = record {
+pub seated_over : (me : Node) (d u : Option Fall) (b now : Backs) (boot clock then : ℕ) (e : Entry) (past : List Entry) → Stepping me d u b now clock then e past → (j : ℕ) (m : Message) → SeatedIn me d b.calls b.last_call boot past j m → SeatedIn me u now.calls now.last_call boot (e ∷ past) j m
+seated_over me d u b now boot clock then e past s j m x = record {
   to = x.to;
   from = x.from;
   is_reply = x.is_reply;
-  done = done_pass d u b.calls now.calls b.last_call now.last_call boot past (e ∷ past) (Client j) m.head.epoch m.head.number s.was_up s.last s.calls (λ y o z. dropped_over (Client j) e past o (s.up y) z) x.done;
+  done = done_pass me d u b.calls now.calls b.last_call now.last_call boot past (e ∷ past) (Client j) m.head.epoch m.head.number s.was_up s.last s.calls (λ y o z. dropped_over me (Client j) e past o (s.up y) z) x.done;
 }
 
 -- ---- a step that leaves what the server has in memory
 
-pub plain_step : (d : Option Fall) (b : Backs) (clock then : ℕ) (e : Entry) (past : List Entry) → Plain e.lines → clock ≤ then → Stepping d d b b clock then e past
-plain_step d b clock then e past p le = record {
+pub plain_step : (me : Node) (d : Option Fall) (b : Backs) (clock then : ℕ) (e : Entry) (past : List Entry) → Plain me e.lines → clock ≤ then → Stepping me d d b b clock then e past
+plain_step me d b clock then e past p le = record {
   was_up = λ x. x;
   up = λ x. p.up;
   or_stopped = λ x. inl x;
   later = le;
-  new = λ before after c what n line. absurd (no_owe e.lines before after the_server c what n p.oweless line);
+  new = λ before after c what n line. absurd (no_owe e.lines before after me c what n p.oweless line);
   gone = λ o x. inl x;
   held = λ k x. x;
   last = le_refl _;
   calls = calls_same b.calls b.last_call;
 }
 
-pub plain_waits : (seats now : List Seat) (t u : ℕ) (e : Entry) (past : List Entry) (h : Held) → Plain e.lines → t ≤ u → ((m : Node) (x y : ℕ) → Above (call_seat m now) x y → Above (call_seat m seats) x y) → HeldWaits seats t past h → HeldWaits now u (e ∷ past) h
-plain_waits seats now t u e past h p le seat w = waits_over seats now t u e past h le (λ k x. inl (change_back k e.lines (lines_of past) p.unchanging x)) (λ before after c what n line. absurd (no_owe e.lines before after the_server c what n p.oweless line)) seat w
+pub plain_waits : (me : Node) (seats now : List Seat) (t u : ℕ) (e : Entry) (past : List Entry) (h : Held) → Plain me e.lines → t ≤ u → ((m : Node) (x y : ℕ) → Above (call_seat m now) x y → Above (call_seat m seats) x y) → HeldWaits me seats t past h → HeldWaits me now u (e ∷ past) h
+plain_waits me seats now t u e past h p le seat w = waits_over me seats now t u e past h le (λ x. inl (change_back (key_answered h.reply) e.lines (lines_of past) p.unchanging x)) (λ before after c what n line. absurd (no_owe e.lines before after me c what n p.oweless line)) seat w
 
-pub granted_over : (e : Entry) (past : List Entry) (ps : List Promise) → all_lines is_still e.lines ≡ true → all_lines is_up e.lines ≡ true → all_lines is_oweless e.lines ≡ true → AllOf (IsGranted (lines_of past)) ps → AllOf (IsGranted (lines_of (e ∷ past))) ps
-granted_over e past ps still up oweless h = all_map (IsGranted (lines_of past)) (IsGranted (lines_of (e ∷ past))) (λ p x. unbroken_back p.client p.fid e.lines (lines_of past) still up oweless ∙ x) ps h
+pub granted_over : (me : Node) (e : Entry) (past : List Entry) (ps : List Promise) → all_lines is_still e.lines ≡ true → all_lines (is_up me) e.lines ≡ true → all_lines is_oweless e.lines ≡ true → AllOf (IsGranted me (lines_of past)) ps → AllOf (IsGranted me (lines_of (e ∷ past))) ps
+granted_over me e past ps still up oweless h = all_map (IsGranted me (lines_of past)) (IsGranted me (lines_of (e ∷ past))) (λ p x. unbroken_back me p.client p.fid e.lines (lines_of past) still up oweless ∙ x) ps h
 
-pub owed_over : (e : Entry) (past : List Entry) (os : List Owed) → all_lines is_up e.lines ≡ true → AllOf (λ (o : Owed). IsOwed o.client (lines_of past) o) os → AllOf (λ (o : Owed). IsOwed o.client (lines_of (e ∷ past)) o) os
-owed_over e past os up h = all_map (λ (o : Owed). IsOwed o.client (lines_of past) o) (λ (o : Owed). IsOwed o.client (lines_of (e ∷ past)) o) (λ o x. owe_over o.client o.what o.number e past up x) os h
+pub owed_over : (me : Node) (e : Entry) (past : List Entry) (os : List Owed) → all_lines (is_up me) e.lines ≡ true → AllOf (λ (o : Owed). IsOwed me o.client (lines_of past) o) os → AllOf (λ (o : Owed). IsOwed me o.client (lines_of (e ∷ past)) o) os
+owed_over me e past os up h = all_map (λ (o : Owed). IsOwed me o.client (lines_of past) o) (λ (o : Owed). IsOwed me o.client (lines_of (e ∷ past)) o) (λ o x. owe_over me o.client o.what o.number e past up x) os h
 
 -- a client's step, or one of nobody: the clock may rise
-pub backed_plain : (d : Option Fall) (b : Backs) (boot : ℕ) (seats : List Seat) (cs cz : ℕ → Option Seat) (clock then : ℕ) (sent ms : List Message) (e : Entry) (past : List Entry) → Plain e.lines → clock ≤ then → BackedIn d b boot seats cs clock sent past
-    → Each (IfBack (BackIn d b.calls b.last_call boot)) ms → Each (IfDone (DoneIn d b.calls b.last_call boot (e ∷ past))) ms
-    → ((j : ℕ) (seat : Seat) (m : Message) → cz j ≡ Some seat → seat.reply ≡ Some m → SeatedIn d b.calls b.last_call boot (e ∷ past) j m) → BackedIn d b boot seats cz then (sent ++ ms) (e ∷ past)
-backed_plain d b boot seats cs cz clock then sent ms e past p le h backs dones seated =
-    let s : Stepping d d b b clock then e past = plain_step d b clock then e past p le in
-    backed_step d d b b boot seats seats cs cz clock then sent ms e past s h (λ x. granted_over e past b.lists.promises p.still p.up p.oweless (h.granted x)) (promised_over d b.lists.promises clock then e past p.still le h.promised) (numbered_over d b.lists.last_owed e past p.up p.oweless h.numbered) (rising_over e past p.oweless h.rising) h.clients (λ x. owed_over e past b.lists.owed p.up (h.owing x))
-    (λ x. all_map (HeldWaits seats clock past) (HeldWaits seats then (e ∷ past)) (λ q y. plain_waits seats seats clock then e past q p le (λ m a c z. z) y) b.held (h.waiting x))
-    (λ x j c at. call_over j c b.last_call b.last_call boot e past (le_refl _) p.up (h.outs x j c at)) backs dones seated
+pub backed_plain : (me : Node) (d : Option Fall) (b : Backs) (boot : ℕ) (seats : List Seat) (cs cz : ℕ → Option Seat) (clock then : ℕ) (sent ms : List Message) (e : Entry) (past : List Entry) → Plain me e.lines → clock ≤ then → BackedIn me d b boot seats cs clock sent past
+    → Each (IfBack (BackIn me d b.calls b.last_call boot)) ms → Each (IfDone (DoneIn me d b.calls b.last_call boot (e ∷ past))) ms
+    → ((j : ℕ) (seat : Seat) (m : Message) → cz j ≡ Some seat → seat.reply ≡ Some m → SeatedIn me d b.calls b.last_call boot (e ∷ past) j m) → BackedIn me d b boot seats cz then (sent ++ ms) (e ∷ past)
+backed_plain me d b boot seats cs cz clock then sent ms e past p le h backs dones seated =
+    let s : Stepping me d d b b clock then e past = plain_step me d b clock then e past p le in
+    backed_step me d d b b boot seats seats cs cz clock then sent ms e past s h (λ x. granted_over me e past b.lists.promises p.still p.up p.oweless (h.granted x)) (promised_over me d b.lists.promises clock then e past p.still le h.promised) (numbered_over me d b.lists.last_owed e past p.up p.oweless h.numbered) (rising_over me e past p.oweless h.rising) h.clients (λ x. owed_over me e past b.lists.owed p.up (h.owing x))
+    (λ x. all_map (HeldWaits me seats clock past) (HeldWaits me seats then (e ∷ past)) (λ q y. plain_waits me seats seats clock then e past q p le (λ m a c z. z) y) b.held (h.waiting x))
+    (λ x j c at. call_over me j c b.last_call b.last_call boot e past (le_refl _) p.up (h.outs x j c at)) backs dones seated
 
 -- the server is down, or goes down
-pub backed_fall : (d : Option Fall) (fall : Fall) (b : Backs) (boot : ℕ) (seats after : List Seat) (cs : ℕ → Option Seat) (clock : ℕ) (sent : List Message) (e : Entry) (past : List Entry) → all_lines is_oweless e.lines ≡ true → all_lines is_still e.lines ≡ true → (d ≡ None → (o : List Line) → HasStopped the_server (onto o e.lines)) → BackedIn d b boot seats cs clock sent past
-    → BackedIn (Some fall) b boot after cs clock (sent ++ []) (e ∷ past)
-backed_fall d fall b boot seats after cs clock sent e past oweless still stop h =
-    let s : Stepping d (Some fall) b b clock clock e past = record {
+pub backed_fall : (me : Node) (d : Option Fall) (fall : Fall) (b : Backs) (boot : ℕ) (seats after : List Seat) (cs : ℕ → Option Seat) (clock : ℕ) (sent : List Message) (e : Entry) (past : List Entry) → all_lines is_oweless e.lines ≡ true → all_lines is_still e.lines ≡ true → (d ≡ None → (o : List Line) → HasStopped me (onto o e.lines)) → BackedIn me d b boot seats cs clock sent past
+    → BackedIn me (Some fall) b boot after cs clock (sent ++ []) (e ∷ past)
+backed_fall me d fall b boot seats after cs clock sent e past oweless still stop h =
+    let s : Stepping me d (Some fall) b b clock clock e past = record {
       was_up = λ x. absurd cc;
       up = λ x. absurd cc;
       or_stopped = λ x. inr (stop x);
       later = le_refl _;
-      new = λ before after c what n line. absurd (no_owe e.lines before after the_server c what n oweless line);
+      new = λ before after c what n line. absurd (no_owe e.lines before after me c what n oweless line);
       gone = λ o x. inl x;
       held = λ k x. x;
       last = le_refl _;
       calls = calls_same b.calls b.last_call;
     } in
-    backed_step d (Some fall) b b boot seats after cs cs clock clock sent [] e past s h (λ x. absurd cc)
-    (λ j f x l t. absurd (live_stop j f x e.lines (before_own e past) [] still (λ y z. y) (stop (h.promised j f x (live_given j f x e past (live_back j f x e.lines (before_own e past) still l)) t).0 []) l)) (numbered_fall d b.lists.last_owed e past oweless stop h.numbered) (rising_over e past oweless h.rising) (λ x. absurd cc) (λ x. absurd cc) (λ x. absurd cc) (λ x. absurd cc) tt tt (λ j seat m x y. seated_over d (Some fall) b b boot clock clock e past s j m (h.seated j seat m x y))
+    backed_step me d (Some fall) b b boot seats after cs cs clock clock sent [] e past s h (λ x. absurd cc)
+    (λ j f x l t. absurd (live_stop me j f x e.lines (before_own me e past) [] still (λ y z. y) (stop (h.promised j f x (live_given me j f x e past (live_back me j f x e.lines (before_own me e past) still l)) t).0 []) l)) (numbered_fall me d b.lists.last_owed e past oweless stop h.numbered) (rising_over me e past oweless h.rising) (λ x. absurd cc) (λ x. absurd cc) (λ x. absurd cc) (λ x. absurd cc) tt tt (λ j seat m x y. seated_over me d (Some fall) b b boot clock clock e past s j m (h.seated j seat m x y))

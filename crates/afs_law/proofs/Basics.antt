@@ -410,7 +410,7 @@ each_at P (x ∷ a) zero m e h = absurd cc
 each_at P (x ∷ a) (suc zero) m e h = let one : x ≡ m = cc in subst P one h.0
 each_at P (x ∷ a) (suc (suc p)) m e h = each_at P a (suc p) m e h.1
 
-of_call : (P Q : Head → List ℕ → FsCall → Type 0) → ((head : Head) (user : List ℕ) (call : FsCall) → P head user call → Q head user call) → (head : Head) (c : Carried) → OfCall P head c → OfCall Q head c
+pub of_call : (P Q : Head → List ℕ → FsCall → Type 0) → ((head : Head) (user : List ℕ) (call : FsCall) → P head user call → Q head user call) → (head : Head) (c : Carried) → OfCall P head c → OfCall Q head c
 of_call P Q w head (carried.Call user (ask.File call)) h = w head user call h
 of_call P Q w head (carried.Call user (ask.Volume call)) h = absurd h
 of_call P Q w head (carried.Call user (ask.Location call)) h = absurd h
@@ -424,7 +424,7 @@ if_call P Q w m h = of_call (ByClient P) (ByClient Q) (λ head user call. of_cli
 pub if_back : (P Q : Head → List ℕ → FsCall → Type 0) → ((head : Head) (user : List ℕ) (call : FsCall) → P head user call → Q head user call) → (m : Message) → IfBack P m → IfBack Q m
 if_back P Q w m h = of_call (ByServer P) (ByServer Q) (λ head user call. of_server head.from (P head user call) (Q head user call) (w head user call)) m.head m.carried h
 
-of_reply : (P Q : Type 0) → (P → Q) → (c : Carried) → OfReply P c → OfReply Q c
+pub of_reply : (P Q : Type 0) → (P → Q) → (c : Carried) → OfReply P c → OfReply Q c
 of_reply P Q w (carried.Call user call) h = tt
 of_reply P Q w (carried.Refusal code) h = w h
 of_reply P Q w (carried.Reply reply) h = w h

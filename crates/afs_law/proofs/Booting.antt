@@ -45,9 +45,9 @@ stop_apart (Admin i) j h = refl
 stop_apart Loc j h = refl
 
 -- its boot, and its last one, are what they were
-record Same (j : ℕ) (a b : List Line) : Type 0 where
-  boot : server_boot (Server j) a ≡ server_boot (Server j) b
-  last : last_boot (Server j) a ≡ last_boot (Server j) b
+pub record Same (j : ℕ) (a b : List Line) : Type 0 where
+  pub boot : server_boot (Server j) a ≡ server_boot (Server j) b
+  pub last : last_boot (Server j) a ≡ last_boot (Server j) b
 
 one_same : (j : ℕ) (l : Line) (o : List Line) → is_standing l ≡ true → Same j (l ∷ o) o
 one_same j (lines.Crash n) o h = record { boot = ap (λ (t : Bool). cond t None (server_boot (Server j) o)) (stop_apart n j h); last = refl }
@@ -61,7 +61,7 @@ one_same j l o h = record { boot = refl; last = refl }
 then_same : {j : ℕ} {a b c : List Line} → Same j a b → Same j b c → Same j a c
 then_same h k = record { boot = h.boot ∙ k.boot; last = h.last ∙ k.last }
 
-all_same : (j : ℕ) (ls o : List Line) → all_lines is_standing ls ≡ true → Same j (onto o ls) o
+pub all_same : (j : ℕ) (ls o : List Line) → all_lines is_standing ls ≡ true → Same j (onto o ls) o
 all_same j [] o h = record { boot = refl; last = refl }
 all_same j (l ∷ ls) o h = let q = both (is_standing l) (all_lines is_standing ls) h in then_same (all_same j ls (l ∷ o) q.1) (one_same j l o q.0)
 
@@ -202,7 +202,7 @@ rise_boots hosts i h e past front notes are stand note was up grows B =
 
 -- ---- the lines of a server's steps
 
-owes_standing : (me : Node) (os : List OwedBreak) → all_lines is_standing (map (owe_line me) os) ≡ true
+pub owes_standing : (me : Node) (os : List OwedBreak) → all_lines is_standing (map (owe_line me) os) ≡ true
 owes_standing me [] = refl
 owes_standing me (o ∷ os) = owes_standing me os
 

@@ -229,7 +229,7 @@ works_ideal s c past i b ls h (inr S) =
 abbrev pub HeldCuts : Script → Cell → List Entry → Type 0
 HeldCuts s c past = Held s c past × CutsIn c past
 
-abbrev IdealStep : Script → Cell → List Entry → Moved → Type 0
+abbrev pub IdealStep : Script → Cell → List Entry → Moved → Type 0
 IdealStep s c past m = EachLine (IsIdeal s) m.entry.actor past [] m.entry.lines
 
 acts_ideal : (s : Script) (c : Cell) (past : List Entry) (n : ℕ) (who : Actor) (ls : List Line) → all_lines (is_of n) ls ≡ true → EachLine (IsIdeal s) who past [] ls
@@ -243,7 +243,7 @@ stays_ideal : (s : Script) (c : Cell) (past : List Entry) (i : ℕ) (after : Boo
 stays_ideal s c past i after fall l h down from ends =
     works_ideal s c past i _ _ h.0 (disk_works (IsPlaced c past i) (Server i) (c.hosts i).state after fall (l ∷ []) (cut_by (λ m. IsPlaced c past i m [] (l ∷ [])) (c.hosts i).down fall down (cut_placed s c past i (l ∷ []) h ends)) (rw from refl))
 
-ideal_moves : (s : Script) → EachMove (HeldCuts s) (IdealStep s)
+pub ideal_moves : (s : Script) → EachMove (HeldCuts s) (IdealStep s)
 ideal_moves s = record {
   void = λ c past h. (tt, tt);
   ticked = λ c past n h. (tt, tt);

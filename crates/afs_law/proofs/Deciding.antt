@@ -379,8 +379,8 @@ refuses_by s c past armed p n head user call code H up at w nz (inr x) = refuses
 pub turned_goes : (s : Script) (c : Cell) (past : List Entry) (armed : Armed) (p : ℕ) (head : Head) (x : Carried) (i : ℕ) → (H : Holds s c past) → c.down ≡ None → message_at c.sent p ≡ Some (record { head = head; carried = x }) → head.to ≡ Server i → Dull c.server.seats c.server.lasting.boot (record { head = head; carried = x })
     → Goes s past (server_does c armed p (record { head = head; carried = x }) drops)
 turned_goes s c past armed p head (carried.Call user call) i H up at to j = nothing_done s c past armed p _ H up at j
-turned_goes s c past armed p head (carried.Refusal code) i H up at to j = answered_goes s c past armed p _ H up at j (by_server i head.to _ to (each_at (IfDone (DoneIn c.down c.server.backs.calls c.server.backs.last_call c.server.lasting.boot past)) c.sent p _ at (H.backs refl).dones))
-turned_goes s c past armed p head (carried.Reply reply) i H up at to j = answered_goes s c past armed p _ H up at j (by_server i head.to _ to (each_at (IfDone (DoneIn c.down c.server.backs.calls c.server.backs.last_call c.server.lasting.boot past)) c.sent p _ at (H.backs refl).dones))
+turned_goes s c past armed p head (carried.Refusal code) i H up at to j = answered_goes s c past armed p _ H up at j (by_server i head.to _ to (each_at (IfDone (DoneIn the_server c.down c.server.backs.calls c.server.backs.last_call c.server.lasting.boot past)) c.sent p _ at (H.backs refl).dones))
+turned_goes s c past armed p head (carried.Reply reply) i H up at to j = answered_goes s c past armed p _ H up at j (by_server i head.to _ to (each_at (IfDone (DoneIn the_server c.down c.server.backs.calls c.server.backs.last_call c.server.lasting.boot past)) c.sent p _ at (H.backs refl).dones))
 turned_goes s c past armed p head carried.Notice i H up at to j = noticed_goes s c past armed p _ H up at j
 
 -- ---- a kept reply is sent again
@@ -424,7 +424,7 @@ none_by : (t u : Bool) (h : Held) (o : Option Held) → cond t (Some h) o ≡ No
 none_by true u h o e f w = absurd cc
 none_by false u h o e f w = w e f
 
-not_held : (k : Key) (hs : List Held) → held_under k hs ≡ None → is_held k hs ≡ true → ⊥
+pub not_held : (k : Key) (hs : List Held) → held_under k hs ≡ None → is_held k hs ≡ true → ⊥
 not_held k [] e f = absurd cc
 not_held k (h ∷ hs) e f = none_by (is_reply_to k h.reply) (is_held k hs) h (held_under k hs) e f (λ x y. not_held k hs x y)
 
@@ -432,18 +432,18 @@ held_by : (P : Held → Type 0) (t : Bool) (k : Key) (x h : Held) (o : Option He
 held_by P true k x h o e p at w = subst (λ (z : Held). P z × (is_reply_to k z.reply ≡ true)) (some_of x h at) (p, e)
 held_by P false k x h o e p at w = w at
 
-held_waits : (P : Held → Type 0) (k : Key) (hs : List Held) (h : Held) → held_under k hs ≡ Some h → AllOf P hs → P h × (is_reply_to k h.reply ≡ true)
+pub held_waits : (P : Held → Type 0) (k : Key) (hs : List Held) (h : Held) → held_under k hs ≡ Some h → AllOf P hs → P h × (is_reply_to k h.reply ≡ true)
 held_waits P k [] h at all = absurd cc
 held_waits P k (x ∷ hs) h at all = held_by P (is_reply_to k x.reply) k x h (held_under k hs) refl all.0 at (λ y. held_waits P k hs h y all.1)
 
-pub repeat_loads : (s : Script) (c : Cell) (past : List Entry) (e : Entry) (p : ℕ) (reply : Message) (ws : List ℕ) → (H : Holds s c past) → c.down ≡ None → IsKept c reply → e ≡ told_entry p [] e.sent → AllOwes the_server (WaitedBy (again_held reply ws) c.clock) (e ∷ past)
-    → (HasChange (key_answered reply) (lines_of (e ∷ past)) → AllOwes the_server (AllWaitedBy (again_held reply ws) c.clock) (e ∷ past)) → Loads c (e ∷ past) (asked_again (expired c.clock c.server.backs) reply ws)
+pub repeat_loads : (s : Script) (c : Cell) (past : List Entry) (e : Entry) (p : ℕ) (reply : Message) (ws : List ℕ) → (H : Holds s c past) → c.down ≡ None → IsKept c reply → e ≡ told_entry p [] e.sent → AllOwes the_server (WaitedBy the_server (again_held reply ws) c.clock) (e ∷ past)
+    → (HasChange (key_answered reply) (lines_of (e ∷ past)) → AllOwes the_server (AllWaitedBy the_server (again_held reply ws) c.clock) (e ∷ past)) → Loads c (e ∷ past) (asked_again (expired c.clock c.server.backs) reply ws)
 repeat_loads s c past e p reply ws H up k is own all =
     let d = (H.clients k.client).kept k.seat reply k.at k.kept in
     let B = up_backed s c past H up in
-    let q : Plain e.lines = given_plain p e e.sent is in
+    let q : Plain the_server e.lines = given_plain p e e.sent is in
     record {
-      backed = run_loaded (expired c.clock c.server.backs) (expired c.clock c.server.backs).lists.promises c.server.lasting.boot c.server.seats c.server.seats (seats_of c) c.clock c.sent e past (again_held reply ws) B q.up q.oweless q.unchanging (granted_over e past (expired c.clock c.server.backs).lists.promises q.still q.up q.oweless (B.granted refl)) (B.clients refl).promised (promised_over None (expired c.clock c.server.backs).lists.promises c.clock c.clock e past q.still (le_refl _) B.promised) (λ m y z w. w)
+      backed = run_loaded the_server (expired c.clock c.server.backs) (expired c.clock c.server.backs).lists.promises c.server.lasting.boot c.server.seats c.server.seats (seats_of c) c.clock c.sent e past (again_held reply ws) B q.up q.oweless q.unchanging (granted_over the_server e past (expired c.clock c.server.backs).lists.promises q.still q.up q.oweless (B.granted refl)) (B.clients refl).promised (promised_over the_server None (expired c.clock c.server.backs).lists.promises c.clock c.clock e past q.still (le_refl _) B.promised) (λ m y z w. w)
           (record { client = k.client; to = d.0.to; from = d.0.from; is_reply = d.0.is_reply; under = kept_under c reply k.client k.seat k.at d.0 }) own all;
       sends = record { good = tt; calls = tt; dones = tt };
     }
@@ -453,19 +453,19 @@ pub first_loads : (s : Script) (c : Cell) (past : List Entry) (e : Entry) (p : �
     → (HasChange (key_answered reply) (lines_of past) → (n : ℕ) → IsNumberIn n (alls (expired c.clock c.server.backs).lists.owed) → IsNumberIn n ws) → Loads c (e ∷ past) (asked_again (expired c.clock c.server.backs) reply ws)
 first_loads s c past e p reply ws H up k is none all =
     let B = up_backed s c past H up in
-    let q : Plain e.lines = given_plain p e e.sent is in
+    let q : Plain the_server e.lines = given_plain p e e.sent is in
     repeat_loads s c past e p reply ws H up k is
-    (own_waited (expired c.clock c.server.backs) c.server.lasting.boot c.server.seats (seats_of c) c.clock c.sent e past (again_held reply ws) B q.oweless (λ y. not_held (key_answered reply) c.server.backs.held none y))
-    (λ y. all_waited (expired c.clock c.server.backs) c.server.lasting.boot c.server.seats (seats_of c) c.clock c.sent e past (again_held reply ws) B (all (change_back (key_answered reply) e.lines (lines_of past) q.unchanging y)) (λ a b f what n line. absurd (no_owe e.lines a b the_server f what n q.oweless line)))
+    (own_waited the_server (expired c.clock c.server.backs) c.server.lasting.boot c.server.seats (seats_of c) c.clock c.sent e past (again_held reply ws) B q.oweless (λ y. not_held (key_answered reply) c.server.backs.held none y))
+    (λ y. all_waited the_server (expired c.clock c.server.backs) c.server.lasting.boot c.server.seats (seats_of c) c.clock c.sent e past (again_held reply ws) B (all (change_back (key_answered reply) e.lines (lines_of past) q.unchanging y)) (λ a b f what n line. absurd (no_owe e.lines a b the_server f what n q.oweless line)))
 
 -- where one waits, for the same
 pub second_loads : (s : Script) (c : Cell) (past : List Entry) (e : Entry) (p : ℕ) (reply : Message) (h : Held) → (H : Holds s c past) → c.down ≡ None → IsKept c reply → e ≡ told_entry p [] e.sent → held_under (key_answered reply) c.server.backs.held ≡ Some h → Loads c (e ∷ past) (asked_again (expired c.clock c.server.backs) reply h.waits)
 second_loads s c past e p reply h H up k is at =
     let B = up_backed s c past H up in
-    let q : Plain e.lines = given_plain p e e.sent is in
-    let w = held_waits (HeldWaits c.server.seats c.clock past) (key_answered reply) c.server.backs.held h at (B.waiting refl) in
+    let q : Plain the_server e.lines = given_plain p e e.sent is in
+    let w = held_waits (HeldWaits the_server c.server.seats c.clock past) (key_answered reply) c.server.backs.held h at (B.waiting refl) in
     let same : key_answered h.reply ≡ key_answered reply = reply_key (key_answered reply) h.reply w.1 in
-    let x : HeldWaits c.server.seats c.clock (e ∷ past) h = plain_waits c.server.seats c.server.seats c.clock c.clock e past h q (le_refl _) (λ m a b z. z) w.0 in
+    let x : HeldWaits the_server c.server.seats c.clock (e ∷ past) h = plain_waits the_server c.server.seats c.server.seats c.clock c.clock e past h q (le_refl _) (λ m a b z. z) w.0 in
     repeat_loads s c past e p reply h.waits H up k is
     (λ newer a older y z d what n split line boot u. x.own newer a older y z d what n split line boot (subst (λ (i : Key). IsCallUnder the_server i boot (given_message a.lines (sent_of older))) (sym same) u))
     (λ y. x.all (subst (λ (i : Key). HasChange i (lines_of (e ∷ past))) (sym same) y))
@@ -570,7 +570,7 @@ pub revived_heard : (c : Cell) (past : List Entry) → AreUnheard c.down c.serve
 revived_heard c past h k b (inl l) = unheard_later c.down c.server.seats c.server.lasting.boot past h k b (omega arith)
 revived_heard c past h k b (inr x) = let is : b ≡ c.server.lasting.boot + 1 = x.0 in unheard_later c.down c.server.seats c.server.lasting.boot past h k b (omega arith)
 
-pub revives : (s : Script) (b : Option ℕ) (c : Cell) (past : List Entry) (x : Backs) → HoldsAt s b c past → ((fl : ℕ → Ghost) → Each (HeldIn (view fl (revived_cell c)) past) (replies_of c.server.backs.held) → Each (HeldIn (view fl (revived_cell c)) past) (replies_of x.held)) → (b ≡ Some (c.server.lasting.boot + 1) → BackedIn None x (c.server.lasting.boot + 1) c.server.lasting.kept (seats_of c) c.clock c.sent past) → HoldsAt s b (record (revived_cell c) { server = record (revived c.server) { backs = x } }) past
+pub revives : (s : Script) (b : Option ℕ) (c : Cell) (past : List Entry) (x : Backs) → HoldsAt s b c past → ((fl : ℕ → Ghost) → Each (HeldIn (view fl (revived_cell c)) past) (replies_of c.server.backs.held) → Each (HeldIn (view fl (revived_cell c)) past) (replies_of x.held)) → (b ≡ Some (c.server.lasting.boot + 1) → BackedIn the_server None x (c.server.lasting.boot + 1) c.server.lasting.kept (seats_of c) c.clock c.sent past) → HoldsAt s b (record (revived_cell c) { server = record (revived c.server) { backs = x } }) past
 revives s b c past x h held backs =
     let fl : ℕ → Ghost = h.floors in
     let same : (id : ℕ) → volume_in id (lasting_started c.server.lasting).volumes ≡ volume_in id c.server.lasting.volumes = λ id. found_started id c.server.lasting.volumes (λ v e. (h.fine id v e).stays) in
@@ -653,7 +653,7 @@ revives_down s c past fall h e =
       clock = r.clock;
       top = r.top;
       one = r.one;
-      backs = λ z. down_later c.down c.server.backs c.server.lasting.boot c.server.seats c.server.lasting.kept (seats_of c) c.clock c.sent past at_rest (λ u. absurd cc) (h.backs refl);
+      backs = λ z. down_later the_server c.down c.server.backs c.server.lasting.boot c.server.seats c.server.lasting.kept (seats_of c) c.clock c.sent past at_rest (λ u. absurd cc) (h.backs refl);
     }
 
 -- the server's boot by the lines where it rises
@@ -668,11 +668,11 @@ rising_notes c = owe_notes (owes_all (c.clock + promise_ticks) 0 c.count)
 
 -- a server that is down has numbered nothing since
 pub down_number : (s : Script) (c : Cell) (past : List Entry) (fall : Fall) → Holds s c past → c.down ≡ Some fall → last_number the_server (lines_of past) ≡ 0
-down_number s c past fall h e = (subst (λ (d : Option Fall). BackedIn d c.server.backs c.server.lasting.boot c.server.seats (seats_of c) c.clock c.sent past) e (h.backs refl)).numbered
+down_number s c past fall h e = (subst (λ (d : Option Fall). BackedIn the_server d c.server.backs c.server.lasting.boot c.server.seats (seats_of c) c.clock c.sent past) e (h.backs refl)).numbered
 
 -- it owes every client a break on all
 pub rises_owed : (s : Script) (c : Cell) → {past : List Entry} → Holds s c past → GoodRestart s the_server (rising c).lines
-rises_owed s c h j a b = all_owed (c.clock + promise_ticks) 0 c.count j (omega arith) (let le : j ≤ c.count = subst (λ (k : ℕ). j ≤ k) (sym h.count) b in omega arith)
+rises_owed s c h j a b = all_owed the_server (c.clock + promise_ticks) 0 c.count j (omega arith) (let le : j ≤ c.count = subst (λ (k : ℕ). j ≤ k) (sym h.count) b in omega arith)
 
 -- and nobody beside them
 owed_few : (s : Script) (c : Cell) (past : List Entry) → Holds s c past → 0 + c.count ≤ s.clients
@@ -696,12 +696,12 @@ rises_as s c past fall h e =
     let t : Turn = rising c in
     let sk : Skips t.lines = skips t.lines (rising_notes c) in
     let x : Entry = risen_entry b t.lines (pumped the_server b t).sent in
-    let pump : Pumps b c.server.lasting.kept (seats_of c) c.clock c.sent (x ∷ past) t = pumps b c.server.lasting.kept (seats_of c) c.clock c.sent x past t refl refl (sk.clock _ ∙ h.clock)
-    (rise_loaded c.count c.down c.server.backs c.server.lasting.boot c.server.seats c.server.lasting.kept (seats_of c) c.clock c.sent x past (lines.Restart the_server b ∷ []) (λ z. absurd cc) (h.backs refl) h.clock refl refl refl refl (sk.given (sent_of past))) (record { good = tt; calls = tt; dones = tt }) (sk.boot _ ∙ rises_at s c past fall b h e) in
+    let pump : Pumps the_server b c.server.lasting.kept (seats_of c) c.clock c.sent (x ∷ past) t = pumps the_server b c.server.lasting.kept (seats_of c) c.clock c.sent x past t refl refl refl (sk.clock _ ∙ h.clock)
+    (rise_loaded the_server c.count c.down c.server.backs c.server.lasting.boot c.server.seats c.server.lasting.kept (seats_of c) c.clock c.sent x past (lines.Restart the_server b ∷ []) (λ z. absurd cc) (h.backs refl) h.clock refl refl refl refl (sk.given (sent_of past))) (record { good = tt; calls = tt; dones = tt }) (sk.boot _ ∙ rises_at s c past fall b h e) in
     record {
       replies = pump.good;
       volumes = refl;
-      good = ((refl, rises_owed s c h), alls_good s (c.clock + promise_ticks) 0 c.count past _ (le_of_eq (down_number s c past fall h e)) (λ z. z) (inl refl) (owed_few s c past h));
+      good = ((refl, rises_owed s c h), alls_good the_server refl s (c.clock + promise_ticks) 0 c.count past _ (le_of_eq (down_number s c past fall h e)) (λ z. z) (inl refl) (owed_few s c past h));
       holds = revives s (Some b) _ (x ∷ past) (pumped the_server b t).backs (noted s (Some b) c past c.armed (Some at_rest) x c.server.backs h (sk.boot _ ∙ rises_at s c past fall b h e) (risen_rests s b t.lines (pumped the_server b t).sent past sk) (sk.clock _)
           (unheard_still (Some at_rest) c x past (sk.given (sent_of past)) (λ k i l. unheard_later c.down c.server.seats c.server.lasting.boot past h.unheard k i l)) tt (rising_gives _ b _ _ c c.server.backs.held) (λ z. absurd cc)) (λ fl z. nothing_held b c _ _) (λ z. pump.backed);
     }
@@ -770,7 +770,7 @@ pub after_holds : (y : Way) (s : Script) (now : Option ℕ) (c : Cell) (past : L
     → ((kept : Lasting) (sent : List Message) (newer : List Entry) → HasFallen (Some fall) kept sent newer)
     → server_boot the_server (lines_of (NewEntry y n h (versions_by id es st.volume) (reply_saved c (client_head n h) time user call id st es shown) ∷ past)) ≡ now
     → (HeldIn (views_after true H.floors c n h (reply_saved c (client_head n h) time user call id st es shown)) (NewEntry y n h (versions_by id es st.volume) (reply_saved c (client_head n h) time user call id st es shown) ∷ past) (reply_saved c (client_head n h) time user call id st es shown) → Gives s (views_after true H.floors c n h (reply_saved c (client_head n h) time user call id st es shown)) c.server.lasting.boot (NewEntry y n h (versions_by id es st.volume) (reply_saved c (client_head n h) time user call id st es shown) ∷ past) c.server.backs.held (saved_sent y (reply_saved c (client_head n h) time user call id st es shown)) after.held)
-    → (now ≡ None → BackedIn (Some fall) after c.server.lasting.boot (seats_after c n h (reply_saved c (client_head n h) time user call id st es shown)) (seats_of c) c.clock (c.sent ++ saved_sent y (reply_saved c (client_head n h) time user call id st es shown)) (NewEntry y n h (versions_by id es st.volume) (reply_saved c (client_head n h) time user call id st es shown) ∷ past))
+    → (now ≡ None → BackedIn the_server (Some fall) after c.server.lasting.boot (seats_after c n h (reply_saved c (client_head n h) time user call id st es shown)) (seats_of c) c.clock (c.sent ++ saved_sent y (reply_saved c (client_head n h) time user call id st es shown)) (NewEntry y n h (versions_by id es st.volume) (reply_saved c (client_head n h) time user call id st es shown) ∷ past))
     → HoldsAt s now (served_cell true c n h (reply_saved c (client_head n h) time user call id st es shown) (stock_after c (client_head n h) time (change_at id user call st es shown)) after (Some fall) unarmed (saved_sent y (reply_saved c (client_head n h) time user call id st es shown))) (NewEntry y n h (versions_by id es st.volume) (reply_saved c (client_head n h) time user call id st es shown) ∷ past)
 after_holds y s now c past after fall n h user call time id st es shown H w q is_cut none fallen boots gives backs =
     saves_holds y s now c past after unarmed (Some fall) n h user call time id st es shown H w q (record { ran = ran_over _ _ past is_cut.ran; is = is_cut.is; ideal = is_cut.ideal }) boots
@@ -789,13 +789,13 @@ saved_up s c past fall n h user call time id st es shown H e w q is_cut =
     let y : Way = rises_to x t.lines (rising_notes c) ms in
     let k : Entry = saved_entry y key vs r in
     let given : given_message k.lines (sent_of past) ≡ None = given_on vs (lines.Restart the_server x ∷ t.lines) (sent_of past) ∙ sk.given (sent_of past) in
-    let pump : Pumps x (seat_placed (taken n h r) c.server.lasting.kept) (seats_of c) c.clock c.sent (k ∷ past) t = pumps x (seat_placed (taken n h r) c.server.lasting.kept) (seats_of c) c.clock c.sent k past t refl refl (saves_clock y key vs r past ∙ H.clock)
-    (rise_loaded c.count c.down c.server.backs c.server.lasting.boot c.server.seats (seat_placed (taken n h r) c.server.lasting.kept) (seats_of c) c.clock c.sent k past (lines.Change the_server key (length vs) ∷ versioned vs (lines.Restart the_server x ∷ [])) (λ z. absurd cc) (H.backs refl) H.clock
+    let pump : Pumps the_server x (seat_placed (taken n h r) c.server.lasting.kept) (seats_of c) c.clock c.sent (k ∷ past) t = pumps the_server x (seat_placed (taken n h r) c.server.lasting.kept) (seats_of c) c.clock c.sent k past t refl refl refl (saves_clock y key vs r past ∙ H.clock)
+    (rise_loaded the_server c.count c.down c.server.backs c.server.lasting.boot c.server.seats (seat_placed (taken n h r) c.server.lasting.kept) (seats_of c) c.clock c.sent k past (lines.Change the_server key (length vs) ∷ versioned vs (lines.Restart the_server x ∷ [])) (λ z. absurd cc) (H.backs refl) H.clock
     (ap (λ (ls : List Line). lines.Change the_server key (length vs) ∷ ls) (versioned_front vs (lines.Restart the_server x ∷ []) t.lines)) (versions_lines is_oweless vs (lines.Restart the_server x ∷ []) (λ z. refl) refl) (versions_lines is_tickless vs (lines.Restart the_server x ∷ []) (λ z. refl) refl) (versions_lines is_still vs (lines.Restart the_server x ∷ []) (λ z. refl) refl) given) (record { good = tt; calls = tt; dones = tt }) (saves_boot y key vs r past ∙ (sk.boot _ ∙ rises_at s c past fall x H e)) in
     record {
       replies = pump.good;
       volumes = refl;
-      good = after_good s c past n h user call id st.volume es shown (lines.Restart the_server x ∷ t.lines) H w q e refl is_cut (inl refl) ((refl, rises_owed s c H), alls_good s (c.clock + promise_ticks) 0 c.count past _ (le_of_eq (top_number vs (lines.Change the_server key (length vs) ∷ []) (lines_of past) ∙ down_number s c past fall H e)) (λ z. top_stopped vs (lines.Change the_server key (length vs) ∷ []) z) (inl refl) (owed_few s c past H));
+      good = after_good s c past n h user call id st.volume es shown (lines.Restart the_server x ∷ t.lines) H w q e refl is_cut (inl refl) ((refl, rises_owed s c H), alls_good the_server refl s (c.clock + promise_ticks) 0 c.count past _ (le_of_eq (top_number vs (lines.Change the_server key (length vs) ∷ []) (lines_of past) ∙ down_number s c past fall H e)) (λ z. top_stopped vs (lines.Change the_server key (length vs) ∷ []) z) (inl refl) (owed_few s c past H));
       holds = revives s (Some x) _ _ (pumped the_server x t).backs (after_holds y s (Some x) c past c.server.backs at_rest n h user call time id st es shown H w q is_cut given (λ u z b. tt) (saves_boot y key vs r past ∙ (sk.boot _ ∙ rises_at s c past fall x H e)) (λ own. rising_gives _ x _ _ c c.server.backs.held) (λ z. absurd cc)) (λ fl z. nothing_held x c _ _) (λ z. pump.backed);
     }
 
@@ -809,14 +809,14 @@ ends_saved s c past fall fails_early n h user call time id st es shown H e w q i
 ends_saved s c past fall fails_midway n h user call time id st es shown H e w q is_cut = record {
   good = after_good s c past n h user call id st.volume es shown (lines.Fault the_server ∷ []) H w q e refl is_cut (inl refl) (refl, tt);
   holds = nothing_less s None _ _ (after_holds faults s None c past c.server.backs in_boot n h user call time id st es shown H w q is_cut (given_on (versions_by id es st.volume) _ (sent_of past)) (λ x y z. tt) (saves_boot faults _ (versions_by id es st.volume) (reply_saved c (client_head n h) time user call id st es shown) past)
-      (λ own held. (no_news _ _ _, held)) (λ z. backed_fall c.down in_boot c.server.backs c.server.lasting.boot c.server.seats _ (seats_of c) c.clock c.sent _ past (versions_lines is_oweless (versions_by id es st.volume) (lines.Fault the_server ∷ []) (λ y. refl) refl) (versions_lines is_still (versions_by id es st.volume) (lines.Fault the_server ∷ []) (λ y. refl) refl) (λ u. absurd cc) (H.backs refl)));
+      (λ own held. (no_news _ _ _, held)) (λ z. backed_fall the_server c.down in_boot c.server.backs c.server.lasting.boot c.server.seats _ (seats_of c) c.clock c.sent _ past (versions_lines is_oweless (versions_by id es st.volume) (lines.Fault the_server ∷ []) (λ y. refl) refl) (versions_lines is_still (versions_by id es st.volume) (lines.Fault the_server ∷ []) (λ y. refl) refl) (λ u. absurd cc) (H.backs refl)));
   replies = tt;
   volumes = refl;
 }
 ends_saved s c past fall is_full n h user call time id st es shown H e w q is_cut = record {
   good = after_good s c past n h user call id st.volume es shown (lines.Full the_server ∷ []) H w q e refl is_cut (inl refl) (refl, tt);
   holds = nothing_less s None _ _ (after_holds fills s None c past c.server.backs at_rest n h user call time id st es shown H w q is_cut (given_on (versions_by id es st.volume) _ (sent_of past)) (λ x y z. tt) (saves_boot fills _ (versions_by id es st.volume) (reply_saved c (client_head n h) time user call id st es shown) past ∙ (H.boots ∙ ap (λ (d : Option Fall). up_boot d c.server.lasting.boot) e))
-      (λ own held. (no_news _ _ _, held)) (λ z. backed_fall c.down at_rest c.server.backs c.server.lasting.boot c.server.seats _ (seats_of c) c.clock c.sent _ past (versions_lines is_oweless (versions_by id es st.volume) (lines.Full the_server ∷ []) (λ y. refl) refl) (versions_lines is_still (versions_by id es st.volume) (lines.Full the_server ∷ []) (λ y. refl) refl) (λ u. absurd cc) (H.backs refl)));
+      (λ own held. (no_news _ _ _, held)) (λ z. backed_fall the_server c.down at_rest c.server.backs c.server.lasting.boot c.server.seats _ (seats_of c) c.clock c.sent _ past (versions_lines is_oweless (versions_by id es st.volume) (lines.Full the_server ∷ []) (λ y. refl) refl) (versions_lines is_still (versions_by id es st.volume) (lines.Full the_server ∷ []) (λ y. refl) refl) (λ u. absurd cc) (H.backs refl)));
   replies = tt;
   volumes = refl;
 }
@@ -937,13 +937,13 @@ timed_goes s c past n b true H up at e =
     let x : Backs = expired c.clock c.server.backs in
     acts_alone s c past c.armed (retries the_server c.server.lasting.boot n b x) H up (tt, tt) ((refl, ((refl, refl), (refl, refl))), tt) (λ k held. record { notes = (tt, tt); sent = news_break _ _ _ c.server.lasting.boot n (x.known n) b ((up_backed s c past H up).outs refl n b at).client; outs = tt; held = held })
     (λ k q. let old = up_backed s c past H up in record {
-      backed = retries_backed x c.server.lasting.boot c.server.seats (seats_of c) c.clock c.sent k past n b at (ap (λ (y : Entry). y.lines) q) old;
-      sends = record { good = break_good (k ∷ past) c.server.lasting.boot n (x.known n) b (ap (λ (y : Entry). y.actor) q); calls = resent x c.server.lasting.boot c.server.seats (seats_of c) c.clock c.sent past (k ∷ past) n (x.known n) b (put_at n (Some (record b { tries = b.tries + 1 })) x.calls) old at (λ y w. put_call n n (record b { tries = b.tries + 1 }) y x.calls _ w (λ u v. ap (λ (z : BackCall). z.breaks) (sym v)) (λ u. ap (λ (z : BackCall). z.breaks) (some_of y b (sym u ∙ at)))); dones = (tt, tt) };
+      backed = retries_backed the_server x c.server.lasting.boot c.server.seats (seats_of c) c.clock c.sent k past n b at (ap (λ (y : Entry). y.lines) q) old;
+      sends = record { good = break_good the_server (k ∷ past) c.server.lasting.boot n (x.known n) b refl (ap (λ (y : Entry). y.actor) q); calls = resent the_server x c.server.lasting.boot c.server.seats (seats_of c) c.clock c.sent past (k ∷ past) n (x.known n) b (put_at n (Some (record b { tries = b.tries + 1 })) x.calls) old at (λ y w. put_call n n (record b { tries = b.tries + 1 }) y x.calls _ w (λ u v. ap (λ (z : BackCall). z.breaks) (sym v)) (λ u. ap (λ (z : BackCall). z.breaks) (some_of y b (sym u ∙ at)))); dones = (tt, tt) };
     })
 timed_goes s c past n b false H up at e =
     let x : Backs = expired c.clock c.server.backs in
-    acts_alone s c past c.armed (quits the_server c.server.lasting.boot n b x) H up (tt, quit_notes n _) ((refl, ((refl, refl), quits_alone n (still_owed b x))), quits_good s n c.server.lasting.boot x.last_call b x past ((up_backed s c past H up).outs refl n b at) e) (λ k held. record { notes = (tt, quit_notes n _); sent = no_news _ _ _; outs = tt; held = held })
-    (λ k q. record { backed = quits_backed x c.server.lasting.boot c.server.seats (seats_of c) c.clock c.sent k past n b at (ap (λ (y : Entry). y.lines) q) (up_backed s c past H up); sends = record { good = tt; calls = tt; dones = tt } })
+    acts_alone s c past c.armed (quits the_server c.server.lasting.boot n b x) H up (tt, quit_notes n _) ((refl, ((refl, refl), quits_alone n (still_owed b x))), quits_good the_server refl s n c.server.lasting.boot x.last_call b x past ((up_backed s c past H up).outs refl n b at) e) (λ k held. record { notes = (tt, quit_notes n _); sent = no_news _ _ _; outs = tt; held = held })
+    (λ k q. record { backed = quits_backed the_server x c.server.lasting.boot c.server.seats (seats_of c) c.clock c.sent k past n b at (ap (λ (y : Entry). y.lines) q) (up_backed s c past H up); sends = record { good = tt; calls = tt; dones = tt } })
 
 pub back_times : (s : Script) (c : Cell) (past : List Entry) (n : Node) (o : Option BackCall) → (H : Holds s c past) → c.down ≡ None → c.server.backs.calls n ≡ o → Goes s past (back_timed c n o)
 unfolding back_timeout_row
@@ -956,5 +956,5 @@ server_times s c past n (Some fall) H up = voids s c past H
 
 pub server_wakes_goes : (s : Script) (c : Cell) (past : List Entry) (d : Option Fall) → (H : Holds s c past) → c.down ≡ d → Goes s past (server_wakes c d)
 unfolding wake_row
-server_wakes_goes s c past None H up = acts_alone s c past c.armed (no_turn (expired c.clock c.server.backs)) H up tt tt (λ e held. record { notes = tt; sent = no_news _ _ _; outs = tt; held = held }) (λ e q. still_loads s c past e [] H up (subst (λ (x : Entry). Plain x.lines) (sym q) (record { up = refl; still = refl; oweless = refl; unchanging = refl })) (record { good = tt; calls = tt; dones = tt }))
+server_wakes_goes s c past None H up = acts_alone s c past c.armed (no_turn (expired c.clock c.server.backs)) H up tt tt (λ e held. record { notes = tt; sent = no_news _ _ _; outs = tt; held = held }) (λ e q. still_loads s c past e [] H up (subst (λ (x : Entry). Plain the_server x.lines) (sym q) (record { up = refl; still = refl; oweless = refl; unchanging = refl })) (record { good = tt; calls = tt; dones = tt }))
 server_wakes_goes s c past (Some fall) H up = voids s c past H

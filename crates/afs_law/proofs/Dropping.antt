@@ -110,7 +110,7 @@ pub record Skips (n : ℕ) (fs : List Fid) : Type 0 where
   pub begins : (c : Node) → has_begun c (drops_of n fs) ≡ false
   pub key : change_key (drops_of n fs) ≡ None
   pub boot : (o : List Line) → server_boot the_server (onto o (drops_of n fs)) ≡ server_boot the_server o
-  pub ups : all_lines is_up (drops_of n fs) ≡ true
+  pub ups : all_lines (is_up the_server) (drops_of n fs) ≡ true
   pub stills : all_lines is_still (drops_of n fs) ≡ true
   pub owelesss : all_lines is_oweless (drops_of n fs) ≡ true
   pub unchangings : all_lines is_unchanging (drops_of n fs) ≡ true
@@ -186,7 +186,7 @@ client_none n j X e = subst (λ (m : Node). OfClient m X) (sym e) tt
 pub not_good : (past : List Entry) (m : Message) (n : ℕ) → m.head.from ≡ Client n → GoodReply past m
 not_good past m n e is nought i from = absurd cc
 
-pub reply_fresh : {s : Script} → (c : Cell) (n : ℕ) (views : ℕ → View) (past : List Entry) (m : Message) → IsBy (Client n) past → SeatedIn c.down c.server.backs.calls c.server.backs.last_call c.server.lasting.boot past n m → Fresh s c n views past (m ∷ [])
+pub reply_fresh : {s : Script} → (c : Cell) (n : ℕ) (views : ℕ → View) (past : List Entry) (m : Message) → IsBy (Client n) past → SeatedIn the_server c.down c.server.backs.calls c.server.backs.last_call c.server.lasting.boot past n m → Fresh s c n views past (m ∷ [])
 reply_fresh {s} c n views past m by x = record {
   news = record {
     calls = (no_call (ByClient (CallIn views)) m.head m.carried x.is_reply, tt);
@@ -199,8 +199,8 @@ reply_fresh {s} c n views past m by x = record {
     to_clients = (no_call ToClient m.head m.carried x.is_reply, tt);
   };
   good = (record { sender = subst (λ (q : Node). IsBy q past) (sym x.from) by; half = reply_half m.head m.carried x.is_reply; reply = not_good past m n x.from; gift = reply_gift m.head m.carried (lines_of past) x.is_reply; key = reply_key_good m.head m.carried past x.is_reply }, tt);
-  calls = (no_call (ByServer (BackIn c.down c.server.backs.calls c.server.backs.last_call c.server.lasting.boot)) m.head m.carried x.is_reply, tt);
-  dones = (of_reply_any _ m.carried (server_any m.head.to _ (record { client = Client n; from = x.from; done = x.done })), tt);
+  calls = (no_call (ByServer (BackIn the_server c.down c.server.backs.calls c.server.backs.last_call c.server.lasting.boot)) m.head m.carried x.is_reply, tt);
+  dones = (of_reply_any _ m.carried (server_any m.head.to _ (record { client = Client n; from = x.from; done = λ own. x.done })), tt);
 }
 
 pub notice_fresh : {s : Script} → (c : Cell) (n : ℕ) (views : ℕ → View) (past : List Entry) (boot : ℕ) (head : Head) → IsBy head.to past → head.from ≡ the_server → Fresh s c n views past (boot_told boot head ∷ [])
@@ -212,7 +212,7 @@ notice_fresh {s} c n views past boot head by e = record {
 }
 
 -- the client tells the server something, and that is all
-pub tells_goes : (s : Script) (c : Cell) (past : List Entry) (n p : ℕ) (m : Message) (ms : List Message) → (h : Holds s c past) → Heard c p m → ((e : Entry) → e.actor ≡ actors.Node (Client n) → Plain e.lines → Fresh s c n (views_after h.floors c n (h.floors n) (c.clients n)) (e ∷ past) ms) → Goes s past (client_moves c n (told_step (c.clients n) p ms))
+pub tells_goes : (s : Script) (c : Cell) (past : List Entry) (n p : ℕ) (m : Message) (ms : List Message) → (h : Holds s c past) → Heard c p m → ((e : Entry) → e.actor ≡ actors.Node (Client n) → Plain the_server e.lines → Fresh s c n (views_after h.floors c n (h.floors n) (c.clients n)) (e ∷ past) ms) → Goes s past (client_moves c n (told_step (c.clients n) p ms))
 tells_goes s c past n p m ms h heard fresh =
     let e : Entry = step_entry n (lines.Given p ∷ []) ms in
     moves s c past n (h.floors n) (told_step (c.clients n) p ms) h (h.own n) (refl, tt) (told_passes s c past n p m ms h heard)
@@ -226,40 +226,40 @@ all_two P Q R w [] h k = tt
 all_two P Q R w (x ∷ xs) h k = (w x h.0 k.0, all_two P Q R w xs h.1 k.1)
 
 -- a call that was handled in this entry, whose lines drop what any break of such a call is on
-pub handled : (s : Script) (c : Cell) (past : List Entry) (n : ℕ) (head : Head) (user : List ℕ) (call : FsCall) (e : Entry) → Holds s c past → BackIn c.down c.server.backs.calls c.server.backs.last_call c.server.lasting.boot head user call → head.to ≡ Client n → all_lines is_up e.lines ≡ true
-    → ((w : Option Fid) (o : List Line) → CarriesBreak call w → HasDrop the_server (Client n) w (onto o e.lines)) → IsDone c.down c.server.backs.calls c.server.backs.last_call c.server.lasting.boot (e ∷ past) (Client n) head.epoch head.number
-handled s c past n head user call e h b to up drop =
+pub handled : (s : Script) (c : Cell) (past : List Entry) (n : ℕ) (head : Head) (user : List ℕ) (call : FsCall) (e : Entry) → Holds s c past → BackIn the_server c.down c.server.backs.calls c.server.backs.last_call c.server.lasting.boot head user call → head.to ≡ Client n → head.from ≡ the_server → all_lines (is_up the_server) e.lines ≡ true
+    → ((w : Option Fid) (o : List Line) → CarriesBreak call w → HasDrop the_server (Client n) w (onto o e.lines)) → IsDone the_server c.down c.server.backs.calls c.server.backs.last_call c.server.lasting.boot (e ∷ past) (Client n) head.epoch head.number
+handled s c past n head user call e h b to own up drop =
     let one : b.client ≡ Client n = sym b.to ∙ to in
     record {
-      booted = b.booted;
-      below = b.below;
+      booted = b.booted own;
+      below = b.below own;
       dropped = λ k x y at q.
-          let is : call ≡ breaks_call k.breaks = b.is k x y (ap c.server.backs.calls one ∙ at) q in
-          let out : CallOut (Client n) k c.server.backs.last_call c.server.lasting.boot past = (h.backs refl).outs x (Client n) k at in
-          all_two (CarriedOwe (Client n) k.number k.tries c.server.lasting.boot (lines_of past)) (λ (o : Owed). CarriesBreak (breaks_call k.breaks) o.what) (DroppedOwe (Client n) (lines_of (e ∷ past)))
-          (λ o z w. let owe : OweAt the_server (Client n) o.what o.number (lines_of past) = z.owe in record { owe = owe_over (Client n) o.what o.number e past up owe; dropped = drop o.what owe.newer (subst (λ (u : FsCall). CarriesBreak u o.what) (sym is) w) }) k.breaks out.owes out.carries;
+          let is : call ≡ breaks_call k.breaks = b.is k own x y (ap c.server.backs.calls one ∙ at) q in
+          let out : CallOut the_server (Client n) k c.server.backs.last_call c.server.lasting.boot past = (h.backs refl).outs x (Client n) k at in
+          all_two (CarriedOwe the_server (Client n) k.number k.tries c.server.lasting.boot (lines_of past)) (λ (o : Owed). CarriesBreak (breaks_call k.breaks) o.what) (DroppedOwe the_server (Client n) (lines_of (e ∷ past)))
+          (λ o z w. let owe : OweAt the_server (Client n) o.what o.number (lines_of past) = z.owe in record { owe = owe_over the_server (Client n) o.what o.number e past up owe; dropped = drop o.what owe.newer (subst (λ (u : FsCall). CarriesBreak u o.what) (sym is) w) }) k.breaks out.owes out.carries;
     }
 
-pub done_seated : (c : Cell) (n : ℕ) (past : List Entry) (x : ClientState) (head : Head) (y : Carried) → IsReply y → head.from ≡ the_server → head.to ≡ Client n → IsDone c.down c.server.backs.calls c.server.backs.last_call c.server.lasting.boot past (Client n) head.epoch head.number → SeatedIn c.down c.server.backs.calls c.server.backs.last_call c.server.lasting.boot past n (replied x.epoch head y)
+pub done_seated : (c : Cell) (n : ℕ) (past : List Entry) (x : ClientState) (head : Head) (y : Carried) → IsReply y → head.from ≡ the_server → head.to ≡ Client n → IsDone the_server c.down c.server.backs.calls c.server.backs.last_call c.server.lasting.boot past (Client n) head.epoch head.number → SeatedIn the_server c.down c.server.backs.calls c.server.backs.last_call c.server.lasting.boot past n (replied x.epoch head y)
 done_seated c n past x head y is from to d = record { to = from; from = to; is_reply = is; done = d }
 
 -- the server's seat is that of its call
 pub seat_back : (head : Head) (reply : Message) (seats : List Seat) → head.from ≡ the_server → call_seat the_server (call_seated (seat_for head reply) seats) ≡ Some (seat_for head reply)
 seat_back head reply seats from = ap (λ (q : Node). call_seat q (call_seated (seat_for head reply) seats)) (sym from) ∙ own_seat (seat_for head reply) seats
 
-pub seat_keeps : (c : Cell) (n : ℕ) (past : List Entry) (x : ClientState) (head : Head) (y : Carried) → head.from ≡ the_server → SeatedIn c.down c.server.backs.calls c.server.backs.last_call c.server.lasting.boot past n (replied x.epoch head y) → KeepsSeat c n (call_seat the_server (call_seated (seat_for head (replied x.epoch head y)) x.seats)) past
+pub seat_keeps : (c : Cell) (n : ℕ) (past : List Entry) (x : ClientState) (head : Head) (y : Carried) → head.from ≡ the_server → SeatedIn the_server c.down c.server.backs.calls c.server.backs.last_call c.server.lasting.boot past n (replied x.epoch head y) → KeepsSeat c n (call_seat the_server (call_seated (seat_for head (replied x.epoch head y)) x.seats)) past
 seat_keeps c n past x head y from d seat m at is =
     let one : seat_for head (replied x.epoch head y) ≡ seat = some_of _ _ (sym (seat_back head (replied x.epoch head y) x.seats from) ∙ at) in
-    subst (λ (z : Message). SeatedIn c.down c.server.backs.calls c.server.backs.last_call c.server.lasting.boot past n z) (some_of _ _ (ap (λ (z : Seat). z.reply) one ∙ is)) d
+    subst (λ (z : Message). SeatedIn the_server c.down c.server.backs.calls c.server.backs.last_call c.server.lasting.boot past n z) (some_of _ _ (ap (λ (z : Seat). z.reply) one ∙ is)) d
 
 -- a call that breaks nothing is answered, and that is all
 pub answers_back : (s : Script) (c : Cell) (past : List Entry) (n p : ℕ) (head : Head) (user : List ℕ) (call : FsCall) (y : Carried) → (h : Holds s c past) → Heard c p (record { head = head; carried = carried.Call user (ask.File call) }) → head.to ≡ Client n → head.from ≡ the_server
-    → BackIn c.down c.server.backs.calls c.server.backs.last_call c.server.lasting.boot head user call → IsReply y → ((w : Option Fid) → CarriesBreak call w → ⊥) → Goes s past (client_moves c n (replies_step (c.clients n) p head [] y))
+    → BackIn the_server c.down c.server.backs.calls c.server.backs.last_call c.server.lasting.boot head user call → IsReply y → ((w : Option Fid) → CarriesBreak call w → ⊥) → Goes s past (client_moves c n (replies_step (c.clients n) p head [] y))
 answers_back s c past n p head user call y h heard to from b is none =
     let reply : Message = replied (c.clients n).epoch head y in
     let ms : List Message = reply ∷ [] in
     let e : Entry = step_entry n (lines.Given p ∷ []) ms in
-    let seated : SeatedIn c.down c.server.backs.calls c.server.backs.last_call c.server.lasting.boot (e ∷ past) n reply = done_seated c n (e ∷ past) (c.clients n) head y is from to (handled s c past n head user call e h b to refl (λ w o z. absurd (none w z))) in
+    let seated : SeatedIn the_server c.down c.server.backs.calls c.server.backs.last_call c.server.lasting.boot (e ∷ past) n reply = done_seated c n (e ∷ past) (c.clients n) head y is from to (handled s c past n head user call e h b to from refl (λ w o z. absurd (none w z))) in
     let k = h.own n in
     moves_back s c past n (h.floors n) (replies_step (c.clients n) p head [] y) h (record { table = k.table; user = k.user; callee = λ a z. k.callee a z; needs = λ a z. k.needs a z; apart = k.apart; gifts = k.gifts }) (refl, tt) (told_passes s c past n p _ ms h heard)
     (client_still n (view h.floors c n) e past (λ f. told_file n p f (actors.Node (Client n)) ms past) (λ f. told_reach n p f (actors.Node (Client n)) ms past) (told_act n p (actors.Node (Client n)) ms past) (λ f. refl) (h.clients n))
@@ -416,7 +416,7 @@ broken_fits sp n p call x boot m (carried.Refusal code) fs ms past last h = h
 broken_fits sp n p call x boot m c fs ms past last h = absurd h
 
 pub drops_goes : (s : Script) (c : Cell) (past : List Entry) (n p : ℕ) (head : Head) (user : List ℕ) (fs : List Fid) (cbs : List AfsCallBack) → (h : Holds s c past) → Heard c p (record { head = head; carried = carried.Call user (ask.File (calls.CallBack fs cbs)) }) → head.to ≡ Client n → head.from ≡ the_server
-    → BackIn c.down c.server.backs.calls c.server.backs.last_call c.server.lasting.boot head user (calls.CallBack fs cbs) → Goes s past (client_moves c n (replies_step (without_fids (c.clients n) fs) p head (map (drop_line (Client n)) fs) (done replies.CallBack)))
+    → BackIn the_server c.down c.server.backs.calls c.server.backs.last_call c.server.lasting.boot head user (calls.CallBack fs cbs) → Goes s past (client_moves c n (replies_step (without_fids (c.clients n) fs) p head (map (drop_line (Client n)) fs) (done replies.CallBack)))
 drops_goes s c past n p head user fs cbs h heard to from b =
     let d = h.clients n in
     let x : ClientState = c.clients n in
@@ -438,7 +438,7 @@ drops_goes s c past n p head user fs cbs h heard to from b =
         own = a.own;
       };
     } in
-    let seated : SeatedIn c.down c.server.backs.calls c.server.backs.last_call c.server.lasting.boot (e ∷ past) n reply = done_seated c n (e ∷ past) x head (done replies.CallBack) (λ y. y) from to (handled s c past n head user (calls.CallBack fs cbs) e h b to (skips n fs).ups (λ w o z. (skips n fs).drop w (lines.Given p ∷ o) z)) in
+    let seated : SeatedIn the_server c.down c.server.backs.calls c.server.backs.last_call c.server.lasting.boot (e ∷ past) n reply = done_seated c n (e ∷ past) x head (done replies.CallBack) (λ y. y) from to (handled s c past n head user (calls.CallBack fs cbs) e h b to from (skips n fs).ups (λ w o z. (skips n fs).drop w (lines.Given p ∷ o) z)) in
     moves_back s c past n (h.floors n) st h (record { table = (h.own n).table; user = (h.own n).user; callee = λ a z. (h.own n).callee a z; needs = λ a z. (h.own n).needs a z; apart = apart_filter (λ y. not (is_named y.fid fs)) x.cache (h.own n).apart; gifts = (h.own n).gifts }) (refl, (skips n fs).good s past (lines.Given p ∷ [])) (broken_passes s c past n p _ fs (reply ∷ []) h heard)
     (record {
       behind = d.behind;
@@ -548,7 +548,7 @@ all_fits sp n p call x boot m (carried.Refusal code) e past v r w last b h = h
 all_fits sp n p call x boot m c e past v r w last b h = absurd h
 
 pub drops_all_goes : (s : Script) (c : Cell) (past : List Entry) (n p : ℕ) (head : Head) (user : List ℕ) → (h : Holds s c past) → Heard c p (record { head = head; carried = carried.Call user (ask.File calls.InitCallBackState) }) → head.to ≡ Client n → head.from ≡ the_server
-    → BackIn c.down c.server.backs.calls c.server.backs.last_call c.server.lasting.boot head user calls.InitCallBackState → Goes s past (client_moves c n (replies_step (without_server (c.clients n) head.from) p head (lines.DropAll (Client n) head.from ∷ []) (done replies.InitCallBackState)))
+    → BackIn the_server c.down c.server.backs.calls c.server.backs.last_call c.server.lasting.boot head user calls.InitCallBackState → Goes s past (client_moves c n (replies_step (without_server (c.clients n) head.from) p head (lines.DropAll (Client n) head.from ∷ []) (done replies.InitCallBackState)))
 drops_all_goes s c past n p head user h heard to from b =
     let d = h.clients n in
     let x : ClientState = c.clients n in
@@ -574,7 +574,7 @@ drops_all_goes s c past n p head user h heard to from b =
         own = a.own;
       };
     } in
-    let seated : SeatedIn c.down c.server.backs.calls c.server.backs.last_call c.server.lasting.boot (e ∷ past) n reply = done_seated c n (e ∷ past) x head (done replies.InitCallBackState) (λ y. y) from to (handled s c past n head user calls.InitCallBackState e h b to refl (λ w o z. inl (refl, from))) in
+    let seated : SeatedIn the_server c.down c.server.backs.calls c.server.backs.last_call c.server.lasting.boot (e ∷ past) n reply = done_seated c n (e ∷ past) x head (done replies.InitCallBackState) (λ y. y) from to (handled s c past n head user calls.InitCallBackState e h b to from refl (λ w o z. inl (refl, from))) in
     moves_back s c past n (h.floors n) st h (record { table = (h.own n).table; user = (h.own n).user; callee = λ a z. (h.own n).callee a z; needs = λ a z. (h.own n).needs a z; apart = apart_filter (λ y. not (same_node y.server head.from)) x.cache (h.own n).apart; gifts = (h.own n).gifts }) (refl, (refl, tt)) (all_passes s c past n p _ head.from (reply ∷ []) h heard)
     (record {
       behind = d.behind;
@@ -608,7 +608,7 @@ drops_all_goes s c past n p head user h heard to from b =
 -- ---- the row, by its cases
 
 pub breaks_goes : (s : Script) (c : Cell) (past : List Entry) (n p : ℕ) (head : Head) (user : List ℕ) (call : FsCall) → (h : Holds s c past) → Heard c p (record { head = head; carried = carried.Call user (ask.File call) }) → head.to ≡ Client n → head.from ≡ the_server
-    → BackIn c.down c.server.backs.calls c.server.backs.last_call c.server.lasting.boot head user call → Goes s past (client_moves c n (breaks (Client n) (c.clients n) p head call))
+    → BackIn the_server c.down c.server.backs.calls c.server.backs.last_call c.server.lasting.boot head user call → Goes s past (client_moves c n (breaks (Client n) (c.clients n) p head call))
 breaks_goes s c past n p head user (calls.CallBack fs cbs) h heard to from b = drops_goes s c past n p head user fs cbs h heard to from b
 breaks_goes s c past n p head user calls.InitCallBackState h heard to from b = drops_all_goes s c past n p head user h heard to from b
 breaks_goes s c past n p head user calls.Probe h heard to from b = answers_back s c past n p head user calls.Probe (done replies.Probe) h heard to from b (λ y. y) (λ w z. z)
@@ -618,7 +618,7 @@ pub again_goes : (s : Script) (c : Cell) (past : List Entry) (n p : ℕ) (m r : 
 again_goes s c past n p m r h heard l = tells_goes s c past n p m (r ∷ []) h heard (λ e by plain. reply_fresh c n _ (e ∷ past) r by (old_seat s c past n e plain h l.seat r l.at l.reply))
 
 pub admits_goes : (s : Script) (c : Cell) (past : List Entry) (n p : ℕ) (head : Head) (user : List ℕ) (call : FsCall) (o : Admitted Message) → (h : Holds s c past) → Heard c p (record { head = head; carried = carried.Call user (ask.File call) }) → head.to ≡ Client n → head.from ≡ the_server
-    → BackIn c.down c.server.backs.calls c.server.backs.last_call c.server.lasting.boot head user call → ((r : Message) → o ≡ pairs.kept r → pairs.paired head.epoch head.number (back_seat (c.clients n)) ≡ pairs.kept r) → Goes s past (client_moves c n (admits_call (Client n) (c.clients n) p head (whole head (carried.Call user (ask.File call))) o))
+    → BackIn the_server c.down c.server.backs.calls c.server.backs.last_call c.server.lasting.boot head user call → ((r : Message) → o ≡ pairs.kept r → pairs.paired head.epoch head.number (back_seat (c.clients n)) ≡ pairs.kept r) → Goes s past (client_moves c n (admits_call (Client n) (c.clients n) p head (whole head (carried.Call user (ask.File call))) o))
 admits_goes s c past n p head user call pairs.runs h heard to from b e = breaks_goes s c past n p head user call h heard to from b
 admits_goes s c past n p head user call (pairs.kept r) h heard to from b e = again_goes s c past n p _ r h heard (kept_last head.epoch head.number (back_seat (c.clients n)) r (e r refl))
 admits_goes s c past n p head user call pairs.in_progress h heard to from b e = quiet s c past n p _ h heard
@@ -630,7 +630,7 @@ kept_pair true boot o q r e k = e ∙ k
 kept_pair false boot o q r e k = absurd cc
 
 pub called_goes : (s : Script) (c : Cell) (past : List Entry) (n p : ℕ) (head : Head) (user : List ℕ) (call : FsCall) → (h : Holds s c past) → Heard c p (record { head = head; carried = carried.Call user (ask.File call) }) → head.to ≡ Client n → head.from ≡ the_server
-    → OfServer head.from (BackIn c.down c.server.backs.calls c.server.backs.last_call c.server.lasting.boot head user call) → Goes s past (client_moves c n (called (Client n) (c.clients n) p head (whole head (carried.Call user (ask.File call)))))
+    → OfServer head.from (BackIn the_server c.down c.server.backs.calls c.server.backs.last_call c.server.lasting.boot head user call) → Goes s past (client_moves c n (called (Client n) (c.clients n) p head (whole head (carried.Call user (ask.File call)))))
 called_goes s c past n p head user call h heard to from b =
     admits_goes s c past n p head user call (pairs.admitted (c.clients n).epoch (c.clients n).seats head) h heard to from (by_server 1 head.from _ from b)
     (λ r k. kept_pair (nat_eq head.boot (c.clients n).epoch) (c.clients n).epoch (pairs.paired head.epoch head.number (call_seat head.from (c.clients n).seats)) (pairs.paired head.epoch head.number (back_seat (c.clients n))) r (ap (λ (q : Node). pairs.paired head.epoch head.number (call_seat q (c.clients n).seats)) (sym from)) k)

@@ -674,7 +674,7 @@ pub record HoldsAt (s : Script) (now : Option ℕ) (c : Cell) (past : List Entry
   pub top : Tops (lines_of past)
   pub one : Ones (lines_of past)
   -- of the server's memory, but in the midst of a restart
-  pub backs : now ≡ up_boot c.down c.server.lasting.boot → BackedIn c.down c.server.backs c.server.lasting.boot c.server.seats (λ j. back_seat (c.clients j)) c.clock c.sent past
+  pub backs : now ≡ up_boot c.down c.server.lasting.boot → BackedIn the_server c.down c.server.backs c.server.lasting.boot c.server.seats (λ j. back_seat (c.clients j)) c.clock c.sent past
 
 abbrev pub Holds : Script → Cell → List Entry → Type 0
 Holds s c past = HoldsAt s (up_boot c.down c.server.lasting.boot) c past

@@ -357,7 +357,7 @@ dropped_all : (c : Node) (gs : List Gift) (ns : List ℕ) (ls : List Line) → A
 dropped_all c gs [] ls h = tt
 dropped_all c gs (k ∷ ns) ls h = both_dropped c (gifts_to gs k) (flat_map (gifts_to gs) ns) ls (dropped_to c gs k ls h) (dropped_all c gs ns ls h)
 
-ordered_dropped : (c : Node) (gs : List Gift) (ls : List Line) → AreDropped c (fids_of_gifts gs) ls → AreDropped c (fids_of_gifts (in_order gs)) ls
+pub ordered_dropped : (c : Node) (gs : List Gift) (ls : List Line) → AreDropped c (fids_of_gifts gs) ls → AreDropped c (fids_of_gifts (in_order gs)) ls
 ordered_dropped c gs ls h = dropped_all c gs (1 ∷ 2 ∷ 3 ∷ 4 ∷ 5 ∷ 6 ∷ 7 ∷ 8 ∷ []) ls h
 
 abbrev gives_from : Script → Cell → ℕ → Act → List CacheEntry → List Gift → Step ClientState

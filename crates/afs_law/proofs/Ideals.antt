@@ -219,7 +219,7 @@ found_either : (t : Bool) (id other : ℕ) (V u : Volume) (o : Option Volume) (P
 found_either true id other V u o P t a b e = a (eqb-true id other t)
 found_either false id other V u o P t a b e = b e
 
-onto_front : (o a b : List Line) → onto o (a ++ b) ≡ onto (onto o a) b
+pub onto_front : (o a b : List Line) → onto o (a ++ b) ≡ onto (onto o a) b
 onto_front o [] b = refl
 onto_front o (l ∷ a) b = onto_front (l ∷ o) a b
 
@@ -345,7 +345,7 @@ done_volumes s c past i armed st h w = works_volumes s c.hosts c.sent (c.sent ++
 falls_volumes : (s : Script) (c : Cell) (past : List Entry) (i : ℕ) (d : Option Fall) (armed : Armed) (ls : List Line) → Held s c past → AreBlank ls → CutIs (IsSent c.sent) d → Volumes s (put i (record (c.hosts i) { down = d; armed = armed }) c.hosts) c.sent (record { actor = actors.Node (Server i); lines = ls; sent = []; volumes = [] } ∷ past)
 falls_volumes s c past i d armed ls h blank cut = quiet_volumes s c.hosts c.sent c.sent past (record { actor = actors.Node (Server i); lines = ls; sent = []; volumes = [] }) i (record (c.hosts i) { down = d; armed = armed }) h.1 (same_grows c.sent) refl blank (λ id w. refl) cut
 
-cut_call : (s : Script) (c : Cell) (past : List Entry) (i : ℕ) → Held s c past → CutIs (IfCall (IsOne c.sent)) (c.hosts i).down
+pub cut_call : (s : Script) (c : Cell) (past : List Entry) (i : ℕ) → Held s c past → CutIs (IfCall (IsOne c.sent)) (c.hosts i).down
 cut_call s c past i h m clock e = let q : IsSent c.sent m = h.1.cut i m clock e in each_at (IfCall (IsOne c.sent)) c.sent q.0 m q.1 h.0.1.ones
 
 stays_volumes : (s : Script) (c : Cell) (past : List Entry) (i : ℕ) (after : Bool) (fall now : Fall) (l : Line) → Held s c past → (c.hosts i).down ≡ Some fall → is_from (Server i) l ≡ true → CutIs (IsSent c.sent) (Some now)
@@ -358,7 +358,7 @@ pub blow_blank : (i place : ℕ) (t : Bool) → AreBlank (lines.Given place ∷ 
 blow_blank i place true = refl
 blow_blank i place false = refl
 
-volumes_moves : (s : Script) → EachMove (Held s) (Behind (VolumesIn s))
+pub volumes_moves : (s : Script) → EachMove (Held s) (Behind (VolumesIn s))
 volumes_moves s = record {
   void = λ c past h. still_volumes s c.hosts c.sent c.sent past _ h.1 (same_grows c.sent) refl refl;
   ticked = λ c past n h. still_volumes s c.hosts c.sent c.sent past _ h.1 (same_grows c.sent) refl refl;

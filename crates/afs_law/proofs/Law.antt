@@ -420,11 +420,11 @@ starts s one =
       one = facts.one;
       backs = λ z. record {
         granted = λ x. tt;
-        numbered = let y : last_number the_server (onto [] (first_lines s.volumes)) ≡ 0 = zero_back (first_lines s.volumes) [] (first_oweless (first_lines s.volumes) (all_versions s.volumes)) refl in le_of_eq y;
-        promised = λ j f x l t. let none : live_grant the_server j f [] ≡ Some x = live_given j f x (set_up s) [] (live_back j f x (first_lines s.volumes) (before_own (set_up s) []) (first_still (first_lines s.volumes) (all_versions s.volumes)) l) in absurd cc;
+        numbered = let y : last_number the_server (onto [] (first_lines s.volumes)) ≡ 0 = zero_back the_server (first_lines s.volumes) [] (first_oweless (first_lines s.volumes) (all_versions s.volumes)) refl in le_of_eq y;
+        promised = λ j f x l t. let none : live_grant the_server j f [] ≡ Some x = live_given the_server j f x (set_up s) [] (live_back the_server j f x (first_lines s.volumes) (before_own the_server (set_up s) []) (first_still (first_lines s.volumes) (all_versions s.volumes)) l) in absurd cc;
         accounted = λ newer at older before after c what n split line. first_owes (start s).sent newer (set_up s) at older before after c what n (first_oweless (first_lines s.volumes) (all_versions s.volumes)) split line;
         owing = λ x. tt;
-        rising = rising_back (first_lines s.volumes) [] (first_oweless (first_lines s.volumes) (all_versions s.volumes)) tt;
+        rising = rising_back the_server (first_lines s.volumes) [] (first_oweless (first_lines s.volumes) (all_versions s.volumes)) tt;
         clients = λ x. record { promised = tt; owed = tt };
         waiting = λ x. tt;
         outs = λ x j c at. absurd cc;

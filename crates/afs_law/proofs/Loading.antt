@@ -17,9 +17,9 @@ use Rattle.afs_num.specs.declared.calls.FsCall.{FsCall}
 use Rattle.afs_num.specs.declared.messages.Message.{Message}
 use Rattle.afs_ideal.specs.Operations.{Found}
 use Rattle.afs_law.proofs.Backing.{unbroken_back, unbroken_last, owe_over, timeout_onto, Plain, Stepping, all_lines, is_up, is_still, is_oweless, is_unchanging, is_still_to, grant_back_to, settled_onto, stopped_back, front_onto, change_back, no_owe, owes_over, ended_over, calls_same, backed_step, seated_over, plain_step, plain_waits, waits_over, granted_over, owed_over, call_over, backed_plain, promised_over, live_back, numbered_over, zero_back, live_given, before_own, rising_over, rising_back}
-use Rattle.afs_law.proofs.Basics.{both, same_node-true, same_node-refl, same_fid-refl, same_fid-true, Above, Each, IfBack, IfDone, OfReply, each_map, if_back, if_done, some_of}
+use Rattle.afs_law.proofs.Basics.{server_any, both, same_node-true, same_node-refl, same_fid-refl, same_fid-true, Above, Each, IfBack, IfDone, OfReply, each_map, if_back, if_done, some_of}
 use Rattle.afs_law.proofs.Owing.{CarriedOwe, AllOf, all_map, all_both, all_filter, IsGranted, IsIn, IsNumberIn, AccountedBy, WaitedBy, AllWaitedBy, HeldWaits, IsOwed, CallOut, BackIn, DroppedOwe, DoneIn, BackedIn, Promised, IsPromised, promise_to, Numbered, IsClient, Rising, ToClients, is_held}
-use Rattle.afs_law.proofs.Turning.{loaded, in_filter, put_call, kept_in}
+use Rattle.afs_law.proofs.Turning.{IsServing, loaded, in_filter, put_call, kept_in}
 use Rattle.afs_law.specs.Breaks.{unbroken_grant, HasSettled, HasTimeout, last_grant, expiry_of, AllOwes, CarriesBreak, GoodQuit, live_grant, HasOwe, last_number, lines_at, drops_of, HasStopped, OweAt}
 use Rattle.afs_rows.specs.Callbacks.{is_all, alls, numbers, is_reply_to, key_answered, breaks_call, break_message, owe_line, settle_line, quit_line, settles, quits, retries, still_owed}
 use Rattle.afs_law.specs.Ideal.{clock_of}
@@ -27,7 +27,6 @@ use Rattle.afs_law.specs.Legal.{IsUnbroken, HasRisen, HasChange, AreGood, IsChan
 use Rattle.afs_history.specs.declared.lines.Line.{Line}
 use Rattle.afs_law.specs.Past.{onto, lines_of, sent_of, given_message, called_key, IsCallUnder}
 use Rattle.afs_rows.specs.Runs.{Entry, Fall}
-use Rattle.afs_law.proofs.OneCell.{the_server}
 use Rattle.afs_rows.specs.ServerRow.{granted, promise_ticks}
 use Rattle.afs_rows.specs.States.{Seat, BackCall, Held, Backs}
 use Rattle.afs_model.specs.Calls.{call_seat}
@@ -36,84 +35,84 @@ use Rattle.afs_history.specs.declared.scripts.Script.{Script}
 use Rattle.afs_num.specs.declared.histories.Actor.TheVariants as actors
 use Rattle.afs_history.specs.declared.lines.Line.TheVariants as lines
 
-down_zero : (d : Option Fall) (last : ℕ) (ls : List Line) → (d ≡ None → ⊥) → Numbered d last ls → last_number the_server ls ≡ 0
-down_zero None last ls ne h = absurd (ne refl)
-down_zero (Some fall) last ls ne h = h
+down_zero : (me : Node) (d : Option Fall) (last : ℕ) (ls : List Line) → (d ≡ None → ⊥) → Numbered me d last ls → last_number me ls ≡ 0
+down_zero me None last ls ne h = absurd (ne refl)
+down_zero me (Some fall) last ls ne h = h
 
 -- a server that is down has a new boot number
-pub down_later : (d : Option Fall) (b : Backs) (boot : ℕ) (seats now : List Seat) (cs : ℕ → Option Seat) (clock : ℕ) (sent : List Message) (past : List Entry) (fall : Fall) → (d ≡ None → ⊥) → BackedIn d b boot seats cs clock sent past → BackedIn (Some fall) b (boot + 1) now cs clock sent past
-down_later d b boot seats now cs clock sent past fall ne h = record {
+pub down_later : (me : Node) (d : Option Fall) (b : Backs) (boot : ℕ) (seats now : List Seat) (cs : ℕ → Option Seat) (clock : ℕ) (sent : List Message) (past : List Entry) (fall : Fall) → (d ≡ None → ⊥) → BackedIn me d b boot seats cs clock sent past → BackedIn me (Some fall) b (boot + 1) now cs clock sent past
+down_later me d b boot seats now cs clock sent past fall ne h = record {
   granted = λ x. absurd cc;
   promised = λ j f x l t. absurd (ne (h.promised j f x l t).0);
   rising = h.rising;
   clients = λ x. absurd cc;
-  numbered = down_zero d b.lists.last_owed (lines_of past) ne h.numbered;
+  numbered = down_zero me d b.lists.last_owed (lines_of past) ne h.numbered;
   accounted = λ newer at older before after c what n split line. elim (h.accounted newer at older before after c what n split line) [ inl x ↦ inl x | inr x ↦ absurd (ne x.0) ];
   owing = λ x. absurd cc;
   waiting = λ x. absurd cc;
   outs = λ x. absurd cc;
-  calls = each_map (IfBack (BackIn d b.calls b.last_call boot)) (IfBack (BackIn (Some fall) b.calls b.last_call (boot + 1))) (if_back (BackIn d b.calls b.last_call boot) (BackIn (Some fall) b.calls b.last_call (boot + 1)) (λ head user call x. record { client = x.client; to = x.to; booted = le_trans x.booted (omega arith); below = λ y. absurd cc; is = λ c y. absurd cc })) sent h.calls;
-  dones = each_map (IfDone (DoneIn d b.calls b.last_call boot past)) (IfDone (DoneIn (Some fall) b.calls b.last_call (boot + 1) past)) (if_done (DoneIn d b.calls b.last_call boot past) (DoneIn (Some fall) b.calls b.last_call (boot + 1) past) (λ m x. record { client = x.client; from = x.from; done = record { booted = le_trans x.done.booted (omega arith); below = λ y. absurd cc; dropped = λ c y. absurd cc } })) sent h.dones;
+  calls = each_map (IfBack (BackIn me d b.calls b.last_call boot)) (IfBack (BackIn me (Some fall) b.calls b.last_call (boot + 1))) (if_back (BackIn me d b.calls b.last_call boot) (BackIn me (Some fall) b.calls b.last_call (boot + 1)) (λ head user call x. record { client = x.client; to = x.to; booted = λ own. le_trans (x.booted own) (omega arith); below = λ own y. absurd cc; is = λ c own y. absurd cc })) sent h.calls;
+  dones = each_map (IfDone (DoneIn me d b.calls b.last_call boot past)) (IfDone (DoneIn me (Some fall) b.calls b.last_call (boot + 1) past)) (if_done (DoneIn me d b.calls b.last_call boot past) (DoneIn me (Some fall) b.calls b.last_call (boot + 1) past) (λ m x. record { client = x.client; from = x.from; done = λ own. record { booted = le_trans (x.done own).booted (omega arith); below = λ y. absurd cc; dropped = λ c y. absurd cc } })) sent h.dones;
   seated = λ j seat m x y. let z = h.seated j seat m x y in record { to = z.to; from = z.from; is_reply = z.is_reply; done = record { booted = le_trans z.done.booted (omega arith); below = λ u. absurd cc; dropped = λ c u. absurd cc } };
 }
 
 -- ---- a step that leaves what is owed
 
 -- nothing is held besides
-pub none_loaded : (d : Option Fall) (b : Backs) (boot : ℕ) (seats : List Seat) (cs : ℕ → Option Seat) (clock : ℕ) (sent : List Message) (past : List Entry) → BackedIn d b boot seats cs clock sent past → BackedIn d (record b { held = b.held ++ [] }) boot seats cs clock sent past
-none_loaded d b boot seats cs clock sent past h = subst (λ (hs : List Held). BackedIn d (record b { held = hs }) boot seats cs clock sent past) (sym (append-nil b.held)) h
+pub none_loaded : (me : Node) (d : Option Fall) (b : Backs) (boot : ℕ) (seats : List Seat) (cs : ℕ → Option Seat) (clock : ℕ) (sent : List Message) (past : List Entry) → BackedIn me d b boot seats cs clock sent past → BackedIn me d (record b { held = b.held ++ [] }) boot seats cs clock sent past
+none_loaded me d b boot seats cs clock sent past h = subst (λ (hs : List Held). BackedIn me d (record b { held = hs }) boot seats cs clock sent past) (sym (append-nil b.held)) h
 
-pub still_backed : (b : Backs) (boot : ℕ) (seats : List Seat) (cs : ℕ → Option Seat) (clock : ℕ) (sent : List Message) (e : Entry) (past : List Entry) → Plain e.lines → BackedIn None b boot seats cs clock sent past → BackedIn None b boot seats cs clock sent (e ∷ past)
-still_backed b boot seats cs clock sent e past p h =
-    subst (λ (ms : List Message). BackedIn None b boot seats cs clock ms (e ∷ past)) (append-nil sent)
-    (backed_plain None b boot seats cs cs clock clock sent [] e past p (le_refl _) h tt tt (λ j seat m x y. seated_over None None b b boot clock clock e past (plain_step None b clock clock e past p (le_refl _)) j m (h.seated j seat m x y)))
+pub still_backed : (me : Node) (b : Backs) (boot : ℕ) (seats : List Seat) (cs : ℕ → Option Seat) (clock : ℕ) (sent : List Message) (e : Entry) (past : List Entry) → Plain me e.lines → BackedIn me None b boot seats cs clock sent past → BackedIn me None b boot seats cs clock sent (e ∷ past)
+still_backed me b boot seats cs clock sent e past p h =
+    subst (λ (ms : List Message). BackedIn me None b boot seats cs clock ms (e ∷ past)) (append-nil sent)
+    (backed_plain me None b boot seats cs cs clock clock sent [] e past p (le_refl _) h tt tt (λ j seat m x y. seated_over me None None b b boot clock clock e past (plain_step me None b clock clock e past p (le_refl _)) j m (h.seated j seat m x y)))
 
 -- the clients' boot numbers are read by no fact
-pub known_backed : (b : Backs) (known : Node → ℕ) (boot : ℕ) (seats : List Seat) (cs : ℕ → Option Seat) (clock : ℕ) (sent : List Message) (past : List Entry) → BackedIn None b boot seats cs clock sent past → BackedIn None (record b { known = known }) boot seats cs clock sent past
-known_backed b known boot seats cs clock sent past h = record { granted = h.granted; promised = h.promised; numbered = h.numbered; rising = h.rising; clients = h.clients; accounted = h.accounted; owing = h.owing; waiting = h.waiting; outs = h.outs; calls = h.calls; dones = h.dones; seated = h.seated }
+pub known_backed : (me : Node) (b : Backs) (known : Node → ℕ) (boot : ℕ) (seats : List Seat) (cs : ℕ → Option Seat) (clock : ℕ) (sent : List Message) (past : List Entry) → BackedIn me None b boot seats cs clock sent past → BackedIn me None (record b { known = known }) boot seats cs clock sent past
+known_backed me b known boot seats cs clock sent past h = record { granted = h.granted; promised = h.promised; numbered = h.numbered; rising = h.rising; clients = h.clients; accounted = h.accounted; owing = h.owing; waiting = h.waiting; outs = h.outs; calls = h.calls; dones = h.dones; seated = h.seated }
 
 -- the unanswered call is sent again
-pub resent : (b : Backs) (boot : ℕ) (seats : List Seat) (cs : ℕ → Option Seat) (clock : ℕ) (sent : List Message) (past newer : List Entry) (n : Node) (known : ℕ) (c : BackCall) (calls : Node → Option BackCall) → BackedIn None b boot seats cs clock sent past → b.calls n ≡ Some c → ((x : BackCall) → calls n ≡ Some x → x.breaks ≡ c.breaks)
-    → Each (IfBack (BackIn None calls b.last_call boot)) (break_message the_server boot n known c ∷ [])
-resent b boot seats cs clock sent past newer n known c calls h at same = (
-  record {
+pub resent : (me : Node) (b : Backs) (boot : ℕ) (seats : List Seat) (cs : ℕ → Option Seat) (clock : ℕ) (sent : List Message) (past newer : List Entry) (n : Node) (known : ℕ) (c : BackCall) (calls : Node → Option BackCall) → BackedIn me None b boot seats cs clock sent past → b.calls n ≡ Some c → ((x : BackCall) → calls n ≡ Some x → x.breaks ≡ c.breaks)
+    → Each (IfBack (BackIn me None calls b.last_call boot)) (break_message me boot n known c ∷ [])
+resent me b boot seats cs clock sent past newer n known c calls h at same = (
+  server_any me (BackIn me None calls b.last_call boot (break_message me boot n known c).head [] (breaks_call c.breaks)) (record {
     client = n;
     to = refl;
-    booted = le_refl _;
-    below = λ x y. (h.outs refl n c at).number;
-    is = λ x y z e q. ap breaks_call (sym (same x e));
-  },
+    booted = λ own. le_refl _;
+    below = λ own x y. (h.outs refl n c at).number;
+    is = λ x own y z e q. ap breaks_call (sym (same x e));
+  }),
   tt,
 )
 
 -- ---- a call is answered, or given up
 
-settles_plain : (n : Node) (os : List Owed) → Plain (map (settle_line the_server n) os)
-settles_plain n [] = record { up = refl; still = refl; oweless = refl; unchanging = refl }
-settles_plain n (o ∷ os) = let h = settles_plain n os in record { up = h.up; still = h.still; oweless = h.oweless; unchanging = h.unchanging }
+settles_plain : (me : Node) (n : Node) (os : List Owed) → Plain me (map (settle_line me n) os)
+settles_plain me n [] = record { up = refl; still = refl; oweless = refl; unchanging = refl }
+settles_plain me n (o ∷ os) = let h = settles_plain me n os in record { up = h.up; still = h.still; oweless = h.oweless; unchanging = h.unchanging }
 
-quits_plain : (n : Node) (os : List Owed) → Plain (map (quit_line the_server n) os)
-quits_plain n [] = record { up = refl; still = refl; oweless = refl; unchanging = refl }
-quits_plain n (o ∷ os) = let h = quits_plain n os in record { up = h.up; still = h.still; oweless = h.oweless; unchanging = h.unchanging }
+quits_plain : (me : Node) (n : Node) (os : List Owed) → Plain me (map (quit_line me n) os)
+quits_plain me n [] = record { up = refl; still = refl; oweless = refl; unchanging = refl }
+quits_plain me n (o ∷ os) = let h = quits_plain me n os in record { up = h.up; still = h.still; oweless = h.oweless; unchanging = h.unchanging }
 
-settled_by : (t : Bool) (n : Node) (k : ℕ) (o : Owed) (os : List Owed) (l : List Line) → nat_eq o.number k ≡ t → cond t true (has_break k os) ≡ true → (has_break k os ≡ true → HasSettled the_server n k (onto (settle_line the_server n o ∷ l) (map (settle_line the_server n) os)))
-    → HasSettled the_server n k (onto (settle_line the_server n o ∷ l) (map (settle_line the_server n) os))
-settled_by true n k o os l e x w = settled_onto the_server n k (map (settle_line the_server n) os) (settle_line the_server n o ∷ l) (inl (refl, (refl, eqb-true o.number k e)))
-settled_by false n k o os l e x w = w x
+settled_by : (me : Node) (t : Bool) (n : Node) (k : ℕ) (o : Owed) (os : List Owed) (l : List Line) → nat_eq o.number k ≡ t → cond t true (has_break k os) ≡ true → (has_break k os ≡ true → HasSettled me n k (onto (settle_line me n o ∷ l) (map (settle_line me n) os)))
+    → HasSettled me n k (onto (settle_line me n o ∷ l) (map (settle_line me n) os))
+settled_by me true n k o os l e x w = settled_onto me n k (map (settle_line me n) os) (settle_line me n o ∷ l) (inl (refl, (refl, eqb-true o.number k e)))
+settled_by me false n k o os l e x w = w x
 
-quit_at : (t : Bool) (n : Node) (k : ℕ) (o : Owed) (os : List Owed) (l : List Line) → nat_eq o.number k ≡ t → cond t true (has_break k os) ≡ true → (has_break k os ≡ true → HasSettled the_server n k (onto (quit_line the_server n o ∷ l) (map (quit_line the_server n) os)))
-    → HasSettled the_server n k (onto (quit_line the_server n o ∷ l) (map (quit_line the_server n) os))
-quit_at true n k o os l e x w = settled_onto the_server n k (map (quit_line the_server n) os) (quit_line the_server n o ∷ l) (inl (refl, (refl, eqb-true o.number k e)))
-quit_at false n k o os l e x w = w x
+quit_at : (me : Node) (t : Bool) (n : Node) (k : ℕ) (o : Owed) (os : List Owed) (l : List Line) → nat_eq o.number k ≡ t → cond t true (has_break k os) ≡ true → (has_break k os ≡ true → HasSettled me n k (onto (quit_line me n o ∷ l) (map (quit_line me n) os)))
+    → HasSettled me n k (onto (quit_line me n o ∷ l) (map (quit_line me n) os))
+quit_at me true n k o os l e x w = settled_onto me n k (map (quit_line me n) os) (quit_line me n o ∷ l) (inl (refl, (refl, eqb-true o.number k e)))
+quit_at me false n k o os l e x w = w x
 
 -- its line stands among those of the breaks that are ended
-settled_in : (n : Node) (k : ℕ) (os : List Owed) (l : List Line) → has_break k os ≡ true → HasSettled the_server n k (onto l (map (settle_line the_server n) os))
-settled_in n k [] l e = absurd cc
-settled_in n k (o ∷ os) l e = settled_by (nat_eq o.number k) n k o os l refl e (λ x. settled_in n k os (settle_line the_server n o ∷ l) x)
+settled_in : (me : Node) (n : Node) (k : ℕ) (os : List Owed) (l : List Line) → has_break k os ≡ true → HasSettled me n k (onto l (map (settle_line me n) os))
+settled_in me n k [] l e = absurd cc
+settled_in me n k (o ∷ os) l e = settled_by me (nat_eq o.number k) n k o os l refl e (λ x. settled_in me n k os (settle_line me n o ∷ l) x)
 
-quit_in : (n : Node) (k : ℕ) (os : List Owed) (l : List Line) → has_break k os ≡ true → HasSettled the_server n k (onto l (map (quit_line the_server n) os))
-quit_in n k [] l e = absurd cc
-quit_in n k (o ∷ os) l e = quit_at (nat_eq o.number k) n k o os l refl e (λ x. quit_in n k os (quit_line the_server n o ∷ l) x)
+quit_in : (me : Node) (n : Node) (k : ℕ) (os : List Owed) (l : List Line) → has_break k os ≡ true → HasSettled me n k (onto l (map (quit_line me n) os))
+quit_in me n k [] l e = absurd cc
+quit_in me n k (o ∷ os) l e = quit_at me (nat_eq o.number k) n k o os l refl e (λ x. quit_in me n k os (quit_line me n o ∷ l) x)
 
 none_by : (t : Bool) (o : Option BackCall) (c : BackCall) → cond t None o ≡ Some c → o ≡ Some c
 none_by true o c e = absurd cc
@@ -134,35 +133,35 @@ in_all P o [] h k = absurd h
 in_all P o (x ∷ os) (inl e) k = subst P e k.0
 in_all P o (x ∷ os) (inr h) k = in_all P o os h k.1
 
-same_stop : (t : Bool) (n : Node) (x : ℕ) (k : ℕ) → same_node n the_server ≡ t → (n ≡ the_server → ⊥) → k ≤ x → k ≤ cond t 0 x
-same_stop true n x k e ne le = absurd (ne (same_node-true n the_server e))
-same_stop false n x k e ne le = le
+same_stop : (me : Node) (t : Bool) (n : Node) (x : ℕ) (k : ℕ) → same_node n me ≡ t → (n ≡ me → ⊥) → k ≤ x → k ≤ cond t 0 x
+same_stop me true n x k e ne le = absurd (ne (same_node-true n me e))
+same_stop me false n x k e ne le = le
 
-same_owe : (t : Bool) (q : Node) (m x k : ℕ) → same_node q the_server ≡ t → (q ≡ the_server → x < m) → k ≤ x → k ≤ cond t m x
-same_owe true q m x k e lt le = let l : x < m = lt (same_node-true q the_server e) in omega arith
-same_owe false q m x k e lt le = le
+same_owe : (me : Node) (t : Bool) (q : Node) (m x k : ℕ) → same_node q me ≡ t → (q ≡ me → x < m) → k ≤ x → k ≤ cond t m x
+same_owe me true q m x k e lt le = let l : x < m = lt (same_node-true q me e) in omega arith
+same_owe me false q m x k e lt le = le
 
-low_by : (newer base : List Line) (c : Node) (what : Option Fid) (n : ℕ) → (HasStopped the_server newer → ⊥) → Rising (newer ++ (lines.Owe the_server c what n ∷ base)) → n ≤ last_number the_server (newer ++ (lines.Owe the_server c what n ∷ base))
-low_by [] base c what n up h = le_refl n
-low_by (lines.Owe q d w m ∷ newer) base c what n up h = same_owe (same_node q the_server) q m _ n refl h.0 (low_by newer base c what n up h.1)
-low_by (lines.Crash q ∷ newer) base c what n up h = same_stop (same_node q the_server) q _ n refl (λ e. up (inl e)) (low_by newer base c what n (λ x. up (inr x)) h)
-low_by (lines.Fault q ∷ newer) base c what n up h = same_stop (same_node q the_server) q _ n refl (λ e. up (inl e)) (low_by newer base c what n (λ x. up (inr x)) h)
-low_by (l ∷ newer) base c what n up h = low_by newer base c what n up h
+low_by : (me : Node) (newer base : List Line) (c : Node) (what : Option Fid) (n : ℕ) → (HasStopped me newer → ⊥) → Rising me (newer ++ (lines.Owe me c what n ∷ base)) → n ≤ last_number me (newer ++ (lines.Owe me c what n ∷ base))
+low_by me [] base c what n up h = rw (same_node-refl me) (le_refl n)
+low_by me (lines.Owe q d w m ∷ newer) base c what n up h = same_owe me (same_node q me) q m _ n refl h.0 (low_by me newer base c what n up h.1)
+low_by me (lines.Crash q ∷ newer) base c what n up h = same_stop me (same_node q me) q _ n refl (λ e. up (inl e)) (low_by me newer base c what n (λ x. up (inr x)) h)
+low_by me (lines.Fault q ∷ newer) base c what n up h = same_stop me (same_node q me) q _ n refl (λ e. up (inl e)) (low_by me newer base c what n (λ x. up (inr x)) h)
+low_by me (l ∷ newer) base c what n up h = low_by me newer base c what n up h
 
-rising_tail : (l : Line) (ls : List Line) → Rising (l ∷ ls) → Rising ls
-rising_tail (lines.Owe q d w m) ls h = h.1
-rising_tail l ls h = h
+rising_tail : (me : Node) (l : Line) (ls : List Line) → Rising me (l ∷ ls) → Rising me ls
+rising_tail me (lines.Owe q d w m) ls h = h.1
+rising_tail me l ls h = h
 
-rising_head : (l : Line) (ls : List Line) (c : Node) (what : Option Fid) (n : ℕ) → l ≡ lines.Owe the_server c what n → Rising (l ∷ ls) → last_number the_server ls < n
-rising_head l ls c what n e h = (subst (λ (x : Line). Rising (x ∷ ls)) e h).0 refl
+rising_head : (me : Node) (l : Line) (ls : List Line) (c : Node) (what : Option Fid) (n : ℕ) → l ≡ lines.Owe me c what n → Rising me (l ∷ ls) → last_number me ls < n
+rising_head me l ls c what n e h = (subst (λ (x : Line). Rising me (x ∷ ls)) e h).0 refl
 
-stopped_tail : (l : Line) (ls : List Line) → (HasStopped the_server (l ∷ ls) → ⊥) → HasStopped the_server ls → ⊥
-stopped_tail (lines.Crash q) ls h x = h (inr x)
-stopped_tail (lines.Fault q) ls h x = h (inr x)
-stopped_tail l ls h x = h x
+stopped_tail : (me : Node) (l : Line) (ls : List Line) → (HasStopped me (l ∷ ls) → ⊥) → HasStopped me ls → ⊥
+stopped_tail me (lines.Crash q) ls h x = h (inr x)
+stopped_tail me (lines.Fault q) ls h x = h (inr x)
+stopped_tail me l ls h x = h x
 
-owe_clients : (a b : Node) (v w : Option Fid) (n : ℕ) → lines.Owe the_server a v n ≡ lines.Owe the_server b w n → a ≡ b
-owe_clients a b v w n e = cc
+owe_clients : (me : Node) (a b : Node) (v w : Option Fid) (n : ℕ) → lines.Owe me a v n ≡ lines.Owe me b w n → a ≡ b
+owe_clients me a b v w n e = cc
 
 lines_head : (x y : Line) (a b : List Line) → x ∷ a ≡ y ∷ b → x ≡ y
 lines_head x y a b e = cc
@@ -170,23 +169,23 @@ lines_head x y a b e = cc
 lines_tail : (x y : Line) (a b : List Line) → x ∷ a ≡ y ∷ b → a ≡ b
 lines_tail x y a b e = cc
 
-once_by : (xs ys base below : List Line) (a b : Node) (v w : Option Fid) (n : ℕ) → xs ++ (lines.Owe the_server a v n ∷ base) ≡ ys ++ (lines.Owe the_server b w n ∷ below) → (HasStopped the_server xs → ⊥) → (HasStopped the_server ys → ⊥) → Rising (xs ++ (lines.Owe the_server a v n ∷ base)) → a ≡ b
-once_by [] [] base below a b v w n e up down h = owe_clients a b v w n (lines_head _ _ base below e)
-once_by [] (y ∷ ys) base below a b v w n e up down h =
-    let rest : base ≡ ys ++ (lines.Owe the_server b w n ∷ below) = lines_tail (lines.Owe the_server a v n) y base _ e in
-    let r : Rising (ys ++ (lines.Owe the_server b w n ∷ below)) = subst Rising rest h.1 in
-    let low : n ≤ last_number the_server (ys ++ (lines.Owe the_server b w n ∷ below)) = low_by ys below b w n (stopped_tail y ys down) r in
-    let high : last_number the_server (ys ++ (lines.Owe the_server b w n ∷ below)) < n = subst (λ (ls : List Line). last_number the_server ls < n) rest (h.0 refl) in
+once_by : (me : Node) (xs ys base below : List Line) (a b : Node) (v w : Option Fid) (n : ℕ) → xs ++ (lines.Owe me a v n ∷ base) ≡ ys ++ (lines.Owe me b w n ∷ below) → (HasStopped me xs → ⊥) → (HasStopped me ys → ⊥) → Rising me (xs ++ (lines.Owe me a v n ∷ base)) → a ≡ b
+once_by me [] [] base below a b v w n e up down h = owe_clients me a b v w n (lines_head _ _ base below e)
+once_by me [] (y ∷ ys) base below a b v w n e up down h =
+    let rest : base ≡ ys ++ (lines.Owe me b w n ∷ below) = lines_tail (lines.Owe me a v n) y base _ e in
+    let r : Rising me (ys ++ (lines.Owe me b w n ∷ below)) = subst (Rising me) rest h.1 in
+    let low : n ≤ last_number me (ys ++ (lines.Owe me b w n ∷ below)) = low_by me ys below b w n (stopped_tail me y ys down) r in
+    let high : last_number me (ys ++ (lines.Owe me b w n ∷ below)) < n = subst (λ (ls : List Line). last_number me ls < n) rest (h.0 refl) in
     absurd (omega arith)
-once_by (x ∷ xs) [] base below a b v w n e up down h =
-    let rest : xs ++ (lines.Owe the_server a v n ∷ base) ≡ below = lines_tail x (lines.Owe the_server b w n) _ below e in
-    let low : n ≤ last_number the_server (xs ++ (lines.Owe the_server a v n ∷ base)) = low_by xs base a v n (stopped_tail x xs up) (rising_tail x _ h) in
-    let high : last_number the_server (xs ++ (lines.Owe the_server a v n ∷ base)) < n = rising_head x _ b w n (lines_head x (lines.Owe the_server b w n) _ below e) h in
+once_by me (x ∷ xs) [] base below a b v w n e up down h =
+    let rest : xs ++ (lines.Owe me a v n ∷ base) ≡ below = lines_tail x (lines.Owe me b w n) _ below e in
+    let low : n ≤ last_number me (xs ++ (lines.Owe me a v n ∷ base)) = low_by me xs base a v n (stopped_tail me x xs up) (rising_tail me x _ h) in
+    let high : last_number me (xs ++ (lines.Owe me a v n ∷ base)) < n = rising_head me x _ b w n (lines_head x (lines.Owe me b w n) _ below e) h in
     absurd (omega arith)
-once_by (x ∷ xs) (y ∷ ys) base below a b v w n e up down h = once_by xs ys base below a b v w n (lines_tail x y _ _ e) (stopped_tail x xs up) (stopped_tail y ys down) (rising_tail x _ h)
+once_by me (x ∷ xs) (y ∷ ys) base below a b v w n e up down h = once_by me xs ys base below a b v w n (lines_tail x y _ _ e) (stopped_tail me x xs up) (stopped_tail me y ys down) (rising_tail me x _ h)
 
-owed_once : (a b : Node) (v w : Option Fid) (n : ℕ) (ls : List Line) → OweAt the_server a v n ls → OweAt the_server b w n ls → Rising ls → a ≡ b
-owed_once a b v w n ls x y h = once_by x.newer y.newer x.base y.base a b v w n (sym x.split ∙ y.split) x.up y.up (subst Rising x.split h)
+owed_once : (me : Node) (a b : Node) (v w : Option Fid) (n : ℕ) (ls : List Line) → OweAt me a v n ls → OweAt me b w n ls → Rising me ls → a ≡ b
+owed_once me a b v w n ls x y h = once_by me x.newer y.newer x.base y.base a b v w n (sym x.split ∙ y.split) x.up y.up (subst (Rising me) x.split h)
 
 -- one of the breaks that end with the call
 has_number : (o : Owed) (os : List Owed) → IsIn o os → has_break o.number os ≡ true
@@ -217,15 +216,15 @@ more_number : (u : Bool) (k : ℕ) (x : Owed) (xs : List Owed) → has_break k x
 more_number true k x xs h = held_next (nat_eq x.number k) (has_break k xs) h
 more_number false k x xs h = h
 
-ending_by : (t : Bool) (n : Node) (k : ℕ) (ls : List Line) (x : Owed) (xs owed : List Owed) (S : Type 0) → nat_eq x.number k ≡ t → IsOwed n ls x → cond t true (has_break k xs) ≡ true → has_break k owed ≡ true → ((what : Option Fid) → OweAt the_server n what k ls → has_break k (cond (has_break x.number owed) (x ∷ filter (λ (o : Owed). has_break o.number owed) xs) (filter (λ (o : Owed). has_break o.number owed) xs)) ≡ true → S) → (has_break k xs ≡ true → S) → S
-ending_by true n k ls x xs owed S e owe h at w more =
+ending_by : (me : Node) (t : Bool) (n : Node) (k : ℕ) (ls : List Line) (x : Owed) (xs owed : List Owed) (S : Type 0) → nat_eq x.number k ≡ t → IsOwed me n ls x → cond t true (has_break k xs) ≡ true → has_break k owed ≡ true → ((what : Option Fid) → OweAt me n what k ls → has_break k (cond (has_break x.number owed) (x ∷ filter (λ (o : Owed). has_break o.number owed) xs) (filter (λ (o : Owed). has_break o.number owed) xs)) ≡ true → S) → (has_break k xs ≡ true → S) → S
+ending_by me true n k ls x xs owed S e owe h at w more =
     let same : x.number ≡ k = eqb-true x.number k e in
-    w x.what (subst (λ (i : ℕ). OweAt the_server n x.what i ls) same owe) (picked_number true (has_break x.number owed) k x (filter (λ (o : Owed). has_break o.number owed) xs) e refl (subst (λ (i : ℕ). has_break i owed ≡ true) (sym same) at))
-ending_by false n k ls x xs owed S e owe h at w more = more h
+    w x.what (subst (λ (i : ℕ). OweAt me n x.what i ls) same owe) (picked_number true (has_break x.number owed) k x (filter (λ (o : Owed). has_break o.number owed) xs) e refl (subst (λ (i : ℕ). has_break i owed ≡ true) (sym same) at))
+ending_by me false n k ls x xs owed S e owe h at w more = more h
 
-ending : (n : Node) (k : ℕ) (ls : List Line) (xs owed : List Owed) → AllOf (IsOwed n ls) xs → has_break k xs ≡ true → has_break k owed ≡ true → (what : Option Fid) × (OweAt the_server n what k ls × (has_break k (filter (λ (o : Owed). has_break o.number owed) xs) ≡ true))
-ending n k ls [] owed h e at = absurd cc
-ending n k ls (x ∷ xs) owed h e at = ending_by (nat_eq x.number k) n k ls x xs owed _ refl h.0 e at (λ what owe y. (what, (owe, y))) (λ y. let z = ending n k ls xs owed h.1 y at in (z.0, (z.1.0, more_number (has_break x.number owed) k x (filter (λ (o : Owed). has_break o.number owed) xs) z.1.1)))
+ending : (me : Node) (n : Node) (k : ℕ) (ls : List Line) (xs owed : List Owed) → AllOf (IsOwed me n ls) xs → has_break k xs ≡ true → has_break k owed ≡ true → (what : Option Fid) × (OweAt me n what k ls × (has_break k (filter (λ (o : Owed). has_break o.number owed) xs) ≡ true))
+ending me n k ls [] owed h e at = absurd cc
+ending me n k ls (x ∷ xs) owed h e at = ending_by me (nat_eq x.number k) n k ls x xs owed _ refl h.0 e at (λ what owe y. (what, (owe, y))) (λ y. let z = ending me n k ls xs owed h.1 y at in (z.0, (z.1.0, more_number (has_break x.number owed) k x (filter (λ (o : Owed). has_break o.number owed) xs) z.1.1)))
 
 held_or : (t a b : Bool) → cond t true a ≡ true → (a ≡ true → b ≡ true) → cond t true b ≡ true
 held_or true a b e w = refl
@@ -235,57 +234,57 @@ pub more_held : (k : Key) (hs ks : List Held) → is_held k hs ≡ true → is_h
 more_held k [] ks e = absurd cc
 more_held k (h ∷ hs) ks e = held_or (is_reply_to k h.reply) (is_held k hs) (is_held k (hs ++ ks)) e (more_held k hs ks)
 
-pub ends_backed : (b : Backs) (boot : ℕ) (seats : List Seat) (cs : ℕ → Option Seat) (clock : ℕ) (sent : List Message) (e : Entry) (past : List Entry) (n : Node) (c : BackCall) → Plain e.lines → BackedIn None b boot seats cs clock sent past → b.calls n ≡ Some c
-    → ((k : ℕ) (l : List Line) → has_break k (still_owed c b) ≡ true → HasSettled the_server n k (onto l e.lines)) → BackedIn None (record (ended_call n c b) { held = b.held ++ [] }) boot seats cs clock sent (e ∷ past)
-ends_backed b boot seats cs clock sent e past n c p h at gone =
+pub ends_backed : (me : Node) (b : Backs) (boot : ℕ) (seats : List Seat) (cs : ℕ → Option Seat) (clock : ℕ) (sent : List Message) (e : Entry) (past : List Entry) (n : Node) (c : BackCall) → Plain me e.lines → BackedIn me None b boot seats cs clock sent past → b.calls n ≡ Some c
+    → ((k : ℕ) (l : List Line) → has_break k (still_owed c b) ≡ true → HasSettled me n k (onto l e.lines)) → BackedIn me None (record (ended_call n c b) { held = b.held ++ [] }) boot seats cs clock sent (e ∷ past)
+ends_backed me b boot seats cs clock sent e past n c p h at gone =
     let now : Backs = record (ended_call n c b) { held = b.held ++ [] } in
-    let out : CallOut n c b.last_call boot past = h.outs refl n c at in
-    let s : Stepping None None b now clock clock e past = record {
+    let out : CallOut me n c b.last_call boot past = h.outs refl n c at in
+    let s : Stepping me None None b now clock clock e past = record {
       was_up = λ x. x;
       up = λ x. p.up;
       or_stopped = λ x. inl x;
       later = le_refl _;
-      new = λ before after d what k line. absurd (no_owe e.lines before after the_server d what k p.oweless line);
+      new = λ before after d what k line. absurd (no_owe e.lines before after me d what k p.oweless line);
       gone = λ o x. elim (ends_or_stays o c.breaks b.lists.owed x) [
         | inl y ↦ inl y
-        | inr y ↦ inr (λ l. let z = ending n o.number (lines_of past) c.breaks b.lists.owed (all_map (CarriedOwe n c.number c.tries boot (lines_of past)) (IsOwed n (lines_of past)) (λ w v. v.owe) c.breaks out.owes) y (has_number o b.lists.owed x) in
-            subst (λ (m : Node). HasSettled the_server m o.number (onto l e.lines)) (owed_once n o.client z.0 o.what o.number (lines_of past) z.1.0 (in_all (λ (u : Owed). IsOwed u.client (lines_of past) u) o b.lists.owed x (h.owing refl)) h.rising) (gone o.number l z.1.1))
+        | inr y ↦ inr (λ l. let z = ending me n o.number (lines_of past) c.breaks b.lists.owed (all_map (CarriedOwe me n c.number c.tries boot (lines_of past)) (IsOwed me n (lines_of past)) (λ w v. v.owe) c.breaks out.owes) y (has_number o b.lists.owed x) in
+            subst (λ (m : Node). HasSettled me m o.number (onto l e.lines)) (owed_once me n o.client z.0 o.what o.number (lines_of past) z.1.0 (in_all (λ (u : Owed). IsOwed me u.client (lines_of past) u) o b.lists.owed x (h.owing refl)) h.rising) (gone o.number l z.1.1))
       ];
       held = λ k x. more_held k b.held [] x;
       last = le_refl _;
       calls = λ j k y. inr (k, (none_by (same_node n j) (b.calls j) k y, (refl, refl)));
     } in
-    subst (λ (ms : List Message). BackedIn None now boot seats cs clock ms (e ∷ past)) (append-nil sent)
-    (backed_step None None b now boot seats seats cs cs clock clock sent [] e past s h (λ x. granted_over e past b.lists.promises p.still p.up p.oweless (h.granted x)) (promised_over None b.lists.promises clock clock e past p.still (le_refl _) h.promised) (numbered_over None b.lists.last_owed e past p.up p.oweless h.numbered) (rising_over e past p.oweless h.rising)
+    subst (λ (ms : List Message). BackedIn me None now boot seats cs clock ms (e ∷ past)) (append-nil sent)
+    (backed_step me None None b now boot seats seats cs cs clock clock sent [] e past s h (λ x. granted_over me e past b.lists.promises p.still p.up p.oweless (h.granted x)) (promised_over me None b.lists.promises clock clock e past p.still (le_refl _) h.promised) (numbered_over me None b.lists.last_owed e past p.up p.oweless h.numbered) (rising_over me e past p.oweless h.rising)
     (λ x. record { promised = (h.clients x).promised; owed = all_without (λ (o : Owed). IsClient o.client) c.breaks b.lists.owed (h.clients x).owed })
-    (λ x. all_without (λ (o : Owed). IsOwed o.client (lines_of (e ∷ past)) o) c.breaks b.lists.owed (owed_over e past b.lists.owed p.up (h.owing x)))
-    (λ x. all_both (HeldWaits seats clock (e ∷ past)) b.held [] (all_map (HeldWaits seats clock past) (HeldWaits seats clock (e ∷ past)) (λ q y. plain_waits seats seats clock clock e past q p (le_refl _) (λ m a d z. z) y) b.held (h.waiting x)) tt)
-    (λ x j k y. call_over j k b.last_call b.last_call boot e past (le_refl _) p.up (h.outs x j k (none_by (same_node n j) (b.calls j) k y))) tt tt
-    (λ j seat m x y. seated_over None None b now boot clock clock e past s j m (h.seated j seat m x y)))
+    (λ x. all_without (λ (o : Owed). IsOwed me o.client (lines_of (e ∷ past)) o) c.breaks b.lists.owed (owed_over me e past b.lists.owed p.up (h.owing x)))
+    (λ x. all_both (HeldWaits me seats clock (e ∷ past)) b.held [] (all_map (HeldWaits me seats clock past) (HeldWaits me seats clock (e ∷ past)) (λ q y. plain_waits me seats seats clock clock e past q p (le_refl _) (λ m a d z. z) y) b.held (h.waiting x)) tt)
+    (λ x j k y. call_over me j k b.last_call b.last_call boot e past (le_refl _) p.up (h.outs x j k (none_by (same_node n j) (b.calls j) k y))) tt tt
+    (λ j seat m x y. seated_over me None None b now boot clock clock e past s j m (h.seated j seat m x y)))
 
 -- the lines are good
-settles_by_good : (t : Bool) (s : Script) (n : Node) (o : Owed) (past : List Entry) (own : List Line) (xs : List Owed) → DroppedOwe n (lines_of past) o → (HasStopped the_server own → ⊥) → ((own : List Line) → (HasStopped the_server own → ⊥) → AreGood s (actors.Node the_server) past own (map (settle_line the_server n) xs)) → AreGood s (actors.Node the_server) past own (map (settle_line the_server n) (cond t (o ∷ xs) xs))
-settles_by_good true s n o past own xs d up w = ((refl, record { going = up; what = o.what; owe = d.owe; dropped = d.dropped }), w (settle_line the_server n o ∷ own) up)
-settles_by_good false s n o past own xs d up w = w own up
+settles_by_good : (me : Node) (serving : IsServing me) (t : Bool) (s : Script) (n : Node) (o : Owed) (past : List Entry) (own : List Line) (xs : List Owed) → DroppedOwe me n (lines_of past) o → (HasStopped me own → ⊥) → ((own : List Line) → (HasStopped me own → ⊥) → AreGood s (actors.Node me) past own (map (settle_line me n) xs)) → AreGood s (actors.Node me) past own (map (settle_line me n) (cond t (o ∷ xs) xs))
+settles_by_good me serving true s n o past own xs d up w = ((serving, record { going = up; what = o.what; owe = d.owe; dropped = d.dropped }), w (settle_line me n o ∷ own) up)
+settles_by_good me serving false s n o past own xs d up w = w own up
 
-settles_all : (s : Script) (n : Node) (past : List Entry) (os owed : List Owed) (own : List Line) → AllOf (DroppedOwe n (lines_of past)) os → (HasStopped the_server own → ⊥) → AreGood s (actors.Node the_server) past own (map (settle_line the_server n) (filter (λ (o : Owed). has_break o.number owed) os))
-settles_all s n past [] owed own h up = tt
-settles_all s n past (o ∷ os) owed own h up = settles_by_good (has_break o.number owed) s n o past own (filter (λ (x : Owed). has_break x.number owed) os) h.0 up (λ x still. settles_all s n past os owed x h.1 still)
+settles_all : (me : Node) (serving : IsServing me) (s : Script) (n : Node) (past : List Entry) (os owed : List Owed) (own : List Line) → AllOf (DroppedOwe me n (lines_of past)) os → (HasStopped me own → ⊥) → AreGood s (actors.Node me) past own (map (settle_line me n) (filter (λ (o : Owed). has_break o.number owed) os))
+settles_all me serving s n past [] owed own h up = tt
+settles_all me serving s n past (o ∷ os) owed own h up = settles_by_good me serving (has_break o.number owed) s n o past own (filter (λ (x : Owed). has_break x.number owed) os) h.0 up (λ x still. settles_all me serving s n past os owed x h.1 still)
 
-pub settles_good : (s : Script) (n : Node) (c : BackCall) (b : Backs) (past : List Entry) (own : List Line) → AllOf (DroppedOwe n (lines_of past)) c.breaks → (HasStopped the_server own → ⊥) → AreGood s (actors.Node the_server) past own (map (settle_line the_server n) (still_owed c b))
-settles_good s n c b past own h up = settles_all s n past c.breaks b.lists.owed own h up
+pub settles_good : (me : Node) → IsServing me → (s : Script) (n : Node) (c : BackCall) (b : Backs) (past : List Entry) (own : List Line) → AllOf (DroppedOwe me n (lines_of past)) c.breaks → (HasStopped me own → ⊥) → AreGood s (actors.Node me) past own (map (settle_line me n) (still_owed c b))
+settles_good me serving s n c b past own h up = settles_all me serving s n past c.breaks b.lists.owed own h up
 
 -- a break that is given up
-record MayQuit (n : Node) (past : List Entry) (boot number most : ℕ) (call : FsCall) (o : Owed) : Type 0 where
-  owe : CarriedOwe n number most boot (lines_of past) o
+record MayQuit (me : Node) (n : Node) (past : List Entry) (boot number most : ℕ) (call : FsCall) (o : Owed) : Type 0 where
+  owe : CarriedOwe me n number most boot (lines_of past) o
   carries : CarriesBreak call o.what
 
 pub two_all : {A : Type 0} → (P Q R : A → Type 0) → ((x : A) → P x → Q x → R x) → (xs : List A) → AllOf P xs → AllOf Q xs → AllOf R xs
 two_all P Q R w [] h k = tt
 two_all P Q R w (x ∷ xs) h k = (w x h.0 k.0, two_all P Q R w xs h.1 k.1)
 
-quit_good : (n : Node) (boot : ℕ) (c : BackCall) (o : Owed) (past : List Entry) (own : List Line) (last : ℕ) → CallOut n c last boot past → 2 ≤ c.tries → HasTimeout the_server n boot c.number 3 own → (HasStopped the_server own → ⊥) → MayQuit n past boot c.number c.tries (breaks_call c.breaks) o → GoodQuit the_server n o.number past own
-quit_good n boot c o past own last out le third up m = record {
+quit_good : (me : Node) (n : Node) (boot : ℕ) (c : BackCall) (o : Owed) (past : List Entry) (own : List Line) (last : ℕ) → CallOut me n c last boot past → 2 ≤ c.tries → HasTimeout me n boot c.number 3 own → (HasStopped me own → ⊥) → MayQuit me n past boot c.number c.tries (breaks_call c.breaks) o → GoodQuit me n o.number past own
+quit_good me n boot c o past own last out le third up m = record {
   going = up;
   what = o.what;
   owe = m.owe.owe;
@@ -300,77 +299,77 @@ quit_good n boot c o past own last out le third up m = record {
   carries = m.carries;
 }
 
-quits_by_good : (t : Bool) (s : Script) (n : Node) (boot last : ℕ) (c : BackCall) (o : Owed) (past : List Entry) (own : List Line) (xs : List Owed) → CallOut n c last boot past → 2 ≤ c.tries → HasTimeout the_server n boot c.number 3 own → (HasStopped the_server own → ⊥) → MayQuit n past boot c.number c.tries (breaks_call c.breaks) o
-    → ((own : List Line) → HasTimeout the_server n boot c.number 3 own → (HasStopped the_server own → ⊥) → AreGood s (actors.Node the_server) past own (map (quit_line the_server n) xs)) → AreGood s (actors.Node the_server) past own (map (quit_line the_server n) (cond t (o ∷ xs) xs))
-quits_by_good true s n boot last c o past own xs out le third up m w = ((refl, quit_good n boot c o past own last out le third up m), w (quit_line the_server n o ∷ own) third up)
-quits_by_good false s n boot last c o past own xs out le third up m w = w own third up
+quits_by_good : (me : Node) (serving : IsServing me) (t : Bool) (s : Script) (n : Node) (boot last : ℕ) (c : BackCall) (o : Owed) (past : List Entry) (own : List Line) (xs : List Owed) → CallOut me n c last boot past → 2 ≤ c.tries → HasTimeout me n boot c.number 3 own → (HasStopped me own → ⊥) → MayQuit me n past boot c.number c.tries (breaks_call c.breaks) o
+    → ((own : List Line) → HasTimeout me n boot c.number 3 own → (HasStopped me own → ⊥) → AreGood s (actors.Node me) past own (map (quit_line me n) xs)) → AreGood s (actors.Node me) past own (map (quit_line me n) (cond t (o ∷ xs) xs))
+quits_by_good me serving true s n boot last c o past own xs out le third up m w = ((serving, quit_good me n boot c o past own last out le third up m), w (quit_line me n o ∷ own) third up)
+quits_by_good me serving false s n boot last c o past own xs out le third up m w = w own third up
 
-quits_all : (s : Script) (n : Node) (boot last : ℕ) (c : BackCall) (past : List Entry) (os owed : List Owed) (own : List Line) → CallOut n c last boot past → 2 ≤ c.tries → HasTimeout the_server n boot c.number 3 own → (HasStopped the_server own → ⊥) → AllOf (MayQuit n past boot c.number c.tries (breaks_call c.breaks)) os → AreGood s (actors.Node the_server) past own (map (quit_line the_server n) (filter (λ (o : Owed). has_break o.number owed) os))
-quits_all s n boot last c past [] owed own out le third up h = tt
-quits_all s n boot last c past (o ∷ os) owed own out le third up h = quits_by_good (has_break o.number owed) s n boot last c o past own (filter (λ (x : Owed). has_break x.number owed) os) out le third up h.0 (λ x y still. quits_all s n boot last c past os owed x out le y still h.1)
+quits_all : (me : Node) (serving : IsServing me) (s : Script) (n : Node) (boot last : ℕ) (c : BackCall) (past : List Entry) (os owed : List Owed) (own : List Line) → CallOut me n c last boot past → 2 ≤ c.tries → HasTimeout me n boot c.number 3 own → (HasStopped me own → ⊥) → AllOf (MayQuit me n past boot c.number c.tries (breaks_call c.breaks)) os → AreGood s (actors.Node me) past own (map (quit_line me n) (filter (λ (o : Owed). has_break o.number owed) os))
+quits_all me serving s n boot last c past [] owed own out le third up h = tt
+quits_all me serving s n boot last c past (o ∷ os) owed own out le third up h = quits_by_good me serving (has_break o.number owed) s n boot last c o past own (filter (λ (x : Owed). has_break x.number owed) os) out le third up h.0 (λ x y still. quits_all me serving s n boot last c past os owed x out le y still h.1)
 
-pub quits_good : (s : Script) (n : Node) (boot last : ℕ) (c : BackCall) (b : Backs) (past : List Entry) → CallOut n c last boot past → nat_lt c.tries 2 ≡ false → AreGood s (actors.Node the_server) past (lines.Timeout the_server n boot c.number 3 ∷ []) (map (quit_line the_server n) (still_owed c b))
-quits_good s n boot last c b past out e = quits_all s n boot last c past c.breaks b.lists.owed _ out (ltb-false _ _ e) (inl (refl, (refl, (refl, (refl, refl))))) (λ z. z)
-    (two_all (CarriedOwe n c.number c.tries boot (lines_of past)) (λ (o : Owed). CarriesBreak (breaks_call c.breaks) o.what) (MayQuit n past boot c.number c.tries (breaks_call c.breaks)) (λ o x y. record { owe = x; carries = y }) c.breaks out.owes out.carries)
+pub quits_good : (me : Node) → IsServing me → (s : Script) (n : Node) (boot last : ℕ) (c : BackCall) (b : Backs) (past : List Entry) → CallOut me n c last boot past → nat_lt c.tries 2 ≡ false → AreGood s (actors.Node me) past (lines.Timeout me n boot c.number 3 ∷ []) (map (quit_line me n) (still_owed c b))
+quits_good me serving s n boot last c b past out e = quits_all me serving s n boot last c past c.breaks b.lists.owed _ out (ltb-false _ _ e) (inl (refl, (refl, (refl, (refl, refl))))) (λ z. z)
+    (two_all (CarriedOwe me n c.number c.tries boot (lines_of past)) (λ (o : Owed). CarriesBreak (breaks_call c.breaks) o.what) (MayQuit me n past boot c.number c.tries (breaks_call c.breaks)) (λ o x y. record { owe = x; carries = y }) c.breaks out.owes out.carries)
 
-pub settles_backed : (b : Backs) (boot : ℕ) (seats : List Seat) (cs : ℕ → Option Seat) (clock : ℕ) (sent : List Message) (e : Entry) (past : List Entry) (n : Node) (p : ℕ) (c : BackCall) → b.calls n ≡ Some c → e.lines ≡ lines.Given p ∷ map (settle_line the_server n) (still_owed c b) → BackedIn None b boot seats cs clock sent past → BackedIn None (loaded (settles the_server n c b)) boot seats cs clock sent (e ∷ past)
-settles_backed b boot seats cs clock sent e past n p c at is h =
+pub settles_backed : (me : Node) (b : Backs) (boot : ℕ) (seats : List Seat) (cs : ℕ → Option Seat) (clock : ℕ) (sent : List Message) (e : Entry) (past : List Entry) (n : Node) (p : ℕ) (c : BackCall) → b.calls n ≡ Some c → e.lines ≡ lines.Given p ∷ map (settle_line me n) (still_owed c b) → BackedIn me None b boot seats cs clock sent past → BackedIn me None (loaded (settles me n c b)) boot seats cs clock sent (e ∷ past)
+settles_backed me b boot seats cs clock sent e past n p c at is h =
     let os : List Owed = still_owed c b in
-    let q = settles_plain n os in
-    subst (λ (x : Backs). BackedIn None (record x { held = b.held ++ [] }) boot seats cs clock sent (e ∷ past)) (sym (ended_is n c b))
-    (ends_backed b boot seats cs clock sent e past n c (subst Plain (sym is) (record { up = q.up; still = q.still; oweless = q.oweless; unchanging = q.unchanging })) h at
-    (λ k l x. subst (λ (ls : List Line). HasSettled the_server n k (onto l ls)) (sym is) (settled_in n k os (lines.Given p ∷ l) x)))
+    let q = settles_plain me n os in
+    subst (λ (x : Backs). BackedIn me None (record x { held = b.held ++ [] }) boot seats cs clock sent (e ∷ past)) (sym (ended_is n c b))
+    (ends_backed me b boot seats cs clock sent e past n c (subst (Plain me) (sym is) (record { up = q.up; still = q.still; oweless = q.oweless; unchanging = q.unchanging })) h at
+    (λ k l x. subst (λ (ls : List Line). HasSettled me n k (onto l ls)) (sym is) (settled_in me n k os (lines.Given p ∷ l) x)))
 
-pub quits_backed : (b : Backs) (boot : ℕ) (seats : List Seat) (cs : ℕ → Option Seat) (clock : ℕ) (sent : List Message) (e : Entry) (past : List Entry) (n : Node) (c : BackCall) → b.calls n ≡ Some c → e.lines ≡ (quits the_server boot n c b).lines → BackedIn None b boot seats cs clock sent past → BackedIn None (loaded (quits the_server boot n c b)) boot seats cs clock sent (e ∷ past)
-quits_backed b boot seats cs clock sent e past n c at is h =
+pub quits_backed : (me : Node) (b : Backs) (boot : ℕ) (seats : List Seat) (cs : ℕ → Option Seat) (clock : ℕ) (sent : List Message) (e : Entry) (past : List Entry) (n : Node) (c : BackCall) → b.calls n ≡ Some c → e.lines ≡ (quits me boot n c b).lines → BackedIn me None b boot seats cs clock sent past → BackedIn me None (loaded (quits me boot n c b)) boot seats cs clock sent (e ∷ past)
+quits_backed me b boot seats cs clock sent e past n c at is h =
     let os : List Owed = still_owed c b in
-    let q = quits_plain n os in
-    subst (λ (x : Backs). BackedIn None (record x { held = b.held ++ [] }) boot seats cs clock sent (e ∷ past)) (sym (ended_is n c b))
-    (ends_backed b boot seats cs clock sent e past n c (subst Plain (sym is) (record { up = q.up; still = q.still; oweless = q.oweless; unchanging = q.unchanging })) h at
-    (λ k l x. subst (λ (ls : List Line). HasSettled the_server n k (onto l ls)) (sym is) (quit_in n k os (lines.Timeout the_server n boot c.number 3 ∷ l) x)))
+    let q = quits_plain me n os in
+    subst (λ (x : Backs). BackedIn me None (record x { held = b.held ++ [] }) boot seats cs clock sent (e ∷ past)) (sym (ended_is n c b))
+    (ends_backed me b boot seats cs clock sent e past n c (subst (Plain me) (sym is) (record { up = q.up; still = q.still; oweless = q.oweless; unchanging = q.unchanging })) h at
+    (λ k l x. subst (λ (ls : List Line). HasSettled me n k (onto l ls)) (sym is) (quit_in me n k os (lines.Timeout me n boot c.number 3 ∷ l) x)))
 
 -- ---- a call is sent again after a timeout
 
-tried : (n : Node) (boot last : ℕ) (c : BackCall) (e : Entry) (past : List Entry) → e.lines ≡ lines.Timeout the_server n boot c.number (c.tries + 1) ∷ [] → CallOut n c last boot past → CallOut n (record c { tries = c.tries + 1 }) last boot (e ∷ past)
-tried n boot last c e past is h =
-    let up : all_lines is_up e.lines ≡ true = subst (λ (ls : List Line). all_lines is_up ls ≡ true) (sym is) refl in
-    let k : CallOut n c last boot (e ∷ past) = call_over n c last last boot e past (le_refl _) up h in
+tried : (me : Node) (n : Node) (boot last : ℕ) (c : BackCall) (e : Entry) (past : List Entry) → e.lines ≡ lines.Timeout me n boot c.number (c.tries + 1) ∷ [] → CallOut me n c last boot past → CallOut me n (record c { tries = c.tries + 1 }) last boot (e ∷ past)
+tried me n boot last c e past is h =
+    let up : all_lines (is_up me) e.lines ≡ true = subst (λ (ls : List Line). all_lines (is_up me) ls ≡ true) (sym is) refl in
+    let k : CallOut me n c last boot (e ∷ past) = call_over me n c last last boot e past (le_refl _) up h in
     record {
       number = k.number;
       client = k.client;
-      owes = all_map (CarriedOwe n c.number c.tries boot (lines_of past)) (CarriedOwe n c.number (c.tries + 1) boot (lines_of (e ∷ past))) (λ o x. record {
-        owe = owe_over n o.what o.number e past up x.owe;
+      owes = all_map (CarriedOwe me n c.number c.tries boot (lines_of past)) (CarriedOwe me n c.number (c.tries + 1) boot (lines_of (e ∷ past))) (λ o x. record {
+        owe = owe_over me n o.what o.number e past up x.owe;
         tries = λ t a b. elim (eq-or-lt_of_le b) [
-          | inl q ↦ subst (λ (ls : List Line). HasTimeout the_server n boot c.number t (onto x.owe.newer ls)) (sym is) (inl (refl, (refl, (refl, (refl, sym q)))))
-          | inr l ↦ timeout_onto the_server n boot c.number t e.lines x.owe.newer (x.tries t a (omega arith))
+          | inl q ↦ subst (λ (ls : List Line). HasTimeout me n boot c.number t (onto x.owe.newer ls)) (sym is) (inl (refl, (refl, (refl, (refl, sym q)))))
+          | inr l ↦ timeout_onto me n boot c.number t e.lines x.owe.newer (x.tries t a (omega arith))
         ];
       }) c.breaks h.owes;
       sent = k.sent;
       carries = k.carries;
     }
 
-pub retries_backed : (b : Backs) (boot : ℕ) (seats : List Seat) (cs : ℕ → Option Seat) (clock : ℕ) (sent : List Message) (e : Entry) (past : List Entry) (n : Node) (c : BackCall) → b.calls n ≡ Some c → e.lines ≡ lines.Timeout the_server n boot c.number (c.tries + 1) ∷ [] → BackedIn None b boot seats cs clock sent past
-    → BackedIn None (loaded (retries the_server boot n c b)) boot seats cs clock sent (e ∷ past)
-retries_backed b boot seats cs clock sent e past n c at is h =
-    let now : Backs = loaded (retries the_server boot n c b) in
-    let p : Plain e.lines = subst Plain (sym is) (record { up = refl; still = refl; oweless = refl; unchanging = refl }) in
+pub retries_backed : (me : Node) (b : Backs) (boot : ℕ) (seats : List Seat) (cs : ℕ → Option Seat) (clock : ℕ) (sent : List Message) (e : Entry) (past : List Entry) (n : Node) (c : BackCall) → b.calls n ≡ Some c → e.lines ≡ lines.Timeout me n boot c.number (c.tries + 1) ∷ [] → BackedIn me None b boot seats cs clock sent past
+    → BackedIn me None (loaded (retries me boot n c b)) boot seats cs clock sent (e ∷ past)
+retries_backed me b boot seats cs clock sent e past n c at is h =
+    let now : Backs = loaded (retries me boot n c b) in
+    let p : Plain me e.lines = subst (Plain me) (sym is) (record { up = refl; still = refl; oweless = refl; unchanging = refl }) in
     let more : BackCall = record c { tries = c.tries + 1 } in
-    let s : Stepping None None b now clock clock e past = record {
+    let s : Stepping me None None b now clock clock e past = record {
       was_up = λ x. x;
       up = λ x. p.up;
       or_stopped = λ x. inl x;
       later = le_refl _;
-      new = λ before after d what k line. absurd (no_owe e.lines before after the_server d what k p.oweless line);
+      new = λ before after d what k line. absurd (no_owe e.lines before after me d what k p.oweless line);
       gone = λ o x. inl x;
       held = λ k x. more_held k b.held [] x;
       last = le_refl _;
       calls = λ j k y. put_call n j more k b.calls _ y (λ q z. inr (c, (ap b.calls (sym q) ∙ at, (ap (λ (u : BackCall). u.number) z, ap (λ (u : BackCall). u.breaks) z)))) (λ z. inr (k, (z, (refl, refl))));
     } in
-    subst (λ (ms : List Message). BackedIn None now boot seats cs clock ms (e ∷ past)) (append-nil sent)
-    (backed_step None None b now boot seats seats cs cs clock clock sent [] e past s h (λ x. granted_over e past b.lists.promises p.still p.up p.oweless (h.granted x)) (promised_over None b.lists.promises clock clock e past p.still (le_refl _) h.promised) (numbered_over None b.lists.last_owed e past p.up p.oweless h.numbered) (rising_over e past p.oweless h.rising) h.clients (λ x. owed_over e past b.lists.owed p.up (h.owing x))
-    (λ x. all_both (HeldWaits seats clock (e ∷ past)) b.held [] (all_map (HeldWaits seats clock past) (HeldWaits seats clock (e ∷ past)) (λ q y. plain_waits seats seats clock clock e past q p (le_refl _) (λ m a d z. z) y) b.held (h.waiting x)) tt)
-    (λ x j k y. put_call n j more k b.calls (CallOut j k b.last_call boot (e ∷ past)) y (λ q z. subst (λ (i : Node). CallOut i k b.last_call boot (e ∷ past)) q (subst (λ (u : BackCall). CallOut n u b.last_call boot (e ∷ past)) z (tried n boot b.last_call c e past is (h.outs x n c at)))) (λ z. call_over j k b.last_call b.last_call boot e past (le_refl _) p.up (h.outs x j k z))) tt tt
-    (λ j seat m x y. seated_over None None b now boot clock clock e past s j m (h.seated j seat m x y)))
+    subst (λ (ms : List Message). BackedIn me None now boot seats cs clock ms (e ∷ past)) (append-nil sent)
+    (backed_step me None None b now boot seats seats cs cs clock clock sent [] e past s h (λ x. granted_over me e past b.lists.promises p.still p.up p.oweless (h.granted x)) (promised_over me None b.lists.promises clock clock e past p.still (le_refl _) h.promised) (numbered_over me None b.lists.last_owed e past p.up p.oweless h.numbered) (rising_over me e past p.oweless h.rising) h.clients (λ x. owed_over me e past b.lists.owed p.up (h.owing x))
+    (λ x. all_both (HeldWaits me seats clock (e ∷ past)) b.held [] (all_map (HeldWaits me seats clock past) (HeldWaits me seats clock (e ∷ past)) (λ q y. plain_waits me seats seats clock clock e past q p (le_refl _) (λ m a d z. z) y) b.held (h.waiting x)) tt)
+    (λ x j k y. put_call n j more k b.calls (CallOut me j k b.last_call boot (e ∷ past)) y (λ q z. subst (λ (i : Node). CallOut me i k b.last_call boot (e ∷ past)) q (subst (λ (u : BackCall). CallOut me n u b.last_call boot (e ∷ past)) z (tried me n boot b.last_call c e past is (h.outs x n c at)))) (λ z. call_over me j k b.last_call b.last_call boot e past (le_refl _) p.up (h.outs x j k z))) tt tt
+    (λ j seat m x y. seated_over me None None b now boot clock clock e past s j m (h.seated j seat m x y)))
 
 -- ---- a call runs: its reply is new
 
@@ -381,59 +380,59 @@ reply_key k m t =
     ap (λ (n : Node). record { node = n; epoch = m.head.epoch; number = m.head.number }) (same_node-true m.head.to k.node a.0)
     ∙ (ap (λ (e : ℕ). record { node = k.node; epoch = e; number = m.head.number }) (eqb-true _ _ b.0) ∙ ap (λ (n : ℕ). record { node = k.node; epoch = k.epoch; number = n }) (eqb-true _ _ b.1))
 
-no_key_by : (t : Bool) (k : Key) (h : Held) (hs : List Held) (seats : List Seat) (clock : ℕ) (past : List Entry) → is_reply_to k h.reply ≡ t → HeldWaits seats clock past h → cond t true (is_held k hs) ≡ true → Above (call_seat k.node seats) k.epoch k.number → (is_held k hs ≡ true → ⊥) → ⊥
-no_key_by true k h hs seats clock past a w e above more = w.under (subst (λ (z : Key). Above (call_seat z.node seats) z.epoch z.number) (sym (reply_key k h.reply a)) above)
-no_key_by false k h hs seats clock past a w e above more = more e
+no_key_by : (me : Node) (t : Bool) (k : Key) (h : Held) (hs : List Held) (seats : List Seat) (clock : ℕ) (past : List Entry) → is_reply_to k h.reply ≡ t → HeldWaits me seats clock past h → cond t true (is_held k hs) ≡ true → Above (call_seat k.node seats) k.epoch k.number → (is_held k hs ≡ true → ⊥) → ⊥
+no_key_by me true k h hs seats clock past a w e above more = w.under (subst (λ (z : Key). Above (call_seat z.node seats) z.epoch z.number) (sym (reply_key k h.reply a)) above)
+no_key_by me false k h hs seats clock past a w e above more = more e
 
-no_key : (k : Key) (hs : List Held) (seats : List Seat) (clock : ℕ) (past : List Entry) → AllOf (HeldWaits seats clock past) hs → is_held k hs ≡ true → Above (call_seat k.node seats) k.epoch k.number → ⊥
-no_key k [] seats clock past w e above = absurd cc
-no_key k (h ∷ hs) seats clock past w e above = no_key_by (is_reply_to k h.reply) k h hs seats clock past refl w.0 e above (λ x. no_key k hs seats clock past w.1 x above)
+no_key : (me : Node) (k : Key) (hs : List Held) (seats : List Seat) (clock : ℕ) (past : List Entry) → AllOf (HeldWaits me seats clock past) hs → is_held k hs ≡ true → Above (call_seat k.node seats) k.epoch k.number → ⊥
+no_key me k [] seats clock past w e above = absurd cc
+no_key me k (h ∷ hs) seats clock past w e above = no_key_by me (is_reply_to k h.reply) k h hs seats clock past refl w.0 e above (λ x. no_key me k hs seats clock past w.1 x above)
 
 -- the replies that waited wait on, over an entry that owes nothing
-pub old_waits : (b : Backs) (boot : ℕ) (seats now : List Seat) (cs : ℕ → Option Seat) (clock : ℕ) (sent : List Message) (e : Entry) (past : List Entry) → BackedIn None b boot seats cs clock sent past → all_lines is_oweless e.lines ≡ true → all_lines is_unchanging e.lines ≡ true → ((m : Node) (x y : ℕ) → Above (call_seat m now) x y → Above (call_seat m seats) x y)
-    → AllOf (HeldWaits now clock (e ∷ past)) b.held
-old_waits b boot seats now cs clock sent e past h oweless unchanging seat = all_map (HeldWaits seats clock past) (HeldWaits now clock (e ∷ past)) (λ q y. waits_over seats now clock clock e past q (le_refl _) (λ k x. inl (change_back k e.lines (lines_of past) unchanging x))
-    (λ before after c what n line. absurd (no_owe e.lines before after the_server c what n oweless line)) seat y) b.held (h.waiting refl)
+pub old_waits : (me : Node) (b : Backs) (boot : ℕ) (seats now : List Seat) (cs : ℕ → Option Seat) (clock : ℕ) (sent : List Message) (e : Entry) (past : List Entry) → BackedIn me None b boot seats cs clock sent past → all_lines is_oweless e.lines ≡ true → all_lines is_unchanging e.lines ≡ true → ((m : Node) (x y : ℕ) → Above (call_seat m now) x y → Above (call_seat m seats) x y)
+    → AllOf (HeldWaits me now clock (e ∷ past)) b.held
+old_waits me b boot seats now cs clock sent e past h oweless unchanging seat = all_map (HeldWaits me seats clock past) (HeldWaits me now clock (e ∷ past)) (λ q y. waits_over me seats now clock clock e past q (le_refl _) (λ x. inl (change_back (key_answered q.reply) e.lines (lines_of past) unchanging x))
+    (λ before after c what n line. absurd (no_owe e.lines before after me c what n oweless line)) seat y) b.held (h.waiting refl)
 
 -- what the entries of a key owed before that runs now is ended
-own_past : (b : Backs) (boot : ℕ) (seats : List Seat) (cs : ℕ → Option Seat) (clock : ℕ) (sent : List Message) (e : Entry) (past : List Entry) (hd : Held) (newer : List Entry) (at : Entry) (older : List Entry) (before after : List Line) (c : Node) (what : Option Fid) (n : ℕ) → BackedIn None b boot seats cs clock sent past → (is_held (key_answered hd.reply) b.held ≡ true → ⊥)
-    → AccountedBy None b.lists.owed b.held clock newer at older before after c what n → WaitedBy hd clock (e ∷ newer) at older before after c what n
-own_past b boot seats cs clock sent e past hd newer at older before after c what n h none (inl x) k y = inl (ended_over e clock clock newer at older before after c what n (le_refl _) x)
-own_past b boot seats cs clock sent e past hd newer at older before after c what n h none (inr x) k y = elim (x.1.waits (key_answered hd.reply) k y) [ inl z ↦ inl (ended_over e clock clock newer at older before after c what n (le_refl _) z) | inr z ↦ absurd (none z) ]
+own_past : (me : Node) (b : Backs) (boot : ℕ) (seats : List Seat) (cs : ℕ → Option Seat) (clock : ℕ) (sent : List Message) (e : Entry) (past : List Entry) (hd : Held) (newer : List Entry) (at : Entry) (older : List Entry) (before after : List Line) (c : Node) (what : Option Fid) (n : ℕ) → BackedIn me None b boot seats cs clock sent past → (is_held (key_answered hd.reply) b.held ≡ true → ⊥)
+    → AccountedBy me None b.lists.owed b.held clock newer at older before after c what n → WaitedBy me hd clock (e ∷ newer) at older before after c what n
+own_past me b boot seats cs clock sent e past hd newer at older before after c what n h none (inl x) k y = inl (ended_over me e clock clock newer at older before after c what n (le_refl _) x)
+own_past me b boot seats cs clock sent e past hd newer at older before after c what n h none (inr x) k y = elim (x.1.waits (key_answered hd.reply) k y) [ inl z ↦ inl (ended_over me e clock clock newer at older before after c what n (le_refl _) z) | inr z ↦ absurd (none z) ]
 
 -- what is known of a new reply
-pub record NewReply (seats : List Seat) (past : List Entry) (hd : Held) : Type 0 where
+pub record NewReply (me : Node) (seats : List Seat) (past : List Entry) (hd : Held) : Type 0 where
   pub client : ℕ
   pub to : hd.reply.head.to ≡ Client client
-  pub from : hd.reply.head.from ≡ the_server
+  pub from : hd.reply.head.from ≡ me
   pub is_reply : OfReply ⊥ hd.reply.carried → ⊥
   pub under : Above (call_seat hd.reply.head.to seats) hd.reply.head.epoch hd.reply.head.number → ⊥
 
 -- what a reply waits for whose key no other waits under
-pub own_waited : (b : Backs) (boot : ℕ) (seats : List Seat) (cs : ℕ → Option Seat) (clock : ℕ) (sent : List Message) (e : Entry) (past : List Entry) (hd : Held) → BackedIn None b boot seats cs clock sent past → all_lines is_oweless e.lines ≡ true → (is_held (key_answered hd.reply) b.held ≡ true → ⊥) → AllOwes the_server (WaitedBy hd clock) (e ∷ past)
-own_waited b boot seats cs clock sent e past hd h oweless none =
-    owes_over the_server (AccountedBy None b.lists.owed b.held clock) (WaitedBy hd clock) e past (λ y z c what n line. absurd (no_owe e.lines y z the_server c what n oweless line)) (λ newer at older y z c what n w. own_past b boot seats cs clock sent e past hd newer at older y z c what n h none w) h.accounted
+pub own_waited : (me : Node) (b : Backs) (boot : ℕ) (seats : List Seat) (cs : ℕ → Option Seat) (clock : ℕ) (sent : List Message) (e : Entry) (past : List Entry) (hd : Held) → BackedIn me None b boot seats cs clock sent past → all_lines is_oweless e.lines ≡ true → (is_held (key_answered hd.reply) b.held ≡ true → ⊥) → AllOwes me (WaitedBy me hd clock) (e ∷ past)
+own_waited me b boot seats cs clock sent e past hd h oweless none =
+    owes_over me (AccountedBy me None b.lists.owed b.held clock) (WaitedBy me hd clock) e past (λ y z c what n line. absurd (no_owe e.lines y z me c what n oweless line)) (λ newer at older y z c what n w. own_past me b boot seats cs clock sent e past hd newer at older y z c what n h none w) h.accounted
 
-pub run_loaded : (b : Backs) (ps : List Promise) (boot : ℕ) (seats now : List Seat) (cs : ℕ → Option Seat) (clock : ℕ) (sent : List Message) (e : Entry) (past : List Entry) (hd : Held) → BackedIn None b boot seats cs clock sent past → all_lines is_up e.lines ≡ true → all_lines is_oweless e.lines ≡ true → all_lines is_unchanging e.lines ≡ true
-    → AllOf (IsGranted (lines_of (e ∷ past))) ps → AllOf (λ (p : Promise). IsClient p.client) ps → Promised None ps clock (lines_at the_server (e ∷ past)) → ((m : Node) (x y : ℕ) → Above (call_seat m now) x y → Above (call_seat m seats) x y) → NewReply now (e ∷ past) hd → AllOwes the_server (WaitedBy hd clock) (e ∷ past)
-    → (HasChange (key_answered hd.reply) (lines_of (e ∷ past)) → AllOwes the_server (AllWaitedBy hd clock) (e ∷ past))
-    → BackedIn None (record b { lists = record b.lists { promises = ps }; held = b.held ++ hd ∷ [] }) boot now cs clock sent (e ∷ past)
-run_loaded b ps boot seats now cs clock sent e past hd h up oweless unchanging granted clients promised seat new own all =
+pub run_loaded : (me : Node) (b : Backs) (ps : List Promise) (boot : ℕ) (seats now : List Seat) (cs : ℕ → Option Seat) (clock : ℕ) (sent : List Message) (e : Entry) (past : List Entry) (hd : Held) → BackedIn me None b boot seats cs clock sent past → all_lines (is_up me) e.lines ≡ true → all_lines is_oweless e.lines ≡ true → all_lines is_unchanging e.lines ≡ true
+    → AllOf (IsGranted me (lines_of (e ∷ past))) ps → AllOf (λ (p : Promise). IsClient p.client) ps → Promised me None ps clock (lines_at me (e ∷ past)) → ((m : Node) (x y : ℕ) → Above (call_seat m now) x y → Above (call_seat m seats) x y) → NewReply me now (e ∷ past) hd → AllOwes me (WaitedBy me hd clock) (e ∷ past)
+    → (HasChange (key_answered hd.reply) (lines_of (e ∷ past)) → AllOwes me (AllWaitedBy me hd clock) (e ∷ past))
+    → BackedIn me None (record b { lists = record b.lists { promises = ps }; held = b.held ++ hd ∷ [] }) boot now cs clock sent (e ∷ past)
+run_loaded me b ps boot seats now cs clock sent e past hd h up oweless unchanging granted clients promised seat new own all =
     let after : Backs = record b { lists = record b.lists { promises = ps }; held = b.held ++ hd ∷ [] } in
-    let s : Stepping None None b after clock clock e past = record {
+    let s : Stepping me None None b after clock clock e past = record {
       was_up = λ x. x;
       up = λ x. up;
       or_stopped = λ x. inl x;
       later = le_refl _;
-      new = λ x y d what k line. absurd (no_owe e.lines x y the_server d what k oweless line);
+      new = λ x y d what k line. absurd (no_owe e.lines x y me d what k oweless line);
       gone = λ o x. inl x;
       held = λ k x. more_held k b.held (hd ∷ []) x;
       last = le_refl _;
       calls = calls_same b.calls b.last_call;
     } in
-    subst (λ (ms : List Message). BackedIn None after boot now cs clock ms (e ∷ past)) (append-nil sent)
-    (backed_step None None b after boot seats now cs cs clock clock sent [] e past s h (λ x. granted) promised (numbered_over None b.lists.last_owed e past up oweless h.numbered) (rising_over e past oweless h.rising) (λ x. record { promised = clients; owed = (h.clients x).owed }) (λ x. owed_over e past b.lists.owed up (h.owing x))
-    (λ x. all_both (HeldWaits now clock (e ∷ past)) b.held (hd ∷ []) (old_waits b boot seats now cs clock sent e past h oweless unchanging seat) (
+    subst (λ (ms : List Message). BackedIn me None after boot now cs clock ms (e ∷ past)) (append-nil sent)
+    (backed_step me None None b after boot seats now cs cs clock clock sent [] e past s h (λ x. granted) promised (numbered_over me None b.lists.last_owed e past up oweless h.numbered) (rising_over me e past oweless h.rising) (λ x. record { promised = clients; owed = (h.clients x).owed }) (λ x. owed_over me e past b.lists.owed up (h.owing x))
+    (λ x. all_both (HeldWaits me now clock (e ∷ past)) b.held (hd ∷ []) (old_waits me b boot seats now cs clock sent e past h oweless unchanging seat) (
       record {
         client = new.client;
         to = new.to;
@@ -445,17 +444,17 @@ run_loaded b ps boot seats now cs clock sent e past hd h up oweless unchanging g
       },
       tt,
     ))
-    (λ x j c at. call_over j c b.last_call b.last_call boot e past (le_refl _) up (h.outs x j c at)) tt tt
-    (λ j seat m x y. seated_over None None b after boot clock clock e past s j m (h.seated j seat m x y)))
+    (λ x j c at. call_over me j c b.last_call b.last_call boot e past (le_refl _) up (h.outs x j c at)) tt tt
+    (λ j seat m x y. seated_over me None None b after boot clock clock e past s j m (h.seated j seat m x y)))
 
-pub key_held : (b : Backs) (boot : ℕ) (seats : List Seat) (cs : ℕ → Option Seat) (clock : ℕ) (sent : List Message) (past : List Entry) (k : Key) → BackedIn None b boot seats cs clock sent past → Above (call_seat k.node seats) k.epoch k.number → is_held k b.held ≡ true → ⊥
-key_held b boot seats cs clock sent past k h above e = no_key k b.held seats clock past (h.waiting refl) e above
+pub key_held : (me : Node) (b : Backs) (boot : ℕ) (seats : List Seat) (cs : ℕ → Option Seat) (clock : ℕ) (sent : List Message) (past : List Entry) (k : Key) → BackedIn me None b boot seats cs clock sent past → Above (call_seat k.node seats) k.epoch k.number → is_held k b.held ≡ true → ⊥
+key_held me b boot seats cs clock sent past k h above e = no_key me k b.held seats clock past (h.waiting refl) e above
 
-granted_false : (a b : Bool) → (a ≡ true → ⊥) ⊎ (b ≡ true → ⊥) → (same_node the_server the_server && (a && b)) ≡ false
-granted_false true true (inl h) = absurd (h refl)
-granted_false true true (inr h) = absurd (h refl)
-granted_false true false h = refl
-granted_false false b h = refl
+granted_false : (me : Node) (a b : Bool) → (a ≡ true → ⊥) ⊎ (b ≡ true → ⊥) → (same_node me me && (a && b)) ≡ false
+granted_false me true true (inl h) = absurd (h refl)
+granted_false me true true (inr h) = absurd (h refl)
+granted_false me true false h = rw (same_node-refl me) refl
+granted_false me false b h = rw (same_node-refl me) refl
 
 granted_if : (t : Bool) (P : Promise → Type 0) (q : Promise) (rest : List Promise) → t ≡ t → (t ≡ true → P q) → AllOf P rest → AllOf P (cond t (q ∷ rest) rest)
 granted_if true P q rest e h k = (h refl, k)
@@ -465,30 +464,30 @@ grant_by : (t : Bool) (x : ℕ) (o : Option ℕ) (q : ℕ) → t ≡ false → o
 grant_by true x o q e h = absurd cc
 grant_by false x o q e h = h
 
-not_granted : (a b : Bool) (n m : Node) (f g : Fid) → same_node m n ≡ a → same_fid g f ≡ b → not (a && b) ≡ true → (same_node the_server the_server && (same_node n m && same_fid f g)) ≡ false
-not_granted true true n m f g x y e = absurd cc
-not_granted true false n m f g x y e = granted_false (same_node n m) (same_fid f g) (inr (λ z. let q : same_fid g f ≡ true = ap (same_fid g) (same_fid-true f g z) ∙ same_fid-refl g in absurd cc))
-not_granted false b n m f g x y e = granted_false (same_node n m) (same_fid f g) (inl (λ z. let q : same_node m n ≡ true = ap (same_node m) (same_node-true n m z) ∙ same_node-refl m in absurd cc))
+not_granted : (me : Node) (a b : Bool) (n m : Node) (f g : Fid) → same_node m n ≡ a → same_fid g f ≡ b → not (a && b) ≡ true → (same_node me me && (same_node n m && same_fid f g)) ≡ false
+not_granted me true true n m f g x y e = absurd cc
+not_granted me true false n m f g x y e = granted_false me (same_node n m) (same_fid f g) (inr (λ z. let q : same_fid g f ≡ true = ap (same_fid g) (same_fid-true f g z) ∙ same_fid-refl g in absurd cc))
+not_granted me false b n m f g x y e = granted_false me (same_node n m) (same_fid f g) (inl (λ z. let q : same_node m n ≡ true = ap (same_node m) (same_node-true n m z) ∙ same_node-refl m in absurd cc))
 
-others_granted : (n : Node) (f : Fid) (x index : ℕ) (base : List Line) (ps : List Promise) → AllOf (IsGranted base) ps → AllOf (IsGranted (lines.Grant the_server n f index x ∷ base)) (filter (λ q. not (is_promise n f q)) ps)
-others_granted n f x index base [] h = tt
-others_granted n f x index base (q ∷ ps) h = granted_if (not (is_promise n f q)) (IsGranted (lines.Grant the_server n f index x ∷ base)) q (filter (λ z. not (is_promise n f z)) ps) refl
-    (λ e. grant_by (same_node the_server the_server && (same_node n q.client && same_fid f q.fid)) x (unbroken_grant the_server q.client q.fid base) q.expiry (not_granted (same_node q.client n) (same_fid q.fid f) n q.client f q.fid refl refl e) h.0) (others_granted n f x index base ps h.1)
+others_granted : (me : Node) (n : Node) (f : Fid) (x index : ℕ) (base : List Line) (ps : List Promise) → AllOf (IsGranted me base) ps → AllOf (IsGranted me (lines.Grant me n f index x ∷ base)) (filter (λ q. not (is_promise n f q)) ps)
+others_granted me n f x index base [] h = tt
+others_granted me n f x index base (q ∷ ps) h = granted_if (not (is_promise n f q)) (IsGranted me (lines.Grant me n f index x ∷ base)) q (filter (λ z. not (is_promise n f z)) ps) refl
+    (λ e. grant_by (same_node me me && (same_node n q.client && same_fid f q.fid)) x (unbroken_grant me q.client q.fid base) q.expiry (not_granted me (same_node q.client n) (same_fid q.fid f) n q.client f q.fid refl refl e) h.0) (others_granted me n f x index base ps h.1)
 
 -- the promises behind a grant
-granted_now : (n : Node) (f : Fid) (x index : ℕ) (base : List Line) (ps : List Promise) → AllOf (IsGranted base) ps → AllOf (IsGranted (lines.Grant the_server n f index x ∷ base)) (with_promise n x f ps)
-granted_now n f x index base ps h =
-    all_both (IsGranted (lines.Grant the_server n f index x ∷ base)) (filter (λ q. not (is_promise n f q)) ps) _ (others_granted n f x index base ps h) (rw (same_node-refl n, same_fid-refl f) refl, tt)
+granted_now : (me : Node) (n : Node) (f : Fid) (x index : ℕ) (base : List Line) (ps : List Promise) → AllOf (IsGranted me base) ps → AllOf (IsGranted me (lines.Grant me n f index x ∷ base)) (with_promise n x f ps)
+granted_now me n f x index base ps h =
+    all_both (IsGranted me (lines.Grant me n f index x ∷ base)) (filter (λ q. not (is_promise n f q)) ps) _ (others_granted me n f x index base ps h) (rw (same_node-refl me, same_node-refl n, same_fid-refl f) refl, tt)
 
 -- behind several
-pub all_granted : (n : Node) (x : ℕ) (fs : List Found) (base : List Line) (ps : List Promise) → AllOf (IsGranted base) ps → AllOf (IsGranted (onto base (granted the_server n x fs []))) (with_promises n x fs ps)
-all_granted n x [] base ps h = h
-all_granted n x (f ∷ fs) base ps h = all_granted n x fs (lines.Grant the_server n f.fid f.vnode.index x ∷ base) (with_promise n x f.fid ps) (granted_now n f.fid x f.vnode.index base ps h)
+pub all_granted : (me : Node) (n : Node) (x : ℕ) (fs : List Found) (base : List Line) (ps : List Promise) → AllOf (IsGranted me base) ps → AllOf (IsGranted me (onto base (granted me n x fs []))) (with_promises n x fs ps)
+all_granted me n x [] base ps h = h
+all_granted me n x (f ∷ fs) base ps h = all_granted me n x fs (lines.Grant me n f.fid f.vnode.index x ∷ base) (with_promise n x f.fid ps) (granted_now me n f.fid x f.vnode.index base ps h)
 
 -- a line of which a test holds
-pub granted_all : (q : Line → Bool) (c : Node) (x : ℕ) (fs : List Found) → ((f : Fid) (i : ℕ) → q (lines.Grant the_server c f i x) ≡ true) → all_lines q (granted the_server c x fs []) ≡ true
-granted_all q c x [] h = refl
-granted_all q c x (f ∷ fs) h = rw (h f.fid f.vnode.index) (granted_all q c x fs h)
+pub granted_all : (me : Node) (q : Line → Bool) (c : Node) (x : ℕ) (fs : List Found) → ((f : Fid) (i : ℕ) → q (lines.Grant me c f i x) ≡ true) → all_lines q (granted me c x fs []) ≡ true
+granted_all me q c x [] h = refl
+granted_all me q c x (f ∷ fs) h = rw (h f.fid f.vnode.index) (granted_all me q c x fs h)
 
 -- ---- a break on all is waited for
 
@@ -505,10 +504,10 @@ in_alls o [] n h w e = absurd h
 in_alls o (x ∷ os) n (inl q) w e = all_first_by (is_all x.what) x.number n (alls os) (ap (λ (z : Owed). is_all z.what) q ∙ ap is_all w) (ap (λ (z : Owed). z.number) q ∙ e)
 in_alls o (x ∷ os) n (inr q) w e = all_next_by (is_all x.what) x.number n (alls os) (in_alls o os n q w e)
 
-pub all_waited : (b : Backs) (boot : ℕ) (seats : List Seat) (cs : ℕ → Option Seat) (clock : ℕ) (sent : List Message) (e : Entry) (past : List Entry) (hd : Held) → BackedIn None b boot seats cs clock sent past → ((n : ℕ) → IsNumberIn n (alls b.lists.owed) → IsNumberIn n hd.waits)
-    → ((before after : List Line) (c : Node) (what : Option Fid) (n : ℕ) → e.lines ≡ before ++ lines.Owe the_server c what n ∷ after → what ≡ None → ⊥) → AllOwes the_server (AllWaitedBy hd clock) (e ∷ past)
-all_waited b boot seats cs clock sent e past hd h more none = owes_over the_server (AccountedBy None b.lists.owed b.held clock) (AllWaitedBy hd clock) e past (λ y z c what n line w. absurd (none y z c what n line w))
-    (λ newer at older y z c what n x w. elim x [ inl k ↦ inl (ended_over e clock clock newer at older y z c what n (le_refl _) k) | inr k ↦ inr (more n (in_alls k.1.o b.lists.owed n k.1.is_in (k.1.on ∙ w) k.1.number)) ]) h.accounted
+pub all_waited : (me : Node) (b : Backs) (boot : ℕ) (seats : List Seat) (cs : ℕ → Option Seat) (clock : ℕ) (sent : List Message) (e : Entry) (past : List Entry) (hd : Held) → BackedIn me None b boot seats cs clock sent past → ((n : ℕ) → IsNumberIn n (alls b.lists.owed) → IsNumberIn n hd.waits)
+    → ((before after : List Line) (c : Node) (what : Option Fid) (n : ℕ) → e.lines ≡ before ++ lines.Owe me c what n ∷ after → what ≡ None → ⊥) → AllOwes me (AllWaitedBy me hd clock) (e ∷ past)
+all_waited me b boot seats cs clock sent e past hd h more none = owes_over me (AccountedBy me None b.lists.owed b.held clock) (AllWaitedBy me hd clock) e past (λ y z c what n line w. absurd (none y z c what n line w))
+    (λ newer at older y z c what n x w. elim x [ inl k ↦ inl (ended_over me e clock clock newer at older y z c what n (le_refl _) k) | inr k ↦ inr (more n (in_alls k.1.o b.lists.owed n k.1.is_in (k.1.on ∙ w) k.1.number)) ]) h.accounted
 
 -- ---- new breaks
 
@@ -520,30 +519,30 @@ lines_front : (q : Line → Bool) (a b : List Line) → all_lines q (a ++ b) ≡
 lines_front q [] b h = refl
 lines_front q (l ∷ a) b h = let x = both (q l) (all_lines q (a ++ b)) h in rw (x.0, lines_front q a b x.1) refl
 
-pub owes_up : (os : List Owed) → all_lines is_up (map (owe_line the_server) os) ≡ true
-owes_up [] = refl
-owes_up (o ∷ os) = owes_up os
+pub owes_up : (me : Node) (os : List Owed) → all_lines (is_up me) (map (owe_line me) os) ≡ true
+owes_up me [] = refl
+owes_up me (o ∷ os) = owes_up me os
 
-pub owes_still : (os : List Owed) → all_lines is_still (map (owe_line the_server) os) ≡ true
-owes_still [] = refl
-owes_still (o ∷ os) = owes_still os
+pub owes_still : (me : Node) (os : List Owed) → all_lines is_still (map (owe_line me) os) ≡ true
+owes_still me [] = refl
+owes_still me (o ∷ os) = owes_still me os
 
-pub owes_still_to : (c : Node) (os : List Owed) → all_lines (is_still_to c) (map (owe_line the_server) os) ≡ true
-owes_still_to c [] = refl
-owes_still_to c (o ∷ os) = owes_still_to c os
+pub owes_still_to : (me : Node) (c : Node) (os : List Owed) → all_lines (is_still_to c) (map (owe_line me) os) ≡ true
+owes_still_to me c [] = refl
+owes_still_to me c (o ∷ os) = owes_still_to me c os
 
-pub owes_unchanging : (os : List Owed) → all_lines is_unchanging (map (owe_line the_server) os) ≡ true
-owes_unchanging [] = refl
-owes_unchanging (o ∷ os) = owes_unchanging os
+pub owes_unchanging : (me : Node) (os : List Owed) → all_lines is_unchanging (map (owe_line me) os) ≡ true
+owes_unchanging me [] = refl
+owes_unchanging me (o ∷ os) = owes_unchanging me os
 
 -- the clock doesn't rise
 abbrev pub is_tickless : Line → Bool
 is_tickless (lines.Tick n) = false
 is_tickless l = true
 
-pub owes_tickless : (os : List Owed) → all_lines is_tickless (map (owe_line the_server) os) ≡ true
-owes_tickless [] = refl
-owes_tickless (o ∷ os) = owes_tickless os
+pub owes_tickless : (me : Node) (os : List Owed) → all_lines is_tickless (map (owe_line me) os) ≡ true
+owes_tickless me [] = refl
+owes_tickless me (o ∷ os) = owes_tickless me os
 
 tick_before : (l : Line) (o : List Line) → is_tickless l ≡ true → clock_of (l ∷ o) ≡ clock_of o
 tick_before (lines.Tick n) o h = absurd cc
@@ -560,8 +559,8 @@ record OweFound (os : List Owed) (c : Node) (what : Option Fid) (n : ℕ) : Type
   on : o.what ≡ what
   number : o.number ≡ n
 
-owe_same : (o : Owed) (c : Node) (what : Option Fid) (n : ℕ) → owe_line the_server o ≡ lines.Owe the_server c what n → (o.client ≡ c) × ((o.what ≡ what) × (o.number ≡ n))
-owe_same o c what n e = (cc, (cc, cc))
+owe_same : (me : Node) (o : Owed) (c : Node) (what : Option Fid) (n : ℕ) → owe_line me o ≡ lines.Owe me c what n → (o.client ≡ c) × ((o.what ≡ what) × (o.number ≡ n))
+owe_same me o c what n e = (cc, (cc, cc))
 
 first_same : (x y : Line) (a b : List Line) → x ∷ a ≡ y ∷ b → x ≡ y
 first_same x y a b e = cc
@@ -569,27 +568,27 @@ first_same x y a b e = cc
 others_same : (x y : Line) (a b : List Line) → x ∷ a ≡ y ∷ b → a ≡ b
 others_same x y a b e = cc
 
-found_in : (os : List Owed) (before after : List Line) (c : Node) (what : Option Fid) (n : ℕ) → map (owe_line the_server) os ≡ before ++ lines.Owe the_server c what n ∷ after → OweFound os c what n
-found_in [] [] after c what n e = absurd cc
-found_in [] (x ∷ before) after c what n e = absurd cc
-found_in (o ∷ os) [] after c what n e = let q = owe_same o c what n (first_same (owe_line the_server o) _ _ after e) in record { o = o; is_in = inl refl; client = q.0; on = q.1.0; number = q.1.1 }
-found_in (o ∷ os) (x ∷ before) after c what n e = let f : OweFound os c what n = found_in os before after c what n (others_same (owe_line the_server o) x _ _ e) in record { o = f.o; is_in = inr f.is_in; client = f.client; on = f.on; number = f.number }
+found_in : (me : Node) (os : List Owed) (before after : List Line) (c : Node) (what : Option Fid) (n : ℕ) → map (owe_line me) os ≡ before ++ lines.Owe me c what n ∷ after → OweFound os c what n
+found_in me [] [] after c what n e = absurd cc
+found_in me [] (x ∷ before) after c what n e = absurd cc
+found_in me (o ∷ os) [] after c what n e = let q = owe_same me o c what n (first_same (owe_line me o) _ _ after e) in record { o = o; is_in = inl refl; client = q.0; on = q.1.0; number = q.1.1 }
+found_in me (o ∷ os) (x ∷ before) after c what n e = let f : OweFound os c what n = found_in me os before after c what n (others_same (owe_line me o) x _ _ e) in record { o = f.o; is_in = inr f.is_in; client = f.client; on = f.on; number = f.number }
 
-owes_found : (pre : List Line) (os : List Owed) (before after : List Line) (c : Node) (what : Option Fid) (n : ℕ) → all_lines is_oweless pre ≡ true → pre ++ map (owe_line the_server) os ≡ before ++ lines.Owe the_server c what n ∷ after → OweFound os c what n
-owes_found [] os before after c what n h e = found_in os before after c what n e
-owes_found (l ∷ pre) os [] after c what n h e = let a : is_oweless l ≡ false = ap is_oweless (first_same l _ _ after e) in let b = (both (is_oweless l) (all_lines is_oweless pre) h).0 in absurd cc
-owes_found (l ∷ pre) os (x ∷ before) after c what n h e = owes_found pre os before after c what n (both (is_oweless l) (all_lines is_oweless pre) h).1 (others_same l x _ _ e)
+owes_found : (me : Node) (pre : List Line) (os : List Owed) (before after : List Line) (c : Node) (what : Option Fid) (n : ℕ) → all_lines is_oweless pre ≡ true → pre ++ map (owe_line me) os ≡ before ++ lines.Owe me c what n ∷ after → OweFound os c what n
+owes_found me [] os before after c what n h e = found_in me os before after c what n e
+owes_found me (l ∷ pre) os [] after c what n h e = let a : is_oweless l ≡ false = ap is_oweless (first_same l _ _ after e) in let b = (both (is_oweless l) (all_lines is_oweless pre) h).0 in absurd cc
+owes_found me (l ∷ pre) os (x ∷ before) after c what n h e = owes_found me pre os before after c what n (both (is_oweless l) (all_lines is_oweless pre) h).1 (others_same l x _ _ e)
 
 onto_both : (o a b : List Line) → onto o (a ++ b) ≡ onto (onto o a) b
 onto_both o [] b = refl
 onto_both o (l ∷ a) b = onto_both (l ∷ o) a b
 
 -- each stands in its entry
-owes_at : (os : List Owed) (base : List Line) → AllOf (λ (o : Owed). IsOwed o.client (onto base (map (owe_line the_server) os)) o) os
-owes_at [] base = tt
-owes_at (o ∷ os) base = (
-  record { newer = onto [] (map (owe_line the_server) os); base = base; split = front_onto [] (owe_line the_server o ∷ base) (map (owe_line the_server) os); up = λ x. stopped_back (map (owe_line the_server) os) [] (owes_up os) x },
-  owes_at os (owe_line the_server o ∷ base),
+owes_at : (me : Node) (os : List Owed) (base : List Line) → AllOf (λ (o : Owed). IsOwed me o.client (onto base (map (owe_line me) os)) o) os
+owes_at me [] base = tt
+owes_at me (o ∷ os) base = (
+  record { newer = onto [] (map (owe_line me) os); base = base; split = front_onto [] (owe_line me o ∷ base) (map (owe_line me) os); up = λ x. stopped_back me (map (owe_line me) os) [] (owes_up me os) x },
+  owes_at me os (owe_line me o ∷ base),
 )
 
 in_second : (o : Owed) (a b : List Owed) → IsIn o b → IsIn o (a ++ b)
@@ -666,15 +665,15 @@ hits_hit n [] ps = tt
 hits_hit n (v ∷ vs) ps = all_both (IsHit n (v ∷ vs)) (filter (is_hit n v.fid) ps) (hits n vs (filter (λ p. not (is_hit n v.fid p)) ps)) (hit_here n v vs ps)
     (all_map (IsHit n vs) (IsHit n (v ∷ vs)) (λ p x. (touched_more (same_fid v.fid p.fid) (touches p.fid vs) x.0, x.1)) (hits n vs (filter (λ p. not (is_hit n v.fid p)) ps)) (hits_hit n vs (filter (λ p. not (is_hit n v.fid p)) ps)))
 
-pub record NewOwe (n : Node) (ls : List Line) (o : Owed) : Type 0 where
+pub record NewOwe (me : Node) (n : Node) (ls : List Line) (o : Owed) : Type 0 where
   pub other : o.client ≡ n → ⊥
   pub fid : Fid
   pub on : o.what ≡ Some fid
-  pub granted : last_grant the_server o.client fid ls ≡ Some o.expiry
+  pub granted : last_grant me o.client fid ls ≡ Some o.expiry
 
-pub all_new : (n : Node) (ls : List Line) (k : ℕ) (ps : List Promise) → AllOf (IsGranted ls) ps → AllOf (IsOfOther n) ps → AllOf (NewOwe n ls) (owes_from k ps)
-all_new n ls k [] h o = tt
-all_new n ls k (p ∷ ps) h o = (record { other = o.0; fid = p.fid; on = refl; granted = unbroken_last p.client p.fid p.expiry ls h.0 }, all_new n ls (k + 1) ps h.1 o.1)
+pub all_new : (me : Node) (n : Node) (ls : List Line) (k : ℕ) (ps : List Promise) → AllOf (IsGranted me ls) ps → AllOf (IsOfOther n) ps → AllOf (NewOwe me n ls) (owes_from k ps)
+all_new me n ls k [] h o = tt
+all_new me n ls k (p ∷ ps) h o = (record { other = o.0; fid = p.fid; on = refl; granted = unbroken_last me p.client p.fid p.expiry ls h.0 }, all_new me n ls (k + 1) ps h.1 o.1)
 
 -- of the promises some are withdrawn, and the others stay
 pub all_hits : (P : Promise → Type 0) (n : Node) (vs : List Version) (ps : List Promise) → AllOf P ps → AllOf P (hits n vs ps)
@@ -720,24 +719,24 @@ touched_hit n j f x (v ∷ vs) ps ne (inr c) h = elim (filter_by (is_hit n v.fid
   | inr y ↦ in_last (promise_to j f x) (filter (is_hit n v.fid) ps) (hits n vs (filter (λ z. not (is_hit n v.fid z)) ps)) (touched_hit n j f x vs (filter (λ z. not (is_hit n v.fid z)) ps) ne c y)
 ]
 
-pub has_owe : (j : Node) (f : Fid) (x k : ℕ) (ps : List Promise) → IsPromised (promise_to j f x) ps → HasOwe the_server j (Some f) (map (owe_line the_server) (owes_from k ps))
-has_owe j f x k [] h = absurd h
-has_owe j f x k (q ∷ ps) (inl e) = inl (refl, (ap (λ (p : Promise). p.client) e, ap (λ (p : Promise). Some p.fid) e))
-has_owe j f x k (q ∷ ps) (inr h) = inr (has_owe j f x (k + 1) ps h)
+pub has_owe : (me : Node) (j : Node) (f : Fid) (x k : ℕ) (ps : List Promise) → IsPromised (promise_to j f x) ps → HasOwe me j (Some f) (map (owe_line me) (owes_from k ps))
+has_owe me j f x k [] h = absurd h
+has_owe me j f x k (q ∷ ps) (inl e) = inl (refl, (ap (λ (p : Promise). p.client) e, ap (λ (p : Promise). Some p.fid) e))
+has_owe me j f x k (q ∷ ps) (inr h) = inr (has_owe me j f x (k + 1) ps h)
 
 dead_by : (t : Bool) (o : Option ℕ) (y : ℕ) → t ≡ true → cond t None o ≡ Some y → ⊥
 dead_by true o y e k = absurd cc
 dead_by false o y e k = absurd cc
 
-owe_dead : (j : Node) (f : Fid) (x y k : ℕ) (q : Promise) (base : List Line) → q ≡ promise_to j f x → live_grant the_server j f (lines.Owe the_server q.client (Some q.fid) k ∷ base) ≡ Some y → ⊥
-owe_dead j f x y k q base e l = dead_by (same_node j j && same_fid f f) (live_grant the_server j f base) y (rw (same_node-refl j, same_fid-refl f) refl)
-    (subst (λ (p : Promise). live_grant the_server j f (lines.Owe the_server p.client (Some p.fid) k ∷ base) ≡ Some y) e l)
+owe_dead : (me : Node) (j : Node) (f : Fid) (x y k : ℕ) (q : Promise) (base : List Line) → q ≡ promise_to j f x → live_grant me j f (lines.Owe me q.client (Some q.fid) k ∷ base) ≡ Some y → ⊥
+owe_dead me j f x y k q base e l = dead_by (same_node me me && (same_node j j && same_fid f f)) (live_grant me j f base) y (rw (same_node-refl me, same_node-refl j, same_fid-refl f) refl)
+    (subst (λ (p : Promise). live_grant me j f (lines.Owe me p.client (Some p.fid) k ∷ base) ≡ Some y) e l)
 
 -- a grant that is owed lasts no more
-owed_dead : (j : Node) (f : Fid) (x y k : ℕ) (ps : List Promise) (base : List Line) → IsPromised (promise_to j f x) ps → live_grant the_server j f (onto base (map (owe_line the_server) (owes_from k ps))) ≡ Some y → ⊥
-owed_dead j f x y k [] base h l = absurd h
-owed_dead j f x y k (q ∷ ps) base (inl e) l = owe_dead j f x y (k + 1) q base e (live_back j f y (map (owe_line the_server) (owes_from (k + 1) ps)) (lines.Owe the_server q.client (Some q.fid) (k + 1) ∷ base) (owes_still (owes_from (k + 1) ps)) l)
-owed_dead j f x y k (q ∷ ps) base (inr h) l = owed_dead j f x y (k + 1) ps (lines.Owe the_server q.client (Some q.fid) (k + 1) ∷ base) h l
+owed_dead : (me : Node) (j : Node) (f : Fid) (x y k : ℕ) (ps : List Promise) (base : List Line) → IsPromised (promise_to j f x) ps → live_grant me j f (onto base (map (owe_line me) (owes_from k ps))) ≡ Some y → ⊥
+owed_dead me j f x y k [] base h l = absurd h
+owed_dead me j f x y k (q ∷ ps) base (inl e) l = owe_dead me j f x y (k + 1) q base e (live_back me j f y (map (owe_line me) (owes_from (k + 1) ps)) (lines.Owe me q.client (Some q.fid) (k + 1) ∷ base) (owes_still me (owes_from (k + 1) ps)) l)
+owed_dead me j f x y k (q ∷ ps) base (inr h) l = owed_dead me j f x y (k + 1) ps (lines.Owe me q.client (Some q.fid) (k + 1) ∷ base) h l
 
 -- behind a change
 -- behind a grant
@@ -755,13 +754,17 @@ grant_promised true n j f g x y o ps e h l =
     in_last (promise_to j g y) (filter (λ z. not (is_promise n f z)) ps) (promise_to n f x ∷ []) (inl (subst (λ (z : ℕ). promise_to n f z ≡ promise_to j g y) (sym (some_of x y l)) (subst (λ (z : Fid). promise_to n z y ≡ promise_to j g y) (sym (same_fid-true f g q.1)) (ap (λ (z : Node). promise_to z g y) (same_node-true n j q.0)))))
 grant_promised false n j f g x y o ps e h l = in_first (promise_to j g y) (filter (λ z. not (is_promise n f z)) ps) (promise_to n f x ∷ []) (kept_in (λ z. not (is_promise n f z)) (promise_to j g y) ps (h l) (not_promise (same_node j n && same_fid g f) n j f g refl e))
 
-promised_now : (n : Node) (f : Fid) (x index clock : ℕ) (base : List Line) (ps : List Promise) → Promised None ps clock base → Promised None (with_promise n x f ps) clock (lines.Grant the_server n f index x ∷ base)
-promised_now n f x index clock base ps h j g y l t = (refl, grant_promised (same_node n j && same_fid f g) n j f g x y (live_grant the_server j g base) ps refl (λ k. (h j g y k t).1) l)
+promised_now : (me : Node) (n : Node) (f : Fid) (x index clock : ℕ) (base : List Line) (ps : List Promise) → Promised me None ps clock base → Promised me None (with_promise n x f ps) clock (lines.Grant me n f index x ∷ base)
+promised_now me n f x index clock base ps h j g y l t = (
+  refl,
+  grant_promised (same_node n j && same_fid f g) n j f g x y (live_grant me j g base) ps refl (λ k. (h j g y k t).1)
+      (subst (λ (own : Bool). cond (own && (same_node n j && same_fid f g)) (Some x) (live_grant me j g base) ≡ Some y) (same_node-refl me) l),
+)
 
 -- grants, and lines behind them
-pub onto_granted : (n : Node) (x : ℕ) (fs : List Found) (tail o : List Line) → onto o (granted the_server n x fs tail) ≡ onto (onto o (granted the_server n x fs [])) tail
-onto_granted n x [] tail o = refl
-onto_granted n x (f ∷ fs) tail o = onto_granted n x fs tail (lines.Grant the_server n f.fid f.vnode.index x ∷ o)
+pub onto_granted : (me : Node) (n : Node) (x : ℕ) (fs : List Found) (tail o : List Line) → onto o (granted me n x fs tail) ≡ onto (onto o (granted me n x fs [])) tail
+onto_granted me n x [] tail o = refl
+onto_granted me n x (f ∷ fs) tail o = onto_granted me n x fs tail (lines.Grant me n f.fid f.vnode.index x ∷ o)
 
 in_either : (p : Promise) (a b : List Promise) → IsPromised p (a ++ b) → IsPromised p a ⊎ IsPromised p b
 in_either p [] b h = inr h
@@ -791,9 +794,9 @@ all_with_left : (n : Node) (x : ℕ) (fs : List Found) (ps qs hs : List Promise)
 all_with_left n x [] ps qs hs w p h = w p h
 all_with_left n x (f ∷ fs) ps qs hs w p h = all_with_left n x fs (with_promise n x f.fid ps) (with_promise n x f.fid qs) hs (λ q z. with_left n x f.fid q ps qs hs w z) p h
 
-pub all_promised : (n : Node) (x clock : ℕ) (fs : List Found) (base : List Line) (ps : List Promise) → Promised None ps clock base → Promised None (with_promises n x fs ps) clock (onto base (granted the_server n x fs []))
-all_promised n x clock [] base ps h = h
-all_promised n x clock (f ∷ fs) base ps h = all_promised n x clock fs (lines.Grant the_server n f.fid f.vnode.index x ∷ base) (with_promise n x f.fid ps) (promised_now n f.fid x f.vnode.index clock base ps h)
+pub all_promised : (me : Node) (n : Node) (x clock : ℕ) (fs : List Found) (base : List Line) (ps : List Promise) → Promised me None ps clock base → Promised me None (with_promises n x fs ps) clock (onto base (granted me n x fs []))
+all_promised me n x clock [] base ps h = h
+all_promised me n x clock (f ∷ fs) base ps h = all_promised me n x clock fs (lines.Grant me n f.fid f.vnode.index x ∷ base) (with_promise n x f.fid ps) (promised_now me n f.fid x f.vnode.index clock base ps h)
 
 -- ---- promises that a client gives up
 
@@ -802,14 +805,14 @@ dropped_promised : (t : Bool) (n j : Node) (f g : Fid) (y : ℕ) (o : Option ℕ
 dropped_promised true n j f g y o ps e h l = absurd cc
 dropped_promised false n j f g y o ps e h l = kept_in (λ z. not (is_promise n f z)) (promise_to j g y) ps (h l) (not_promise (same_node j n && same_fid g f) n j f g refl e)
 
-pub gone_promised : (n : Node) (clock : ℕ) (fs : List Fid) (base : List Line) (ps : List Promise) → Promised None ps clock base → Promised None (without_promises n fs ps) clock (onto base (drops_of n fs))
-gone_promised n clock [] base ps h = h
-gone_promised n clock (f ∷ fs) base ps h = gone_promised n clock fs (lines.Drop n f ∷ base) (filter (λ p. not (is_promise n f p)) ps)
-    (λ j g y l t. (refl, dropped_promised (same_node n j && same_fid f g) n j f g y (live_grant the_server j g base) ps refl (λ k. (h j g y k t).1) l))
+pub gone_promised : (me : Node) (n : Node) (clock : ℕ) (fs : List Fid) (base : List Line) (ps : List Promise) → Promised me None ps clock base → Promised me None (without_promises n fs ps) clock (onto base (drops_of n fs))
+gone_promised me n clock [] base ps h = h
+gone_promised me n clock (f ∷ fs) base ps h = gone_promised me n clock fs (lines.Drop n f ∷ base) (filter (λ p. not (is_promise n f p)) ps)
+    (λ j g y l t. (refl, dropped_promised (same_node n j && same_fid f g) n j f g y (live_grant me j g base) ps refl (λ k. (h j g y k t).1) l))
 
-pub gone_granted : (n : Node) (fs : List Fid) (ls : List Line) (ps : List Promise) → AllOf (IsGranted ls) ps → AllOf (IsGranted ls) (without_promises n fs ps)
-gone_granted n [] ls ps h = h
-gone_granted n (f ∷ fs) ls ps h = gone_granted n fs ls (filter (λ p. not (is_promise n f p)) ps) (all_filter (IsGranted ls) (λ p. not (is_promise n f p)) ps h)
+pub gone_granted : (me : Node) (n : Node) (fs : List Fid) (ls : List Line) (ps : List Promise) → AllOf (IsGranted me ls) ps → AllOf (IsGranted me ls) (without_promises n fs ps)
+gone_granted me n [] ls ps h = h
+gone_granted me n (f ∷ fs) ls ps h = gone_granted me n fs ls (filter (λ p. not (is_promise n f p)) ps) (all_filter (IsGranted me ls) (λ p. not (is_promise n f p)) ps h)
 
 -- ---- promises are made to clients
 
@@ -834,17 +837,17 @@ all_clients x k (suc m) = (tt, all_clients x (k + 1) m)
 
 -- ---- a change, and what it owes
 
-pub left_promised : (n : Node) (k x clock : ℕ) (vs : List Version) (ps : List Promise) (fs : List Found) (e : Entry) (past : List Entry) (front : List Line) → e.lines ≡ front ++ granted the_server n x fs (map (owe_line the_server) (owes_from k (hits n vs ps))) → all_lines is_still front ≡ true → Promised None ps clock (before_own e past)
-    → Promised None (with_promises n x fs (staying n vs ps)) clock (lines_at the_server (e ∷ past))
-left_promised n k x clock vs ps fs e past front are still h j f y l t =
-    let owes : List Line = map (owe_line the_server) (owes_from k (hits n vs ps)) in
-    let base : List Line = onto (before_own e past) front in
-    let mid : List Line = onto base (granted the_server n x fs []) in
-    let here : live_grant the_server j f (onto mid owes) ≡ Some y = subst (λ (ls : List Line). live_grant the_server j f ls ≡ Some y) (ap (onto (before_own e past)) are ∙ (onto_both (before_own e past) front (granted the_server n x fs owes) ∙ onto_granted n x fs owes base)) l in
-    let before = live_back j f y owes mid (owes_still (owes_from k (hits n vs ps))) here in
-    let had : IsPromised (promise_to j f y) (with_promises n x fs ps) = (all_promised n x clock fs base ps (λ i g z a b. h i g z (live_back i g z front (before_own e past) still a) b) j f y before t).1 in
+pub left_promised : (me : Node) (n : Node) (k x clock : ℕ) (vs : List Version) (ps : List Promise) (fs : List Found) (e : Entry) (past : List Entry) (front : List Line) → e.lines ≡ front ++ granted me n x fs (map (owe_line me) (owes_from k (hits n vs ps))) → all_lines is_still front ≡ true → Promised me None ps clock (before_own me e past)
+    → Promised me None (with_promises n x fs (staying n vs ps)) clock (lines_at me (e ∷ past))
+left_promised me n k x clock vs ps fs e past front are still h j f y l t =
+    let owes : List Line = map (owe_line me) (owes_from k (hits n vs ps)) in
+    let base : List Line = onto (before_own me e past) front in
+    let mid : List Line = onto base (granted me n x fs []) in
+    let here : live_grant me j f (onto mid owes) ≡ Some y = subst (λ (ls : List Line). live_grant me j f ls ≡ Some y) (ap (onto (before_own me e past)) are ∙ (onto_both (before_own me e past) front (granted me n x fs owes) ∙ onto_granted me n x fs owes base)) l in
+    let before = live_back me j f y owes mid (owes_still me (owes_from k (hits n vs ps))) here in
+    let had : IsPromised (promise_to j f y) (with_promises n x fs ps) = (all_promised me n x clock fs base ps (λ i g z a b. h i g z (live_back me i g z front (before_own me e past) still a) b) j f y before t).1 in
     elim (all_with_left n x fs ps (staying n vs ps) (hits n vs ps) (λ q z. hit_or_left n vs ps q z) (promise_to j f y) had) [
-      | inl z ↦ absurd (owed_dead j f y y k (hits n vs ps) mid z here)
+      | inl z ↦ absurd (owed_dead me j f y y k (hits n vs ps) mid z here)
       | inr z ↦ (refl, z)
     ]
 
@@ -864,11 +867,11 @@ apart_owe true true o e = absurd cc
 apart_owe true false o e = refl
 apart_owe false t o e = refl
 
-unlike_owes : (n : Node) (vs : List Version) (p : Promise) (k : ℕ) (hs : List Promise) (o : List Line) → (IsHit n vs p → ⊥) → AllOf (IsHit n vs) hs → unbroken_grant the_server p.client p.fid (onto o (map (owe_line the_server) (owes_from k hs))) ≡ unbroken_grant the_server p.client p.fid o
-unlike_owes n vs p k [] o safe hit = refl
-unlike_owes n vs p k (h ∷ hs) o safe hit =
-    unlike_owes n vs p (k + 1) hs (lines.Owe the_server h.client (Some h.fid) (k + 1) ∷ o) safe hit.1
-    ∙ apart_owe (same_node the_server the_server) (same_node h.client p.client && same_fid h.fid p.fid) (unbroken_grant the_server p.client p.fid o) (unlike_by (same_node h.client p.client && same_fid h.fid p.fid) n vs p h refl safe hit.0)
+unlike_owes : (me : Node) (n : Node) (vs : List Version) (p : Promise) (k : ℕ) (hs : List Promise) (o : List Line) → (IsHit n vs p → ⊥) → AllOf (IsHit n vs) hs → unbroken_grant me p.client p.fid (onto o (map (owe_line me) (owes_from k hs))) ≡ unbroken_grant me p.client p.fid o
+unlike_owes me n vs p k [] o safe hit = refl
+unlike_owes me n vs p k (h ∷ hs) o safe hit =
+    unlike_owes me n vs p (k + 1) hs (lines.Owe me h.client (Some h.fid) (k + 1) ∷ o) safe hit.1
+    ∙ apart_owe (same_node me me) (same_node h.client p.client && same_fid h.fid p.fid) (unbroken_grant me p.client p.fid o) (unlike_by (same_node h.client p.client && same_fid h.fid p.fid) n vs p h refl safe hit.0)
 
 all_any : (P : Promise → Type 0) → ((p : Promise) → P p) → (ps : List Promise) → AllOf P ps
 all_any P w [] = tt
@@ -901,48 +904,48 @@ all_with P n x [] ps w h = h
 all_with P n x (f ∷ fs) ps w h = all_with P n x fs (with_promise n x f.fid ps) w (all_both P (filter (λ q. not (is_promise n f.fid q)) ps) _ (all_filter P (λ q. not (is_promise n f.fid q)) ps h) (w f.fid, tt))
 
 -- the promises behind a change
-pub left_granted : (n : Node) (k x : ℕ) (vs : List Version) (ps : List Promise) (fs : List Found) (e : Entry) (past : List Entry) (front : List Line) → e.lines ≡ front ++ granted the_server n x fs (map (owe_line the_server) (owes_from k (hits n vs ps))) → all_lines is_still front ≡ true → all_lines is_up front ≡ true → all_lines is_oweless front ≡ true → AllOf (IsGranted (lines_of past)) ps
-    → AllOf (IsGranted (lines_of (e ∷ past))) (with_promises n x fs (staying n vs ps))
-left_granted n k x vs ps fs e past front are still up oweless h =
-    let owes : List Line = map (owe_line the_server) (owes_from k (hits n vs ps)) in
+pub left_granted : (me : Node) (n : Node) (k x : ℕ) (vs : List Version) (ps : List Promise) (fs : List Found) (e : Entry) (past : List Entry) (front : List Line) → e.lines ≡ front ++ granted me n x fs (map (owe_line me) (owes_from k (hits n vs ps))) → all_lines is_still front ≡ true → all_lines (is_up me) front ≡ true → all_lines is_oweless front ≡ true → AllOf (IsGranted me (lines_of past)) ps
+    → AllOf (IsGranted me (lines_of (e ∷ past))) (with_promises n x fs (staying n vs ps))
+left_granted me n k x vs ps fs e past front are still up oweless h =
+    let owes : List Line = map (owe_line me) (owes_from k (hits n vs ps)) in
     let base : List Line = onto (lines_of past) front in
-    let mid : List Line = onto base (granted the_server n x fs []) in
-    let first : AllOf (IsGranted base) (staying n vs ps) = all_map (IsGranted (lines_of past)) (IsGranted base) (λ p z. unbroken_back p.client p.fid front (lines_of past) still up oweless ∙ z) (staying n vs ps) (all_left (IsGranted (lines_of past)) n vs ps h) in
-    let second : AllOf (IsGranted mid) (with_promises n x fs (staying n vs ps)) = all_granted n x fs base (staying n vs ps) first in
-    subst (λ (ls : List Line). AllOf (IsGranted ls) (with_promises n x fs (staying n vs ps))) (sym (ap (onto (lines_of past)) are ∙ (onto_both (lines_of past) front (granted the_server n x fs owes) ∙ onto_granted n x fs owes base)))
-    (two_all (λ (p : Promise). IsHit n vs p → ⊥) (IsGranted mid) (IsGranted (onto mid owes)) (λ p safe z. unlike_owes n vs p k (hits n vs ps) mid safe (hits_hit n vs ps) ∙ z) (with_promises n x fs (staying n vs ps)) (all_with (λ (p : Promise). IsHit n vs p → ⊥) n x fs (staying n vs ps) (λ f hit. hit.1 refl) (stays_safe n vs ps)) second)
+    let mid : List Line = onto base (granted me n x fs []) in
+    let first : AllOf (IsGranted me base) (staying n vs ps) = all_map (IsGranted me (lines_of past)) (IsGranted me base) (λ p z. unbroken_back me p.client p.fid front (lines_of past) still up oweless ∙ z) (staying n vs ps) (all_left (IsGranted me (lines_of past)) n vs ps h) in
+    let second : AllOf (IsGranted me mid) (with_promises n x fs (staying n vs ps)) = all_granted me n x fs base (staying n vs ps) first in
+    subst (λ (ls : List Line). AllOf (IsGranted me ls) (with_promises n x fs (staying n vs ps))) (sym (ap (onto (lines_of past)) are ∙ (onto_both (lines_of past) front (granted me n x fs owes) ∙ onto_granted me n x fs owes base)))
+    (two_all (λ (p : Promise). IsHit n vs p → ⊥) (IsGranted me mid) (IsGranted me (onto mid owes)) (λ p safe z. unlike_owes me n vs p k (hits n vs ps) mid safe (hits_hit n vs ps) ∙ z) (with_promises n x fs (staying n vs ps)) (all_with (λ (p : Promise). IsHit n vs p → ⊥) n x fs (staying n vs ps) (λ f hit. hit.1 refl) (stays_safe n vs ps)) second)
 
-pub record Changing (n : Node) (b : Backs) (seats now : List Seat) (e : Entry) (past : List Entry) (pre : List Line) (os : List Owed) (hd : Held) (m : Message) : Type 0 where
-  pub are : e.lines ≡ pre ++ map (owe_line the_server) os
-  pub up : all_lines is_up pre ≡ true
+pub record Changing (me : Node) (n : Node) (b : Backs) (seats now : List Seat) (e : Entry) (past : List Entry) (pre : List Line) (os : List Owed) (hd : Held) (m : Message) : Type 0 where
+  pub are : e.lines ≡ pre ++ map (owe_line me) os
+  pub up : all_lines (is_up me) pre ≡ true
   pub still : (c : Node) → (c ≡ n → ⊥) → all_lines (is_still_to c) pre ≡ true
   pub oweless : all_lines is_oweless pre ≡ true
   pub given : given_message e.lines (sent_of past) ≡ Some m
   pub key : key_answered hd.reply ≡ called_key m.head
   pub above : Above (call_seat m.head.from seats) m.head.epoch m.head.number
   pub seat : (n : Node) (x y : ℕ) → Above (call_seat n now) x y → Above (call_seat n seats) x y
-  pub reply : NewReply now (e ∷ past) hd
+  pub reply : NewReply me now (e ∷ past) hd
   pub changed : (k : Key) → HasChange k (lines_of (e ∷ past)) → HasChange k (lines_of past) ⊎ Above (call_seat k.node seats) k.epoch k.number
-  pub owes : AllOf (NewOwe n (lines_of past)) os
+  pub owes : AllOf (NewOwe me n (lines_of past)) os
   pub own : (n : ℕ) → IsNumberIn n (numbers os) → IsNumberIn n hd.waits
   pub all : (n : ℕ) → IsNumberIn n (alls b.lists.owed) → IsNumberIn n hd.waits
 
-pub change_loaded : (n : Node) (b : Backs) (ps : List Promise) (more boot : ℕ) (seats now : List Seat) (cs : ℕ → Option Seat) (clock : ℕ) (sent : List Message) (e : Entry) (past : List Entry) (pre : List Line) (os : List Owed) (hd : Held) (m : Message) → BackedIn None b boot seats cs clock sent past → AllOf (IsGranted (lines_of (e ∷ past))) ps → Promised None ps clock (lines_at the_server (e ∷ past)) → Numbered None more (lines_of (e ∷ past)) → Rising (lines_of (e ∷ past)) → ToClients ps os → Changing n b seats now e past pre os hd m
-    → BackedIn None (record b { lists = record { promises = ps; owed = b.lists.owed ++ os; last_owed = more }; held = b.held ++ hd ∷ [] }) boot now cs clock sent (e ∷ past)
-change_loaded who b ps more boot seats now cs clock sent e past pre os hd m h granted promised numbered rising clients w =
+pub change_loaded : (me : Node) (n : Node) (b : Backs) (ps : List Promise) (more boot : ℕ) (seats now : List Seat) (cs : ℕ → Option Seat) (clock : ℕ) (sent : List Message) (e : Entry) (past : List Entry) (pre : List Line) (os : List Owed) (hd : Held) (m : Message) → BackedIn me None b boot seats cs clock sent past → AllOf (IsGranted me (lines_of (e ∷ past))) ps → Promised me None ps clock (lines_at me (e ∷ past)) → Numbered me None more (lines_of (e ∷ past)) → Rising me (lines_of (e ∷ past)) → ToClients ps os → Changing me n b seats now e past pre os hd m
+    → BackedIn me None (record b { lists = record { promises = ps; owed = b.lists.owed ++ os; last_owed = more }; held = b.held ++ hd ∷ [] }) boot now cs clock sent (e ∷ past)
+change_loaded me who b ps more boot seats now cs clock sent e past pre os hd m h granted promised numbered rising clients w =
     let after : Backs = record b { lists = record { promises = ps; owed = b.lists.owed ++ os; last_owed = more }; held = b.held ++ hd ∷ [] } in
-    let up : all_lines is_up e.lines ≡ true = subst (λ (ls : List Line). all_lines is_up ls ≡ true) (sym w.are) (lines_both is_up pre _ w.up (owes_up os)) in
-    let still : (c : Node) → (c ≡ who → ⊥) → all_lines (is_still_to c) e.lines ≡ true = λ c ne. subst (λ (ls : List Line). all_lines (is_still_to c) ls ≡ true) (sym w.are) (lines_both (is_still_to c) pre _ (w.still c ne) (owes_still_to c os)) in
-    let found : (before after : List Line) (c : Node) (what : Option Fid) (n : ℕ) → e.lines ≡ before ++ lines.Owe the_server c what n ∷ after → OweFound os c what n = λ before after c what n line. owes_found pre os before after c what n w.oweless (sym w.are ∙ line) in
-    let not_all : (before after : List Line) (c : Node) (what : Option Fid) (n : ℕ) → e.lines ≡ before ++ lines.Owe the_server c what n ∷ after → what ≡ None → ⊥ = λ before after c what n line z. let f = found before after c what n line in let x = in_all (NewOwe who (lines_of past)) f.o os f.is_in w.owes in let y : Some x.fid ≡ None = sym x.on ∙ (f.on ∙ z) in absurd cc in
-    let under : (k : Key) (t : ℕ) → IsCallUnder the_server k t (given_message e.lines (sent_of past)) → called_key m.head ≡ k = λ k t y. (subst (λ (o : Option Message). IsCallUnder the_server k t o) w.given y).1.0 in
-    let none : is_held (key_answered hd.reply) b.held ≡ true → ⊥ = λ y. key_held b boot seats cs clock sent past (called_key m.head) h w.above (subst (λ (k : Key). is_held k b.held ≡ true) w.key y) in
-    let s : Stepping None None b after clock clock e past = record {
+    let up : all_lines (is_up me) e.lines ≡ true = subst (λ (ls : List Line). all_lines (is_up me) ls ≡ true) (sym w.are) (lines_both (is_up me) pre _ w.up (owes_up me os)) in
+    let still : (c : Node) → (c ≡ who → ⊥) → all_lines (is_still_to c) e.lines ≡ true = λ c ne. subst (λ (ls : List Line). all_lines (is_still_to c) ls ≡ true) (sym w.are) (lines_both (is_still_to c) pre _ (w.still c ne) (owes_still_to me c os)) in
+    let found : (before after : List Line) (c : Node) (what : Option Fid) (n : ℕ) → e.lines ≡ before ++ lines.Owe me c what n ∷ after → OweFound os c what n = λ before after c what n line. owes_found me pre os before after c what n w.oweless (sym w.are ∙ line) in
+    let not_all : (before after : List Line) (c : Node) (what : Option Fid) (n : ℕ) → e.lines ≡ before ++ lines.Owe me c what n ∷ after → what ≡ None → ⊥ = λ before after c what n line z. let f = found before after c what n line in let x = in_all (NewOwe me who (lines_of past)) f.o os f.is_in w.owes in let y : Some x.fid ≡ None = sym x.on ∙ (f.on ∙ z) in absurd cc in
+    let under : (k : Key) (t : ℕ) → IsCallUnder me k t (given_message e.lines (sent_of past)) → called_key m.head ≡ k = λ k t y. (subst (λ (o : Option Message). IsCallUnder me k t o) w.given y).1.0 in
+    let none : is_held (key_answered hd.reply) b.held ≡ true → ⊥ = λ y. key_held me b boot seats cs clock sent past (called_key m.head) h w.above (subst (λ (k : Key). is_held k b.held ≡ true) w.key y) in
+    let s : Stepping me None None b after clock clock e past = record {
       was_up = λ x. x;
       up = λ x. up;
       or_stopped = λ x. inl x;
       later = le_refl _;
-      new = λ before rest c what n line. let f = found before rest c what n line in let x = in_all (NewOwe who (lines_of past)) f.o os f.is_in w.owes in inr (
+      new = λ before rest c what n line. let f = found before rest c what n line in let x = in_all (NewOwe me who (lines_of past)) f.o os f.is_in w.owes in inr (
         refl,
         record {
           o = f.o;
@@ -950,8 +953,8 @@ change_loaded who b ps more boot seats now cs clock sent e past pre os hd m h gr
           number = f.number;
           client = f.client;
           on = f.on;
-          expiry = subst (λ (z : Option Fid). expiry_of the_server c z (onto (lines_of past) before) ≡ Some f.o.expiry) (sym x.on ∙ f.on) (subst (λ (z : Node). last_grant the_server z x.fid (onto (lines_of past) before) ≡ Some f.o.expiry) f.client
-              (grant_back_to f.o.client x.fid before (lines_of past) (lines_front (is_still_to f.o.client) before _ (subst (λ (ls : List Line). all_lines (is_still_to f.o.client) ls ≡ true) line (still f.o.client x.other))) ∙ x.granted));
+          expiry = subst (λ (z : Option Fid). expiry_of me c z (onto (lines_of past) before) ≡ Some f.o.expiry) (sym x.on ∙ f.on) (subst (λ (z : Node). last_grant me z x.fid (onto (lines_of past) before) ≡ Some f.o.expiry) f.client
+              (grant_back_to me f.o.client x.fid before (lines_of past) (lines_front (is_still_to f.o.client) before _ (subst (λ (ls : List Line). all_lines (is_still_to f.o.client) ls ≡ true) line (still f.o.client x.other))) ∙ x.granted));
           waits = λ k t y. inr (held_last k b.held hd (w.key ∙ under k t y));
         },
       );
@@ -960,12 +963,12 @@ change_loaded who b ps more boot seats now cs clock sent e past pre os hd m h gr
       last = le_refl _;
       calls = calls_same b.calls b.last_call;
     } in
-    subst (λ (ms : List Message). BackedIn None after boot now cs clock ms (e ∷ past)) (append-nil sent)
-    (backed_step None None b after boot seats now cs cs clock clock sent [] e past s h (λ x. granted) promised numbered rising (λ x. record { promised = clients.promised; owed = all_both (λ (o : Owed). IsClient o.client) b.lists.owed os (h.clients x).owed clients.owed })
-    (λ x. all_both (λ (o : Owed). IsOwed o.client (lines_of (e ∷ past)) o) b.lists.owed os (owed_over e past b.lists.owed up (h.owing x))
-    (subst (λ (ls : List Line). AllOf (λ (o : Owed). IsOwed o.client ls o) os) (sym (ap (onto (lines_of past)) w.are ∙ onto_both (lines_of past) pre (map (owe_line the_server) os))) (owes_at os (onto (lines_of past) pre))))
-    (λ x. all_both (HeldWaits now clock (e ∷ past)) b.held (hd ∷ [])
-    (all_map (HeldWaits seats clock past) (HeldWaits now clock (e ∷ past)) (λ q y. waits_over seats now clock clock e past q (le_refl _) w.changed
+    subst (λ (ms : List Message). BackedIn me None after boot now cs clock ms (e ∷ past)) (append-nil sent)
+    (backed_step me None None b after boot seats now cs cs clock clock sent [] e past s h (λ x. granted) promised numbered rising (λ x. record { promised = clients.promised; owed = all_both (λ (o : Owed). IsClient o.client) b.lists.owed os (h.clients x).owed clients.owed })
+    (λ x. all_both (λ (o : Owed). IsOwed me o.client (lines_of (e ∷ past)) o) b.lists.owed os (owed_over me e past b.lists.owed up (h.owing x))
+    (subst (λ (ls : List Line). AllOf (λ (o : Owed). IsOwed me o.client ls o) os) (sym (ap (onto (lines_of past)) w.are ∙ onto_both (lines_of past) pre (map (owe_line me) os))) (owes_at me os (onto (lines_of past) pre))))
+    (λ x. all_both (HeldWaits me now clock (e ∷ past)) b.held (hd ∷ [])
+    (all_map (HeldWaits me seats clock past) (HeldWaits me now clock (e ∷ past)) (λ q y. waits_over me seats now clock clock e past q (le_refl _) (w.changed (key_answered q.reply))
     (λ before rest c what n line. ((λ t z. absurd (y.under (subst (λ (k : Key). Above (call_seat k.node seats) k.epoch k.number) (under (key_answered q.reply) t z) w.above))), not_all before rest c what n line)) w.seat y) b.held (h.waiting refl)) (
       record {
         client = w.reply.client;
@@ -973,39 +976,43 @@ change_loaded who b ps more boot seats now cs clock sent e past pre os hd m h gr
         from = w.reply.from;
         is_reply = w.reply.is_reply;
         under = w.reply.under;
-        own = owes_over the_server (AccountedBy None b.lists.owed b.held clock) (WaitedBy hd clock) e past (λ y z c what n line t k. let f = found y z c what n line in inr (w.own n (number_of f.o os n f.is_in f.number)))
-            (λ newer at older y z c what n u. own_past b boot seats cs clock sent e past hd newer at older y z c what n h none u) h.accounted;
-        all = λ y. all_waited b boot seats cs clock sent e past hd h w.all not_all;
+        own = owes_over me (AccountedBy me None b.lists.owed b.held clock) (WaitedBy me hd clock) e past (λ y z c what n line t k. let f = found y z c what n line in inr (w.own n (number_of f.o os n f.is_in f.number)))
+            (λ newer at older y z c what n u. own_past me b boot seats cs clock sent e past hd newer at older y z c what n h none u) h.accounted;
+        all = λ y. all_waited me b boot seats cs clock sent e past hd h w.all not_all;
       },
       tt,
     ))
-    (λ x j c at. call_over j c b.last_call b.last_call boot e past (le_refl _) up (h.outs x j c at)) tt tt
-    (λ j seat k x y. seated_over None None b after boot clock clock e past s j k (h.seated j seat k x y)))
+    (λ x j c at. call_over me j c b.last_call b.last_call boot e past (le_refl _) up (h.outs x j c at)) tt tt
+    (λ j seat k x y. seated_over me None None b after boot clock clock e past s j k (h.seated j seat k x y)))
+
+-- the number of the last break
+top_owe : (me c : Node) (what : Option Fid) (n : ℕ) (ls : List Line) → last_number me (lines.Owe me c what n ∷ ls) ≤ n
+top_owe me c what n ls = rw (same_node-refl me) (le_refl n)
 
 -- numbers of new breaks
-pub numbers_good : (s : Script) (k : ℕ) (ps : List Promise) (past : List Entry) (own : List Line) → last_number the_server (own ++ lines_of past) ≤ k → (HasStopped the_server own → ⊥) → AllOf (λ (p : Promise). IsChangedByOther the_server p.client p.fid own) ps → AllOf (λ (p : Promise). IsUnbroken the_server p.client p.fid past) ps → AreGood s (actors.Node the_server) past own (map (owe_line the_server) (owes_from k ps))
-numbers_good s k [] past own h up w g = tt
-numbers_good s k (p ∷ ps) past own h up w g = ((refl, record { going = up; number = omega arith; cause = (w.0, g.0) }), numbers_good s (k + 1) ps past (lines.Owe the_server p.client (Some p.fid) (k + 1) ∷ own) (le_refl _) up w.1 g.1)
+pub numbers_good : (me : Node) → IsServing me → (s : Script) (k : ℕ) (ps : List Promise) (past : List Entry) (own : List Line) → last_number me (own ++ lines_of past) ≤ k → (HasStopped me own → ⊥) → AllOf (λ (p : Promise). IsChangedByOther me p.client p.fid own) ps → AllOf (λ (p : Promise). IsUnbroken me p.client p.fid past) ps → AreGood s (actors.Node me) past own (map (owe_line me) (owes_from k ps))
+numbers_good me serving s k [] past own h up w g = tt
+numbers_good me serving s k (p ∷ ps) past own h up w g = ((serving, record { going = up; number = omega arith; cause = (w.0, g.0) }), numbers_good me serving s (k + 1) ps past (lines.Owe me p.client (Some p.fid) (k + 1) ∷ own) (top_owe me p.client (Some p.fid) (k + 1) (own ++ lines_of past)) up w.1 g.1)
 
-pub numbers_rise : (k : ℕ) (ps : List Promise) (base : List Line) → last_number the_server base ≤ k → last_number the_server (onto base (map (owe_line the_server) (owes_from k ps))) ≤ k + length (owes_from k ps)
-numbers_rise k [] base h = omega arith
-numbers_rise k (p ∷ ps) base h = let x : last_number the_server (onto (lines.Owe the_server p.client (Some p.fid) (k + 1) ∷ base) (map (owe_line the_server) (owes_from (k + 1) ps))) ≤ (k + 1) + length (owes_from (k + 1) ps) = numbers_rise (k + 1) ps (lines.Owe the_server p.client (Some p.fid) (k + 1) ∷ base) (le_refl _) in omega arith
+pub numbers_rise : (me : Node) (k : ℕ) (ps : List Promise) (base : List Line) → last_number me base ≤ k → last_number me (onto base (map (owe_line me) (owes_from k ps))) ≤ k + length (owes_from k ps)
+numbers_rise me k [] base h = omega arith
+numbers_rise me k (p ∷ ps) base h = let x : last_number me (onto (lines.Owe me p.client (Some p.fid) (k + 1) ∷ base) (map (owe_line me) (owes_from (k + 1) ps))) ≤ (k + 1) + length (owes_from (k + 1) ps) = numbers_rise me (k + 1) ps (lines.Owe me p.client (Some p.fid) (k + 1) ∷ base) (top_owe me p.client (Some p.fid) (k + 1) base) in omega arith
 
-pub owes_rising : (k : ℕ) (ps : List Promise) (base : List Line) → last_number the_server base ≤ k → Rising base → Rising (onto base (map (owe_line the_server) (owes_from k ps)))
-owes_rising k [] base le h = h
-owes_rising k (p ∷ ps) base le h = owes_rising (k + 1) ps (lines.Owe the_server p.client (Some p.fid) (k + 1) ∷ base) (le_refl _) (λ e. omega arith, h)
+pub owes_rising : (me : Node) (k : ℕ) (ps : List Promise) (base : List Line) → last_number me base ≤ k → Rising me base → Rising me (onto base (map (owe_line me) (owes_from k ps)))
+owes_rising me k [] base le h = h
+owes_rising me k (p ∷ ps) base le h = owes_rising me (k + 1) ps (lines.Owe me p.client (Some p.fid) (k + 1) ∷ base) (top_owe me p.client (Some p.fid) (k + 1) base) (λ e. omega arith, h)
 
-alls_rising : (x k m : ℕ) (base : List Line) → last_number the_server base ≤ k → Rising base → Rising (onto base (map (owe_line the_server) (owes_all x k m)))
-alls_rising x k zero base le h = h
-alls_rising x k (suc m) base le h = alls_rising x (k + 1) m (lines.Owe the_server (Client (k + 1)) None (k + 1) ∷ base) (le_refl _) (λ e. omega arith, h)
+alls_rising : (me : Node) (x k m : ℕ) (base : List Line) → last_number me base ≤ k → Rising me base → Rising me (onto base (map (owe_line me) (owes_all x k m)))
+alls_rising me x k zero base le h = h
+alls_rising me x k (suc m) base le h = alls_rising me x (k + 1) m (lines.Owe me (Client (k + 1)) None (k + 1) ∷ base) (top_owe me (Client (k + 1)) None (k + 1) base) (λ e. omega arith, h)
 
-pub alls_good : (s : Script) (x k m : ℕ) (past : List Entry) (own : List Line) → last_number the_server (own ++ lines_of past) ≤ k → (HasStopped the_server own → ⊥) → HasRisen the_server own → k + m ≤ s.clients → AreGood s (actors.Node the_server) past own (map (owe_line the_server) (owes_all x k m))
-alls_good s x k zero past own h up w few = tt
-alls_good s x k (suc m) past own h up w few = ((refl, record { going = up; number = omega arith; cause = (w, (omega arith, omega arith)) }), alls_good s x (k + 1) m past (lines.Owe the_server (Client (k + 1)) None (k + 1) ∷ own) (le_refl _) up w (omega arith))
+pub alls_good : (me : Node) → IsServing me → (s : Script) (x k m : ℕ) (past : List Entry) (own : List Line) → last_number me (own ++ lines_of past) ≤ k → (HasStopped me own → ⊥) → HasRisen me own → k + m ≤ s.clients → AreGood s (actors.Node me) past own (map (owe_line me) (owes_all x k m))
+alls_good me serving s x k zero past own h up w few = tt
+alls_good me serving s x k (suc m) past own h up w few = ((serving, record { going = up; number = omega arith; cause = (w, (omega arith, omega arith)) }), alls_good me serving s x (k + 1) m past (lines.Owe me (Client (k + 1)) None (k + 1) ∷ own) (top_owe me (Client (k + 1)) None (k + 1) (own ++ lines_of past)) up w (omega arith))
 
-pub alls_rise : (x k m : ℕ) (base : List Line) → last_number the_server base ≤ k → last_number the_server (onto base (map (owe_line the_server) (owes_all x k m))) ≤ k + m
-alls_rise x k zero base h = omega arith
-alls_rise x k (suc m) base h = let y : last_number the_server (onto (lines.Owe the_server (Client (k + 1)) None (k + 1) ∷ base) (map (owe_line the_server) (owes_all x (k + 1) m))) ≤ (k + 1) + m = alls_rise x (k + 1) m (lines.Owe the_server (Client (k + 1)) None (k + 1) ∷ base) (le_refl _) in omega arith
+pub alls_rise : (me : Node) (x k m : ℕ) (base : List Line) → last_number me base ≤ k → last_number me (onto base (map (owe_line me) (owes_all x k m))) ≤ k + m
+alls_rise me x k zero base h = omega arith
+alls_rise me x k (suc m) base h = let y : last_number me (onto (lines.Owe me (Client (k + 1)) None (k + 1) ∷ base) (map (owe_line me) (owes_all x (k + 1) m))) ≤ (k + 1) + m = alls_rise me x (k + 1) m (lines.Owe me (Client (k + 1)) None (k + 1) ∷ base) (top_owe me (Client (k + 1)) None (k + 1) base) in omega arith
 
 -- ---- a restart
 
@@ -1018,35 +1025,35 @@ on_all expiry k zero = tt
 on_all expiry k (suc m) = (record { on = refl; expires = refl }, on_all expiry (k + 1) m)
 
 -- every client of the cell is owed a break on all
-pub all_owed : (x k m j : ℕ) → k + 1 ≤ j → j ≤ k + m → HasOwe the_server (Client j) None (map (owe_line the_server) (owes_all x k m))
-all_owed x k zero j a b = absurd (omega arith)
-all_owed x k (suc m) j a b = elim (eq-or-lt_of_le a) [
+pub all_owed : (me : Node) (x k m j : ℕ) → k + 1 ≤ j → j ≤ k + m → HasOwe me (Client j) None (map (owe_line me) (owes_all x k m))
+all_owed me x k zero j a b = absurd (omega arith)
+all_owed me x k (suc m) j a b = elim (eq-or-lt_of_le a) [
   | inl e ↦ inl (refl, (ap Client e, refl))
-  | inr l ↦ inr (all_owed x (k + 1) m j (omega arith) (omega arith))
+  | inr l ↦ inr (all_owed me x (k + 1) m j (omega arith) (omega arith))
 ]
 
 not_now : (e boot : ℕ) → e ≤ boot → e ≡ boot + 1 → ⊥
 not_now e boot a b = absurd (omega arith)
 
-pub rise_loaded : (count : ℕ) (d : Option Fall) (b : Backs) (boot : ℕ) (seats now : List Seat) (cs : ℕ → Option Seat) (clock : ℕ) (sent : List Message) (e : Entry) (past : List Entry) (pre : List Line) → (d ≡ None → ⊥) → BackedIn d b boot seats cs clock sent past → clock_of (lines_of past) ≡ clock
-    → e.lines ≡ pre ++ (risen_as the_server clock count).lines → all_lines is_oweless pre ≡ true → all_lines is_tickless pre ≡ true → all_lines is_still pre ≡ true → given_message e.lines (sent_of past) ≡ None → BackedIn None (loaded (risen_as the_server clock count)) (boot + 1) now cs clock sent (e ∷ past)
-rise_loaded count d b boot seats now cs clock sent e past pre ne h time are oweless tickless still given =
+pub rise_loaded : (me : Node) (count : ℕ) (d : Option Fall) (b : Backs) (boot : ℕ) (seats now : List Seat) (cs : ℕ → Option Seat) (clock : ℕ) (sent : List Message) (e : Entry) (past : List Entry) (pre : List Line) → (d ≡ None → ⊥) → BackedIn me d b boot seats cs clock sent past → clock_of (lines_of past) ≡ clock
+    → e.lines ≡ pre ++ (risen_as me clock count).lines → all_lines is_oweless pre ≡ true → all_lines is_tickless pre ≡ true → all_lines is_still pre ≡ true → given_message e.lines (sent_of past) ≡ None → BackedIn me None (loaded (risen_as me clock count)) (boot + 1) now cs clock sent (e ∷ past)
+rise_loaded me count d b boot seats now cs clock sent e past pre ne h time are oweless tickless still given =
     let os : List Owed = owes_all (clock + promise_ticks) 0 count in
     let all : AllOf (OnAll (clock + promise_ticks)) os = on_all (clock + promise_ticks) 0 count in
-    let ticks : all_lines is_tickless e.lines ≡ true = subst (λ (ls : List Line). all_lines is_tickless ls ≡ true) (sym are) (lines_both is_tickless pre _ tickless (owes_tickless os)) in
+    let ticks : all_lines is_tickless e.lines ≡ true = subst (λ (ls : List Line). all_lines is_tickless ls ≡ true) (sym are) (lines_both is_tickless pre _ tickless (owes_tickless me os)) in
     record {
       granted = λ x. tt;
       numbered =
-          let zero : last_number the_server (onto (lines_of past) pre) ≡ 0 = zero_back pre (lines_of past) oweless (down_zero d b.lists.last_owed (lines_of past) ne h.numbered) in
-          subst (λ (ls : List Line). last_number the_server ls ≤ count) (sym (ap (onto (lines_of past)) are ∙ onto_both (lines_of past) pre (map (owe_line the_server) os)))
-          (let y : last_number the_server (onto (onto (lines_of past) pre) (map (owe_line the_server) os)) ≤ 0 + count = alls_rise (clock + promise_ticks) 0 count (onto (lines_of past) pre) (le_of_eq zero) in omega arith);
+          let zero : last_number me (onto (lines_of past) pre) ≡ 0 = zero_back me pre (lines_of past) oweless (down_zero me d b.lists.last_owed (lines_of past) ne h.numbered) in
+          subst (λ (ls : List Line). last_number me ls ≤ count) (sym (ap (onto (lines_of past)) are ∙ onto_both (lines_of past) pre (map (owe_line me) os)))
+          (let y : last_number me (onto (onto (lines_of past) pre) (map (owe_line me) os)) ≤ 0 + count = alls_rise me (clock + promise_ticks) 0 count (onto (lines_of past) pre) (le_of_eq zero) in omega arith);
       rising =
-          let zero : last_number the_server (onto (lines_of past) pre) ≡ 0 = zero_back pre (lines_of past) oweless (down_zero d b.lists.last_owed (lines_of past) ne h.numbered) in
-          subst Rising (sym (ap (onto (lines_of past)) are ∙ onto_both (lines_of past) pre (map (owe_line the_server) os))) (alls_rising (clock + promise_ticks) 0 count (onto (lines_of past) pre) (le_of_eq zero) (rising_back pre (lines_of past) oweless h.rising));
+          let zero : last_number me (onto (lines_of past) pre) ≡ 0 = zero_back me pre (lines_of past) oweless (down_zero me d b.lists.last_owed (lines_of past) ne h.numbered) in
+          subst (Rising me) (sym (ap (onto (lines_of past)) are ∙ onto_both (lines_of past) pre (map (owe_line me) os))) (alls_rising me (clock + promise_ticks) 0 count (onto (lines_of past) pre) (le_of_eq zero) (rising_back me pre (lines_of past) oweless h.rising));
       clients = λ x. record { promised = tt; owed = all_clients (clock + promise_ticks) 0 count };
-      promised = λ j f x l t. absurd (ne (h.promised j f x (live_given j f x e past (live_back j f x e.lines (before_own e past) (subst (λ (ls : List Line). all_lines is_still ls ≡ true) (sym are) (lines_both is_still pre _ still (owes_still os))) l)) t).0);
-      accounted = owes_over the_server (AccountedBy d b.lists.owed b.held clock) (AccountedBy None os [] clock) e past
-          (λ before rest c what n line. let f = owes_found pre os before rest c what n oweless (sym are ∙ line) in let x = in_all (OnAll (clock + promise_ticks)) f.o os f.is_in all in inr (
+      promised = λ j f x l t. absurd (ne (h.promised j f x (live_given me j f x e past (live_back me j f x e.lines (before_own me e past) (subst (λ (ls : List Line). all_lines is_still ls ≡ true) (sym are) (lines_both is_still pre _ still (owes_still me os))) l)) t).0);
+      accounted = owes_over me (AccountedBy me d b.lists.owed b.held clock) (AccountedBy me None os [] clock) e past
+          (λ before rest c what n line. let f = owes_found me pre os before rest c what n oweless (sym are ∙ line) in let x = in_all (OnAll (clock + promise_ticks)) f.o os f.is_in all in inr (
             refl,
             record {
               o = f.o;
@@ -1054,16 +1061,16 @@ rise_loaded count d b boot seats now cs clock sent e past pre ne h time are owel
               number = f.number;
               client = f.client;
               on = f.on;
-              expiry = subst (λ (z : Option Fid). expiry_of the_server c z (onto (lines_of past) before) ≡ Some f.o.expiry) (sym x.on ∙ f.on)
+              expiry = subst (λ (z : Option Fid). expiry_of me c z (onto (lines_of past) before) ≡ Some f.o.expiry) (sym x.on ∙ f.on)
                   (ap Some (ap (λ (t : ℕ). t + 7200) (clock_back before (lines_of past) (lines_front is_tickless before _ (subst (λ (ls : List Line). all_lines is_tickless ls ≡ true) line ticks)) ∙ time) ∙ sym x.expires));
-              waits = λ k t y. absurd (subst (λ (o : Option Message). IsCallUnder the_server k t o) given y);
+              waits = λ k t y. absurd (subst (λ (o : Option Message). IsCallUnder me k t o) given y);
             },
           ))
-          (λ newer at older before rest c what n x. elim x [ inl y ↦ inl (ended_over e clock clock newer at older before rest c what n (le_refl _) y) | inr y ↦ absurd (ne y.0) ]) h.accounted;
-      owing = λ x. subst (λ (ls : List Line). AllOf (λ (o : Owed). IsOwed o.client ls o) os) (sym (ap (onto (lines_of past)) are ∙ onto_both (lines_of past) pre (map (owe_line the_server) os))) (owes_at os (onto (lines_of past) pre));
+          (λ newer at older before rest c what n x. elim x [ inl y ↦ inl (ended_over me e clock clock newer at older before rest c what n (le_refl _) y) | inr y ↦ absurd (ne y.0) ]) h.accounted;
+      owing = λ x. subst (λ (ls : List Line). AllOf (λ (o : Owed). IsOwed me o.client ls o) os) (sym (ap (onto (lines_of past)) are ∙ onto_both (lines_of past) pre (map (owe_line me) os))) (owes_at me os (onto (lines_of past) pre));
       waiting = λ x. tt;
       outs = λ x j c at. absurd cc;
-      calls = each_map (IfBack (BackIn d b.calls b.last_call boot)) (IfBack (BackIn None (λ n. None) 0 (boot + 1))) (if_back (BackIn d b.calls b.last_call boot) (BackIn None (λ n. None) 0 (boot + 1)) (λ head user call x. record { client = x.client; to = x.to; booted = le_trans x.booted (omega arith); below = λ y z. absurd (not_now head.epoch boot x.booted z); is = λ c y z. absurd (not_now head.epoch boot x.booted z) })) sent h.calls;
-      dones = each_map (IfDone (DoneIn d b.calls b.last_call boot past)) (IfDone (DoneIn None (λ n. None) 0 (boot + 1) (e ∷ past))) (if_done (DoneIn d b.calls b.last_call boot past) (DoneIn None (λ n. None) 0 (boot + 1) (e ∷ past)) (λ m x. record { client = x.client; from = x.from; done = record { booted = le_trans x.done.booted (omega arith); below = λ y z. absurd (not_now m.head.epoch boot x.done.booted z); dropped = λ c y z. absurd (not_now m.head.epoch boot x.done.booted z) } })) sent h.dones;
+      calls = each_map (IfBack (BackIn me d b.calls b.last_call boot)) (IfBack (BackIn me None (λ n. None) 0 (boot + 1))) (if_back (BackIn me d b.calls b.last_call boot) (BackIn me None (λ n. None) 0 (boot + 1)) (λ head user call x. record { client = x.client; to = x.to; booted = λ own. le_trans (x.booted own) (omega arith); below = λ own y z. absurd (not_now head.epoch boot (x.booted own) z); is = λ c own y z. absurd (not_now head.epoch boot (x.booted own) z) })) sent h.calls;
+      dones = each_map (IfDone (DoneIn me d b.calls b.last_call boot past)) (IfDone (DoneIn me None (λ n. None) 0 (boot + 1) (e ∷ past))) (if_done (DoneIn me d b.calls b.last_call boot past) (DoneIn me None (λ n. None) 0 (boot + 1) (e ∷ past)) (λ m x. record { client = x.client; from = x.from; done = λ own. record { booted = le_trans (x.done own).booted (omega arith); below = λ y z. absurd (not_now m.head.epoch boot (x.done own).booted z); dropped = λ c y z. absurd (not_now m.head.epoch boot (x.done own).booted z) } })) sent h.dones;
       seated = λ j seat m x y. let z = h.seated j seat m x y in record { to = z.to; from = z.from; is_reply = z.is_reply; done = record { booted = le_trans z.done.booted (omega arith); below = λ u v. absurd (not_now m.head.epoch boot z.done.booted v); dropped = λ c u v. absurd (not_now m.head.epoch boot z.done.booted v) } };
     }

@@ -17,21 +17,25 @@ use Rattle.afs_law.proofs.Knowing.{Known, known_first, known_kept, served_uncall
 use Rattle.afs_law.proofs.Law.{first_passed}
 use Rattle.afs_law.proofs.Moving.{Behind, EachMove, IsKept, each_moved, run_keeps}
 use Rattle.afs_law.proofs.Seating.{AreSeated}
+use Rattle.afs_law.specs.Grants.{IsDropped, has_fetched, is_promised}
 use Rattle.afs_law.specs.Ideal.{call_in, call_under, set_up, user_of}
 use Rattle.afs_law.specs.Legal.{as_asked}
 use Rattle.afs_law.specs.Once.{past_of}
 use Rattle.afs_records.specs.Durable.{Stored}
 use Rattle.afs_law.specs.Parts.{ActsAreTold, CallsAreAsked, IsAsked}
 use Rattle.afs_law.specs.Past.{CalledSince, Sends, called_key, has_begun, has_sent, is_called, is_new_to_act, lines_of, onto, running, same_key, sent_of}
+use Rattle.afs_num.specs.Fids.{same_fid}
 use Rattle.afs_num.specs.Nodes.{same_node}
 use Rattle.afs_num.specs.declared.calls.FsCall.{FsCall}
 use Rattle.afs_num.specs.declared.histories.Actor.TheVariants as actors
+use Rattle.afs_num.specs.declared.histories.ReadSource.TheVariants.{Fetched}
 use Rattle.afs_num.specs.declared.histories.Version.{Version}
 use Rattle.afs_num.specs.declared.messages.Call.TheVariants as ask
 use Rattle.afs_num.specs.declared.messages.Carried.{Carried}
 use Rattle.afs_num.specs.declared.messages.Carried.TheVariants as carried
 use Rattle.afs_num.specs.declared.messages.Message.{Message}
 use Rattle.afs_num.specs.declared.messages.Received.TheVariants.{Whole}
+use Rattle.afs_num.specs.declared.types.Fid.{Fid}
 use Rattle.afs_num.specs.declared.types.Head.{Head}
 use Rattle.afs_num.specs.declared.types.Key.{Key}
 use Rattle.afs_num.specs.declared.types.Node.{Node}
@@ -45,7 +49,7 @@ use Rattle.afs_rows.specs.ServerSteps.{back_timeout_row, server_row, start_row, 
 use Rattle.afs_rows.specs.States.{Gift, ServerState}
 use Rattle.afs_rows.specs.Steps.{Step}
 use Rattle.std.proofs.Common.{◌≡◌, ℕ, ◌+◌, ◌⊎◌, inl, inr, Bool, true, false, cond, not, List, [], ◌∷◌, ◌++◌, Option, Some, None, refl, sym, ap, subst, ◌∙◌}
-use Rattle.std.specs.Prelude.{⊤}
+use Rattle.std.specs.Prelude.{⊤, ◌&&◌}
 
 -- ---- lines that leave the act that runs at a client
 
@@ -54,6 +58,8 @@ is_idle (lines.Begin n act) = false
 is_idle (lines.Read n f index source body) = false
 is_idle (lines.Answer n code) = false
 is_idle (lines.Crash n) = is_server n
+is_idle (lines.Drop n f) = is_server n
+is_idle (lines.DropAll n q) = is_server n
 is_idle l = true
 
 server_apart : (n : Node) (j : ℕ) → is_server n ≡ true → same_node n (Client j) ≡ false
@@ -62,10 +68,12 @@ server_apart (Client i) j h = absurd cc
 server_apart (Admin i) j h = absurd cc
 server_apart Loc j h = absurd cc
 
--- an act, and what begins, of a client
-record Leaves (s : Script) (j : ℕ) (ls o : List Line) : Type 0 where
-  runs : running s (Client j) (onto o ls) ≡ running s (Client j) o
-  begins : has_begun (Client j) ls ≡ false
+-- the act of a client, and what it began, fetched and dropped
+pub record Leaves (s : Script) (j : ℕ) (ls o : List Line) : Type 0 where
+  pub runs : running s (Client j) (onto o ls) ≡ running s (Client j) o
+  pub begins : has_begun (Client j) ls ≡ false
+  pub fetched : (f : Fid) → has_fetched (Client j) f ls ≡ false
+  pub dropped : (q : Node) (f : Fid) → IsDropped q (Client j) f (onto o ls) → IsDropped q (Client j) f o
 
 idle_line : (s : Script) (j : ℕ) (l : Line) (o : List Line) → is_idle l ≡ true → running s (Client j) (l ∷ o) ≡ running s (Client j) o
 idle_line s j (lines.Begin n act) o h = absurd cc
@@ -78,12 +86,26 @@ idle_begins : (j : ℕ) (l : Line) (ls : List Line) → is_idle l ≡ true → h
 idle_begins j (lines.Begin n act) ls h = absurd cc
 idle_begins j l ls h = refl
 
-idle_leaves : (s : Script) (j : ℕ) (ls o : List Line) → all_lines is_idle ls ≡ true → Leaves s j ls o
-idle_leaves s j [] o h = record { runs = refl; begins = refl }
+idle_fetched : (j : ℕ) (f : Fid) (l : Line) (ls : List Line) → is_idle l ≡ true → has_fetched (Client j) f (l ∷ ls) ≡ has_fetched (Client j) f ls
+idle_fetched j f (lines.Read n g index source body) ls h = absurd cc
+idle_fetched j f l ls h = refl
+
+no_server : (n : Node) (j : ℕ) → is_server n ≡ true → n ≡ Client j → ⊥
+no_server n j h e = let no_ : is_server (Client j) ≡ true = ap is_server (sym e) ∙ h in absurd cc
+
+idle_dropped : (q : Node) (j : ℕ) (f : Fid) (l : Line) (o : List Line) → is_idle l ≡ true → IsDropped q (Client j) f (l ∷ o) → IsDropped q (Client j) f o
+idle_dropped q j f (lines.Drop n g) o h (inl e) = absurd (no_server n j h e.0)
+idle_dropped q j f (lines.Drop n g) o h (inr x) = x
+idle_dropped q j f (lines.DropAll n s) o h (inl e) = absurd (no_server n j h e.0)
+idle_dropped q j f (lines.DropAll n s) o h (inr x) = x
+idle_dropped q j f l o h x = x
+
+pub idle_leaves : (s : Script) (j : ℕ) (ls o : List Line) → all_lines is_idle ls ≡ true → Leaves s j ls o
+idle_leaves s j [] o h = record { runs = refl; begins = refl; fetched = λ f. refl; dropped = λ q f x. x }
 idle_leaves s j (l ∷ ls) o h =
     let q = both (is_idle l) (all_lines is_idle ls) h in
     let r : Leaves s j ls (l ∷ o) = idle_leaves s j ls (l ∷ o) q.1 in
-    record { runs = r.runs ∙ idle_line s j l o q.0; begins = idle_begins j l ls q.0 ∙ r.begins }
+    record { runs = r.runs ∙ idle_line s j l o q.0; begins = idle_begins j l ls q.0 ∙ r.begins; fetched = λ f. idle_fetched j f l ls q.0 ∙ r.fetched f; dropped = λ s f x. idle_dropped s j f l o q.0 (r.dropped s f x) }
 
 -- those of another client
 other_node : (n : Node) (i j : ℕ) → same_node n (Client i) ≡ true → (i ≡ j → ⊥) → same_node n (Client j) ≡ false
@@ -100,12 +122,30 @@ other_begins : (i j : ℕ) (l : Line) (ls : List Line) → is_of i l ≡ true �
 other_begins i j (lines.Begin n act) ls h ne = ap (λ (t : Bool). cond t true (has_begun (Client j) ls)) (other_node n i j h ne)
 other_begins i j l ls h ne = refl
 
-other_leaves : (s : Script) (i j : ℕ) (ls o : List Line) → all_lines (is_of i) ls ≡ true → (i ≡ j → ⊥) → Leaves s j ls o
-other_leaves s i j [] o h ne = record { runs = refl; begins = refl }
+fetched_off : (t u : Bool) (a : Bool) → cond (t && (false && u)) true a ≡ a
+fetched_off true u a = refl
+fetched_off false u a = refl
+
+other_fetched : (i j : ℕ) (f : Fid) (l : Line) (ls : List Line) → is_of i l ≡ true → (i ≡ j → ⊥) → has_fetched (Client j) f (l ∷ ls) ≡ has_fetched (Client j) f ls
+other_fetched i j f (lines.Read n g index Fetched body) ls h ne = ap (λ (t : Bool). cond (is_promised body && (t && same_fid g f)) true (has_fetched (Client j) f ls)) (other_node n i j h ne) ∙ fetched_off (is_promised body) (same_fid g f) (has_fetched (Client j) f ls)
+other_fetched i j f l ls h ne = refl
+
+no_other : (n : Node) (i j : ℕ) → same_node n (Client i) ≡ true → (i ≡ j → ⊥) → n ≡ Client j → ⊥
+no_other n i j h ne e = ne (client_number i j (sym (same_node-true n (Client i) h) ∙ e))
+
+other_dropped : (q : Node) (i j : ℕ) (f : Fid) (l : Line) (o : List Line) → is_of i l ≡ true → (i ≡ j → ⊥) → IsDropped q (Client j) f (l ∷ o) → IsDropped q (Client j) f o
+other_dropped q i j f (lines.Drop n g) o h ne (inl e) = absurd (no_other n i j h ne e.0)
+other_dropped q i j f (lines.Drop n g) o h ne (inr x) = x
+other_dropped q i j f (lines.DropAll n s) o h ne (inl e) = absurd (no_other n i j h ne e.0)
+other_dropped q i j f (lines.DropAll n s) o h ne (inr x) = x
+other_dropped q i j f l o h ne x = x
+
+pub other_leaves : (s : Script) (i j : ℕ) (ls o : List Line) → all_lines (is_of i) ls ≡ true → (i ≡ j → ⊥) → Leaves s j ls o
+other_leaves s i j [] o h ne = record { runs = refl; begins = refl; fetched = λ f. refl; dropped = λ q f x. x }
 other_leaves s i j (l ∷ ls) o h ne =
     let q = both (is_of i l) (all_lines (is_of i) ls) h in
     let r : Leaves s j ls (l ∷ o) = other_leaves s i j ls (l ∷ o) q.1 ne in
-    record { runs = r.runs ∙ other_line s i j l o q.0 ne; begins = other_begins i j l ls q.0 ne ∙ r.begins }
+    record { runs = r.runs ∙ other_line s i j l o q.0 ne; begins = other_begins i j l ls q.0 ne ∙ r.begins; fetched = λ f. other_fetched i j f l ls q.0 ne ∙ r.fetched f; dropped = λ s f x. other_dropped s i j f l o q.0 ne (r.dropped s f x) }
 
 -- a server's
 from_server : (n : Node) (i : ℕ) → same_node n (Server i) ≡ true → is_server n ≡ true
@@ -116,6 +156,8 @@ from_idle i (lines.Begin n act) h = absurd cc
 from_idle i (lines.Read n f index source body) h = absurd cc
 from_idle i (lines.Answer n code) h = absurd cc
 from_idle i (lines.Crash n) h = from_server n i h
+from_idle i (lines.Drop n f) h = absurd cc
+from_idle i (lines.DropAll n q) h = absurd cc
 from_idle i l h = refl
 
 all_idle : (i : ℕ) (ls : List Line) → AreFrom (Server i) ls → all_lines is_idle ls ≡ true
@@ -141,10 +183,10 @@ under_more k [] b x e = absurd cc
 under_more k (m ∷ a) b x e = under_by (is_called k m.head m.carried) (call_in m.carried) (call_under k a) (call_under k (a ++ b)) x e (under_more k a b x)
 
 -- a key of a call to come is none of them
-record IsNext (n : ℕ) (clients : ℕ → ClientState) (k : Key) : Type 0 where
-  node : k.node ≡ Client n
-  epoch : k.epoch ≡ (clients n).epoch
-  number : k.number ≡ (clients n).last + 1
+pub record IsNext (n : ℕ) (clients : ℕ → ClientState) (k : Key) : Type 0 where
+  pub node : k.node ≡ Client n
+  pub epoch : k.epoch ≡ (clients n).epoch
+  pub number : k.number ≡ (clients n).last + 1
 
 not_it : (callees : Key → Node) (clients : ℕ → ClientState) (n : ℕ) (k : Key) (head : Head) (t : Bool) → same_key (called_key head) k ≡ t → IsNext n clients k → OfClient head.from (IsKnown callees clients head.to (key_of head)) → t ≡ false
 not_it callees clients n k head false e x h = refl
@@ -158,7 +200,7 @@ one_unsent : (callees : Key → Node) (clients : ℕ → ClientState) (n : ℕ) 
 one_unsent callees clients n k head (carried.Call user (ask.File call)) x h = not_it callees clients n k head (same_key (called_key head) k) refl x h
 one_unsent callees clients n k head c x h = refl
 
-unsent : (callees : Key → Node) (clients : ℕ → ClientState) (n : ℕ) (k : Key) (sent : List Message) → IsNext n clients k → Each (IfCall (λ h user call. IsKnown callees clients h.to (key_of h))) sent → (has_sent k sent ≡ false) × (call_under k sent ≡ None)
+pub unsent : (callees : Key → Node) (clients : ℕ → ClientState) (n : ℕ) (k : Key) (sent : List Message) → IsNext n clients k → Each (IfCall (λ h user call. IsKnown callees clients h.to (key_of h))) sent → (has_sent k sent ≡ false) × (call_under k sent ≡ None)
 unsent callees clients n k [] x h = (refl, refl)
 unsent callees clients n k (m ∷ sent) x h =
     let q = unsent callees clients n k sent x h.1 in
@@ -227,19 +269,19 @@ idle_asked s clients sent more past e A over under idle none = record {
 -- what it sends is its call
 pub the_calls : (n : ℕ) (x : ClientState) (st : Step ClientState) → Rests n (who_at x) x.gifts st ⊎ (Asks n (who_at x) st ⊎ Stops n (who_at x) st) → Each (IfCall (IsTheCall n st.state)) st.sent
 the_calls n x st (inl r) = r.sent
-the_calls n x st (inr (inl a)) = subst (Each (IfCall (IsTheCall n st.state))) (sym a.sent) (record { key = refl; act = a.act; runs = a.runs; user' = refl; asks = refl }, tt)
+the_calls n x st (inr (inl a)) = subst (Each (IfCall (IsTheCall n st.state))) (sym a.sent) (record { key = refl; act = a.act; runs = a.runs; user' = refl; asks = refl; to = refl }, tt)
 the_calls n x st (inr (inr z)) = subst (Each (IfCall (IsTheCall n st.state))) (sym z.sent) tt
 
-same_key_at : (n : ℕ) (x y : ClientState) → y.epoch ≡ x.epoch → y.last ≡ x.last → last_key n y ≡ last_key n x
+pub same_key_at : (n : ℕ) (x y : ClientState) → y.epoch ≡ x.epoch → y.last ≡ x.last → last_key n y ≡ last_key n x
 same_key_at n x y e l = ap (λ (a : ℕ). a_key (Client n) a y.last) e ∙ ap (λ (b : ℕ). a_key (Client n) x.epoch b) l
 
 same_call : (x y : ClientState) (act : Going) → y.gifts ≡ x.gifts → call_of y act ≡ call_of x act
 same_call x y act g = ap (λ (gs : List Gift). call_by gs (next act)) g
 
-next_key : (n : ℕ) (clients : ℕ → ClientState) (st : Step ClientState) → Asks n (who_at (clients n)) st → IsNext n clients (last_key n st.state)
+pub next_key : (n : ℕ) (clients : ℕ → ClientState) (st : Step ClientState) → Asks n (who_at (clients n)) st → IsNext n clients (last_key n st.state)
 next_key n clients st a = record { node = refl; epoch = a.epoch; number = a.last }
 
-none_runs : (o : Option Going) (act : Going) → o ≡ None → o ≡ Some act → ⊥
+pub none_runs : (o : Option Going) (act : Going) → o ≡ None → o ≡ Some act → ⊥
 none_runs o act e f = let no : None ≡ Some act = sym e ∙ f in absurd cc
 
 -- the call that it waits for is the one under its key
@@ -342,7 +384,7 @@ any_cut at_rest = tt
 any_cut (in_step m clock) = tt
 any_cut in_boot = tt
 
-blow_idle : (i : ℕ) (t : Bool) → all_lines is_idle (blow_line i t ∷ []) ≡ true
+pub blow_idle : (i : ℕ) (t : Bool) → all_lines is_idle (blow_line i t ∷ []) ≡ true
 blow_idle i true = refl
 blow_idle i false = refl
 

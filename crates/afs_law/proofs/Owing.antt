@@ -17,7 +17,6 @@ use Rattle.afs_law.specs.Legal.{HasChange}
 use Rattle.afs_history.specs.declared.lines.Line.{Line}
 use Rattle.afs_law.specs.Past.{WasSent, onto, lines_of, sent_of, given_message, IsCallUnder}
 use Rattle.afs_rows.specs.Runs.{Entry, Fall}
-use Rattle.afs_law.proofs.OneCell.{the_server}
 use Rattle.afs_rows.specs.States.{Seat, BackCall, Held, Backs}
 use Rattle.afs_model.specs.Calls.{call_seat}
 use Rattle.afs_history.specs.declared.lines.Line.TheVariants as lines
@@ -50,8 +49,8 @@ is_held k [] = false
 is_held k (h ∷ hs) = if is_reply_to k h.reply then true else is_held k hs
 
 -- a promise is that of the last grant, and wasn't broken
-abbrev pub IsGranted : List Line → Promise → Type 0
-IsGranted ls p = unbroken_grant the_server p.client p.fid ls ≡ Some p.expiry
+abbrev pub IsGranted : Node → List Line → Promise → Type 0
+IsGranted me ls p = unbroken_grant me p.client p.fid ls ≡ Some p.expiry
 
 abbrev pub IsIn : Owed → List Owed → Type 0
 IsIn o [] = ⊥
@@ -62,85 +61,85 @@ IsNumberIn n [] = ⊥
 IsNumberIn n (k ∷ ks) = (k ≡ n) ⊎ IsNumberIn n ks
 
 -- the break is owed still; the reply to the call that its entry ran waits
-pub record IsOpen (owed : List Owed) (held : List Held) (ended : Type 0) (at : Entry) (older : List Entry) (base : List Line) (c : Node) (what : Option Fid) (n : ℕ) : Type 0 where
+pub record IsOpen (me : Node) (owed : List Owed) (held : List Held) (ended : Type 0) (at : Entry) (older : List Entry) (base : List Line) (c : Node) (what : Option Fid) (n : ℕ) : Type 0 where
   pub o : Owed
   pub is_in : IsIn o owed
   pub number : o.number ≡ n
   pub client : o.client ≡ c
   pub on : o.what ≡ what
-  pub expiry : expiry_of the_server c what base ≡ Some o.expiry
-  pub waits : (k : Key) (boot : ℕ) → IsCallUnder the_server k boot (given_message at.lines (sent_of older)) → ended ⊎ (is_held k held ≡ true)
+  pub expiry : expiry_of me c what base ≡ Some o.expiry
+  pub waits : (k : Key) (boot : ℕ) → IsCallUnder me k boot (given_message at.lines (sent_of older)) → ended ⊎ (is_held k held ≡ true)
 
 -- every break that was ever owed is ended, or is owed still
-abbrev pub AccountedBy : Option Fall → List Owed → List Held → ℕ → Owes
-AccountedBy d owed held clock newer at older before after c what n = EndedBy the_server clock newer at older before after c what n ⊎ ((d ≡ None) × IsOpen owed held (EndedBy the_server clock newer at older before after c what n) at older (onto (lines_of older) before) c what n)
+abbrev pub AccountedBy : Node → Option Fall → List Owed → List Held → ℕ → Owes
+AccountedBy me d owed held clock newer at older before after c what n = EndedBy me clock newer at older before after c what n ⊎ ((d ≡ None) × IsOpen me owed held (EndedBy me clock newer at older before after c what n) at older (onto (lines_of older) before) c what n)
 
-abbrev pub WaitedBy : Held → ℕ → Owes
-WaitedBy h clock newer at older before after c what n = (boot : ℕ) → IsCallUnder the_server (key_answered h.reply) boot (given_message at.lines (sent_of older)) → EndedBy the_server clock newer at older before after c what n ⊎ IsNumberIn n h.waits
+abbrev pub WaitedBy : Node → Held → ℕ → Owes
+WaitedBy me h clock newer at older before after c what n = (boot : ℕ) → IsCallUnder me (key_answered h.reply) boot (given_message at.lines (sent_of older)) → EndedBy me clock newer at older before after c what n ⊎ IsNumberIn n h.waits
 
-abbrev pub AllWaitedBy : Held → ℕ → Owes
-AllWaitedBy h clock newer at older before after c what n = what ≡ None → EndedBy the_server clock newer at older before after c what n ⊎ IsNumberIn n h.waits
+abbrev pub AllWaitedBy : Node → Held → ℕ → Owes
+AllWaitedBy me h clock newer at older before after c what n = what ≡ None → EndedBy me clock newer at older before after c what n ⊎ IsNumberIn n h.waits
 
 -- a reply that waits is to a call that ran; it waits for what the entries of its key owe, and, of a change, for all that is owed on all
-pub record HeldWaits (seats : List Seat) (clock : ℕ) (past : List Entry) (h : Held) : Type 0 where
+pub record HeldWaits (me : Node) (seats : List Seat) (clock : ℕ) (past : List Entry) (h : Held) : Type 0 where
   pub client : ℕ
   pub to : h.reply.head.to ≡ Client client
-  pub from : h.reply.head.from ≡ the_server
+  pub from : h.reply.head.from ≡ me
   pub is_reply : OfReply ⊥ h.reply.carried → ⊥
   pub under : Above (call_seat h.reply.head.to seats) h.reply.head.epoch h.reply.head.number → ⊥
-  pub own : AllOwes the_server (WaitedBy h clock) past
-  pub all : HasChange (key_answered h.reply) (lines_of past) → AllOwes the_server (AllWaitedBy h clock) past
+  pub own : AllOwes me (WaitedBy me h clock) past
+  pub all : HasChange (key_answered h.reply) (lines_of past) → AllOwes me (AllWaitedBy me h clock) past
 
-abbrev pub IsOwed : Node → List Line → Owed → Type 0
-IsOwed j ls o = OweAt the_server j o.what o.number ls
+abbrev pub IsOwed : Node → Node → List Line → Owed → Type 0
+IsOwed me j ls o = OweAt me j o.what o.number ls
 
 -- and each timeout of the call that carries it was told since
-pub record CarriedOwe (j : Node) (number most boot : ℕ) (ls : List Line) (o : Owed) : Type 0 where
-  pub owe : IsOwed j ls o
-  pub tries : (t : ℕ) → 1 ≤ t → t ≤ most → HasTimeout the_server j boot number t owe.newer
+pub record CarriedOwe (me : Node) (j : Node) (number most boot : ℕ) (ls : List Line) (o : Owed) : Type 0 where
+  pub owe : IsOwed me j ls o
+  pub tries : (t : ℕ) → 1 ≤ t → t ≤ most → HasTimeout me j boot number t owe.newer
 
 abbrev pub IsClient : Node → Type 0
 IsClient (Client n) = ⊤
 IsClient n = ⊥
 
 -- an unanswered call of the server
-pub record CallOut (j : Node) (c : BackCall) (last boot : ℕ) (past : List Entry) : Type 0 where
+pub record CallOut (me : Node) (j : Node) (c : BackCall) (last boot : ℕ) (past : List Entry) : Type 0 where
   pub number : c.number ≤ last
   pub client : IsClient j
-  pub owes : AllOf (CarriedOwe j c.number c.tries boot (lines_of past)) c.breaks
-  pub sent : WasSent j (record { node = the_server; epoch = boot; number = c.number }) [] (breaks_call c.breaks) past
+  pub owes : AllOf (CarriedOwe me j c.number c.tries boot (lines_of past)) c.breaks
+  pub sent : WasSent j (record { node = me; epoch = boot; number = c.number }) [] (breaks_call c.breaks) past
   pub carries : AllOf (λ (o : Owed). CarriesBreak (breaks_call c.breaks) o.what) c.breaks
 
--- a call of the server under way: if it is the unanswered one, it carries its breaks
-pub record BackIn (d : Option Fall) (calls : Node → Option BackCall) (last boot : ℕ) (head : Head) (user : List ℕ) (call : FsCall) : Type 0 where
+-- a server's call under way: if it is this server's, and the unanswered one, it carries its breaks
+pub record BackIn (me : Node) (d : Option Fall) (calls : Node → Option BackCall) (last boot : ℕ) (head : Head) (user : List ℕ) (call : FsCall) : Type 0 where
   pub client : Node
   pub to : head.to ≡ client
-  pub booted : head.epoch ≤ boot
-  pub below : d ≡ None → head.epoch ≡ boot → head.number ≤ last
-  pub is : (c : BackCall) → d ≡ None → head.epoch ≡ boot → calls client ≡ Some c → head.number ≡ c.number → call ≡ breaks_call c.breaks
+  pub booted : head.from ≡ me → head.epoch ≤ boot
+  pub below : head.from ≡ me → d ≡ None → head.epoch ≡ boot → head.number ≤ last
+  pub is : (c : BackCall) → head.from ≡ me → d ≡ None → head.epoch ≡ boot → calls client ≡ Some c → head.number ≡ c.number → call ≡ breaks_call c.breaks
 
 -- the client dropped what this break is on
-pub record DroppedOwe (j : Node) (ls : List Line) (o : Owed) : Type 0 where
-  pub owe : OweAt the_server j o.what o.number ls
-  pub dropped : HasDrop the_server j o.what owe.newer
+pub record DroppedOwe (me : Node) (j : Node) (ls : List Line) (o : Owed) : Type 0 where
+  pub owe : OweAt me j o.what o.number ls
+  pub dropped : HasDrop me j o.what owe.newer
 
 -- the client was given the server's call of this epoch and number: if that is the unanswered one, it dropped what its breaks are on
-pub record IsDone (d : Option Fall) (calls : Node → Option BackCall) (last boot : ℕ) (past : List Entry) (j : Node) (epoch number : ℕ) : Type 0 where
+pub record IsDone (me : Node) (d : Option Fall) (calls : Node → Option BackCall) (last boot : ℕ) (past : List Entry) (j : Node) (epoch number : ℕ) : Type 0 where
   pub booted : epoch ≤ boot
   pub below : d ≡ None → epoch ≡ boot → number ≤ last
-  pub dropped : (c : BackCall) → d ≡ None → epoch ≡ boot → calls j ≡ Some c → number ≡ c.number → AllOf (DroppedOwe j (lines_of past)) c.breaks
+  pub dropped : (c : BackCall) → d ≡ None → epoch ≡ boot → calls j ≡ Some c → number ≡ c.number → AllOf (DroppedOwe me j (lines_of past)) c.breaks
 
-pub record DoneIn (d : Option Fall) (calls : Node → Option BackCall) (last boot : ℕ) (past : List Entry) (m : Message) : Type 0 where
+pub record DoneIn (me : Node) (d : Option Fall) (calls : Node → Option BackCall) (last boot : ℕ) (past : List Entry) (m : Message) : Type 0 where
   pub client : Node
   pub from : m.head.from ≡ client
-  pub done : IsDone d calls last boot past client m.head.epoch m.head.number
+  pub done : m.head.to ≡ me → IsDone me d calls last boot past client m.head.epoch m.head.number
 
 -- a reply that a client keeps for the server
-pub record SeatedIn (d : Option Fall) (calls : Node → Option BackCall) (last boot : ℕ) (past : List Entry) (j : ℕ) (m : Message) : Type 0 where
-  pub to : m.head.to ≡ the_server
+pub record SeatedIn (me : Node) (d : Option Fall) (calls : Node → Option BackCall) (last boot : ℕ) (past : List Entry) (j : ℕ) (m : Message) : Type 0 where
+  pub to : m.head.to ≡ me
   pub from : m.head.from ≡ Client j
   pub is_reply : OfReply ⊥ m.carried → ⊥
-  pub done : IsDone d calls last boot past (Client j) m.head.epoch m.head.number
+  pub done : IsDone me d calls last boot past (Client j) m.head.epoch m.head.number
 
 abbrev pub IsPromised : Promise → List Promise → Type 0
 IsPromised p [] = ⊥
@@ -150,35 +149,35 @@ abbrev pub promise_to : Node → Fid → ℕ → Promise
 promise_to j f x = record { client = j; fid = f; expiry = x }
 
 -- each grant that lasts and isn't owed is promised
-abbrev pub Promised : Option Fall → List Promise → ℕ → List Line → Type 0
-Promised d ps clock ls = (j : Node) (f : Fid) (x : ℕ) → live_grant the_server j f ls ≡ Some x → clock < x → (d ≡ None) × IsPromised (promise_to j f x) ps
+abbrev pub Promised : Node → Option Fall → List Promise → ℕ → List Line → Type 0
+Promised me d ps clock ls = (j : Node) (f : Fid) (x : ℕ) → live_grant me j f ls ≡ Some x → clock < x → (d ≡ None) × IsPromised (promise_to j f x) ps
 
 -- the breaks of a boot are numbered upwards
-abbrev pub Numbered : Option Fall → ℕ → List Line → Type 0
-Numbered None last ls = last_number the_server ls ≤ last
-Numbered (Some fall) last ls = last_number the_server ls ≡ 0
+abbrev pub Numbered : Node → Option Fall → ℕ → List Line → Type 0
+Numbered me None last ls = last_number me ls ≤ last
+Numbered me (Some fall) last ls = last_number me ls ≡ 0
 
 -- the breaks of a boot become owed in the order of their numbers
-abbrev pub Rising : List Line → Type 0
-Rising [] = ⊤
-Rising (lines.Owe q d w n ∷ older) = (q ≡ the_server → last_number the_server older < n) × Rising older
-Rising (l ∷ older) = Rising older
+abbrev pub Rising : Node → List Line → Type 0
+Rising me [] = ⊤
+Rising me (lines.Owe q d w n ∷ older) = (q ≡ me → last_number me older < n) × Rising me older
+Rising me (l ∷ older) = Rising me older
 
 -- promises are made to clients alone
 pub record ToClients (ps : List Promise) (os : List Owed) : Type 0 where
   pub promised : AllOf (λ (p : Promise). IsClient p.client) ps
   pub owed : AllOf (λ (o : Owed). IsClient o.client) os
 
-pub record BackedIn (d : Option Fall) (b : Backs) (boot : ℕ) (seats : List Seat) (cs : ℕ → Option Seat) (clock : ℕ) (sent : List Message) (past : List Entry) : Type 0 where
-  pub granted : d ≡ None → AllOf (IsGranted (lines_of past)) b.lists.promises
-  pub promised : Promised d b.lists.promises clock (lines_at the_server past)
-  pub numbered : Numbered d b.lists.last_owed (lines_of past)
-  pub rising : Rising (lines_of past)
+pub record BackedIn (me : Node) (d : Option Fall) (b : Backs) (boot : ℕ) (seats : List Seat) (cs : ℕ → Option Seat) (clock : ℕ) (sent : List Message) (past : List Entry) : Type 0 where
+  pub granted : d ≡ None → AllOf (IsGranted me (lines_of past)) b.lists.promises
+  pub promised : Promised me d b.lists.promises clock (lines_at me past)
+  pub numbered : Numbered me d b.lists.last_owed (lines_of past)
+  pub rising : Rising me (lines_of past)
   pub clients : d ≡ None → ToClients b.lists.promises b.lists.owed
-  pub accounted : AllOwes the_server (AccountedBy d b.lists.owed b.held clock) past
-  pub owing : d ≡ None → AllOf (λ (o : Owed). IsOwed o.client (lines_of past) o) b.lists.owed
-  pub waiting : d ≡ None → AllOf (HeldWaits seats clock past) b.held
-  pub outs : d ≡ None → (j : Node) (c : BackCall) → b.calls j ≡ Some c → CallOut j c b.last_call boot past
-  pub calls : Each (IfBack (BackIn d b.calls b.last_call boot)) sent
-  pub dones : Each (IfDone (DoneIn d b.calls b.last_call boot past)) sent
-  pub seated : (j : ℕ) (seat : Seat) (m : Message) → cs j ≡ Some seat → seat.reply ≡ Some m → SeatedIn d b.calls b.last_call boot past j m
+  pub accounted : AllOwes me (AccountedBy me d b.lists.owed b.held clock) past
+  pub owing : d ≡ None → AllOf (λ (o : Owed). IsOwed me o.client (lines_of past) o) b.lists.owed
+  pub waiting : d ≡ None → AllOf (HeldWaits me seats clock past) b.held
+  pub outs : d ≡ None → (j : Node) (c : BackCall) → b.calls j ≡ Some c → CallOut me j c b.last_call boot past
+  pub calls : Each (IfBack (BackIn me d b.calls b.last_call boot)) sent
+  pub dones : Each (IfDone (DoneIn me d b.calls b.last_call boot past)) sent
+  pub seated : (j : ℕ) (seat : Seat) (m : Message) → cs j ≡ Some seat → seat.reply ≡ Some m → SeatedIn me d b.calls b.last_call boot past j m

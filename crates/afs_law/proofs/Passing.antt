@@ -522,7 +522,7 @@ among_by k P head (carried.Refusal code) rest e h w = w e
 among_by k P head (carried.Reply reply) rest e h w = w e
 among_by k P head carried.Notice rest e h w = w e
 
-among : (k : Key) (P : Head → List ℕ → FsCall → Type 0) (ms : List Message) → has_sent k ms ≡ true → Each (IfCall P) ms → IsAmong k (ByClient P)
+pub among : (k : Key) (P : Head → List ℕ → FsCall → Type 0) (ms : List Message) → has_sent k ms ≡ true → Each (IfCall P) ms → IsAmong k (ByClient P)
 among k P [] e h = absurd cc
 among k P (m ∷ ms) e h = among_by k (ByClient P) m.head m.carried (has_sent k ms) e h.0 (λ x. among k P ms x h.1)
 
@@ -653,11 +653,11 @@ call_back : (k : Key) (sent ms : List Message) → has_sent k sent ≡ true → 
 call_back k [] ms h = absurd cc
 call_back k (m ∷ sent) ms h = back_by (is_called k m.head m.carried) (has_sent k sent) m.carried (call_under k (sent ++ ms)) (call_under k sent) h (λ y. call_back k sent ms y)
 
-changing_back : (k : Key) (sent ms : List Message) → has_sent k sent ≡ true → IsChangingUnder k (sent ++ ms) → IsChangingUnder k sent
+pub changing_back : (k : Key) (sent ms : List Message) → has_sent k sent ≡ true → IsChangingUnder k (sent ++ ms) → IsChangingUnder k sent
 changing_back k sent ms h c = record { user = c.user; call = c.call; one = sym (call_back k sent ms h) ∙ c.one; changes = c.changes }
 
 -- what was sent since makes no earlier call another one
-lone_more : (past : List Entry) (sent ms : List Message) → ((k : Key) → has_sent k (sent_of past) ≡ true → has_sent k sent ≡ true) → AreLone sent past → AreLone (sent ++ ms) past
+pub lone_more : (past : List Entry) (sent ms : List Message) → ((k : Key) → has_sent k (sent_of past) ≡ true → has_sent k sent ≡ true) → AreLone sent past → AreLone (sent ++ ms) past
 lone_more [] sent ms w h = tt
 lone_more (e ∷ past) sent ms w h = (
   (λ j k l a b x y. h.0 j k l a b (changing_back k sent ms (w k (was_sent (Client j) k (e ∷ past) (both (same_node k.node (Client j)) _ a).1)) x) (changing_back l sent ms (w l (was_sent (Client j) l (e ∷ past) (both (same_node l.node (Client j)) _ b).1)) y)),
@@ -717,7 +717,7 @@ lone_here {s} w e past sent told acts ones lasts now h j k l a b x y =
     (λ z. let f = last_sent w e.sent j l lasts (same_node-true l.node (Client j) q.0) z in both_last f.0 f.1.0)
     (λ z u. h j k l (rw (p.0, z) refl) (rw (q.0, u) refl) x y)
 
-lone_first : (sent : List Message) (past : List Entry) → AreLone sent past → IsLone sent past
+pub lone_first : (sent : List Message) (past : List Entry) → AreLone sent past → IsLone sent past
 lone_first sent [] h = λ j k l a b x y. let no_ : false ≡ true = (both (same_node k.node (Client j)) false a).1 in absurd cc
 lone_first sent (e ∷ past) h = h.0
 

@@ -208,7 +208,7 @@ starts_each S i past x clock count after fall same =
 
 -- ---- every step. The cell has as many clients as the script
 
-abbrev Counts : Script → Cell → List Entry → Type 0
+abbrev pub Counts : Script → Cell → List Entry → Type 0
 Counts s c past = c.count ≡ s.clients
 
 counts_moves : (s : Script) → EachMove (Counts s) (Behind (Counts s))
@@ -233,13 +233,13 @@ counts_moves s = record {
   full = λ c past i after fall h down. h;
 }
 
-abbrev Placed : Script → Cell → List Entry → Type 0
+abbrev pub Placed : Script → Cell → List Entry → Type 0
 Placed s c past = KnownAsked s c past × Counts s c past
 
-placed_kept : (s : Script) → IsKept (Placed s)
+pub placed_kept : (s : Script) → IsKept (Placed s)
 placed_kept s c past x h = (asked_kept s c past x h.0, each_moved (Counts s) (Behind (Counts s)) (counts_moves s) c past x h.1)
 
-abbrev PlacedStep : Script → Cell → List Entry → Moved → Type 0
+abbrev pub PlacedStep : Script → Cell → List Entry → Moved → Type 0
 PlacedStep s c past m = EachLine (IsInPlace s) m.entry.actor past [] m.entry.lines
 
 stays_each : (s : Script) (c : Cell) (past : List Entry) (i : ℕ) (after : Bool) (fall : Fall) (l : Line) → is_calm (Server i) l ≡ true → InPlace s i past [] ((begun_by_disk (Server i) (c.hosts i).state after fall).before (l ∷ []))
@@ -252,7 +252,7 @@ blow_each s i place past false = (refl, (refl, tt))
 own_calm : (i : ℕ) → same_node (Server i) (Server i) ≡ true
 own_calm i = same_node-refl (Server i)
 
-placed_moves : (s : Script) → EachMove (Placed s) (PlacedStep s)
+pub placed_moves : (s : Script) → EachMove (Placed s) (PlacedStep s)
 placed_moves s = record {
   void = λ c past h. (refl, tt);
   ticked = λ c past n h. (refl, tt);
@@ -274,6 +274,9 @@ placed_moves s = record {
   full = λ c past i after fall h down. stays_each s c past i after fall (lines.Full (Server i)) (own_calm i);
 }
 
+pub placed_first : (s : Script) → Placed s (start s) (set_up s ∷ [])
+placed_first s = (asked_first s, refl)
+
 pub run_placed : LinesAreInPlace
 run_placed s h end r =
-    run_each (Placed s) (λ past e. EachLine (IsInPlace s) e.actor past [] e.lines) (placed_kept s) (λ c past x k. each_moved (Placed s) (PlacedStep s) (placed_moves s) c past x k) r.inputs (start s) (set_up s ∷ []) h end (asked_first s, refl) r.leads
+    run_each (Placed s) (λ past e. EachLine (IsInPlace s) e.actor past [] e.lines) (placed_kept s) (λ c past x k. each_moved (Placed s) (PlacedStep s) (placed_moves s) c past x k) r.inputs (start s) (set_up s ∷ []) h end (placed_first s) r.leads

@@ -126,7 +126,7 @@ runs_line s n j ne l q o = absurd q
 
 -- ---- all of them
 
-all_up : (n : ℕ) (ls : List Line) → AreQuiet n ls → all_lines is_up ls ≡ true
+all_up : (n : ℕ) (ls : List Line) → AreQuiet n ls → all_lines (is_up the_server) ls ≡ true
 all_up n [] q = refl
 all_up n (lines.Begin m a ∷ ls) q = all_up n ls q.1
 all_up n (lines.Given p ∷ ls) q = all_up n ls q.1

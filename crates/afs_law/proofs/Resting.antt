@@ -93,7 +93,7 @@ calls_rested s c n d armed past h = each_map (IfCall (CallIn (view h.floors c)))
 })) c.sent h.sent.calls
 
 pub rests : (s : Script) (b : Option ℕ) (c : Cell) (past : List Entry) (e : Entry) (n : ℕ) (d : Option Fall) (armed : Armed) → (h : Holds s c past) → server_boot the_server (lines_of (e ∷ past)) ≡ b → e.sent ≡ [] → Rests s e past → clock_of (lines_of (e ∷ past)) ≡ clock_of (lines_of past) + n
-    → AreUnheard d c.server.seats c.server.lasting.boot (e ∷ past) → HasFallen d c.server.lasting c.sent (e ∷ past) → (b ≡ up_boot d c.server.lasting.boot → BackedIn d c.server.backs c.server.lasting.boot c.server.seats (λ j. back_seat (c.clients j)) (c.clock + n) c.sent (e ∷ past)) → HoldsAt s b (rested c n d armed) (e ∷ past)
+    → AreUnheard d c.server.seats c.server.lasting.boot (e ∷ past) → HasFallen d c.server.lasting c.sent (e ∷ past) → (b ≡ up_boot d c.server.lasting.boot → BackedIn the_server d c.server.backs c.server.lasting.boot c.server.seats (λ j. back_seat (c.clients j)) (c.clock + n) c.sent (e ∷ past)) → HoldsAt s b (rested c n d armed) (e ∷ past)
 rests s b c past e n d armed h boots none p clock heard fallen backs =
     let now : (j : ℕ) → ClientFacts s j (view h.floors (rested c n d armed) j) (e ∷ past) = λ j. later_client n j (view h.floors c j) (e ∷ past) (client_still j (view h.floors c j) e past (p.file j) (p.reach j) (p.act j) (λ f. p.last f (lines_of past)) (h.clients j)) in
     let lasts : Each (IfCall (IsLastCall (view h.floors (rested c n d armed)))) e.sent = subst (λ (ms : List Message). Each (IfCall (IsLastCall (view h.floors (rested c n d armed)))) ms) (sym none) tt in
@@ -138,22 +138,22 @@ rests s b c past e n d armed h boots none p clock heard fallen backs =
     }
 
 -- what the server has in memory passes over such an entry: the clock rose, or the server went down
-pub rest_backed : (s : Script) (c : Cell) (past : List Entry) (e : Entry) (n : ℕ) → Plain e.lines → Holds s c past → BackedIn c.down c.server.backs c.server.lasting.boot c.server.seats (λ j. back_seat (c.clients j)) (c.clock + n) c.sent (e ∷ past)
+pub rest_backed : (s : Script) (c : Cell) (past : List Entry) (e : Entry) (n : ℕ) → Plain the_server e.lines → Holds s c past → BackedIn the_server c.down c.server.backs c.server.lasting.boot c.server.seats (λ j. back_seat (c.clients j)) (c.clock + n) c.sent (e ∷ past)
 rest_backed s c past e n p h =
     let b = h.backs refl in
     let le : c.clock ≤ c.clock + n = omega arith in
-    subst (λ (ms : List Message). BackedIn c.down c.server.backs c.server.lasting.boot c.server.seats (λ j. back_seat (c.clients j)) (c.clock + n) ms (e ∷ past)) (append-nil c.sent)
-    (backed_plain c.down c.server.backs c.server.lasting.boot c.server.seats (λ j. back_seat (c.clients j)) (λ j. back_seat (c.clients j)) c.clock (c.clock + n) c.sent [] e past p le b tt tt
-    (λ j seat m x y. seated_over c.down c.down c.server.backs c.server.backs c.server.lasting.boot c.clock (c.clock + n) e past (plain_step c.down c.server.backs c.clock (c.clock + n) e past p le) j m (b.seated j seat m x y)))
+    subst (λ (ms : List Message). BackedIn the_server c.down c.server.backs c.server.lasting.boot c.server.seats (λ j. back_seat (c.clients j)) (c.clock + n) ms (e ∷ past)) (append-nil c.sent)
+    (backed_plain the_server c.down c.server.backs c.server.lasting.boot c.server.seats (λ j. back_seat (c.clients j)) (λ j. back_seat (c.clients j)) c.clock (c.clock + n) c.sent [] e past p le b tt tt
+    (λ j seat m x y. seated_over the_server c.down c.down c.server.backs c.server.backs c.server.lasting.boot c.clock (c.clock + n) e past (plain_step the_server c.down c.server.backs c.clock (c.clock + n) e past p le) j m (b.seated j seat m x y)))
 
-pub fall_backed : (s : Script) (c : Cell) (past : List Entry) (e : Entry) (fall : Fall) → all_lines is_oweless e.lines ≡ true → all_lines is_still e.lines ≡ true → (c.down ≡ None → (o : List Line) → HasStopped the_server (onto o e.lines)) → Holds s c past → BackedIn (Some fall) c.server.backs c.server.lasting.boot c.server.seats (λ j. back_seat (c.clients j)) (c.clock + 0) c.sent (e ∷ past)
+pub fall_backed : (s : Script) (c : Cell) (past : List Entry) (e : Entry) (fall : Fall) → all_lines is_oweless e.lines ≡ true → all_lines is_still e.lines ≡ true → (c.down ≡ None → (o : List Line) → HasStopped the_server (onto o e.lines)) → Holds s c past → BackedIn the_server (Some fall) c.server.backs c.server.lasting.boot c.server.seats (λ j. back_seat (c.clients j)) (c.clock + 0) c.sent (e ∷ past)
 fall_backed s c past e fall p still stop h =
     let zero_more : c.clock ≡ c.clock + 0 = omega arith in
-    subst (λ (t : ℕ). BackedIn (Some fall) c.server.backs c.server.lasting.boot c.server.seats (λ j. back_seat (c.clients j)) t c.sent (e ∷ past)) zero_more
-    (subst (λ (ms : List Message). BackedIn (Some fall) c.server.backs c.server.lasting.boot c.server.seats (λ j. back_seat (c.clients j)) c.clock ms (e ∷ past)) (append-nil c.sent)
-    (backed_fall c.down fall c.server.backs c.server.lasting.boot c.server.seats c.server.seats (λ j. back_seat (c.clients j)) c.clock c.sent e past p still stop (h.backs refl)))
+    subst (λ (t : ℕ). BackedIn the_server (Some fall) c.server.backs c.server.lasting.boot c.server.seats (λ j. back_seat (c.clients j)) t c.sent (e ∷ past)) zero_more
+    (subst (λ (ms : List Message). BackedIn the_server (Some fall) c.server.backs c.server.lasting.boot c.server.seats (λ j. back_seat (c.clients j)) c.clock ms (e ∷ past)) (append-nil c.sent)
+    (backed_fall the_server c.down fall c.server.backs c.server.lasting.boot c.server.seats c.server.seats (λ j. back_seat (c.clients j)) c.clock c.sent e past p still stop (h.backs refl)))
 
-pub plain_refl : (l : Line) → is_up l ≡ true → is_still l ≡ true → is_oweless l ≡ true → is_unchanging l ≡ true → Plain (l ∷ [])
+pub plain_refl : (l : Line) → is_up the_server l ≡ true → is_still l ≡ true → is_oweless l ≡ true → is_unchanging l ≡ true → Plain the_server (l ∷ [])
 plain_refl l a b c d = record { up = rw a refl; still = rw b refl; oweless = rw c refl; unchanging = rw d refl }
 
 -- the server stays up, or down, and nobody is given a message

@@ -153,16 +153,16 @@ others_by : (t : Bool) (s c : Node) (f : Fid) (v : Version) (vs : List Version) 
 others_by true s c f v vs o t by e h = on_more s c f vs (lines.Version v ∷ o) (inl (same_fid-true v.fid f t, by))
 others_by false s c f v vs o t by e h = h e
 
-on_others : (s c : Node) (f : Fid) (vs : List Version) (o : List Line) → IsByOther s c (change_below o) → touches f vs ≡ true → IsChangedByOther s c f (on_top vs o)
+pub on_others : (s c : Node) (f : Fid) (vs : List Version) (o : List Line) → IsByOther s c (change_below o) → touches f vs ≡ true → IsChangedByOther s c f (on_top vs o)
 on_others s c f [] o by e = absurd cc
 on_others s c f (v ∷ vs) o by e = others_by (same_fid v.fid f) s c f v vs o refl by e (λ t. on_others s c f vs (lines.Version v ∷ o) by t)
 
 -- grants behind that change nothing of it
-granted_others : (s c q d : Node) (f : Fid) (x : ℕ) (fs : List Found) (o : List Line) → IsChangedByOther s c f o → IsChangedByOther s c f (onto o (granted q d x fs []))
+pub granted_others : (s c q d : Node) (f : Fid) (x : ℕ) (fs : List Found) (o : List Line) → IsChangedByOther s c f o → IsChangedByOther s c f (onto o (granted q d x fs []))
 granted_others s c q d f x [] o h = h
 granted_others s c q d f x (g ∷ fs) o h = granted_others s c q d f x fs (lines.Grant q d g.fid g.vnode.index x ∷ o) h
 
-granted_stopped : (s q d : Node) (x : ℕ) (fs : List Found) (o : List Line) → (HasStopped s o → ⊥) → HasStopped s (onto o (granted q d x fs [])) → ⊥
+pub granted_stopped : (s q d : Node) (x : ℕ) (fs : List Found) (o : List Line) → (HasStopped s o → ⊥) → HasStopped s (onto o (granted q d x fs [])) → ⊥
 granted_stopped s q d x [] o h z = h z
 granted_stopped s q d x (g ∷ fs) o h z = granted_stopped s q d x fs (lines.Grant q d g.fid g.vnode.index x ∷ o) h z
 
@@ -786,7 +786,7 @@ new_not c n h r l same above =
     let own : Above (call_seat (Client n) (seat_placed (taken n h r) c.server.lasting.kept)) h.epoch h.number = subst (λ (x : Key). Above (call_seat x.node (seat_placed (taken n h r) c.server.lasting.kept)) x.epoch x.number) same above in
     below_not h.epoch h.number h.epoch h.number (subst (λ (o : Option Seat). Above o h.epoch h.number) (own_placed (taken n h r) c.server.lasting.kept) own) (up_to_same h.epoch h.number h.epoch h.number refl refl)
 
-any_change : (s : Node) (l : Key) (ls : List Line) → HasChangeBy s l ls → HasChange l ls
+pub any_change : (s : Node) (l : Key) (ls : List Line) → HasChangeBy s l ls → HasChange l ls
 any_change s l [] h = absurd h
 any_change s l (lines.Change q k count ∷ ls) (inl x) = inl x.1
 any_change s l (lines.Change q k count ∷ ls) (inr h) = inr (any_change s l ls h)
@@ -802,7 +802,7 @@ later_by None k l a not = absurd (not tt)
 later_by (Some seat) k l a not = later_seat (pair_below seat.epoch seat.number l.epoch l.number) seat.epoch seat.number k l refl a not
 
 -- none is later than the client's last call
-later_not : (k l : Key) (epoch last : ℕ) → l.epoch ≡ epoch → l.number ≡ last → UpTo k.epoch k.number epoch last → IsLater k l → ⊥
+pub later_not : (k l : Key) (epoch last : ℕ) → l.epoch ≡ epoch → l.number ≡ last → UpTo k.epoch k.number epoch last → IsLater k l → ⊥
 later_not k l epoch last e n (inl x) (inl y) = let a : k.epoch < epoch = x in let b : l.epoch < k.epoch = y in absurd (omega arith)
 later_not k l epoch last e n (inl x) (inr y) = let a : k.epoch < epoch = x in let b : l.epoch ≡ k.epoch = y.0 in absurd (omega arith)
 later_not k l epoch last e n (inr x) (inl y) = let a : k.epoch ≡ epoch = x.0 in let b : l.epoch < k.epoch = y in absurd (omega arith)
@@ -883,7 +883,7 @@ pub saves_holds : (y : Way) (s : Script) (now : Option ℕ) (c : Cell) (past : L
     → AreUnheard d (seats_after c n h (reply_saved c (client_head n h) time user call id st es shown)) c.server.lasting.boot (NewEntry y n h (versions_by id es st.volume) (reply_saved c (client_head n h) time user call id st es shown) ∷ past)
     → HasFallen d (server_after true c n h (reply_saved c (client_head n h) time user call id st es shown) (stock_after c (client_head n h) time (change_at id user call st es shown))).lasting (c.sent ++ saved_sent y (reply_saved c (client_head n h) time user call id st es shown)) (NewEntry y n h (versions_by id es st.volume) (reply_saved c (client_head n h) time user call id st es shown) ∷ past)
     → (HeldIn (views_after true H.floors c n h (reply_saved c (client_head n h) time user call id st es shown)) (NewEntry y n h (versions_by id es st.volume) (reply_saved c (client_head n h) time user call id st es shown) ∷ past) (reply_saved c (client_head n h) time user call id st es shown) → Gives s (views_after true H.floors c n h (reply_saved c (client_head n h) time user call id st es shown)) c.server.lasting.boot (NewEntry y n h (versions_by id es st.volume) (reply_saved c (client_head n h) time user call id st es shown) ∷ past) c.server.backs.held (saved_sent y (reply_saved c (client_head n h) time user call id st es shown)) after.held)
-    → (now ≡ up_boot d c.server.lasting.boot → BackedIn d after c.server.lasting.boot (seats_after c n h (reply_saved c (client_head n h) time user call id st es shown)) (seats_of c) c.clock (c.sent ++ saved_sent y (reply_saved c (client_head n h) time user call id st es shown)) (NewEntry y n h (versions_by id es st.volume) (reply_saved c (client_head n h) time user call id st es shown) ∷ past))
+    → (now ≡ up_boot d c.server.lasting.boot → BackedIn the_server d after c.server.lasting.boot (seats_after c n h (reply_saved c (client_head n h) time user call id st es shown)) (seats_of c) c.clock (c.sent ++ saved_sent y (reply_saved c (client_head n h) time user call id st es shown)) (NewEntry y n h (versions_by id es st.volume) (reply_saved c (client_head n h) time user call id st es shown) ∷ past))
     → HoldsAt s now (served_cell true c n h (reply_saved c (client_head n h) time user call id st es shown) (stock_after c (client_head n h) time (change_at id user call st es shown)) after d armed (saved_sent y (reply_saved c (client_head n h) time user call id st es shown)))
     (NewEntry y n h (versions_by id es st.volume) (reply_saved c (client_head n h) time user call id st es shown) ∷ past)
 saves_holds y s now c past after armed d n h user call time id st es shown H w q run boots heard fallen gives backs =
@@ -1018,7 +1018,7 @@ top_last : (f : Fid) (vs : List Version) (own o : List Line) → last_version f 
 top_last f [] own o = refl
 top_last f (v ∷ vs) own o = top_last f vs (lines.Version v ∷ own) o
 
-on_rising : (vs : List Version) (o : List Line) → Rising o → Rising (on_top vs o)
+on_rising : (vs : List Version) (o : List Line) → Rising the_server o → Rising the_server (on_top vs o)
 on_rising [] o h = h
 on_rising (v ∷ vs) o h = on_rising vs (lines.Version v ∷ o) h
 
@@ -1038,7 +1038,7 @@ saves_by_turn s c past armed p n h user call id st es shown H up at w q =
     let sk : Skips tl = skips tl notes in
     let y : Way = whole p tl notes (pumped the_server c.server.lasting.boot t).sent in
     let e : Entry = saved_entry y k vs r in
-    let B : BackedIn None b0 c.server.lasting.boot c.server.seats (seats_of c) c.clock c.sent past = up_backed s c past H up in
+    let B : BackedIn the_server None b0 c.server.lasting.boot c.server.seats (seats_of c) c.clock c.sent past = up_backed s c past H up in
     let front : List Line = lines.Given p ∷ lines.Change the_server k (length vs) ∷ versioned vs [] in
     let pre : List Line = lines.Given p ∷ lines.Change the_server k (length vs) ∷ versioned vs (granted the_server (Client n) x fs []) in
     let fronted : e.lines ≡ front ++ tl = ap (λ (ls : List Line). lines.Given p ∷ lines.Change the_server k (length vs) ∷ ls) (versioned_front vs [] tl) in
@@ -1046,34 +1046,34 @@ saves_by_turn s c past armed p n h user call id st es shown H up at w q =
     let base0 : List Line = on_top vs (base y k (length vs) (lines_of past)) in
     let answer : answer_at user call past ≡ Some (changes es shown) = answer_is user call id st.volume es shown c.server.lasting.volumes past q.of_volume q.at H.ideal q.result in
     let hd : Held = record { reply = r; waits = numbers os ++ alls b0.lists.owed; again = false } in
-    let loads : BackedIn None (loaded t) c.server.lasting.boot (seats_after c n h r) (seats_of c) c.clock c.sent (e ∷ past) =
-    change_loaded (Client n) b0 t.backs.lists.promises t.backs.lists.last_owed c.server.lasting.boot c.server.seats (seats_after c n h r) (seats_of c) c.clock c.sent e past pre os hd (call_at n h user call) B
-    (left_granted (Client n) b0.lists.last_owed x vs b0.lists.promises fs e past front fronted (versions_lines is_still vs [] (λ z. refl) refl) (versions_lines is_up vs [] (λ z. refl) refl) (versions_lines is_oweless vs [] (λ z. refl) refl) (B.granted refl))
-    (left_promised (Client n) b0.lists.last_owed x c.clock vs b0.lists.promises fs e past front fronted (versions_lines is_still vs [] (λ z. refl) refl) (promised_given None b0.lists.promises c.clock e past B.promised))
-    (subst (λ (ls : List Line). last_number the_server ls ≤ t.backs.lists.last_owed) (sym (saved_on y k vs (lines_of past) ∙ onto_granted (Client n) x fs t.lines base0))
-    (numbers_rise b0.lists.last_owed (hits (Client n) vs b0.lists.promises) (onto base0 (granted the_server (Client n) x fs [])) (subst (λ (i : ℕ). i ≤ b0.lists.last_owed) (sym (granted_number n x fs base0 ∙ on_number vs (base y k (length vs) (lines_of past)))) B.numbered)))
-    (subst Rising (sym (saved_on y k vs (lines_of past) ∙ onto_granted (Client n) x fs t.lines base0))
-    (owes_rising b0.lists.last_owed (hits (Client n) vs b0.lists.promises) (onto base0 (granted the_server (Client n) x fs [])) (subst (λ (i : ℕ). i ≤ b0.lists.last_owed) (sym (granted_number n x fs base0 ∙ on_number vs (base y k (length vs) (lines_of past)))) B.numbered)
-    (rising_back (granted the_server (Client n) x fs []) base0 (granted_all is_oweless (Client n) x fs (λ f i. refl)) (on_rising vs (base y k (length vs) (lines_of past)) B.rising))))
+    let loads : BackedIn the_server None (loaded t) c.server.lasting.boot (seats_after c n h r) (seats_of c) c.clock c.sent (e ∷ past) =
+    change_loaded the_server (Client n) b0 t.backs.lists.promises t.backs.lists.last_owed c.server.lasting.boot c.server.seats (seats_after c n h r) (seats_of c) c.clock c.sent e past pre os hd (call_at n h user call) B
+    (left_granted the_server (Client n) b0.lists.last_owed x vs b0.lists.promises fs e past front fronted (versions_lines is_still vs [] (λ z. refl) refl) (versions_lines (is_up the_server) vs [] (λ z. refl) refl) (versions_lines is_oweless vs [] (λ z. refl) refl) (B.granted refl))
+    (left_promised the_server (Client n) b0.lists.last_owed x c.clock vs b0.lists.promises fs e past front fronted (versions_lines is_still vs [] (λ z. refl) refl) (promised_given the_server None b0.lists.promises c.clock e past B.promised))
+    (subst (λ (ls : List Line). last_number the_server ls ≤ t.backs.lists.last_owed) (sym (saved_on y k vs (lines_of past) ∙ onto_granted the_server (Client n) x fs t.lines base0))
+    (numbers_rise the_server b0.lists.last_owed (hits (Client n) vs b0.lists.promises) (onto base0 (granted the_server (Client n) x fs [])) (subst (λ (i : ℕ). i ≤ b0.lists.last_owed) (sym (granted_number n x fs base0 ∙ on_number vs (base y k (length vs) (lines_of past)))) B.numbered)))
+    (subst (Rising the_server) (sym (saved_on y k vs (lines_of past) ∙ onto_granted the_server (Client n) x fs t.lines base0))
+    (owes_rising the_server b0.lists.last_owed (hits (Client n) vs b0.lists.promises) (onto base0 (granted the_server (Client n) x fs [])) (subst (λ (i : ℕ). i ≤ b0.lists.last_owed) (sym (granted_number n x fs base0 ∙ on_number vs (base y k (length vs) (lines_of past)))) B.numbered)
+    (rising_back the_server (granted the_server (Client n) x fs []) base0 (granted_all the_server is_oweless (Client n) x fs (λ f i. refl)) (on_rising vs (base y k (length vs) (lines_of past)) B.rising))))
     (record {
       promised = granted_to_client x n fs (staying (Client n) vs b0.lists.promises) (all_left (λ (p : Promise). IsClient p.client) (Client n) vs b0.lists.promises (B.clients refl).promised);
       owed = owes_to_clients b0.lists.last_owed (hits (Client n) vs b0.lists.promises) (all_hits (λ (p : Promise). IsClient p.client) (Client n) vs b0.lists.promises (B.clients refl).promised);
     }) (record {
       are = are;
-      up = versions_lines is_up vs (granted the_server (Client n) x fs []) (λ z. refl) (granted_all is_up (Client n) x fs (λ f i. refl));
-      still = λ j ne. versions_lines (is_still_to j) vs (granted the_server (Client n) x fs []) (λ z. refl) (granted_all (is_still_to j) (Client n) x fs (λ f i. ap not (node_apart (Client n) j (λ q. ne (sym q)))));
-      oweless = versions_lines is_oweless vs (granted the_server (Client n) x fs []) (λ z. refl) (granted_all is_oweless (Client n) x fs (λ f i. refl));
+      up = versions_lines (is_up the_server) vs (granted the_server (Client n) x fs []) (λ z. refl) (granted_all the_server (is_up the_server) (Client n) x fs (λ f i. refl));
+      still = λ j ne. versions_lines (is_still_to j) vs (granted the_server (Client n) x fs []) (λ z. refl) (granted_all the_server (is_still_to j) (Client n) x fs (λ f i. ap not (node_apart (Client n) j (λ q. ne (sym q)))));
+      oweless = versions_lines is_oweless vs (granted the_server (Client n) x fs []) (λ z. refl) (granted_all the_server is_oweless (Client n) x fs (λ f i. refl));
       given = at_told s c past p (call_at n h user call) H at;
       key = refl;
       above = w.above;
       seat = λ m x z. above_before c.server.seats n h r m x z w.above;
       reply = record { client = n; to = refl; from = refl; is_reply = carried_reply (c.clock + promise_ticks) (change_reply id (the_user user) (time_in (stored_after id c.clock es st)) (counted (edited_all id es st.volume)) shown call); under = taken_not c.server.seats n h r };
-      changed = λ l z. elim (on_changed l vs (lines.Change the_server k (length vs) ∷ lines.Given p ∷ lines_of past) (change_back l (granted the_server (Client n) x fs []) base0 (granted_all is_unchanging (Client n) x fs (λ f i. refl)) (change_back l t.lines _ (owes_unchanging os) (subst (HasChange l) (saved_on y k vs (lines_of past) ∙ onto_granted (Client n) x fs t.lines base0) z)))) [ inl same ↦ inr (subst (λ (u : Key). Above (call_seat u.node c.server.seats) u.epoch u.number) same w.above) | inr old ↦ inl old ];
-      owes = all_new (Client n) (lines_of past) b0.lists.last_owed (hits (Client n) vs b0.lists.promises) (all_hits (IsGranted (lines_of past)) (Client n) vs b0.lists.promises (B.granted refl)) (hits_other (Client n) vs b0.lists.promises);
+      changed = λ l z. elim (on_changed l vs (lines.Change the_server k (length vs) ∷ lines.Given p ∷ lines_of past) (change_back l (granted the_server (Client n) x fs []) base0 (granted_all the_server is_unchanging (Client n) x fs (λ f i. refl)) (change_back l t.lines _ (owes_unchanging the_server os) (subst (HasChange l) (saved_on y k vs (lines_of past) ∙ onto_granted the_server (Client n) x fs t.lines base0) z)))) [ inl same ↦ inr (subst (λ (u : Key). Above (call_seat u.node c.server.seats) u.epoch u.number) same w.above) | inr old ↦ inl old ];
+      owes = all_new the_server (Client n) (lines_of past) b0.lists.last_owed (hits (Client n) vs b0.lists.promises) (all_hits (IsGranted the_server (lines_of past)) (Client n) vs b0.lists.promises (B.granted refl)) (hits_other (Client n) vs b0.lists.promises);
       own = λ i z. number_front i (numbers os) (alls b0.lists.owed) z;
       all = λ i z. number_second i (numbers os) (alls b0.lists.owed) z;
     }) in
-    let pump : Pumps c.server.lasting.boot (seats_after c n h r) (seats_of c) c.clock c.sent (e ∷ past) t = pumps c.server.lasting.boot (seats_after c n h r) (seats_of c) c.clock c.sent e past t refl refl (saves_clock y k vs r past ∙ H.clock) loads (record { good = tt; calls = tt; dones = tt }) (saves_boot y k vs r past ∙ (sk.boot _ ∙ up_boots s c past H up)) in
+    let pump : Pumps the_server c.server.lasting.boot (seats_after c n h r) (seats_of c) c.clock c.sent (e ∷ past) t = pumps the_server c.server.lasting.boot (seats_after c n h r) (seats_of c) c.clock c.sent e past t refl refl refl (saves_clock y k vs r past ∙ H.clock) loads (record { good = tt; calls = tt; dones = tt }) (saves_boot y k vs r past ∙ (sk.boot _ ∙ up_boots s c past H up)) in
     record {
       good = (
         refl,
@@ -1081,7 +1081,7 @@ saves_by_turn s c past armed p n h user call id st es shown H up at w q =
           (
             refl,
             saves_change_good s c past (lines.Given p ∷ []) tl n h user call id st.volume es shown H w q (inl (runs_here s c past p n h user call H up at w)) (H.new _ w.above_durable) (changed_later s c past n h user call H w) (λ z. z) refl (H.home id st.volume q.at) (no_versions tl notes)
-                (λ j f z ne d l u. owe_behind (Client j) (Some f) vs tl (owe_granted (Client j) (Some f) n x fs t.lines (has_owe (Client j) f z b0.lists.last_owed (hits (Client n) vs b0.lists.promises) (touched_hit (Client n) (Client j) f z vs b0.lists.promises ne d (B.promised (Client j) f z l (subst (λ (i : ℕ). i < z) H.clock u)).1)))),
+                (λ j f z ne d l u. owe_behind (Client j) (Some f) vs tl (owe_granted (Client j) (Some f) n x fs t.lines (has_owe the_server (Client j) f z b0.lists.last_owed (hits (Client n) vs b0.lists.promises) (touched_hit (Client n) (Client j) f z vs b0.lists.promises ne d (B.promised (Client j) f z l (subst (λ (i : ℕ). i < z) H.clock u)).1)))),
           ),
           versions_good s past _ tl vs tt (granted_then s past (on_top vs (lines.Change the_server k (length vs) ∷ lines.Given p ∷ [])) (Client n) x fs t.lines
               (λ f yes. let made = newly id (the_user user) call st.volume es shown past f q.of_volume q.result (sym (H.ideal id) ∙ q.at) (H.fine id st.volume q.at).ascends yes in record {
@@ -1097,14 +1097,14 @@ saves_by_turn s c past armed p n h user call id st es shown H up at w q =
                 newest = ap (option_map (λ (v : Version). v.index)) (top_last f.fid vs (lines.Change the_server k (length vs) ∷ lines.Given p ∷ []) (lines_of past) ∙ made_last id st.volume es shown call past f (lines.Change the_server k (length vs) ∷ lines.Given p ∷ lines_of past) made (told_at y s c past user call id st.volume es shown k H q).sound);
                 lasts = ap (λ (i : ℕ). i + promise_ticks) (sym (top_clock vs (lines.Change the_server k (length vs) ∷ lines.Given p ∷ []) (lines_of past) ∙ H.clock));
               })
-              (numbers_good s b0.lists.last_owed (hits (Client n) vs b0.lists.promises) past (onto (on_top vs (lines.Change the_server k (length vs) ∷ lines.Given p ∷ [])) (granted the_server (Client n) x fs []))
+              (numbers_good the_server refl s b0.lists.last_owed (hits (Client n) vs b0.lists.promises) past (onto (on_top vs (lines.Change the_server k (length vs) ∷ lines.Given p ∷ [])) (granted the_server (Client n) x fs []))
               (subst (λ (i : ℕ). i ≤ b0.lists.last_owed) (sym (granted_top n x fs (on_top vs (lines.Change the_server k (length vs) ∷ lines.Given p ∷ [])) (lines_of past) ∙ top_number vs (lines.Change the_server k (length vs) ∷ lines.Given p ∷ []) (lines_of past))) B.numbered)
               (granted_stopped the_server the_server (Client n) x fs (on_top vs (lines.Change the_server k (length vs) ∷ lines.Given p ∷ [])) (λ z. top_stopped vs (lines.Change the_server k (length vs) ∷ lines.Given p ∷ []) z))
               (all_map (IsHit (Client n) vs) (λ (o : Promise). IsChangedByOther the_server o.client o.fid (onto (on_top vs (lines.Change the_server k (length vs) ∷ lines.Given p ∷ [])) (granted the_server (Client n) x fs [])))
               (λ o z. granted_others the_server o.client the_server (Client n) o.fid x fs (on_top vs (lines.Change the_server k (length vs) ∷ lines.Given p ∷ [])) (on_others the_server o.client o.fid vs (lines.Change the_server k (length vs) ∷ lines.Given p ∷ []) (refl, λ q. z.1 (sym q)) z.0))
               (hits (Client n) vs b0.lists.promises) (hits_hit (Client n) vs b0.lists.promises))
-              (two_all (IsGranted (lines_of past)) (λ (o : Promise). c.clock < o.expiry) (λ (o : Promise). IsUnbroken the_server o.client o.fid past) (λ o was lasts. (o.expiry, (was, subst (λ (i : ℕ). i < o.expiry) (sym H.clock) lasts)))
-              (hits (Client n) vs b0.lists.promises) (all_hits (IsGranted (lines_of past)) (Client n) vs b0.lists.promises (B.granted refl))
+              (two_all (IsGranted the_server (lines_of past)) (λ (o : Promise). c.clock < o.expiry) (λ (o : Promise). IsUnbroken the_server o.client o.fid past) (λ o was lasts. (o.expiry, (was, subst (λ (i : ℕ). i < o.expiry) (sym H.clock) lasts)))
+              (hits (Client n) vs b0.lists.promises) (all_hits (IsGranted the_server (lines_of past)) (Client n) vs b0.lists.promises (B.granted refl))
               (all_hits (λ (o : Promise). c.clock < o.expiry) (Client n) vs b0.lists.promises (all_map (λ (o : Promise). nat_lt c.clock o.expiry ≡ true) (λ (o : Promise). c.clock < o.expiry) (λ o lasts. ltb-true _ _ lasts) b0.lists.promises (filtered (λ o. nat_lt c.clock o.expiry) c.server.backs.lists.promises)))))),
         ),
       );

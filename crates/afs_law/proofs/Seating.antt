@@ -1,15 +1,18 @@
 -- A reply that a server keeps for a caller is that server's, to that caller, under the pair of its last call; however many servers a
 -- cell has.
+use Rattle.afs_history.specs.declared.lines.Line.{Line}
 use Rattle.afs_history.specs.declared.scripts.Script.{Script}
 use Rattle.afs_law.proofs.Basics.{LastSeat, a_key, at_put, at_seat, kept_last, same_node-true, some_of}
+use Rattle.afs_law.proofs.Firm.{IfFirm, IsFirm, IsSentBy, hears_firm}
 use Rattle.afs_law.proofs.Hearing.{HearsIn, hears_at, reply_ran}
 use Rattle.afs_law.proofs.Hosting.{HasHead, served_head}
 use Rattle.afs_law.proofs.Keeping.{at_placed}
 use Rattle.afs_law.proofs.Moving.{Behind, EachMove, each_moved, run_keeps}
 use Rattle.afs_law.specs.Ideal.{set_up}
 use Rattle.afs_law.specs.Laws.{seat_key}
+use Rattle.afs_law.specs.Legal.{GoodGift, HasOwnHalf}
 use Rattle.afs_law.specs.Once.{past_of}
-use Rattle.afs_law.specs.Past.{HasCode, IsReply, Ran, answered_key}
+use Rattle.afs_law.specs.Past.{HasCode, IsCall, IsReply, Ran, answered_key}
 use Rattle.afs_model.specs.Calls as pairs
 use Rattle.afs_model.specs.Calls.{Admitted, admitted, call_seat, call_seated, paired}
 use Rattle.afs_num.specs.Nodes.{same_node}
@@ -26,7 +29,7 @@ use Rattle.afs_num.specs.declared.types.Node.{Node}
 use Rattle.afs_num.specs.declared.types.Node.TheVariants.{Client, Server}
 use Rattle.afs_rows.specs.Callbacks.{put}
 use Rattle.afs_rows.specs.Runs.{Cell, Entry, Fall, Host, RunsTo, at_rest, begun_by_disk, in_boot, in_step, start}
-use Rattle.afs_rows.specs.ServerRow.{Begun, Change, Decision, admits, begun_after, carried_by, decides, does, drops, hears, is_client, not_served, promise_ticks, refuses, repeats, replied, runs_received, saves, seat_for, seat_placed, serves_call, shows, tells_boot, whole}
+use Rattle.afs_rows.specs.ServerRow.{Begun, Change, Decision, admits, begun_after, carried_by, decides, does, drops, hears, is_client, not_served, promise_ticks, refuses, repeats, replied, reply_head, runs_received, saves, seat_for, seat_placed, serves_call, shows, tells_boot, whole}
 use Rattle.afs_rows.specs.ServerSteps.{back_timeout_row, server_row, start_row, wake_row}
 use Rattle.afs_rows.specs.States.{BackCall, Seat, ServerState}
 use Rattle.std.proofs.Common.{◌≡◌, ℕ, ◌+◌, Bool, true, false, cond, List, [], ◌∷◌, Option, Some, None, refl, sym, ap, subst, nat_eq, ◌∙◌}
@@ -89,6 +92,7 @@ pub record IsReplyOf (me n : Node) (seat : Seat) (m : Message) : Type 0 where
   pub epoch : m.head.epoch ≡ seat.epoch
   pub number : m.head.number ≡ seat.number
   pub reply : IsReply m
+  pub firm : IsFirm m.head m.carried
 
 abbrev pub AreSeated : Node → List Seat → Type 0
 AreSeated me seats = (n : Node) (seat : Seat) (m : Message) → call_seat n seats ≡ Some seat → seat.reply ≡ Some m → IsReplyOf me n seat m
@@ -97,29 +101,51 @@ AreSeated me seats = (n : Node) (seat : Seat) (m : Message) → call_seat n seat
 abbrev IsSeat : Node → Node → Option Seat → Type 0
 IsSeat me n o = (seat : Seat) (m : Message) → o ≡ Some seat → seat.reply ≡ Some m → IsReplyOf me n seat m
 
-own_reply : (me : Node) (boot : ℕ) (head : Head) (c : Carried) (n : Node) → head.to ≡ me → HasCode c → head.from ≡ n → IsSeat me n (Some (seat_for head (replied boot head c)))
-own_reply me boot head c n to code from seat m e r =
+own_reply : (me : Node) (boot : ℕ) (head : Head) (c : Carried) (n : Node) → head.to ≡ me → HasCode c → IsFirm (reply_head boot head) c → head.from ≡ n → IsSeat me n (Some (seat_for head (replied boot head c)))
+own_reply me boot head c n to code firm from seat m e r =
     let same : seat_for head (replied boot head c) ≡ seat = some_of (seat_for head (replied boot head c)) seat e in
     let is : replied boot head c ≡ m = some_of (replied boot head c) m (ap (λ (s : Seat). s.reply) same ∙ r) in
-    subst (IsReplyOf me n seat) is (subst (λ (s : Seat). IsReplyOf me n s (replied boot head c)) same (record { from = to; to = from; epoch = refl; number = refl; reply = (refl, code) }))
+    subst (IsReplyOf me n seat) is (subst (λ (s : Seat). IsReplyOf me n s (replied boot head c)) same (record { from = to; to = from; epoch = refl; number = refl; reply = (refl, code); firm = firm }))
 
-pub seated : (me : Node) (boot : ℕ) (head : Head) (c : Carried) (seats : List Seat) → head.to ≡ me → HasCode c → AreSeated me seats → AreSeated me (call_seated (seat_for head (replied boot head c)) seats)
-seated me boot head c seats to code h n = at_seat (seat_for head (replied boot head c)) n seats (IsSeat me n) (λ own. own_reply me boot head c n to code own) (λ other. h n)
+pub seated : (me : Node) (boot : ℕ) (head : Head) (c : Carried) (seats : List Seat) → head.to ≡ me → HasCode c → IsFirm (reply_head boot head) c → AreSeated me seats → AreSeated me (call_seated (seat_for head (replied boot head c)) seats)
+seated me boot head c seats to code firm h n = at_seat (seat_for head (replied boot head c)) n seats (IsSeat me n) (λ own. own_reply me boot head c n to code firm own) (λ other. h n)
 
-placed : (me : Node) (boot : ℕ) (head : Head) (c : Carried) (seats : List Seat) → head.to ≡ me → HasCode c → AreSeated me seats → AreSeated me (seat_placed (seat_for head (replied boot head c)) seats)
-placed me boot head c seats to code h n = at_placed (seat_for head (replied boot head c)) n seats (IsSeat me n) (λ own. own_reply me boot head c n to code own) (λ other. h n)
+placed : (me : Node) (boot : ℕ) (head : Head) (c : Carried) (seats : List Seat) → head.to ≡ me → HasCode c → IsFirm (reply_head boot head) c → AreSeated me seats → AreSeated me (seat_placed (seat_for head (replied boot head c)) seats)
+placed me boot head c seats to code firm h n = at_placed (seat_for head (replied boot head c)) n seats (IsSeat me n) (λ own. own_reply me boot head c n to code firm own) (λ other. h n)
+
+both_not : (c : Carried) → HasCode c → IsCall c → ⊥
+both_not (carried.Call user call) h k = absurd h
+both_not (carried.Refusal code) h k = absurd k
+both_not (carried.Reply reply) h k = absurd k
+both_not carried.Notice h k = absurd h
+
+pub code_half : (m : Message) → HasCode m.carried → HasOwnHalf m
+code_half m h call = absurd (both_not m.carried h call)
+
+pub code_gift : (head : Head) (c : Carried) (ls : List Line) → HasCode c → GoodGift head c ls
+code_gift head (carried.Call user call) ls h = absurd h
+code_gift head (carried.Refusal code) ls h = tt
+code_gift head (carried.Reply reply) ls h = tt
+code_gift head carried.Notice ls h = absurd h
 
 -- a reply that is repeated is one of them
-kept_by : (t : Bool) (me : Node) (boot : ℕ) (seats : List Seat) (head : Head) (m : Message) → AreSeated me seats → cond t (paired head.epoch head.number (call_seat head.from seats)) (pairs.wrong_boot boot) ≡ pairs.kept m → m.head.from ≡ me
-kept_by true me boot seats head m h e = let l : LastSeat head.epoch head.number (call_seat head.from seats) m = kept_last head.epoch head.number (call_seat head.from seats) m e in (h head.from l.seat m l.at l.reply).from
+kept_sent : (me n : Node) (seat : Seat) (m : Message) → IsReplyOf me n seat m → IsSentBy me m
+kept_sent me n seat m r = record { from = r.from; half = code_half m r.reply.1; firm = r.firm; gift = λ z ls. code_gift m.head m.carried ls r.reply.1 }
+
+kept_by : (t : Bool) (me : Node) (boot : ℕ) (seats : List Seat) (head : Head) (m : Message) → AreSeated me seats → cond t (paired head.epoch head.number (call_seat head.from seats)) (pairs.wrong_boot boot) ≡ pairs.kept m → IsSentBy me m
+kept_by true me boot seats head m h e = let l : LastSeat head.epoch head.number (call_seat head.from seats) m = kept_last head.epoch head.number (call_seat head.from seats) m e in kept_sent me head.from l.seat m (h head.from l.seat m l.at l.reply)
 kept_by false me boot seats head m h e = absurd cc
 
-pub kept_from : (me : Node) (boot : ℕ) (seats : List Seat) (head : Head) (m : Message) → AreSeated me seats → admitted boot seats head ≡ pairs.kept m → m.head.from ≡ me
+pub kept_from : (me : Node) (boot : ℕ) (seats : List Seat) (head : Head) (m : Message) → AreSeated me seats → admitted boot seats head ≡ pairs.kept m → IsSentBy me m
 kept_from me boot seats head m h e = kept_by (nat_eq head.boot boot) me boot seats head m h e
 
-change_code : (expiry : ℕ) (o : Option FsReply) → HasCode (carried_by expiry o)
+pub change_code : (expiry : ℕ) (o : Option FsReply) → HasCode (carried_by expiry o)
 change_code expiry None = tt
 change_code expiry (Some reply) = tt
+
+pub change_firm : (boot : ℕ) (head : Head) (expiry : ℕ) (o : Option FsReply) → IsFirm (reply_head boot head) (carried_by expiry o)
+change_firm boot head expiry None = (refl, refl)
+change_firm boot head expiry (Some reply) = refl
 
 -- in memory, and on the disk
 pub record Sits (me : Node) (x : ServerState) : Type 0 where
@@ -128,21 +154,21 @@ pub record Sits (me : Node) (x : ServerState) : Type 0 where
 
 saved_sits : (me : Node) (x : ServerState) (clock : ℕ) (head : Head) (c : Change) → head.to ≡ me → Sits me x → Sits me (begun_after me x clock (saves head c)).state
 saved_sits me x clock head c to h = record {
-  seats = seated me x.lasting.boot head (carried_by (clock + promise_ticks) _) x.seats to (change_code (clock + promise_ticks) _) h.seats;
-  kept = placed me x.lasting.boot head (carried_by (clock + promise_ticks) _) x.lasting.kept to (change_code (clock + promise_ticks) _) h.kept;
+  seats = seated me x.lasting.boot head (carried_by (clock + promise_ticks) _) x.seats to (change_code (clock + promise_ticks) _) (change_firm x.lasting.boot head (clock + promise_ticks) _) h.seats;
+  kept = placed me x.lasting.boot head (carried_by (clock + promise_ticks) _) x.lasting.kept to (change_code (clock + promise_ticks) _) (change_firm x.lasting.boot head (clock + promise_ticks) _) h.kept;
 }
 
-does_sits : (me : Node) (x : ServerState) (clock place : ℕ) (d : Decision) → IfRuns (λ h. h.to ≡ me) d → Sits me x → Sits me (does me x clock place d []).state
-does_sits me x clock place drops r h = h
-does_sits me x clock place (tells_boot head) r h = h
-does_sits me x clock place (repeats reply) r h = h
-does_sits me x clock place (refuses head code) r h = record { seats = seated me x.lasting.boot head _ x.seats r tt h.seats; kept = h.kept }
-does_sits me x clock place (shows head g) r h = record { seats = seated me x.lasting.boot head _ x.seats r tt h.seats; kept = h.kept }
-does_sits me x clock place (saves head c) r h = let z : Sits me (begun_after me x clock (saves head c)).state = saved_sits me x clock head c r h in record { seats = z.seats; kept = z.kept }
+does_sits : (me : Node) (x : ServerState) (clock place : ℕ) (d : Decision) → IfRuns (λ h. h.to ≡ me) d → IfFirm d → Sits me x → Sits me (does me x clock place d []).state
+does_sits me x clock place drops r f h = h
+does_sits me x clock place (tells_boot head) r f h = h
+does_sits me x clock place (repeats reply) r f h = h
+does_sits me x clock place (refuses head code) r f h = record { seats = seated me x.lasting.boot head _ x.seats r tt (refl, f) h.seats; kept = h.kept }
+does_sits me x clock place (shows head g) r f h = record { seats = seated me x.lasting.boot head _ x.seats r tt refl h.seats; kept = h.kept }
+does_sits me x clock place (saves head c) r f h = let z : Sits me (begun_after me x clock (saves head c)).state = saved_sits me x clock head c r h in record { seats = z.seats; kept = z.kept }
 
 served_sits : (i : ℕ) (x : ServerState) (clock place : ℕ) (m : Message) → Sits (Server i) x → Sits (Server i) (server_row (Server i) x clock place (Whole m)).state
 unfolding server_row
-served_sits i x clock place m h = let z : Sits (Server i) (does (Server i) x clock place (decides (Server i) x clock (Whole m)) []).state = does_sits (Server i) x clock place (decides (Server i) x clock (Whole m)) (hears_runs (Server i) x clock m.head m.carried) h in record { seats = z.seats; kept = z.kept }
+served_sits i x clock place m h = let z : Sits (Server i) (does (Server i) x clock place (decides (Server i) x clock (Whole m)) []).state = does_sits (Server i) x clock place (decides (Server i) x clock (Whole m)) (hears_runs (Server i) x clock m.head m.carried) (hears_firm (Server i) x clock m.head m.carried) h in record { seats = z.seats; kept = z.kept }
 
 timed_sits : (i : ℕ) (x : ServerState) (clock : ℕ) (n : Node) (b : BackCall) → Sits (Server i) x → Sits (Server i) (back_timeout_row (Server i) x clock n b).state
 unfolding back_timeout_row

@@ -1,18 +1,20 @@
 -- Each message of a run is sent by the node that it names, and each call of a client has a key of its own act, however many servers a
 -- cell has.
 use Rattle.afs_breaks.specs.declared.types.OwedBreak.{OwedBreak}
+use Rattle.afs_history.specs.declared.lines.Line.{Line}
 use Rattle.afs_history.specs.declared.scripts.Script.{Script}
 use Rattle.afs_law.proofs.Acting.{Acts, IsTheCall, begins_acts, given_acts, last_key, waits_acts, who_at}
 use Rattle.afs_law.proofs.Basics.{ByClient, Each, IfCall, OfCall, at_put, by_client, each_more, same_node-true}
 use Rattle.afs_law.proofs.Changing.{run_each}
+use Rattle.afs_law.proofs.Firm.{IfFirm, IsSentBy, hears_firm}
 use Rattle.afs_law.proofs.Hosting.{HasHead, served_head}
 use Rattle.afs_law.proofs.KeysOnce.{IsKnown, any_told, by_key}
 use Rattle.afs_law.proofs.Moving.{Behind, EachMove, IsKept, each_moved}
 use Rattle.afs_law.proofs.Origins.{KnownAsked, asked_first, asked_kept, last_late, of_client, the_calls}
 use Rattle.afs_law.proofs.Pumping.{each_both, each_filter}
-use Rattle.afs_law.proofs.Seating.{AreSeated, SitsIn, kept_from, sits_moves}
+use Rattle.afs_law.proofs.Seating.{AreSeated, SitsIn, change_code, change_firm, code_gift, code_half, kept_from, sits_moves}
 use Rattle.afs_law.specs.Ideal.{set_up}
-use Rattle.afs_law.specs.Legal.{GoodCall, HasOwnKey, IsBy}
+use Rattle.afs_law.specs.Legal.{GoodCall, GoodGift, HasOwnKey, IsBy}
 use Rattle.afs_law.specs.Parts.{EachSent, IsOwn, MessagesAreOwn}
 use Rattle.afs_law.specs.Past.{called_key, is_new_to_act}
 use Rattle.afs_model.specs.Calls as pairs
@@ -25,30 +27,28 @@ use Rattle.afs_num.specs.declared.messages.Carried.TheVariants as carried
 use Rattle.afs_num.specs.declared.messages.Message.{Message}
 use Rattle.afs_num.specs.declared.messages.Received.{Received}
 use Rattle.afs_num.specs.declared.messages.Received.TheVariants.{Whole}
+use Rattle.afs_num.specs.declared.types.Fid.{Fid}
 use Rattle.afs_num.specs.declared.types.Head.{Head}
 use Rattle.afs_num.specs.declared.types.Key.{Key}
 use Rattle.afs_num.specs.declared.types.Node.{Node}
 use Rattle.afs_num.specs.declared.types.Node.TheVariants.{Client, Server}
-use Rattle.afs_rows.specs.Callbacks.{Started, Turn, expired, held_under, is_back_awaited, is_ready, is_seat_of, key_answered, no_turn, pumped, put, renews_by, repeats_by, replies_of, risen_turn, settles_by, starts, starts_by, timed, turn_for, turned_by, turned_in}
+use Rattle.afs_rows.specs.Callbacks.{Started, Turn, break_message, breaks_call, call_for, expired, held_under, is_back_awaited, is_ready, is_seat_of, key_answered, no_turn, pumped, put, renews_by, repeats_by, replies_of, risen_turn, settles_by, started_call, starts, starts_by, timed, turn_for, turned_by, turned_in}
 use Rattle.afs_rows.specs.Going.{ClientState, Going}
 use Rattle.afs_rows.specs.Runs.{Armed, Cell, Entry, Fall, Host, Moved, at_rest, begun_by_disk, in_boot, in_step, server_moves, start, unarmed}
-use Rattle.afs_rows.specs.ServerRow.{Begun, Decision, admits, begun_after, decides, does, drops, hears, is_client, not_served, refuses, repeats, revived, runs_received, saves, serves_call, shows, tells_boot, whole}
+use Rattle.afs_rows.specs.ServerRow.{Begun, Change, Decision, change_reply_to, promise_ticks, admits, begun_after, decides, does, drops, hears, is_client, not_served, refuses, repeats, reply_head, revived, runs_received, saves, serves_call, shows, tells_boot, whole}
 use Rattle.afs_rows.specs.ServerSteps.{back_timeout_row, server_row, start_row, wake_row}
 use Rattle.afs_rows.specs.States.{BackCall, Backs, Held, ServerState}
 use Rattle.afs_rows.specs.Steps.{Step}
-use Rattle.std.proofs.Common.{◌≡◌, ℕ, Bool, true, false, cond, List, [], ◌∷◌, ◌++◌, Option, Some, None, refl, sym, subst, not}
+use Rattle.std.proofs.Common.{◌≡◌, ℕ, ◌+◌, Bool, true, false, cond, List, [], ◌∷◌, ◌++◌, Option, Some, None, refl, sym, subst, not}
 use Rattle.std.specs.Prelude.{⊤, ◌&&◌, nat_lt}
 
 -- ---- what a server decides
-
-abbrev IsFrom : Node → Message → Type 0
-IsFrom me m = m.head.from ≡ me
 
 -- what is answered was sent to it, and what is repeated is its own
 abbrev IfSends : Node → Decision → Type 0
 IfSends me drops = ⊤
 IfSends me (tells_boot head) = head.to ≡ me
-IfSends me (repeats reply) = IsFrom me reply
+IfSends me (repeats reply) = IsSentBy me reply
 IfSends me (refuses head code) = head.to ≡ me
 IfSends me (shows head r) = head.to ≡ me
 IfSends me (saves head c) = head.to ≡ me
@@ -92,80 +92,94 @@ hears_sends me x clock head carried.Notice s = tt
 
 -- ---- what it sends, and holds to be sent
 
-record Posts (me : Node) (t : Turn) : Type 0 where
-  sent : Each (IsFrom me) t.sent
-  outs : Each (IsFrom me) (replies_of t.outs)
-  held : Each (IsFrom me) (replies_of t.backs.held)
+break_gift : (head : Head) (what : Option Fid) (os : List OwedBreak) (ls : List Line) → GoodGift head (carried.Call [] (ask.File (call_for what os))) ls
+break_gift head None os ls = tt
+break_gift head (Some f) os ls = tt
 
-none_posts : (me : Node) (b : Backs) → Each (IsFrom me) (replies_of b.held) → Posts me (no_turn b)
+breaks_gift : (head : Head) (os : List OwedBreak) (ls : List Line) → GoodGift head (carried.Call [] (ask.File (breaks_call os))) ls
+breaks_gift head [] ls = tt
+breaks_gift head (o ∷ os) ls = break_gift head o.what (o ∷ os) ls
+
+break_sent : (me : Node) (boot : ℕ) (n : Node) (known : ℕ) (c : BackCall) → IsSentBy me (break_message me boot n known c)
+break_sent me boot n known c = record { from = refl; half = λ z. refl; firm = tt; gift = λ z ls. breaks_gift (break_message me boot n known c).head c.breaks ls }
+
+change_sent : (me : Node) (x : ServerState) (clock : ℕ) (head : Head) (c : Change) → head.to ≡ me → IsSentBy me (change_reply_to x.lasting.boot head clock c)
+change_sent me x clock head c to = record { from = to; half = code_half (change_reply_to x.lasting.boot head clock c) (change_code (clock + promise_ticks) _); firm = change_firm x.lasting.boot head (clock + promise_ticks) _; gift = λ z ls. code_gift (reply_head x.lasting.boot head) _ ls (change_code (clock + promise_ticks) _) }
+
+record Posts (me : Node) (t : Turn) : Type 0 where
+  sent : Each (IsSentBy me) t.sent
+  outs : Each (IsSentBy me) (replies_of t.outs)
+  held : Each (IsSentBy me) (replies_of t.backs.held)
+
+none_posts : (me : Node) (b : Backs) → Each (IsSentBy me) (replies_of b.held) → Posts me (no_turn b)
 none_posts me b h = record { sent = tt; outs = tt; held = h }
 
 either_posts : (me : Node) (t : Bool) (a b : Turn) → Posts me a → Posts me b → Posts me (cond t a b)
 either_posts me true a b h k = h
 either_posts me false a b h k = k
 
-repeats_posts : (me : Node) (b : Backs) (reply : Message) (o : Option Held) (good : Bool) → IsFrom me reply → Each (IsFrom me) (replies_of b.held) → Posts me (repeats_by b reply o good)
+repeats_posts : (me : Node) (b : Backs) (reply : Message) (o : Option Held) (good : Bool) → IsSentBy me reply → Each (IsSentBy me) (replies_of b.held) → Posts me (repeats_by b reply o good)
 repeats_posts me b reply (Some w) good r h = either_posts me (w.again && is_ready b.lists.owed w) _ _ (record { sent = tt; outs = (r, tt); held = h }) (none_posts me b h)
 repeats_posts me b reply None true r h = record { sent = tt; outs = (r, tt); held = h }
 repeats_posts me b reply None false r h = record { sent = tt; outs = (r, tt); held = h }
 
-for_posts : (me : Node) (x : ServerState) (clock : ℕ) (b : Backs) (d : Decision) → IfSends me d → Each (IsFrom me) (replies_of b.held) → Posts me (turn_for me x clock b d)
-for_posts me x clock b drops d h = none_posts me b h
-for_posts me x clock b (tells_boot head) d h = record { sent = (d, tt); outs = tt; held = h }
-for_posts me x clock b (repeats reply) d h = repeats_posts me b reply (held_under (key_answered reply) b.held) (is_seat_of reply (call_seat reply.head.to x.lasting.kept)) d h
-for_posts me x clock b (refuses head code) d h = record { sent = tt; outs = (d, tt); held = h }
-for_posts me x clock b (shows head r) d h = record { sent = tt; outs = (d, tt); held = h }
-for_posts me x clock b (saves head c) d h = record { sent = tt; outs = (d, tt); held = h }
+for_posts : (me : Node) (x : ServerState) (clock : ℕ) (b : Backs) (d : Decision) → IfSends me d → IfFirm d → Each (IsSentBy me) (replies_of b.held) → Posts me (turn_for me x clock b d)
+for_posts me x clock b drops d f h = none_posts me b h
+for_posts me x clock b (tells_boot head) d f h = record { sent = (record { from = d; half = λ z. absurd z; firm = tt; gift = λ z ls. tt }, tt); outs = tt; held = h }
+for_posts me x clock b (repeats reply) d f h = repeats_posts me b reply (held_under (key_answered reply) b.held) (is_seat_of reply (call_seat reply.head.to x.lasting.kept)) d h
+for_posts me x clock b (refuses head code) d f h = record { sent = tt; outs = (record { from = d; half = λ z. absurd z; firm = (refl, f); gift = λ z ls. tt }, tt); held = h }
+for_posts me x clock b (shows head r) d f h = record { sent = tt; outs = (record { from = d; half = λ z. absurd z; firm = refl; gift = λ z ls. tt }, tt); held = h }
+for_posts me x clock b (saves head c) d f h = record { sent = tt; outs = (change_sent me x clock head c d, tt); held = h }
 
-settled_posts : (me : Node) (boot : ℕ) (head : Head) (b : Backs) (o : Option BackCall) → Each (IsFrom me) (replies_of b.held) → Posts me (settles_by me boot head b o)
+settled_posts : (me : Node) (boot : ℕ) (head : Head) (b : Backs) (o : Option BackCall) → Each (IsSentBy me) (replies_of b.held) → Posts me (settles_by me boot head b o)
 settled_posts me boot head b None h = none_posts me b h
 settled_posts me boot head b (Some c) h = either_posts me (is_back_awaited boot c head) _ _ (record { sent = tt; outs = tt; held = h }) (none_posts me b h)
 
-renewed_posts : (me : Node) (boot : ℕ) (head : Head) (b : Backs) (o : Option BackCall) → Each (IsFrom me) (replies_of b.held) → Posts me (renews_by me boot head b o)
+renewed_posts : (me : Node) (boot : ℕ) (head : Head) (b : Backs) (o : Option BackCall) → Each (IsSentBy me) (replies_of b.held) → Posts me (renews_by me boot head b o)
 renewed_posts me boot head b None h = none_posts me b h
-renewed_posts me boot head b (Some c) h = either_posts me (is_back_awaited boot c head) _ _ (record { sent = (refl, tt); outs = tt; held = h }) (none_posts me b h)
+renewed_posts me boot head b (Some c) h = either_posts me (is_back_awaited boot c head) _ _ (record { sent = (break_sent me boot head.from head.boot c, tt); outs = tt; held = h }) (none_posts me b h)
 
-carried_posts : (me : Node) (x : ServerState) (clock : ℕ) (b : Backs) (d : Decision) (head : Head) (c : Carried) → IfSends me d → Each (IsFrom me) (replies_of b.held) → Posts me (turned_by me x clock b d head c)
-carried_posts me x clock b d head (carried.Call user call) p h = for_posts me x clock b d p h
-carried_posts me x clock b d head (carried.Refusal code) p h = either_posts me (same_node head.to me) _ _ (settled_posts me x.lasting.boot head b (b.calls head.from) h) (none_posts me b h)
-carried_posts me x clock b d head (carried.Reply reply) p h = either_posts me (same_node head.to me) _ _ (settled_posts me x.lasting.boot head b (b.calls head.from) h) (none_posts me b h)
-carried_posts me x clock b d head carried.Notice p h = either_posts me (same_node head.to me) _ _ (renewed_posts me x.lasting.boot head b (b.calls head.from) h) (none_posts me b h)
+carried_posts : (me : Node) (x : ServerState) (clock : ℕ) (b : Backs) (d : Decision) (head : Head) (c : Carried) → IfSends me d → IfFirm d → Each (IsSentBy me) (replies_of b.held) → Posts me (turned_by me x clock b d head c)
+carried_posts me x clock b d head (carried.Call user call) p f h = for_posts me x clock b d p f h
+carried_posts me x clock b d head (carried.Refusal code) p f h = either_posts me (same_node head.to me) _ _ (settled_posts me x.lasting.boot head b (b.calls head.from) h) (none_posts me b h)
+carried_posts me x clock b d head (carried.Reply reply) p f h = either_posts me (same_node head.to me) _ _ (settled_posts me x.lasting.boot head b (b.calls head.from) h) (none_posts me b h)
+carried_posts me x clock b d head carried.Notice p f h = either_posts me (same_node head.to me) _ _ (renewed_posts me x.lasting.boot head b (b.calls head.from) h) (none_posts me b h)
 
-timed_posts : (me : Node) (boot : ℕ) (n : Node) (c : BackCall) (b : Backs) → Each (IsFrom me) (replies_of b.held) → Posts me (timed me boot n c b)
-timed_posts me boot n c b h = either_posts me (nat_lt c.tries 2) _ _ (record { sent = (refl, tt); outs = tt; held = h }) (record { sent = tt; outs = tt; held = h })
+timed_posts : (me : Node) (boot : ℕ) (n : Node) (c : BackCall) (b : Backs) → Each (IsSentBy me) (replies_of b.held) → Posts me (timed me boot n c b)
+timed_posts me boot n c b h = either_posts me (nat_lt c.tries 2) _ _ (record { sent = (break_sent me boot n (b.known n) c, tt); outs = tt; held = h }) (record { sent = tt; outs = tt; held = h })
 
 -- at the end of a step
-start_posts : (me : Node) (boot : ℕ) (t : Started) (o : OwedBreak) (c : Option BackCall) → Each (IsFrom me) t.sent → Each (IsFrom me) (replies_of t.backs.held) → Each (IsFrom me) (starts_by me boot t o c).sent × Each (IsFrom me) (replies_of (starts_by me boot t o c).backs.held)
-start_posts me boot t o None h k = (each_more (IsFrom me) t.sent _ h (refl, tt), k)
+start_posts : (me : Node) (boot : ℕ) (t : Started) (o : OwedBreak) (c : Option BackCall) → Each (IsSentBy me) t.sent → Each (IsSentBy me) (replies_of t.backs.held) → Each (IsSentBy me) (starts_by me boot t o c).sent × Each (IsSentBy me) (replies_of (starts_by me boot t o c).backs.held)
+start_posts me boot t o None h k = (each_more (IsSentBy me) t.sent _ h (break_sent me boot o.client (t.backs.known o.client) (started_call t.backs o), tt), k)
 start_posts me boot t o (Some c) h k = (h, k)
 
-starts_posts : (me : Node) (boot : ℕ) (os : List OwedBreak) (t : Started) → Each (IsFrom me) t.sent → Each (IsFrom me) (replies_of t.backs.held) → Each (IsFrom me) (starts me boot os t).sent × Each (IsFrom me) (replies_of (starts me boot os t).backs.held)
+starts_posts : (me : Node) (boot : ℕ) (os : List OwedBreak) (t : Started) → Each (IsSentBy me) t.sent → Each (IsSentBy me) (replies_of t.backs.held) → Each (IsSentBy me) (starts me boot os t).sent × Each (IsSentBy me) (replies_of (starts me boot os t).backs.held)
 starts_posts me boot [] t h k = (h, k)
 starts_posts me boot (o ∷ os) t h k = let q = start_posts me boot t o (t.backs.calls o.client) h k in starts_posts me boot os (starts_by me boot t o (t.backs.calls o.client)) q.0 q.1
 
-abbrev PostsAll : Node → List Message → Backs → Type 0
-PostsAll me sent b = Each (IsFrom me) sent × Each (IsFrom me) (replies_of b.held)
+abbrev pub PostsAll : Node → List Message → Backs → Type 0
+PostsAll me sent b = Each (IsSentBy me) sent × Each (IsSentBy me) (replies_of b.held)
 
 pumped_posts : (me : Node) (boot : ℕ) (t : Turn) → Posts me t → PostsAll me (pumped me boot t).sent (pumped me boot t).backs
 pumped_posts me boot t h =
-    starts_posts me boot t.backs.lists.owed _ (each_more (IsFrom me) t.sent _ h.sent (each_filter (IsFrom me) (is_ready t.backs.lists.owed) (t.outs ++ t.backs.held) (each_both (IsFrom me) t.outs t.backs.held h.outs h.held)))
-    (each_filter (IsFrom me) (λ w. not (is_ready t.backs.lists.owed w)) (t.backs.held ++ t.outs) (each_both (IsFrom me) t.backs.held t.outs h.held h.outs))
+    starts_posts me boot t.backs.lists.owed _ (each_more (IsSentBy me) t.sent _ h.sent (each_filter (IsSentBy me) (is_ready t.backs.lists.owed) (t.outs ++ t.backs.held) (each_both (IsSentBy me) t.outs t.backs.held h.outs h.held)))
+    (each_filter (IsSentBy me) (λ w. not (is_ready t.backs.lists.owed w)) (t.backs.held ++ t.outs) (each_both (IsSentBy me) t.backs.held t.outs h.held h.outs))
 
-served_posts : (me : Node) (x : ServerState) (clock place : ℕ) (m : Message) → AreSeated me x.seats → Each (IsFrom me) (replies_of x.backs.held) → PostsAll me (server_row me x clock place (Whole m)).sent (server_row me x clock place (Whole m)).state.backs
+pub served_posts : (me : Node) (x : ServerState) (clock place : ℕ) (m : Message) → AreSeated me x.seats → Each (IsSentBy me) (replies_of x.backs.held) → PostsAll me (server_row me x clock place (Whole m)).sent (server_row me x clock place (Whole m)).state.backs
 unfolding server_row
 served_posts me x clock place m s h =
     let d : Decision = decides me x clock (Whole m) in
-    pumped_posts me (does me x clock place d []).state.lasting.boot (turned_in me x clock (expired clock x.backs) d (Whole m)) (carried_posts me x clock (expired clock x.backs) d m.head m.carried (hears_sends me x clock m.head m.carried s) h)
+    pumped_posts me (does me x clock place d []).state.lasting.boot (turned_in me x clock (expired clock x.backs) d (Whole m)) (carried_posts me x clock (expired clock x.backs) d m.head m.carried (hears_sends me x clock m.head m.carried s) (hears_firm me x clock m.head m.carried) h)
 
-times_posts : (me : Node) (x : ServerState) (clock : ℕ) (n : Node) (c : BackCall) → Each (IsFrom me) (replies_of x.backs.held) → PostsAll me (back_timeout_row me x clock n c).sent (back_timeout_row me x clock n c).state.backs
+pub times_posts : (me : Node) (x : ServerState) (clock : ℕ) (n : Node) (c : BackCall) → Each (IsSentBy me) (replies_of x.backs.held) → PostsAll me (back_timeout_row me x clock n c).sent (back_timeout_row me x clock n c).state.backs
 unfolding back_timeout_row
 times_posts me x clock n c h = pumped_posts me x.lasting.boot (timed me x.lasting.boot n c (expired clock x.backs)) (timed_posts me x.lasting.boot n c (expired clock x.backs) h)
 
-wakes_posts : (me : Node) (x : ServerState) (clock : ℕ) → Each (IsFrom me) (replies_of x.backs.held) → PostsAll me (wake_row me x clock).sent (wake_row me x clock).state.backs
+pub wakes_posts : (me : Node) (x : ServerState) (clock : ℕ) → Each (IsSentBy me) (replies_of x.backs.held) → PostsAll me (wake_row me x clock).sent (wake_row me x clock).state.backs
 unfolding wake_row
 wakes_posts me x clock h = pumped_posts me x.lasting.boot (no_turn (expired clock x.backs)) (none_posts me (expired clock x.backs) h)
 
-rises_posts : (me : Node) (clock count : ℕ) (f : Begun) → PostsAll me (start_row me clock count f).sent (start_row me clock count f).state.backs
+pub rises_posts : (me : Node) (clock count : ℕ) (f : Begun) → PostsAll me (start_row me clock count f).sent (start_row me clock count f).state.backs
 unfolding start_row
 rises_posts me clock count f = pumped_posts me (revived f.state).lasting.boot (risen_turn me clock count) (record { sent = tt; outs = tt; held = tt })
 
@@ -187,20 +201,20 @@ disk_backs me x true in_boot = refl
 
 -- ---- every step
 
-abbrev HoldsOwn : (ℕ → Host) → Type 0
-HoldsOwn hosts = (i : ℕ) → Each (IsFrom (Server i)) (replies_of (hosts i).state.backs.held)
+abbrev pub HoldsOwn : (ℕ → Host) → Type 0
+HoldsOwn hosts = (i : ℕ) → Each (IsSentBy (Server i)) (replies_of (hosts i).state.backs.held)
 
-abbrev HoldsIn : Cell → List Entry → Type 0
+abbrev pub HoldsIn : Cell → List Entry → Type 0
 HoldsIn c past = HoldsOwn c.hosts
 
-abbrev SitsHolds : Cell → List Entry → Type 0
+abbrev pub SitsHolds : Cell → List Entry → Type 0
 SitsHolds c past = SitsIn c past × HoldsIn c past
 
-put_holds : (hosts : ℕ → Host) (i : ℕ) (h : Host) → HoldsOwn hosts → Each (IsFrom (Server i)) (replies_of h.state.backs.held) → HoldsOwn (put i h hosts)
-put_holds hosts i h w own j = at_put i j (λ (x : Host). Each (IsFrom (Server j)) (replies_of x.state.backs.held)) h hosts (λ same. subst (λ (k : ℕ). Each (IsFrom (Server k)) (replies_of h.state.backs.held)) same own) (λ other. w j)
+put_holds : (hosts : ℕ → Host) (i : ℕ) (h : Host) → HoldsOwn hosts → Each (IsSentBy (Server i)) (replies_of h.state.backs.held) → HoldsOwn (put i h hosts)
+put_holds hosts i h w own j = at_put i j (λ (x : Host). Each (IsSentBy (Server j)) (replies_of x.state.backs.held)) h hosts (λ same. subst (λ (k : ℕ). Each (IsSentBy (Server k)) (replies_of h.state.backs.held)) same own) (λ other. w j)
 
 stays_holds : (c : Cell) (i : ℕ) (after : Bool) (fall : Fall) (d : Option Fall) → HoldsOwn c.hosts → HoldsOwn (put i (record { state = (begun_by_disk (Server i) (c.hosts i).state after fall).state; down = d; armed = unarmed }) c.hosts)
-stays_holds c i after fall d h = put_holds c.hosts i _ h (subst (λ (b : Backs). Each (IsFrom (Server i)) (replies_of b.held)) (sym (disk_backs (Server i) (c.hosts i).state after fall)) (h i))
+stays_holds c i after fall d h = put_holds c.hosts i _ h (subst (λ (b : Backs). Each (IsSentBy (Server i)) (replies_of b.held)) (sym (disk_backs (Server i) (c.hosts i).state after fall)) (h i))
 
 holds_moves : EachMove SitsHolds (Behind HoldsIn)
 holds_moves = record {
@@ -224,10 +238,10 @@ holds_moves = record {
   full = λ c past i after fall h down. stays_holds c i after fall (Some at_rest) h.1;
 }
 
-abbrev Posted : Script → Cell → List Entry → Type 0
+abbrev pub Posted : Script → Cell → List Entry → Type 0
 Posted s c past = KnownAsked s c past × SitsHolds c past
 
-posted_kept : (s : Script) → IsKept (Posted s)
+pub posted_kept : (s : Script) → IsKept (Posted s)
 posted_kept s c past x h = (asked_kept s c past x h.0, (each_moved SitsIn (Behind SitsIn) sits_moves c past x h.1.0, each_moved SitsHolds (Behind HoldsIn) holds_moves c past x h.1))
 
 -- ---- what is sent
@@ -241,9 +255,9 @@ server_key i head (carried.Refusal code) past from = tt
 server_key i head (carried.Reply reply) past from = tt
 server_key i head carried.Notice past from = tt
 
-server_own : (i : ℕ) (past : List Entry) (ms : List Message) → IsBy (Server i) past → Each (IsFrom (Server i)) ms → EachSent IsOwn past ms
+server_own : (i : ℕ) (past : List Entry) (ms : List Message) → IsBy (Server i) past → Each (IsSentBy (Server i)) ms → EachSent IsOwn past ms
 server_own i past [] by h = tt
-server_own i past (m ∷ ms) by h = ((subst (λ (n : Node). IsBy n past) (sym h.0) by, server_key i m.head m.carried past h.0), server_own i past ms by h.1)
+server_own i past (m ∷ ms) by h = ((subst (λ (n : Node). IsBy n past) (sym h.0.from) by, server_key i m.head m.carried past h.0.from), server_own i past ms by h.1)
 
 client_key : (n : ℕ) (y : ClientState) (head : Head) (x : Carried) (past : List Entry) → head.from ≡ Client n → ((act : Going) → y.running ≡ Some act → is_new_to_act (Client n) (last_key n y) past ≡ true) → OfCall (ByClient (IsTheCall n y)) head x → GoodCall head x past
 client_key n y head (carried.Call user (ask.File call)) past from late w =
@@ -255,14 +269,14 @@ client_key n y head (carried.Refusal code) past from late w = tt
 client_key n y head (carried.Reply reply) past from late w = tt
 client_key n y head carried.Notice past from late w = tt
 
-client_each : (n : ℕ) (y : ClientState) (past : List Entry) (ms : List Message) → IsBy (Client n) past → Each (IsFrom (Client n)) ms → Each (IfCall (IsTheCall n y)) ms → ((act : Going) → y.running ≡ Some act → is_new_to_act (Client n) (last_key n y) past ≡ true) → EachSent IsOwn past ms
+client_each : (n : ℕ) (y : ClientState) (past : List Entry) (ms : List Message) → IsBy (Client n) past → Each (IsSentBy (Client n)) ms → Each (IfCall (IsTheCall n y)) ms → ((act : Going) → y.running ≡ Some act → is_new_to_act (Client n) (last_key n y) past ≡ true) → EachSent IsOwn past ms
 client_each n y past [] by from calls late = tt
-client_each n y past (m ∷ ms) by from calls late = ((subst (λ (q : Node). IsBy q past) (sym from.0) by, client_key n y m.head m.carried past from.0 late calls.0), client_each n y past ms by from.1 calls.1 late)
+client_each n y past (m ∷ ms) by from calls late = ((subst (λ (q : Node). IsBy q past) (sym from.0.from) by, client_key n y m.head m.carried past from.0.from late calls.0), client_each n y past ms by from.1 calls.1 late)
 
 client_own : (s : Script) (c : Cell) (past : List Entry) (n : ℕ) (st : Step ClientState) → KnownAsked s c past → Acts n (who_at (c.clients n)) (c.clients n).gifts st → EachSent IsOwn (of_client n st ∷ past) st.sent
 client_own s c past n st h a = client_each n st.state (of_client n st ∷ past) st.sent refl a.from (the_calls n (c.clients n) st a.goes) (last_late c past s n st h.0 h.1 a.goes)
 
-moves_own : (s : Script) (c : Cell) (past : List Entry) (i : ℕ) (armed : Armed) (st : Step ServerState) → Each (IsFrom (Server i)) st.sent → OwnStep s c past (server_moves c i armed st)
+moves_own : (s : Script) (c : Cell) (past : List Entry) (i : ℕ) (armed : Armed) (st : Step ServerState) → Each (IsSentBy (Server i)) st.sent → OwnStep s c past (server_moves c i armed st)
 moves_own s c past i armed st h = server_own i ((server_moves c i armed st).entry ∷ past) st.sent refl h
 
 own_moves : (s : Script) → EachMove (Posted s) (OwnStep s)
@@ -287,7 +301,9 @@ own_moves s = record {
   full = λ c past i after fall h down. tt;
 }
 
+pub posted_first : (s : Script) → Posted s (start s) (set_up s ∷ [])
+posted_first s = (asked_first s, ((λ i. record { seats = λ n seat m e. absurd cc; kept = λ n seat m e. absurd cc }), λ i. tt))
+
 pub run_own : MessagesAreOwn
 run_own s h end r =
-    run_each (Posted s) (λ past e. EachSent IsOwn (e ∷ past) e.sent) (posted_kept s) (λ c past x k. each_moved (Posted s) (OwnStep s) (own_moves s) c past x k) r.inputs (start s) (set_up s ∷ []) h end
-    (asked_first s, ((λ i. record { seats = λ n seat m e. absurd cc; kept = λ n seat m e. absurd cc }), λ i. tt)) r.leads
+    run_each (Posted s) (λ past e. EachSent IsOwn (e ∷ past) e.sent) (posted_kept s) (λ c past x k. each_moved (Posted s) (OwnStep s) (own_moves s) c past x k) r.inputs (start s) (set_up s ∷ []) h end (posted_first s) r.leads

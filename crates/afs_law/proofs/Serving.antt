@@ -122,7 +122,7 @@ Gives s views boot past held sent after = Each (HeldIn views past) (replies_of h
 
 pub noted : (s : Script) (now : Option ℕ) (c : Cell) (past : List Entry) (armed : Armed) (d : Option Fall) (e : Entry) (b : Backs) → (h : Holds s c past) → server_boot the_server (lines_of (e ∷ past)) ≡ now → Rests s e past → clock_of (lines_of (e ∷ past)) ≡ clock_of (lines_of past)
     → AreUnheard d c.server.seats c.server.lasting.boot (e ∷ past) → HasFallen d c.server.lasting (c.sent ++ e.sent) (e ∷ past) → Gives s (view h.floors c) c.server.lasting.boot (e ∷ past) c.server.backs.held e.sent b.held
-    → (now ≡ up_boot d c.server.lasting.boot → BackedIn d b c.server.lasting.boot c.server.seats (λ j. back_seat (c.clients j)) c.clock (c.sent ++ e.sent) (e ∷ past)) → HoldsAt s now (noted_cell c armed d b e.sent) (e ∷ past)
+    → (now ≡ up_boot d c.server.lasting.boot → BackedIn the_server d b c.server.lasting.boot c.server.seats (λ j. back_seat (c.clients j)) c.clock (c.sent ++ e.sent) (e ∷ past)) → HoldsAt s now (noted_cell c armed d b e.sent) (e ∷ past)
 noted s now c past armed d e b h boots p clock heard fallen gives backs =
     let still_ : (j : ℕ) → ClientFacts s j (view h.floors c j) (e ∷ past) = λ j. client_still j (view h.floors c j) e past (p.file j) (p.reach j) (p.act j) (λ f. p.last f (lines_of past)) (h.clients j) in
     record {
@@ -162,8 +162,8 @@ seats_of c j = back_seat (c.clients j)
 
 -- the facts on breaks behind a step that leaves the seats
 pub record Loads (c : Cell) (past : List Entry) (t : Turn) : Type 0 where
-  pub backed : BackedIn None (loaded t) c.server.lasting.boot c.server.seats (seats_of c) c.clock c.sent past
-  pub sends : TurnSends (loaded t) c.server.lasting.boot past t.sent
+  pub backed : BackedIn the_server None (loaded t) c.server.lasting.boot c.server.seats (seats_of c) c.clock c.sent past
+  pub sends : TurnSends the_server (loaded t) c.server.lasting.boot past t.sent
 
 pub up_boots : (s : Script) (c : Cell) (past : List Entry) → Holds s c past → c.down ≡ None → server_boot the_server (lines_of past) ≡ Some c.server.lasting.boot
 up_boots s c past h up = h.boots ∙ ap (λ (d : Option Fall). up_boot d c.server.lasting.boot) up
@@ -179,7 +179,7 @@ quiet s c past armed p m t h up at dull notes good turns loads =
     let e : Entry = told_entry p t.lines ms in
     let k : Skips t.lines = skips t.lines notes in
     let rest : Rests s e past = told_rests s p t.lines ms past k in
-    let pump : Pumps c.server.lasting.boot c.server.seats (seats_of c) c.clock c.sent (e ∷ past) t = let l = loads e refl in pumps c.server.lasting.boot c.server.seats (seats_of c) c.clock c.sent e past t refl refl (k.clock _ ∙ h.clock) l.backed l.sends (k.boot _ ∙ up_boots s c past h up) in
+    let pump : Pumps the_server c.server.lasting.boot c.server.seats (seats_of c) c.clock c.sent (e ∷ past) t = let l = loads e refl in pumps the_server c.server.lasting.boot c.server.seats (seats_of c) c.clock c.sent e past t refl refl refl (k.clock _ ∙ h.clock) l.backed l.sends (k.boot _ ∙ up_boots s c past h up) in
     record {
       good = (refl, good);
       replies = pump.good;
@@ -199,7 +199,7 @@ acts_alone s c past armed t h up notes good turns loads =
     let e : Entry = noted_entry t.lines ms in
     let k : Skips t.lines = skips t.lines notes in
     let rest : Rests s e past = noted_rests s t.lines ms past k in
-    let pump : Pumps c.server.lasting.boot c.server.seats (seats_of c) c.clock c.sent (e ∷ past) t = let l = loads e refl in pumps c.server.lasting.boot c.server.seats (seats_of c) c.clock c.sent e past t refl refl (k.clock _ ∙ h.clock) l.backed l.sends (k.boot _ ∙ up_boots s c past h up) in
+    let pump : Pumps the_server c.server.lasting.boot c.server.seats (seats_of c) c.clock c.sent (e ∷ past) t = let l = loads e refl in pumps the_server c.server.lasting.boot c.server.seats (seats_of c) c.clock c.sent e past t refl refl refl (k.clock _ ∙ h.clock) l.backed l.sends (k.boot _ ∙ up_boots s c past h up) in
     record {
       good = good;
       replies = pump.good;
@@ -211,15 +211,15 @@ acts_alone s c past armed t h up notes good turns loads =
 
 -- ---- what the server has in memory
 
-pub up_backed : (s : Script) (c : Cell) (past : List Entry) → (H : Holds s c past) → c.down ≡ None → BackedIn None (expired c.clock c.server.backs) c.server.lasting.boot c.server.seats (seats_of c) c.clock c.sent past
-up_backed s c past H up = expired_backed c.server.backs c.server.lasting.boot c.server.seats (seats_of c) c.clock c.sent past (subst (λ (d : Option Fall). BackedIn d c.server.backs c.server.lasting.boot c.server.seats (seats_of c) c.clock c.sent past) up (H.backs refl))
+pub up_backed : (s : Script) (c : Cell) (past : List Entry) → (H : Holds s c past) → c.down ≡ None → BackedIn the_server None (expired c.clock c.server.backs) c.server.lasting.boot c.server.seats (seats_of c) c.clock c.sent past
+up_backed s c past H up = expired_backed the_server c.server.backs c.server.lasting.boot c.server.seats (seats_of c) c.clock c.sent past (subst (λ (d : Option Fall). BackedIn the_server d c.server.backs c.server.lasting.boot c.server.seats (seats_of c) c.clock c.sent past) up (H.backs refl))
 
 -- nothing is done
-pub still_loads : (s : Script) (c : Cell) (past : List Entry) (e : Entry) (ms : List Message) → (H : Holds s c past) → c.down ≡ None → Plain e.lines → TurnSends (loaded (no_turn (expired c.clock c.server.backs))) c.server.lasting.boot (e ∷ past) ms → Loads c (e ∷ past) (record { backs = expired c.clock c.server.backs; lines = []; sent = ms; outs = [] })
-still_loads s c past e ms H up p sends = record { backed = none_loaded None (expired c.clock c.server.backs) c.server.lasting.boot c.server.seats (seats_of c) c.clock c.sent (e ∷ past) (still_backed (expired c.clock c.server.backs) c.server.lasting.boot c.server.seats (seats_of c) c.clock c.sent e past p (up_backed s c past H up)); sends = sends }
+pub still_loads : (s : Script) (c : Cell) (past : List Entry) (e : Entry) (ms : List Message) → (H : Holds s c past) → c.down ≡ None → Plain the_server e.lines → TurnSends the_server (loaded (no_turn (expired c.clock c.server.backs))) c.server.lasting.boot (e ∷ past) ms → Loads c (e ∷ past) (record { backs = expired c.clock c.server.backs; lines = []; sent = ms; outs = [] })
+still_loads s c past e ms H up p sends = record { backed = none_loaded the_server None (expired c.clock c.server.backs) c.server.lasting.boot c.server.seats (seats_of c) c.clock c.sent (e ∷ past) (still_backed the_server (expired c.clock c.server.backs) c.server.lasting.boot c.server.seats (seats_of c) c.clock c.sent e past p (up_backed s c past H up)); sends = sends }
 
-pub given_plain : (p : ℕ) (e : Entry) (ms : List Message) → e ≡ told_entry p [] ms → Plain e.lines
-given_plain p e ms q = subst (λ (x : Entry). Plain x.lines) (sym q) (record { up = refl; still = refl; oweless = refl; unchanging = refl })
+pub given_plain : (p : ℕ) (e : Entry) (ms : List Message) → e ≡ told_entry p [] ms → Plain the_server e.lines
+given_plain p e ms q = subst (λ (x : Entry). Plain the_server x.lines) (sym q) (record { up = refl; still = refl; oweless = refl; unchanging = refl })
 
 pub nothing_done : (s : Script) (c : Cell) (past : List Entry) (armed : Armed) (p : ℕ) (m : Message) → (H : Holds s c past) → c.down ≡ None → message_at c.sent p ≡ Some m → Dull c.server.seats c.server.lasting.boot m → Goes s past (server_adds c armed c.server (lines.Given p ∷ []) (no_turn (expired c.clock c.server.backs)))
 nothing_done s c past armed p m H up at j = quiet s c past armed p m (no_turn (expired c.clock c.server.backs)) H up at j tt tt (λ e over held. record { notes = tt; sent = no_news _ _ _; outs = tt; held = held })
@@ -228,30 +228,30 @@ nothing_done s c past armed p m H up at j = quiet s c past armed p m (no_turn (e
 -- ---- the server's own calls are answered
 
 pub settled_goes : (s : Script) (c : Cell) (past : List Entry) (armed : Armed) (p : ℕ) (n : Node) (m : Message) (k : BackCall) (t : Bool) → (H : Holds s c past) → c.down ≡ None → message_at c.sent p ≡ Some m → Dull c.server.seats c.server.lasting.boot m → c.server.backs.calls n ≡ Some k
-    → IsDone c.down c.server.backs.calls c.server.backs.last_call c.server.lasting.boot past n m.head.epoch m.head.number → is_back_awaited c.server.lasting.boot k m.head ≡ t → Goes s past (server_adds c armed c.server (lines.Given p ∷ []) (cond t (settles the_server n k (expired c.clock c.server.backs)) (no_turn (expired c.clock c.server.backs))))
+    → IsDone the_server c.down c.server.backs.calls c.server.backs.last_call c.server.lasting.boot past n m.head.epoch m.head.number → is_back_awaited c.server.lasting.boot k m.head ≡ t → Goes s past (server_adds c armed c.server (lines.Given p ∷ []) (cond t (settles the_server n k (expired c.clock c.server.backs)) (no_turn (expired c.clock c.server.backs))))
 settled_goes s c past armed p n m k false H up at j is done e = nothing_done s c past armed p m H up at j
 settled_goes s c past armed p n m k true H up at j is done e =
     let q = both _ _ e in
-    let dropped : AllOf (DroppedOwe n (lines_of past)) k.breaks = done.dropped k up (eqb-true _ _ q.0) is (eqb-true _ _ (both _ _ q.1).0) in
-    quiet s c past armed p m (settles the_server n k (expired c.clock c.server.backs)) H up at j (settle_notes n _) (settles_good s n k (expired c.clock c.server.backs) past (lines.Given p ∷ []) dropped (λ z. z))
+    let dropped : AllOf (DroppedOwe the_server n (lines_of past)) k.breaks = done.dropped k up (eqb-true _ _ q.0) is (eqb-true _ _ (both _ _ q.1).0) in
+    quiet s c past armed p m (settles the_server n k (expired c.clock c.server.backs)) H up at j (settle_notes n _) (settles_good the_server refl s n k (expired c.clock c.server.backs) past (lines.Given p ∷ []) dropped (λ z. z))
     (λ x over held. record { notes = settle_notes n _; sent = no_news _ _ _; outs = tt; held = held })
-    (λ x z. record { backed = settles_backed (expired c.clock c.server.backs) c.server.lasting.boot c.server.seats (seats_of c) c.clock c.sent x past n p k is (ap (λ (y : Entry). y.lines) z) (up_backed s c past H up); sends = record { good = tt; calls = tt; dones = tt } })
+    (λ x z. record { backed = settles_backed the_server (expired c.clock c.server.backs) c.server.lasting.boot c.server.seats (seats_of c) c.clock c.sent x past n p k is (ap (λ (y : Entry). y.lines) z) (up_backed s c past H up); sends = record { good = tt; calls = tt; dones = tt } })
 
-pub settles_goes : (s : Script) (c : Cell) (past : List Entry) (armed : Armed) (p : ℕ) (m : Message) (o : Option BackCall) → (H : Holds s c past) → c.down ≡ None → message_at c.sent p ≡ Some m → Dull c.server.seats c.server.lasting.boot m → c.server.backs.calls m.head.from ≡ o
-    → DoneIn c.down c.server.backs.calls c.server.backs.last_call c.server.lasting.boot past m → Goes s past (server_adds c armed c.server (lines.Given p ∷ []) (settles_by the_server c.server.lasting.boot m.head (expired c.clock c.server.backs) o))
-settles_goes s c past armed p m None H up at j is d = nothing_done s c past armed p m H up at j
-settles_goes s c past armed p m (Some k) H up at j is d =
-    settled_goes s c past armed p m.head.from m k (is_back_awaited c.server.lasting.boot k m.head) H up at j is (subst (λ (n : Node). IsDone c.down c.server.backs.calls c.server.backs.last_call c.server.lasting.boot past n m.head.epoch m.head.number) (sym d.from) d.done) refl
+pub settles_goes : (s : Script) (c : Cell) (past : List Entry) (armed : Armed) (p : ℕ) (m : Message) (o : Option BackCall) → (H : Holds s c past) → c.down ≡ None → message_at c.sent p ≡ Some m → Dull c.server.seats c.server.lasting.boot m → c.server.backs.calls m.head.from ≡ o → m.head.to ≡ the_server
+    → DoneIn the_server c.down c.server.backs.calls c.server.backs.last_call c.server.lasting.boot past m → Goes s past (server_adds c armed c.server (lines.Given p ∷ []) (settles_by the_server c.server.lasting.boot m.head (expired c.clock c.server.backs) o))
+settles_goes s c past armed p m None H up at j is to d = nothing_done s c past armed p m H up at j
+settles_goes s c past armed p m (Some k) H up at j is to d =
+    settled_goes s c past armed p m.head.from m k (is_back_awaited c.server.lasting.boot k m.head) H up at j is (subst (λ (n : Node). IsDone the_server c.down c.server.backs.calls c.server.backs.last_call c.server.lasting.boot past n m.head.epoch m.head.number) (sym d.from) (d.done to)) refl
 
 -- a reply or a notice to another node does nothing
-if_to_goes : (t : Bool) (s : Script) (c : Cell) (past : List Entry) (armed : Armed) (p : ℕ) (m : Message) (x : Turn) → (H : Holds s c past) → c.down ≡ None → message_at c.sent p ≡ Some m → Dull c.server.seats c.server.lasting.boot m → Goes s past (server_adds c armed c.server (lines.Given p ∷ []) x)
+if_to_goes : (t : Bool) (s : Script) (c : Cell) (past : List Entry) (armed : Armed) (p : ℕ) (m : Message) (x : Turn) → (H : Holds s c past) → c.down ≡ None → message_at c.sent p ≡ Some m → Dull c.server.seats c.server.lasting.boot m → (t ≡ true → Goes s past (server_adds c armed c.server (lines.Given p ∷ []) x))
     → Goes s past (server_adds c armed c.server (lines.Given p ∷ []) (cond t x (no_turn (expired c.clock c.server.backs))))
-if_to_goes true s c past armed p m x H up at j g = g
+if_to_goes true s c past armed p m x H up at j g = g refl
 if_to_goes false s c past armed p m x H up at j g = nothing_done s c past armed p m H up at j
 
-pub answered_goes : (s : Script) (c : Cell) (past : List Entry) (armed : Armed) (p : ℕ) (m : Message) → (H : Holds s c past) → c.down ≡ None → message_at c.sent p ≡ Some m → Dull c.server.seats c.server.lasting.boot m → DoneIn c.down c.server.backs.calls c.server.backs.last_call c.server.lasting.boot past m
+pub answered_goes : (s : Script) (c : Cell) (past : List Entry) (armed : Armed) (p : ℕ) (m : Message) → (H : Holds s c past) → c.down ≡ None → message_at c.sent p ≡ Some m → Dull c.server.seats c.server.lasting.boot m → DoneIn the_server c.down c.server.backs.calls c.server.backs.last_call c.server.lasting.boot past m
     → Goes s past (server_adds c armed c.server (lines.Given p ∷ []) (if_to the_server m.head (expired c.clock c.server.backs) (settles_by the_server c.server.lasting.boot m.head (expired c.clock c.server.backs) (c.server.backs.calls m.head.from))))
-answered_goes s c past armed p m H up at j d = if_to_goes (same_node m.head.to the_server) s c past armed p m _ H up at j (settles_goes s c past armed p m (c.server.backs.calls m.head.from) H up at j refl d)
+answered_goes s c past armed p m H up at j d = if_to_goes (same_node m.head.to the_server) s c past armed p m _ H up at j (λ t. settles_goes s c past armed p m (c.server.backs.calls m.head.from) H up at j refl (same_node-true m.head.to the_server t) d)
 
 pub renewed_goes : (s : Script) (c : Cell) (past : List Entry) (armed : Armed) (p : ℕ) (n : Node) (m : Message) (k : BackCall) (t : Bool) → (H : Holds s c past) → c.down ≡ None → message_at c.sent p ≡ Some m → Dull c.server.seats c.server.lasting.boot m → c.server.backs.calls n ≡ Some k
     → Goes s past (server_adds c armed c.server (lines.Given p ∷ []) (cond t (renews the_server c.server.lasting.boot n m.head.boot k (expired c.clock c.server.backs)) (no_turn (expired c.clock c.server.backs))))
@@ -260,9 +260,9 @@ renewed_goes s c past armed p n m k true H up at j is =
     let b : Backs = expired c.clock c.server.backs in
     quiet s c past armed p m (renews the_server c.server.lasting.boot n m.head.boot k b) H up at j tt tt
     (λ x over held. record { notes = tt; sent = news_break _ _ _ c.server.lasting.boot n m.head.boot k ((up_backed s c past H up).outs refl n k is).client; outs = tt; held = held })
-    (λ x z. let old = still_backed b c.server.lasting.boot c.server.seats (seats_of c) c.clock c.sent x past (given_plain p x _ z) (up_backed s c past H up) in record {
-      backed = none_loaded None (record b { known = put_at n m.head.boot b.known }) c.server.lasting.boot c.server.seats (seats_of c) c.clock c.sent (x ∷ past) (known_backed b (put_at n m.head.boot b.known) c.server.lasting.boot c.server.seats (seats_of c) c.clock c.sent (x ∷ past) old);
-      sends = record { good = break_good (x ∷ past) c.server.lasting.boot n m.head.boot k (ap (λ (y : Entry). y.actor) z); calls = resent b c.server.lasting.boot c.server.seats (seats_of c) c.clock c.sent (x ∷ past) (x ∷ past) n m.head.boot k b.calls old is (λ y w. ap (λ (u : BackCall). u.breaks) (some_of y k (sym w ∙ is))); dones = (tt, tt) };
+    (λ x z. let old = still_backed the_server b c.server.lasting.boot c.server.seats (seats_of c) c.clock c.sent x past (given_plain p x _ z) (up_backed s c past H up) in record {
+      backed = none_loaded the_server None (record b { known = put_at n m.head.boot b.known }) c.server.lasting.boot c.server.seats (seats_of c) c.clock c.sent (x ∷ past) (known_backed the_server b (put_at n m.head.boot b.known) c.server.lasting.boot c.server.seats (seats_of c) c.clock c.sent (x ∷ past) old);
+      sends = record { good = break_good the_server (x ∷ past) c.server.lasting.boot n m.head.boot k refl (ap (λ (y : Entry). y.actor) z); calls = resent the_server b c.server.lasting.boot c.server.seats (seats_of c) c.clock c.sent (x ∷ past) (x ∷ past) n m.head.boot k b.calls old is (λ y w. ap (λ (u : BackCall). u.breaks) (some_of y k (sym w ∙ is))); dones = (tt, tt) };
     })
 
 pub renews_goes : (s : Script) (c : Cell) (past : List Entry) (armed : Armed) (p : ℕ) (m : Message) (o : Option BackCall) → (H : Holds s c past) → c.down ≡ None → message_at c.sent p ≡ Some m → Dull c.server.seats c.server.lasting.boot m → c.server.backs.calls m.head.from ≡ o
@@ -272,7 +272,7 @@ renews_goes s c past armed p m (Some k) H up at j is = renewed_goes s c past arm
 
 pub noticed_goes : (s : Script) (c : Cell) (past : List Entry) (armed : Armed) (p : ℕ) (m : Message) → (H : Holds s c past) → c.down ≡ None → message_at c.sent p ≡ Some m → Dull c.server.seats c.server.lasting.boot m
     → Goes s past (server_adds c armed c.server (lines.Given p ∷ []) (if_to the_server m.head (expired c.clock c.server.backs) (renews_by the_server c.server.lasting.boot m.head (expired c.clock c.server.backs) (c.server.backs.calls m.head.from))))
-noticed_goes s c past armed p m H up at j = if_to_goes (same_node m.head.to the_server) s c past armed p m _ H up at j (renews_goes s c past armed p m (c.server.backs.calls m.head.from) H up at j refl)
+noticed_goes s c past armed p m H up at j = if_to_goes (same_node m.head.to the_server) s c past armed p m _ H up at j (λ t. renews_goes s c past armed p m (c.server.backs.calls m.head.from) H up at j refl)
 
 -- ---- a call runs
 
@@ -567,7 +567,7 @@ pub serves : (good : Bool) (s : Script) (b : Option ℕ) (c : Cell) (past : List
     → AreUnheard d (seats_after c n h (replied c.server.lasting.boot (client_head n h) x)) c.server.lasting.boot (e ∷ past)
     → HasFallen d (server_after good c n h (replied c.server.lasting.boot (client_head n h) x) st).lasting (c.sent ++ e.sent) (e ∷ past)
     → (HeldIn (views_after good H.floors c n h (replied c.server.lasting.boot (client_head n h) x)) (e ∷ past) (replied c.server.lasting.boot (client_head n h) x) → Gives s (views_after good H.floors c n h (replied c.server.lasting.boot (client_head n h) x)) c.server.lasting.boot (e ∷ past) c.server.backs.held e.sent after.held)
-    → (b ≡ up_boot d c.server.lasting.boot → BackedIn d after c.server.lasting.boot (seats_after c n h (replied c.server.lasting.boot (client_head n h) x)) (seats_of c) c.clock (c.sent ++ e.sent) (e ∷ past))
+    → (b ≡ up_boot d c.server.lasting.boot → BackedIn the_server d after c.server.lasting.boot (seats_after c n h (replied c.server.lasting.boot (client_head n h) x)) (seats_of c) c.clock (c.sent ++ e.sent) (e ∷ past))
     → HoldsAt s b (served_cell good c n h (replied c.server.lasting.boot (client_head n h) x) st after d armed e.sent) (e ∷ past)
 serves good s b c past n h user call x e st after d armed H w v boots heard fallen news backs =
     let r : Message = replied c.server.lasting.boot (client_head n h) x in
@@ -672,14 +672,14 @@ has_run s c past p n h user call e H up at w is by = record { ran = ran_now s c 
 pub taken_not : (seats : List Seat) (n : ℕ) (h : Head) (r : Message) → Above (call_seat (Client n) (call_seated (taken n h r) seats)) h.epoch h.number → ⊥
 taken_not seats n h r above = below_not h.epoch h.number h.epoch h.number (subst (λ (o : Option Seat). Above o h.epoch h.number) (own_seat (taken n h r) seats) above) (up_to_same h.epoch h.number h.epoch h.number refl refl)
 
-pub run_backed : (s : Script) (c : Cell) (past : List Entry) (n : ℕ) (h : Head) (user : List ℕ) (call : FsCall) (x : Carried) (e : Entry) (ps : List Promise) → (H : Holds s c past) → c.down ≡ None → Now s c H.floors past n h user call → (OfReply ⊥ x → ⊥) → all_lines is_up e.lines ≡ true → all_lines is_oweless e.lines ≡ true → all_lines is_unchanging e.lines ≡ true → AllOf (IsGranted (lines_of (e ∷ past))) ps → AllOf (λ (p : Promise). IsClient p.client) ps → Promised None ps c.clock (lines_at the_server (e ∷ past))
-    → BackedIn None (record (expired c.clock c.server.backs) { lists = record (expired c.clock c.server.backs).lists { promises = ps }; held = c.server.backs.held ++ record { reply = replied c.server.lasting.boot (client_head n h) x; waits = []; again = false } ∷ [] }) c.server.lasting.boot (seats_after c n h (replied c.server.lasting.boot (client_head n h) x)) (seats_of c) c.clock c.sent (e ∷ past)
+pub run_backed : (s : Script) (c : Cell) (past : List Entry) (n : ℕ) (h : Head) (user : List ℕ) (call : FsCall) (x : Carried) (e : Entry) (ps : List Promise) → (H : Holds s c past) → c.down ≡ None → Now s c H.floors past n h user call → (OfReply ⊥ x → ⊥) → all_lines (is_up the_server) e.lines ≡ true → all_lines is_oweless e.lines ≡ true → all_lines is_unchanging e.lines ≡ true → AllOf (IsGranted the_server (lines_of (e ∷ past))) ps → AllOf (λ (p : Promise). IsClient p.client) ps → Promised the_server None ps c.clock (lines_at the_server (e ∷ past))
+    → BackedIn the_server None (record (expired c.clock c.server.backs) { lists = record (expired c.clock c.server.backs).lists { promises = ps }; held = c.server.backs.held ++ record { reply = replied c.server.lasting.boot (client_head n h) x; waits = []; again = false } ∷ [] }) c.server.lasting.boot (seats_after c n h (replied c.server.lasting.boot (client_head n h) x)) (seats_of c) c.clock c.sent (e ∷ past)
 run_backed s c past n h user call x e ps H up w is a b d granted clients promised =
     let r : Message = replied c.server.lasting.boot (client_head n h) x in
     let k : Key = called_key (client_head n h) in
     let B = up_backed s c past H up in
-    run_loaded (expired c.clock c.server.backs) ps c.server.lasting.boot c.server.seats (seats_after c n h r) (seats_of c) c.clock c.sent e past (record { reply = r; waits = []; again = false }) B a b d granted clients promised (λ m y z. above_before c.server.seats n h r m y z w.above)
-    (record { client = n; to = refl; from = refl; is_reply = is; under = taken_not c.server.seats n h r }) (own_waited (expired c.clock c.server.backs) c.server.lasting.boot c.server.seats (seats_of c) c.clock c.sent e past (record { reply = r; waits = []; again = false }) B b (λ y. key_held (expired c.clock c.server.backs) c.server.lasting.boot c.server.seats (seats_of c) c.clock c.sent past k B w.above y))
+    run_loaded the_server (expired c.clock c.server.backs) ps c.server.lasting.boot c.server.seats (seats_after c n h r) (seats_of c) c.clock c.sent e past (record { reply = r; waits = []; again = false }) B a b d granted clients promised (λ m y z. above_before c.server.seats n h r m y z w.above)
+    (record { client = n; to = refl; from = refl; is_reply = is; under = taken_not c.server.seats n h r }) (own_waited the_server (expired c.clock c.server.backs) c.server.lasting.boot c.server.seats (seats_of c) c.clock c.sent e past (record { reply = r; waits = []; again = false }) B b (λ y. key_held the_server (expired c.clock c.server.backs) c.server.lasting.boot c.server.seats (seats_of c) c.clock c.sent past k B w.above y))
     (λ y. absurd (no_change k (lines_of past) (H.new k w.above_durable) (change_back k e.lines (lines_of past) d y)))
 
 pub refuses_goes : (s : Script) (c : Cell) (past : List Entry) (armed : Armed) (p n : ℕ) (h : Head) (user : List ℕ) (call : FsCall) (code : ℤ) → (H : Holds s c past) → c.down ≡ None → message_at c.sent p ≡ Some (call_at n h user call) → Now s c H.floors past n h user call → is_passing code ≡ false
@@ -690,7 +690,7 @@ refuses_goes s c past armed p n h user call code H up at w nz result =
     let t : Turn = turn_for the_server c.server c.clock (expired c.clock c.server.backs) (refuses (client_head n h) code) in
     let ms : List Message = (pumped the_server c.server.lasting.boot t).sent in
     let e : Entry = record { actor = actors.Node the_server; lines = lines.Given p ∷ []; sent = ms; volumes = [] } in
-    let pump : Pumps c.server.lasting.boot (seats_after c n h r) (seats_of c) c.clock c.sent (e ∷ past) t = pumps c.server.lasting.boot (seats_after c n h r) (seats_of c) c.clock c.sent e past t refl refl H.clock (run_backed s c past n h user call x e (expired c.clock c.server.backs).lists.promises H up w (λ y. y) refl refl refl (granted_over e past (expired c.clock c.server.backs).lists.promises refl refl refl ((up_backed s c past H up).granted refl)) ((up_backed s c past H up).clients refl).promised (promised_over None (expired c.clock c.server.backs).lists.promises c.clock c.clock e past refl (le_refl _) (up_backed s c past H up).promised)) (record { good = tt; calls = tt; dones = tt }) (up_boots s c past H up) in
+    let pump : Pumps the_server c.server.lasting.boot (seats_after c n h r) (seats_of c) c.clock c.sent (e ∷ past) t = pumps the_server c.server.lasting.boot (seats_after c n h r) (seats_of c) c.clock c.sent e past t refl refl refl H.clock (run_backed s c past n h user call x e (expired c.clock c.server.backs).lists.promises H up w (λ y. y) refl refl refl (granted_over the_server e past (expired c.clock c.server.backs).lists.promises refl refl refl ((up_backed s c past H up).granted refl)) ((up_backed s c past H up).clients refl).promised (promised_over the_server None (expired c.clock c.server.backs).lists.promises c.clock c.clock e past refl (le_refl _) (up_backed s c past H up).promised)) (record { good = tt; calls = tt; dones = tt }) (up_boots s c past H up) in
     record {
       good = (refl, tt);
       holds = serves false s (Some c.server.lasting.boot) c past n h user call x e (stock c.server) (pumped the_server c.server.lasting.boot t).backs None armed H w
@@ -1009,7 +1009,7 @@ first_answer boot (o ∷ os) k t h = first_answer boot os k _ (by_answer boot k 
 pub told_there : (f : Fid) (index : ℕ) (body : ReadBody) (o : Option Volume) (v : Volume) (x : Vnode) → Some v ≡ o → vnode_of f v ≡ Some x → Tells index body x → TellsOf f index body o
 told_there f index body o v x at found h = subst (TellsOf f index body) at (subst (TellsIn index body) (sym found) h)
 
-and_true : (a b : Bool) → a ≡ true → b ≡ true → (a && b) ≡ true
+pub and_true : (a b : Bool) → a ≡ true → b ≡ true → (a && b) ≡ true
 and_true true b e h = h
 and_true false b e h = absurd cc
 
@@ -1036,7 +1036,7 @@ from_not false s k boot o e w = refl
 from_not true s k boot None e w = absurd cc
 from_not true s k boot (Some m) e w = absurd (w (from_is s k boot m e))
 
-comes : (s : Node) (k : Key) (boot : ℕ) (past : List Entry) → IsToCome s k boot past → is_to_come s k boot past ≡ true
+pub comes : (s : Node) (k : Key) (boot : ℕ) (past : List Entry) → IsToCome s k boot past → is_to_come s k boot past ≡ true
 comes s k boot [] h = refl
 comes s k boot (e ∷ past) h = and_true (not (is_call_from s k boot (given_message e.lines (sent_of past)))) (is_to_come s k boot past) (from_not (is_call_from s k boot (given_message e.lines (sent_of past))) s k boot (given_message e.lines (sent_of past)) refl h.0) (comes s k boot past h.1)
 
@@ -1063,12 +1063,12 @@ shows_by s c past armed p n h user call r H up at w is code done =
     let gave : returned_in the_server e (given_message e.lines (sent_of past)) past ≡ drops_of (Client n) r.given_up =
     ap (λ (o : Option Message). returned_in the_server e o past) (at_told s c past p _ H at) ∙ (ap (λ (b : Bool). returned_by the_server b (client_head n h) (carried.Call user (ask.File call))) (and_true _ _ (and_true _ _ now first) answered)
     ∙ ap (λ (gs : List Fid). drops_of (Client n) gs) (sym (gives_up_as c call r is))) in
-    let given : Promised None (without_promises (Client n) r.given_up ps) c.clock (before_own e past) = subst (λ (ds : List Line). Promised None (without_promises (Client n) r.given_up ps) c.clock (onto (lines_at the_server past) ds)) (sym gave) (gone_promised (Client n) c.clock r.given_up (lines_at the_server past) ps B.promised) in
-    let pump : Pumps c.server.lasting.boot (seats_after c n h m) (seats_of c) c.clock c.sent (e ∷ past) turn = pumps c.server.lasting.boot (seats_after c n h m) (seats_of c) c.clock c.sent e past turn refl refl (k.clock (lines.Given p ∷ lines_of past) ∙ H.clock)
-    (run_backed s c past n h user call z e turn.backs.lists.promises H up w (λ y. y) (granted_all is_up (Client n) t fs (λ f i. refl)) (granted_all is_oweless (Client n) t fs (λ f i. refl)) (granted_all is_unchanging (Client n) t fs (λ f i. refl))
-    (all_granted (Client n) t fs (lines.Given p ∷ lines_of past) (without_promises (Client n) r.given_up ps) (gone_granted (Client n) r.given_up (lines_of past) ps (B.granted refl)))
+    let given : Promised the_server None (without_promises (Client n) r.given_up ps) c.clock (before_own the_server e past) = subst (λ (ds : List Line). Promised the_server None (without_promises (Client n) r.given_up ps) c.clock (onto (lines_at the_server past) ds)) (sym gave) (gone_promised the_server (Client n) c.clock r.given_up (lines_at the_server past) ps B.promised) in
+    let pump : Pumps the_server c.server.lasting.boot (seats_after c n h m) (seats_of c) c.clock c.sent (e ∷ past) turn = pumps the_server c.server.lasting.boot (seats_after c n h m) (seats_of c) c.clock c.sent e past turn refl refl refl (k.clock (lines.Given p ∷ lines_of past) ∙ H.clock)
+    (run_backed s c past n h user call z e turn.backs.lists.promises H up w (λ y. y) (granted_all the_server (is_up the_server) (Client n) t fs (λ f i. refl)) (granted_all the_server is_oweless (Client n) t fs (λ f i. refl)) (granted_all the_server is_unchanging (Client n) t fs (λ f i. refl))
+    (all_granted the_server (Client n) t fs (lines.Given p ∷ lines_of past) (without_promises (Client n) r.given_up ps) (gone_granted the_server (Client n) r.given_up (lines_of past) ps (B.granted refl)))
     (granted_to_client t n fs (without_promises (Client n) r.given_up ps) (gone_to_clients (Client n) r.given_up ps (B.clients refl).promised))
-    (all_promised (Client n) t c.clock fs (lines.Given p ∷ before_own e past) (without_promises (Client n) r.given_up ps) given)) (record { good = tt; calls = tt; dones = tt }) boots in
+    (all_promised the_server (Client n) t c.clock fs (lines.Given p ∷ (before_own the_server) e past) (without_promises (Client n) r.given_up ps) given)) (record { good = tt; calls = tt; dones = tt }) boots in
     record {
       good = (
         refl,

@@ -84,7 +84,7 @@ pub record Skips (n : ℕ) (code : Code) (es : List CacheEntry) : Type 0 where
   pub given : (sent : List Message) → given_message (dropped (Client n) es (last_line n code)) sent ≡ None
   pub change : change_key (dropped (Client n) es (last_line n code)) ≡ None
   pub boot : (o : List Line) → server_boot the_server (onto o (dropped (Client n) es (last_line n code))) ≡ server_boot the_server o
-  pub ups : all_lines is_up (dropped (Client n) es (last_line n code)) ≡ true
+  pub ups : all_lines (is_up the_server) (dropped (Client n) es (last_line n code)) ≡ true
   pub stills : all_lines is_still (dropped (Client n) es (last_line n code)) ≡ true
   pub owelesss : all_lines is_oweless (dropped (Client n) es (last_line n code)) ≡ true
   pub unchangings : all_lines is_unchanging (dropped (Client n) es (last_line n code)) ≡ true

@@ -1,9 +1,6 @@
 -- What holds between any two entries of a run of one server, as laws: each is one of the facts.
 use Rattle.afs_law.proofs.Users.{user_is}
-use Rattle.std.proofs.Common.{◌≡◌, ℕ, ℤ, ◌<◌, ◌≤◌, arith, inl, inr, Bool, true, false, cond, nat_eq, eqb-true, List, [], ◌∷◌, Option, Some, None, refl, sym, ap, subst, ◌∙◌}
-use Rattle.std.specs.List.{AllByRecursion}
-use Rattle.afs_breaks.specs.declared.types.OwedBreak.{OwedBreak}
-use Rattle.afs_breaks.specs.declared.types.Promise.{Promise}
+use Rattle.std.proofs.Common.{◌≡◌, ℕ, ℤ, ◌<◌, ◌≤◌, arith, inl, inr, Bool, true, false, cond, nat_eq, eqb-true, List, [], ◌∷◌, Option, Some, refl, sym, subst, ◌∙◌}
 use Rattle.afs_ideal.specs.Operations.{volume_changed}
 use Rattle.afs_model.specs.Calls.{admitted, call_seat, paired}
 use Rattle.afs_model.specs.Calls as pairs
@@ -16,26 +13,24 @@ use Rattle.afs_history.specs.declared.scripts.Script.{Script}
 use Rattle.afs_num.specs.declared.types.Fid.{Fid}
 use Rattle.afs_num.specs.declared.types.Head.{Head}
 use Rattle.afs_num.specs.declared.types.Node.{Node}
-use Rattle.afs_num.specs.declared.types.Node.TheVariants.{Client, Server}
+use Rattle.afs_num.specs.declared.types.Node.TheVariants.{Client}
 use Rattle.afs_rows.specs.ClientRow.{find_cached}
 use Rattle.afs_rows.specs.Going.{Going, asked}
 use Rattle.afs_rows.specs.Runs.{Entry, message_at}
 use Rattle.afs_rows.specs.Runs as cells
-use Rattle.afs_rows.specs.States.{BackCall, CacheEntry, Seat}
-use Rattle.afs_law.specs.Breaks.{AllOwes, live_grant, lines_at}
+use Rattle.afs_rows.specs.States.{CacheEntry, Seat}
 use Rattle.afs_law.specs.Grants.{fetch_reply}
 use Rattle.afs_law.specs.Ideal.{user_of, set_up}
-use Rattle.afs_law.specs.Laws.{IsAccounted, IsAwaited, IsHandled, IsOwedIn, IsPromisedIn}
+use Rattle.afs_law.specs.Laws.{IsAwaited}
 use Rattle.afs_law.specs.Legal.{as_asked, Cause}
 use Rattle.afs_law.specs.Once.{past_of}
 use Rattle.afs_law.specs.OneServer.{IsOneServer}
-use Rattle.afs_law.specs.Past.{sent_of, HasCode, lines_of}
+use Rattle.afs_law.specs.Past.{sent_of, HasCode}
 use Rattle.afs_law.proofs.Agreeing.{at_end}
-use Rattle.afs_law.proofs.Basics.{Each, Above, IfCall, IfDone, IfReply, OfClient, OfReply, OfServer, by_client, by_server, client_number, each_at, runs_above}
+use Rattle.afs_law.proofs.Basics.{Each, Above, IfCall, IfReply, OfClient, OfReply, by_client, client_number, each_at, runs_above}
 use Rattle.afs_law.proofs.Facts.{its_call, Origin, CallFact, CallIn, Holds, InScope, IsAged, IsSafe, ReplyFact, ReplyIn, view}
 use Rattle.afs_law.proofs.Nexts.{asks_is}
 use Rattle.afs_law.proofs.OneCell.{Cell}
-use Rattle.afs_law.proofs.Owing.{AllOf, DoneIn, DroppedOwe, IsIn, IsPromised, promise_to}
 use Rattle.afs_law.proofs.Servers.{run_same, seen_in}
 
 holds_at : (s : Script) (h : List Entry) (end : cells.Cell) → IsOneServer s → cells.RunsTo h s end → Holds s (seen_in end) (past_of (set_up s ∷ []) h)
@@ -76,55 +71,6 @@ run_caused s h end is r j place m act at code to runs epoch number =
     let fact : ReplyFact j (view k.floors c j) past m = subst (λ (i : ℕ). ReplyFact i (view k.floors c i) past m) (client_number f.client j (sym f.to ∙ to)) f.fact in
     let a = fact.answers act runs epoch number in
     for_user s past j m a.code (its_call (end.clients j).gifts act) (asked act) a.cause (asks_is (end.clients j).gifts act) to c.sent k.sent.origins k.sent.told
-
--- ---- promises and breaks
-
-kept_promise : (p : Promise) (ps : List Promise) → IsPromised p ps → IsPromisedIn p ps
-kept_promise p [] h = h
-kept_promise p (q ∷ ps) (inl e) = inl e
-kept_promise p (q ∷ ps) (inr h) = inr (kept_promise p ps h)
-
-pub run_promised : (s : Script) (h : List Entry) (end : cells.Cell) → IsOneServer s → cells.RunsTo h s end → (c : Node) (f : Fid) (expiry : ℕ) → live_grant (Server 1) c f (lines_at (Server 1) (past_of (set_up s ∷ []) h)) ≡ Some expiry → end.clock < expiry
-    → ((end.hosts 1).down ≡ None) × IsPromisedIn (record { client = c; fid = f; expiry = expiry }) (end.hosts 1).state.backs.lists.promises
-run_promised s h end is r c f expiry e lasts =
-    let k : Holds s (seen_in end) (past_of (set_up s ∷ []) h) = holds_at s h end is r in
-    let p = (k.backs refl).promised c f expiry e lasts in
-    (p.0, kept_promise (promise_to c f expiry) (end.hosts 1).state.backs.lists.promises p.1)
-
-owed_by : (os : List OwedBreak) (o : OwedBreak) (c : Node) (what : Option Fid) (n : ℕ) → IsIn o os → o.client ≡ c → o.what ≡ what → o.number ≡ n → IsOwedIn os c what n
-owed_by [] o c what n h a b d = h
-owed_by (x ∷ os) o c what n (inl e) a b d = inl (ap (λ (y : OwedBreak). y.client) e ∙ a, (ap (λ (y : OwedBreak). y.what) e ∙ b, ap (λ (y : OwedBreak). y.number) e ∙ d))
-owed_by (x ∷ os) o c what n (inr h) a b d = inr (owed_by os o c what n h a b d)
-
-pub run_owed : (s : Script) (h : List Entry) (end : cells.Cell) → IsOneServer s → cells.RunsTo h s end → AllOwes (Server 1) (IsAccounted (end.hosts 1) end.clock) (past_of (set_up s ∷ []) h)
-run_owed s h end is r newer at older before after c what n split line =
-    let k : Holds s (seen_in end) (past_of (set_up s ∷ []) h) = holds_at s h end is r in
-    elim ((k.backs refl).accounted newer at older before after c what n split line) [
-      | inl ended ↦ inl ended
-      | inr y ↦ inr (y.0, owed_by (end.hosts 1).state.backs.lists.owed y.1.o c what n y.1.is_in y.1.client y.1.on y.1.number)
-    ]
-
-done_in : (c : Carried) (to : Node) (X : Type 0) → HasCode c → to ≡ Server 1 → OfReply (OfServer to X) c → X
-done_in (carried.Call user call) to X is e h = absurd is
-done_in (carried.Refusal code) to X is e h = by_server 1 to X e h
-done_in (carried.Reply reply) to X is e h = by_server 1 to X e h
-done_in carried.Notice to X is e h = absurd is
-
-handled_all : (j : ℕ) (past : List Entry) (os : List OwedBreak) → AllOf (DroppedOwe (Client j) (lines_of past)) os → AllByRecursion (IsHandled j past) os
-handled_all j past [] h = tt
-handled_all j past (o ∷ os) h = ((record { going = λ z. z; what = o.what; owe = h.0.owe; dropped = h.0.dropped }, refl), handled_all j past os h.1)
-
-pub run_handled : (s : Script) (h : List Entry) (end : cells.Cell) → IsOneServer s → cells.RunsTo h s end → (j place : ℕ) (m : Message) (b : BackCall) → message_at end.sent place ≡ Some m → HasCode m.carried → m.head.to ≡ Server 1 → m.head.from ≡ Client j
-    → (end.hosts 1).down ≡ None → m.head.epoch ≡ (end.hosts 1).state.lasting.boot → (end.hosts 1).state.backs.calls (Client j) ≡ Some b → m.head.number ≡ b.number → AllByRecursion (IsHandled j (past_of (set_up s ∷ []) h)) b.breaks
-run_handled s h end is r j place m b at code to from up boot call number =
-    let past : List Entry = past_of (set_up s ∷ []) h in
-    let c : Cell = seen_in end in
-    let k : Holds s c past = holds_at s h end is r in
-    let x = k.backs refl in
-    let P : Message → Type 0 = DoneIn c.down c.server.backs.calls c.server.backs.last_call c.server.lasting.boot past in
-    let d : P m = done_in m.carried m.head.to (P m) code to (each_at (IfDone P) c.sent place m at x.dones) in
-    let same : d.client ≡ Client j = sym d.from ∙ from in
-    handled_all j past b.breaks (subst (λ (q : Node). AllOf (DroppedOwe q (lines_of past)) b.breaks) same (d.done.dropped b up boot (ap c.server.backs.calls same ∙ call) number))
 
 -- ---- a call that was given up
 

@@ -6,24 +6,23 @@ use Rattle.afs_history.specs.declared.lines.Line.TheVariants as lines
 use Rattle.afs_history.specs.declared.scripts.Script.{Script}
 use Rattle.afs_ideal.specs.Operations.{Caller, changes, op, the_user, volume_called}
 use Rattle.afs_ideal.specs.Tables.{Table, get}
-use Rattle.afs_ideal.specs.Told.{live, fid_at}
-use Rattle.afs_ideal.specs.Volumes.{Amend, Edit, Kind, Vnode, Volume, a_directory, a_file, a_link, amended, amends_at, body_by, version_at, versions_by, vnode_of}
+use Rattle.afs_ideal.specs.Told.{fid_at}
+use Rattle.afs_ideal.specs.Volumes.{Amend, Edit, Kind, Vnode, Volume, a_directory, a_file, a_link, amended, amends_at, body_by, version_at, versions_by}
 use Rattle.afs_law.proofs.Agreeing.{at_end}
 use Rattle.afs_law.proofs.Asking.{called_one, each_front}
 use Rattle.afs_law.proofs.Basics.{Each, IfCall, some_of}
 use Rattle.afs_law.proofs.Booting.{disk_front}
 use Rattle.afs_law.proofs.Deciding.{at_fall}
-use Rattle.afs_law.proofs.Edits.{Ones, SoundIn, Tops, agrees_of, index_in, last_of, none_has}
 use Rattle.afs_law.proofs.Facts.{Holds, IsOne}
+use Rattle.afs_law.proofs.Latest.{has_more, has_onto, holding_by, later_by}
 use Rattle.afs_law.proofs.Law.{first_passed, onto_last, onto_more}
 use Rattle.afs_law.proofs.Made.{MadeBy, acknowledged_by, good_in}
 use Rattle.afs_law.proofs.Members.{runs_legal}
 use Rattle.afs_law.proofs.OneCell.{Cell, Moved, server_ends, the_server}
 use Rattle.afs_law.proofs.Ops.{Storing, amend_of, stored_kind, storing}
-use Rattle.afs_law.proofs.Serving.{last_has}
 use Rattle.afs_law.proofs.Servers.{run_same, seen_in}
 use Rattle.afs_law.specs.Grants.{change_below}
-use Rattle.afs_law.specs.Ideal.{HasVersion, IsThat, brought, call_in, call_under, change_in, change_key, changed_under, first_key, last_version, set_up, version_in, volume_after}
+use Rattle.afs_law.specs.Ideal.{HasVersion, brought, call_in, call_under, change_in, change_key, changed_under, first_key, last_version, set_up, version_in, volume_after}
 use Rattle.afs_law.specs.Laws.{AreMadeAndKept, HasMade, IsChangingAct, IsClosed, IsHeldStill, IsKept, IsOfKey, Survives, told_by_restart}
 use Rattle.afs_law.specs.Legal.{AreGood, GoodChange, HasChange, LegalAfter, as_asked, versions_first}
 use Rattle.afs_law.specs.Once.{past_of}
@@ -46,18 +45,9 @@ use Rattle.afs_rows.specs.Runs.{Entry, Fall, begun_by_disk, fails_midway}
 use Rattle.afs_rows.specs.Runs as cells
 use Rattle.afs_rows.specs.ServerRow.{Begun}
 use Rattle.afs_rows.specs.States.{ServerState, volume_in}
-use Rattle.std.proofs.Common.{◌≡◌, ℕ, ◌≤◌, ◌⊎◌, inl, inr, ◌+◌, Bool, true, false, cond, length, List, [], ◌∷◌, ◌++◌, Option, Some, None, pos, refl, sym, ap, subst, append-nil, ◌∙◌}
-use Rattle.std.specs.Option.{option_map}
+use Rattle.std.proofs.Common.{◌≡◌, ℕ, ◌⊎◌, inl, inr, ◌+◌, Bool, true, false, cond, length, List, [], ◌∷◌, ◌++◌, Option, Some, None, pos, refl, sym, ap, subst, append-nil, ◌∙◌}
 
 -- ---- further lines
-
-has_more : (f : Fid) (i : ℕ) (b : Body) (o : Option Version) (ls : List Line) → HasVersion f i b ls → IsThat f i b o (HasVersion f i b ls)
-has_more f i b None ls h = h
-has_more f i b (Some v) ls h = inr h
-
-has_onto : (f : Fid) (i : ℕ) (b : Body) (ls o : List Line) → HasVersion f i b o → HasVersion f i b (onto o ls)
-has_onto f i b [] o h = h
-has_onto f i b (l ∷ ls) o h = has_onto f i b ls (l ∷ o) (has_more f i b (version_in l) o h)
 
 has_behind : (f : Fid) (i : ℕ) (b : Body) (past es : List Entry) → HasVersion f i b (lines_of past) → HasVersion f i b (lines_of (past_of past es))
 has_behind f i b past [] h = h
@@ -82,36 +72,6 @@ past_both past [] b = refl
 past_both past (e ∷ a) b = past_both (e ∷ past) a b
 
 -- ---- what was told is kept
-
--- the last version is the one that was told, or a later one
-record IsLater (f : Fid) (i : ℕ) (b : Body) (o : Option Version) : Type 0 where
-  last : Version
-  is : o ≡ Some last
-  since : i ≤ last.index
-  same : last.index ≡ i → last.body ≡ b
-
-later_by : (f : Fid) (i : ℕ) (b : Body) (ls : List Line) (o : Option Version) → last_version f ls ≡ o → HasVersion f i b ls → Tops ls → Ones ls → IsLater f i b o
-later_by f i b ls None e h top one = absurd (none_has f i b ls e h)
-later_by f i b ls (Some last) e h top one = record {
-  last = last;
-  is = refl;
-  since = subst (λ (o : Option Version). i ≤ index_in o) e (top f i b h);
-  same = λ q. one f i last.body b (subst (λ (j : ℕ). HasVersion f j last.body ls) q (last_has f ls last e)) h;
-}
-
--- a volume of which a version was told is there, and holds the last one
-record IsHolding (f : Fid) (last : Version) (o : Option Volume) : Type 0 where
-  volume : Volume
-  at : o ≡ Some volume
-  held : live (Some last) ≡ option_map (version_at f.volume f.vnode) (vnode_of f volume)
-
-holding_by : (f : Fid) (last : Version) (o : Option Volume) (ls : List Line) → SoundIn f.volume o ls → last_version f ls ≡ Some last → IsHolding f last o
-holding_by f last None ls h e = let no_ : None ≡ Some last = sym (h f.vnode f.unique) ∙ e in absurd cc
-holding_by f last (Some v) ls h e = record {
-  volume = v;
-  at = refl;
-  held = ap live (sym e ∙ last_of f ls) ∙ (agrees_of f.volume v ls h).held f.vnode f.unique;
-}
 
 kept_in : (s : Script) (c : Cell) (past : List Entry) (v : Version) → Holds s c past → HasVersion v.fid v.index v.body (lines_of past) → IsKept v c.server.lasting.volumes (lines_of past)
 kept_in s c past v H told =

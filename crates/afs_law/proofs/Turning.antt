@@ -12,21 +12,20 @@ use Rattle.afs_num.specs.declared.types.Fid.{Fid}
 use Rattle.afs_num.specs.declared.types.Head.{Head}
 use Rattle.afs_num.specs.declared.types.Key.{Key}
 use Rattle.afs_num.specs.declared.types.Node.{Node}
-use Rattle.afs_num.specs.declared.types.Node.TheVariants.{Client}
+use Rattle.afs_num.specs.declared.types.Node.TheVariants.{Admin, Client, Loc, Server}
 use Rattle.afs_num.specs.declared.calls.FsCall.{FsCall}
 use Rattle.afs_num.specs.declared.messages.Carried.{Carried}
 use Rattle.afs_num.specs.declared.messages.Message.{Message}
 use Rattle.afs_law.proofs.Backing.{back_pass, done_pass, CallsPass}
-use Rattle.afs_law.proofs.Basics.{both, same_node-true, Each, IfBack, IfDone, OfCall, OfReply, OfServer, ByServer, each_more, each_map, if_back, if_done, some_of}
+use Rattle.afs_law.proofs.Basics.{server_any, both, same_node-true, Each, IfBack, IfDone, OfCall, OfReply, OfServer, ByServer, each_more, each_map, if_back, if_done, some_of}
 use Rattle.afs_law.proofs.Owing.{CarriedOwe, AllOf, all_map, all_both, all_filter, IsGranted, IsIn, IsNumberIn, HeldWaits, IsOwed, CallOut, BackIn, DoneIn, BackedIn, IsPromised, promise_to, IsClient, is_held}
 use Rattle.afs_law.specs.Breaks.{HasCome, AllOwes, EndedBy, EndedOf, EndedAll, CarriesBreak, NamesIn}
 use Rattle.afs_rows.specs.Callbacks.{put_at, Turn, Started, expired, is_all, waits_none, is_ready, is_reply_to, key_answered, fids_of, breaks_call, fid_before, call_for, break_message, first_of, is_for, most_breaks, carries_for, started_call, starts_by, starts, replies_of, held_after, given_out, pumped}
 use Rattle.afs_law.specs.Ideal.{clock_of}
-use Rattle.afs_law.specs.Legal.{HasOwnHalf, IsBy, GoodCall, GoodGift, HasChange, GoodReply, AreGoodSent}
+use Rattle.afs_law.specs.Legal.{HasOwnKey, IsOfServer, HasOwnHalf, IsBy, GoodCall, GoodGift, HasChange, GoodReply, AreGoodSent}
 use Rattle.afs_history.specs.declared.lines.Line.{Line}
-use Rattle.afs_law.specs.Past.{SendsTo, WasSent, server_boot, lines_of, sent_of, given_message, answered_key, IsCallUnder}
+use Rattle.afs_law.specs.Past.{SendsTo, WasSent, server_boot, lines_of, sent_of, given_message, answered_key, called_key, IsCallUnder}
 use Rattle.afs_rows.specs.Runs.{Entry}
-use Rattle.afs_law.proofs.OneCell.{the_server}
 use Rattle.afs_rows.specs.States.{Seat, BackCall, Held, Backs}
 use Rattle.afs_num.specs.declared.messages.Carried.TheVariants as carried
 use Rattle.afs_num.specs.declared.messages.Call.TheVariants as ask
@@ -61,9 +60,9 @@ kept_in q p [] h e = absurd h
 kept_in q p (r ∷ ps) (inl x) e = stays_by (q r) p r (filter q ps) (ap q x ∙ e) x
 kept_in q p (r ∷ ps) (inr h) e = stays_more (q r) p r (filter q ps) (kept_in q p ps h e)
 
-pub expired_backed : (b : Backs) (boot : ℕ) (seats : List Seat) (cs : ℕ → Option Seat) (clock : ℕ) (sent : List Message) (past : List Entry) → BackedIn None b boot seats cs clock sent past → BackedIn None (expired clock b) boot seats cs clock sent past
-expired_backed b boot seats cs clock sent past h = record {
-  granted = λ x. all_filter (IsGranted (lines_of past)) (λ p. nat_lt clock p.expiry) b.lists.promises (h.granted x);
+pub expired_backed : (me : Node) (b : Backs) (boot : ℕ) (seats : List Seat) (cs : ℕ → Option Seat) (clock : ℕ) (sent : List Message) (past : List Entry) → BackedIn me None b boot seats cs clock sent past → BackedIn me None (expired clock b) boot seats cs clock sent past
+expired_backed me b boot seats cs clock sent past h = record {
+  granted = λ x. all_filter (IsGranted me (lines_of past)) (λ p. nat_lt clock p.expiry) b.lists.promises (h.granted x);
   promised = λ j f x l t. let q = h.promised j f x l t in (q.0, kept_in (λ p. nat_lt clock p.expiry) (promise_to j f x) b.lists.promises q.1 (lt-ltb _ _ t));
   numbered = h.numbered;
   rising = h.rising;
@@ -73,7 +72,7 @@ expired_backed b boot seats cs clock sent past h = record {
     | inr x ↦ expired_by (nat_lt clock x.1.o.expiry) clock x.1.o _ _ refl (λ le. inr (inr (subst (λ (o : Option ℕ). HasCome o clock) (sym x.1.expiry) le)))
         (λ y. (x.0, record { o = x.1.o; is_in = in_filter (λ o. nat_lt clock o.expiry) x.1.o b.lists.owed x.1.is_in y; number = x.1.number; client = x.1.client; on = x.1.on; expiry = x.1.expiry; waits = x.1.waits }))
   ];
-  owing = λ x. all_filter (λ (o : Owed). IsOwed o.client (lines_of past) o) (λ o. nat_lt clock o.expiry) b.lists.owed (h.owing x);
+  owing = λ x. all_filter (λ (o : Owed). IsOwed me o.client (lines_of past) o) (λ o. nat_lt clock o.expiry) b.lists.owed (h.owing x);
   waiting = h.waiting;
   outs = h.outs;
   calls = h.calls;
@@ -133,14 +132,14 @@ kept_by : (t : Bool) (E : Type 0) (k : Key) (h : Held) (r : Bool) (hs rest : Lis
 kept_by true E k h r hs rest a e own more = elim (own (reply_key k h.reply a)) [ inl x ↦ inl x | inr x ↦ inr (stays_held true r k h rest x a (inl refl)) ]
 kept_by false E k h r hs rest a e own more = elim (more e) [ inl x ↦ inl x | inr x ↦ inr (rest_held r k h rest x) ]
 
-kept_held : (seats : List Seat) (clock : ℕ) (past : List Entry) (owed : List Owed) (hs : List Held) (k : Key) (boot : ℕ) (newer : List Entry) (at : Entry) (older : List Entry) (before after : List Line) (c : Node) (what : Option Fid) (n : ℕ) → AllOf (HeldWaits seats clock past) hs
-    → past ≡ newer ++ (at ∷ older) → at.lines ≡ before ++ lines.Owe the_server c what n ∷ after → has_break n owed ≡ true → IsCallUnder the_server k boot (given_message at.lines (sent_of older)) → is_held k hs ≡ true
-    → EndedBy the_server clock newer at older before after c what n ⊎ (is_held k (filter (λ h. not (is_ready owed h)) hs) ≡ true)
-kept_held seats clock past owed [] k boot newer at older before after c what n w split line is y e = absurd cc
-kept_held seats clock past owed (h ∷ hs) k boot newer at older before after c what n w split line is y e =
+kept_held : (me : Node) (seats : List Seat) (clock : ℕ) (past : List Entry) (owed : List Owed) (hs : List Held) (k : Key) (boot : ℕ) (newer : List Entry) (at : Entry) (older : List Entry) (before after : List Line) (c : Node) (what : Option Fid) (n : ℕ) → AllOf (HeldWaits me seats clock past) hs
+    → past ≡ newer ++ (at ∷ older) → at.lines ≡ before ++ lines.Owe me c what n ∷ after → has_break n owed ≡ true → IsCallUnder me k boot (given_message at.lines (sent_of older)) → is_held k hs ≡ true
+    → EndedBy me clock newer at older before after c what n ⊎ (is_held k (filter (λ h. not (is_ready owed h)) hs) ≡ true)
+kept_held me seats clock past owed [] k boot newer at older before after c what n w split line is y e = absurd cc
+kept_held me seats clock past owed (h ∷ hs) k boot newer at older before after c what n w split line is y e =
     kept_by (is_reply_to k h.reply) _ k h (is_ready owed h) hs (filter (λ z. not (is_ready owed z)) hs) refl e
-    (λ q. elim (w.0.own newer at older before after c what n split line boot (subst (λ (z : Key). IsCallUnder the_server z boot (given_message at.lines (sent_of older))) (sym q) y)) [ inl x ↦ inl x | inr x ↦ inr (not_ready n h.waits owed x is) ])
-    (kept_held seats clock past owed hs k boot newer at older before after c what n w.1 split line is y)
+    (λ q. elim (w.0.own newer at older before after c what n split line boot (subst (λ (z : Key). IsCallUnder me z boot (given_message at.lines (sent_of older))) (sym q) y)) [ inl x ↦ inl x | inr x ↦ inr (not_ready n h.waits owed x is) ])
+    (kept_held me seats clock past owed hs k boot newer at older before after c what n w.1 split line is y)
 
 no_back : (P : Head → List ℕ → FsCall → Type 0) (head : Head) (c : Carried) → (OfReply ⊥ c → ⊥) → OfCall P head c
 no_back P head (carried.Call user call) r = absurd (r tt)
@@ -157,16 +156,16 @@ of_reply_any P carried.Notice x = tt
 pub not_server : (n : Node) (j : ℕ) (X : Type 0) → n ≡ Client j → OfServer n X
 not_server n j X e = subst (λ (m : Node). OfServer m X) (sym e) tt
 
-replies_back : (P : Head → List ℕ → FsCall → Type 0) (seats : List Seat) (clock : ℕ) (past : List Entry) (hs : List Held) → AllOf (HeldWaits seats clock past) hs → Each (IfBack P) (replies_of hs)
-replies_back P seats clock past [] w = tt
-replies_back P seats clock past (h ∷ hs) w = (no_back (ByServer P) h.reply.head h.reply.carried w.0.is_reply, replies_back P seats clock past hs w.1)
+replies_back : (me : Node) (P : Head → List ℕ → FsCall → Type 0) (seats : List Seat) (clock : ℕ) (past : List Entry) (hs : List Held) → AllOf (HeldWaits me seats clock past) hs → Each (IfBack P) (replies_of hs)
+replies_back me P seats clock past [] w = tt
+replies_back me P seats clock past (h ∷ hs) w = (no_back (ByServer P) h.reply.head h.reply.carried w.0.is_reply, replies_back me P seats clock past hs w.1)
 
-replies_done : (P : Message → Type 0) (seats : List Seat) (clock : ℕ) (past : List Entry) (hs : List Held) → AllOf (HeldWaits seats clock past) hs → Each (IfDone P) (replies_of hs)
-replies_done P seats clock past [] w = tt
-replies_done P seats clock past (h ∷ hs) w = (of_reply_any _ h.reply.carried (not_server h.reply.head.to w.0.client _ w.0.to), replies_done P seats clock past hs w.1)
+replies_done : (me : Node) (P : Message → Type 0) (seats : List Seat) (clock : ℕ) (past : List Entry) (hs : List Held) → AllOf (HeldWaits me seats clock past) hs → Each (IfDone P) (replies_of hs)
+replies_done me P seats clock past [] w = tt
+replies_done me P seats clock past (h ∷ hs) w = (of_reply_any _ h.reply.carried (not_server h.reply.head.to w.0.client _ w.0.to), replies_done me P seats clock past hs w.1)
 
 -- what was held and what is new
-held_all : {A : Type 0} → (P : A → Type 0) (xs ys : List A) → AllOf P (xs ++ ys) → AllOf P xs × AllOf P ys
+pub held_all : {A : Type 0} → (P : A → Type 0) (xs ys : List A) → AllOf P (xs ++ ys) → AllOf P xs × AllOf P ys
 held_all P [] ys h = (tt, h)
 held_all P (x ∷ xs) ys h = let q = held_all P xs ys h.1 in ((h.0, q.0), q.1)
 
@@ -175,10 +174,10 @@ held_all P (x ∷ xs) ys h = let q = held_all P xs ys h.1 in ((h.0, q.0), q.1)
 ready_not : (n : ℕ) (o : Owed) (ks : List ℕ) (os : List Owed) (X : Type 0) → IsNumberIn n ks → IsIn o os → o.number ≡ n → waits_none ks os ≡ true → X
 ready_not n o ks os X a b c e = let x : waits_none ks os ≡ false = not_ready n ks os a (number_in n o os b c) in absurd cc
 
-reply_good : (b : Backs) (boot : ℕ) (seats : List Seat) (cs : ℕ → Option Seat) (clock : ℕ) (sent : List Message) (past : List Entry) (h : Held) → BackedIn None b boot seats cs clock sent past → clock_of (lines_of past) ≡ clock → HeldWaits seats clock past h → is_ready b.lists.owed h ≡ true → server_boot the_server (lines_of past) ≡ Some boot → GoodReply past h.reply
-reply_good b boot seats cs clock sent past h B time w ready up is nought i from = (
+reply_good : (me : Node) (b : Backs) (boot : ℕ) (seats : List Seat) (cs : ℕ → Option Seat) (clock : ℕ) (sent : List Message) (past : List Entry) (h : Held) → BackedIn me None b boot seats cs clock sent past → clock_of (lines_of past) ≡ clock → HeldWaits me seats clock past h → is_ready b.lists.owed h ≡ true → server_boot me (lines_of past) ≡ Some boot → GoodReply past h.reply
+reply_good me b boot seats cs clock sent past h B time w ready up is nought i from = (
   subst (λ (s : Node). AllOwes s (EndedOf s (answered_key h.reply.head) (clock_of (lines_of past))) past × (HasChange (answered_key h.reply.head) (lines_of past) → AllOwes s (EndedAll s (clock_of (lines_of past))) past)) (sym w.from)
-      (subst (λ (t : ℕ). AllOwes the_server (EndedOf the_server (answered_key h.reply.head) t) past × (HasChange (answered_key h.reply.head) (lines_of past) → AllOwes the_server (EndedAll the_server t) past)) (sym time) (
+      (subst (λ (t : ℕ). AllOwes me (EndedOf me (answered_key h.reply.head) t) past × (HasChange (answered_key h.reply.head) (lines_of past) → AllOwes me (EndedAll me t) past)) (sym time) (
         (λ newer at older before after c what n split line k y. elim (B.accounted newer at older before after c what n split line) [
           | inl x ↦ x
           | inr x ↦ elim (w.own newer at older before after c what n split line k y) [ inl z ↦ z | inr z ↦ ready_not n x.1.o h.waits b.lists.owed _ z x.1.is_in x.1.number ready ]
@@ -216,9 +215,9 @@ good_by : (t : Bool) (past : List Entry) (h : Held) (rest : List Held) → IsBy 
 good_by true past h rest by a is b = (record { sender = by; half = reply_half h.reply.head h.reply.carried is; reply = a refl; gift = reply_gift h.reply.head h.reply.carried (lines_of past) is; key = reply_key_good h.reply.head h.reply.carried past is }, b)
 good_by false past h rest by a is b = b
 
-replies_good : (b : Backs) (boot : ℕ) (seats : List Seat) (cs : ℕ → Option Seat) (clock : ℕ) (sent : List Message) (past : List Entry) (hs : List Held) → BackedIn None b boot seats cs clock sent past → clock_of (lines_of past) ≡ clock → AllOf (HeldWaits seats clock past) hs → server_boot the_server (lines_of past) ≡ Some boot → IsBy the_server past → AreGoodSent past (replies_of (filter (is_ready b.lists.owed) hs))
-replies_good b boot seats cs clock sent past [] B time w up by = tt
-replies_good b boot seats cs clock sent past (h ∷ hs) B time w up by = good_by (is_ready b.lists.owed h) past h (filter (is_ready b.lists.owed) hs) (subst (λ (n : Node). IsBy n past) (sym w.0.from) by) (λ e. reply_good b boot seats cs clock sent past h B time w.0 e up) w.0.is_reply (replies_good b boot seats cs clock sent past hs B time w.1 up by)
+replies_good : (me : Node) (b : Backs) (boot : ℕ) (seats : List Seat) (cs : ℕ → Option Seat) (clock : ℕ) (sent : List Message) (past : List Entry) (hs : List Held) → BackedIn me None b boot seats cs clock sent past → clock_of (lines_of past) ≡ clock → AllOf (HeldWaits me seats clock past) hs → server_boot me (lines_of past) ≡ Some boot → IsBy me past → AreGoodSent past (replies_of (filter (is_ready b.lists.owed) hs))
+replies_good me b boot seats cs clock sent past [] B time w up by = tt
+replies_good me b boot seats cs clock sent past (h ∷ hs) B time w up by = good_by (is_ready b.lists.owed h) past h (filter (is_ready b.lists.owed) hs) (subst (λ (n : Node). IsBy n past) (sym w.0.from) by) (λ e. reply_good me b boot seats cs clock sent past h B time w.0 e up) w.0.is_reply (replies_good me b boot seats cs clock sent past hs B time w.1 up by)
 
 pub good_more : (past : List Entry) (a b : List Message) → AreGoodSent past a → AreGoodSent past b → AreGoodSent past (a ++ b)
 good_more past [] b h k = k
@@ -230,8 +229,8 @@ call_good past head user call is nought i from = absurd is.1
 
 -- ---- calls for what is owed
 
-abbrev IsBacked : ℕ → List Seat → (ℕ → Option Seat) → ℕ → List Message → List Entry → Started → Type 0
-IsBacked boot seats cs clock sent past t = BackedIn None t.backs boot seats cs clock (sent ++ t.sent) past
+abbrev IsBacked : Node → ℕ → List Seat → (ℕ → Option Seat) → ℕ → List Message → List Entry → Started → Type 0
+IsBacked me boot seats cs clock sent past t = BackedIn me None t.backs boot seats cs clock (sent ++ t.sent) past
 
 -- breaks on fids are carried by their call
 names_more : (f g : Fid) (w : Option Fid) (fs : List Fid) → NamesIn w fs → NamesIn w (g ∷ fs)
@@ -279,27 +278,27 @@ on_fid : (t : Bool) → not t ≡ true → t ≡ false
 on_fid true h = absurd cc
 on_fid false h = refl
 
-record IsPick (j : Node) (ls : List Line) (o : Owed) : Type 0 where
-  owed : IsOwed j ls o
+record IsPick (me : Node) (j : Node) (ls : List Line) (o : Owed) : Type 0 where
+  owed : IsOwed me j ls o
   fid : IsOnFid o
 
-picks : (j : Node) (ls : List Line) (os : List Owed) → AllOf (λ (o : Owed). IsOwed o.client ls o) os → AllOf (IsPick j ls) (first_of most_breaks (filter (is_for j) os))
-picks j ls os h = all_first (IsPick j ls) most_breaks (filter (is_for j) os) (all_picked (λ (o : Owed). IsOwed o.client ls o) (IsPick j ls) (is_for j) (λ o e x. let q = both (same_node o.client j) (not (is_all o.what)) e in record { owed = subst (λ (n : Node). IsOwed n ls o) (same_node-true _ _ q.0) x; fid = on_fid (is_all o.what) q.1 }) os h)
+picks : (me : Node) (j : Node) (ls : List Line) (os : List Owed) → AllOf (λ (o : Owed). IsOwed me o.client ls o) os → AllOf (IsPick me j ls) (first_of most_breaks (filter (is_for j) os))
+picks me j ls os h = all_first (IsPick me j ls) most_breaks (filter (is_for j) os) (all_picked (λ (o : Owed). IsOwed me o.client ls o) (IsPick me j ls) (is_for j) (λ o e x. let q = both (same_node o.client j) (not (is_all o.what)) e in record { owed = subst (λ (n : Node). IsOwed me n ls o) (same_node-true _ _ q.0) x; fid = on_fid (is_all o.what) q.1 }) os h)
 
 -- what the new call carries
-record AreCarried (j : Node) (ls : List Line) (os : List Owed) : Type 0 where
-  owes : AllOf (IsOwed j ls) os
+record AreCarried (me : Node) (j : Node) (ls : List Line) (os : List Owed) : Type 0 where
+  owes : AllOf (IsOwed me j ls) os
   carries : AllOf (λ (o : Owed). CarriesBreak (breaks_call os) o.what) os
 
-are_carried : (w : Option Fid) (o : Owed) (ls : List Line) (owed : List Owed) → o.what ≡ w → IsOwed o.client ls o → AllOf (λ (x : Owed). IsOwed x.client ls x) owed → AreCarried o.client ls (carries_for w o owed)
-are_carried None o ls owed e h k = record { owes = (h, tt); carries = (subst (λ (w : Option Fid). CarriesBreak (call_for w (o ∷ [])) w) (sym e) refl, tt) }
-are_carried (Some f) o ls owed e h k =
-    let p = picks o.client ls owed k in
+are_carried : (me : Node) (w : Option Fid) (o : Owed) (ls : List Line) (owed : List Owed) → o.what ≡ w → IsOwed me o.client ls o → AllOf (λ (x : Owed). IsOwed me x.client ls x) owed → AreCarried me o.client ls (carries_for w o owed)
+are_carried me None o ls owed e h k = record { owes = (h, tt); carries = (subst (λ (w : Option Fid). CarriesBreak (call_for w (o ∷ [])) w) (sym e) refl, tt) }
+are_carried me (Some f) o ls owed e h k =
+    let p = picks me o.client ls owed k in
     let os : List Owed = first_of most_breaks (filter (is_for o.client) owed) in
-    record { owes = all_map (IsPick o.client ls) (IsOwed o.client ls) (λ x y. y.owed) os p; carries = all_carried os (all_map (IsPick o.client ls) IsOnFid (λ x y. y.fid) os p) }
+    record { owes = all_map (IsPick me o.client ls) (IsOwed me o.client ls) (λ x y. y.owed) os p; carries = all_carried os (all_map (IsPick me o.client ls) IsOnFid (λ x y. y.fid) os p) }
 
-call_more : (j : Node) (c : BackCall) (last more boot : ℕ) (past : List Entry) → last ≤ more → CallOut j c last boot past → CallOut j c more boot past
-call_more j c last more boot past le h = record { client = h.client; number = le_trans h.number le; owes = h.owes; sent = h.sent; carries = h.carries }
+call_more : (me : Node) (j : Node) (c : BackCall) (last more boot : ℕ) (past : List Entry) → last ≤ more → CallOut me j c last boot past → CallOut me j c more boot past
+call_more me j c last more boot past le h = record { client = h.client; number = le_trans h.number le; owes = h.owes; sent = h.sent; carries = h.carries }
 
 put_by : (t : Bool) (j k : Node) (n c : BackCall) (o : Option BackCall) (X : Type 0) → same_node j k ≡ t → cond t (Some n) o ≡ Some c → (j ≡ k → n ≡ c → X) → (o ≡ Some c → X) → X
 put_by true j k n c o X e at a b = a (same_node-true j k e) (some_of n c at)
@@ -320,19 +319,19 @@ sends_last : (j : Node) (k : Key) (user : List ℕ) (call : FsCall) (a : List Me
 sends_last j k user call [] m h = h
 sends_last j k user call (x ∷ a) m h = inr (sends_last j k user call a m h)
 
-started_backed : (boot : ℕ) (seats : List Seat) (cs : ℕ → Option Seat) (clock : ℕ) (sent : List Message) (past : List Entry) (t : Started) (o : Owed) (x : Option BackCall) → IsBacked boot seats cs clock sent past t → IsOwed o.client (lines_of past) o → IsClient o.client
-    → ((c : BackCall) → x ≡ None → SendsTo o.client (record { node = the_server; epoch = boot; number = c.number }) [] (breaks_call c.breaks) (t.sent ++ break_message the_server boot o.client (t.backs.known o.client) c ∷ []) → c ≡ started_call t.backs o → WasSent o.client (record { node = the_server; epoch = boot; number = c.number }) [] (breaks_call c.breaks) past)
-    → IsBacked boot seats cs clock sent past (starts_by the_server boot t o x)
-started_backed boot seats cs clock sent past t o (Some c) h is to was = h
-started_backed boot seats cs clock sent past t o None h is to was =
+started_backed : (me : Node) (boot : ℕ) (seats : List Seat) (cs : ℕ → Option Seat) (clock : ℕ) (sent : List Message) (past : List Entry) (t : Started) (o : Owed) (x : Option BackCall) → IsBacked me boot seats cs clock sent past t → IsOwed me o.client (lines_of past) o → IsClient o.client
+    → ((c : BackCall) → x ≡ None → SendsTo o.client (record { node = me; epoch = boot; number = c.number }) [] (breaks_call c.breaks) (t.sent ++ break_message me boot o.client (t.backs.known o.client) c ∷ []) → c ≡ started_call t.backs o → WasSent o.client (record { node = me; epoch = boot; number = c.number }) [] (breaks_call c.breaks) past)
+    → IsBacked me boot seats cs clock sent past (starts_by me boot t o x)
+started_backed me boot seats cs clock sent past t o (Some c) h is to was = h
+started_backed me boot seats cs clock sent past t o None h is to was =
     let n : BackCall = started_call t.backs o in
     let last : ℕ = t.backs.last_call in
     let calls' : Node → Option BackCall = put_at o.client (Some n) t.backs.calls in
-    let m : Message = break_message the_server boot o.client (t.backs.known o.client) n in
+    let m : Message = break_message me boot o.client (t.backs.known o.client) n in
     let pass : CallsPass t.backs.calls last calls' = started_pass t o in
     let le : last ≤ last + 1 = omega arith in
-    let carried_ : AreCarried o.client (lines_of past) n.breaks = are_carried o.what o (lines_of past) t.backs.lists.owed refl is (h.owing refl) in
-    subst (λ (ms : List Message). BackedIn None (starts_by the_server boot t o None).backs boot seats cs clock ms past) (append_assoc sent t.sent (m ∷ [])) (record {
+    let carried_ : AreCarried me o.client (lines_of past) n.breaks = are_carried me o.what o (lines_of past) t.backs.lists.owed refl is (h.owing refl) in
+    subst (λ (ms : List Message). BackedIn me None (starts_by me boot t o None).backs boot seats cs clock ms past) (append_assoc sent t.sent (m ∷ [])) (record {
       granted = h.granted;
       promised = h.promised;
       numbered = h.numbered;
@@ -341,68 +340,68 @@ started_backed boot seats cs clock sent past t o None h is to was =
       accounted = h.accounted;
       owing = h.owing;
       waiting = h.waiting;
-      outs = λ y j c at. put_call o.client j n c t.backs.calls (CallOut j c (last + 1) boot past) at
-          (λ e q. subst (λ (k : Node). CallOut k c (last + 1) boot past) e (subst (λ (z : BackCall). CallOut o.client z (last + 1) boot past) q (record {
+      outs = λ y j c at. put_call o.client j n c t.backs.calls (CallOut me j c (last + 1) boot past) at
+          (λ e q. subst (λ (k : Node). CallOut me k c (last + 1) boot past) e (subst (λ (z : BackCall). CallOut me o.client z (last + 1) boot past) q (record {
             number = le_refl _;
             client = to;
-            owes = all_map (IsOwed o.client (lines_of past)) (CarriedOwe o.client n.number n.tries boot (lines_of past)) (λ z w. record { owe = w; tries = λ k a b. absurd (omega arith) }) n.breaks carried_.owes;
+            owes = all_map (IsOwed me o.client (lines_of past)) (CarriedOwe me o.client n.number n.tries boot (lines_of past)) (λ z w. record { owe = w; tries = λ k a b. absurd (omega arith) }) n.breaks carried_.owes;
             sent = was n refl (sends_last o.client _ _ _ t.sent m (inl (refl, (refl, refl)))) refl;
             carries = carried_.carries;
           })))
-          (λ e. call_more j c last (last + 1) boot past le (h.outs y j c e));
-      calls = each_more (IfBack (BackIn None calls' (last + 1) boot)) (sent ++ t.sent) (m ∷ []) (each_map (IfBack (BackIn None t.backs.calls last boot)) (IfBack (BackIn None calls' (last + 1) boot)) (if_back (BackIn None t.backs.calls last boot) (BackIn None calls' (last + 1) boot)
-          (λ head user call y. back_pass None None t.backs.calls calls' last (last + 1) boot head user call (λ z. z) le pass y)) (sent ++ t.sent) h.calls) (
-            record {
+          (λ e. call_more me j c last (last + 1) boot past le (h.outs y j c e));
+      calls = each_more (IfBack (BackIn me None calls' (last + 1) boot)) (sent ++ t.sent) (m ∷ []) (each_map (IfBack (BackIn me None t.backs.calls last boot)) (IfBack (BackIn me None calls' (last + 1) boot)) (if_back (BackIn me None t.backs.calls last boot) (BackIn me None calls' (last + 1) boot)
+          (λ head user call y. back_pass me None None t.backs.calls calls' last (last + 1) boot head user call (λ z. z) le pass y)) (sent ++ t.sent) h.calls) (
+            server_any me (BackIn me None calls' (last + 1) boot m.head [] (breaks_call n.breaks)) (record {
               client = o.client;
               to = refl;
-              booted = le_refl _;
-              below = λ y z. le_refl _;
-              is = λ c y z at q. put_call o.client o.client n c t.backs.calls _ at (λ e w. ap (λ (u : BackCall). breaks_call u.breaks) w) (λ e. let low : c.number ≤ last = (h.outs refl o.client c e).number in let q' : last + 1 ≡ c.number = q in absurd (omega arith));
-            },
+              booted = λ own. le_refl _;
+              below = λ own y z. le_refl _;
+              is = λ c own y z at q. put_call o.client o.client n c t.backs.calls _ at (λ e w. ap (λ (u : BackCall). breaks_call u.breaks) w) (λ e. let low : c.number ≤ last = (h.outs refl o.client c e).number in let q' : last + 1 ≡ c.number = q in absurd (omega arith));
+            }),
             tt,
           );
-      dones = each_more (IfDone (DoneIn None calls' (last + 1) boot past)) (sent ++ t.sent) (m ∷ []) (each_map (IfDone (DoneIn None t.backs.calls last boot past)) (IfDone (DoneIn None calls' (last + 1) boot past)) (if_done (DoneIn None t.backs.calls last boot past) (DoneIn None calls' (last + 1) boot past)
-          (λ k y. record { client = y.client; from = y.from; done = done_pass None None t.backs.calls calls' last (last + 1) boot past past y.client k.head.epoch k.head.number (λ z. z) le pass (λ z u w. w) y.done })) (sent ++ t.sent) h.dones) (tt, tt);
-      seated = λ j seat k y z. let w = h.seated j seat k y z in record { to = w.to; from = w.from; is_reply = w.is_reply; done = done_pass None None t.backs.calls calls' last (last + 1) boot past past (Client j) k.head.epoch k.head.number (λ u. u) le pass (λ u v q. q) w.done };
+      dones = each_more (IfDone (DoneIn me None calls' (last + 1) boot past)) (sent ++ t.sent) (m ∷ []) (each_map (IfDone (DoneIn me None t.backs.calls last boot past)) (IfDone (DoneIn me None calls' (last + 1) boot past)) (if_done (DoneIn me None t.backs.calls last boot past) (DoneIn me None calls' (last + 1) boot past)
+          (λ k y. record { client = y.client; from = y.from; done = λ own. done_pass me None None t.backs.calls calls' last (last + 1) boot past past y.client k.head.epoch k.head.number (λ z. z) le pass (λ z u w. w) (y.done own) })) (sent ++ t.sent) h.dones) (tt, tt);
+      seated = λ j seat k y z. let w = h.seated j seat k y z in record { to = w.to; from = w.from; is_reply = w.is_reply; done = done_pass me None None t.backs.calls calls' last (last + 1) boot past past (Client j) k.head.epoch k.head.number (λ u. u) le pass (λ u v q. q) w.done };
     })
 
-abbrev IsSentBy : ℕ → Started → List Owed → List Entry → Type 0
-IsSentBy boot t os past = (j : Node) (k : Key) (user : List ℕ) (call : FsCall) → SendsTo j k user call (starts the_server boot os t).sent → WasSent j k user call past
+abbrev IsSentBy : Node → ℕ → Started → List Owed → List Entry → Type 0
+IsSentBy me boot t os past = (j : Node) (k : Key) (user : List ℕ) (call : FsCall) → SendsTo j k user call (starts me boot os t).sent → WasSent j k user call past
 
-sent_by : (boot : ℕ) (t : Started) (o : Owed) (x : Option BackCall) (j : Node) (k : Key) (user : List ℕ) (call : FsCall) → SendsTo j k user call t.sent → SendsTo j k user call (starts_by the_server boot t o x).sent
-sent_by boot t o None j k user call h = sends_front j k user call t.sent _ h
-sent_by boot t o (Some c) j k user call h = h
+sent_by : (me : Node) (boot : ℕ) (t : Started) (o : Owed) (x : Option BackCall) (j : Node) (k : Key) (user : List ℕ) (call : FsCall) → SendsTo j k user call t.sent → SendsTo j k user call (starts_by me boot t o x).sent
+sent_by me boot t o None j k user call h = sends_front j k user call t.sent _ h
+sent_by me boot t o (Some c) j k user call h = h
 
-sent_all : (boot : ℕ) (os : List Owed) (t : Started) (j : Node) (k : Key) (user : List ℕ) (call : FsCall) → SendsTo j k user call t.sent → SendsTo j k user call (starts the_server boot os t).sent
-sent_all boot [] t j k user call h = h
-sent_all boot (o ∷ os) t j k user call h = sent_all boot os (starts_by the_server boot t o (t.backs.calls o.client)) j k user call (sent_by boot t o (t.backs.calls o.client) j k user call h)
+sent_all : (me : Node) (boot : ℕ) (os : List Owed) (t : Started) (j : Node) (k : Key) (user : List ℕ) (call : FsCall) → SendsTo j k user call t.sent → SendsTo j k user call (starts me boot os t).sent
+sent_all me boot [] t j k user call h = h
+sent_all me boot (o ∷ os) t j k user call h = sent_all me boot os (starts_by me boot t o (t.backs.calls o.client)) j k user call (sent_by me boot t o (t.backs.calls o.client) j k user call h)
 
-new_sent : (boot : ℕ) (t : Started) (o : Owed) (x : Option BackCall) (c : BackCall) (j : Node) (k : Key) (user : List ℕ) (call : FsCall) → x ≡ None → c ≡ started_call t.backs o → SendsTo j k user call (t.sent ++ break_message the_server boot o.client (t.backs.known o.client) c ∷ []) → SendsTo j k user call (starts_by the_server boot t o x).sent
-new_sent boot t o None c j k user call e q h = subst (λ (z : BackCall). SendsTo j k user call (t.sent ++ break_message the_server boot o.client (t.backs.known o.client) z ∷ [])) q h
-new_sent boot t o (Some x) c j k user call e q h = absurd cc
+new_sent : (me : Node) (boot : ℕ) (t : Started) (o : Owed) (x : Option BackCall) (c : BackCall) (j : Node) (k : Key) (user : List ℕ) (call : FsCall) → x ≡ None → c ≡ started_call t.backs o → SendsTo j k user call (t.sent ++ break_message me boot o.client (t.backs.known o.client) c ∷ []) → SendsTo j k user call (starts_by me boot t o x).sent
+new_sent me boot t o None c j k user call e q h = subst (λ (z : BackCall). SendsTo j k user call (t.sent ++ break_message me boot o.client (t.backs.known o.client) z ∷ [])) q h
+new_sent me boot t o (Some x) c j k user call e q h = absurd cc
 
-started_all : (boot : ℕ) (seats : List Seat) (cs : ℕ → Option Seat) (clock : ℕ) (sent : List Message) (past : List Entry) (os : List Owed) (t : Started) → IsBacked boot seats cs clock sent past t → AllOf (λ (o : Owed). IsOwed o.client (lines_of past) o) os → AllOf (λ (o : Owed). IsClient o.client) os → IsSentBy boot t os past → IsBacked boot seats cs clock sent past (starts the_server boot os t)
-started_all boot seats cs clock sent past [] t h is to was = h
-started_all boot seats cs clock sent past (o ∷ os) t h is to was =
+started_all : (me : Node) (boot : ℕ) (seats : List Seat) (cs : ℕ → Option Seat) (clock : ℕ) (sent : List Message) (past : List Entry) (os : List Owed) (t : Started) → IsBacked me boot seats cs clock sent past t → AllOf (λ (o : Owed). IsOwed me o.client (lines_of past) o) os → AllOf (λ (o : Owed). IsClient o.client) os → IsSentBy me boot t os past → IsBacked me boot seats cs clock sent past (starts me boot os t)
+started_all me boot seats cs clock sent past [] t h is to was = h
+started_all me boot seats cs clock sent past (o ∷ os) t h is to was =
     let x : Option BackCall = t.backs.calls o.client in
-    let u : Started = starts_by the_server boot t o x in
-    started_all boot seats cs clock sent past os u (started_backed boot seats cs clock sent past t o x h is.0 to.0 (λ c e y q. was _ _ _ _ (sent_all boot os u _ _ _ _ (new_sent boot t o x c _ _ _ _ e q y)))) is.1 to.1 was
+    let u : Started = starts_by me boot t o x in
+    started_all me boot seats cs clock sent past os u (started_backed me boot seats cs clock sent past t o x h is.0 to.0 (λ c e y q. was _ _ _ _ (sent_all me boot os u _ _ _ _ (new_sent me boot t o x c _ _ _ _ e q y)))) is.1 to.1 was
 
 -- ---- the end of a step
 
 -- what a step sends by itself: no reply of the server, and calls of its own
-pub record TurnSends (b : Backs) (boot : ℕ) (past : List Entry) (ms : List Message) : Type 0 where
+pub record TurnSends (me : Node) (b : Backs) (boot : ℕ) (past : List Entry) (ms : List Message) : Type 0 where
   pub good : AreGoodSent past ms
-  pub calls : Each (IfBack (BackIn None b.calls b.last_call boot)) ms
-  pub dones : Each (IfDone (DoneIn None b.calls b.last_call boot past)) ms
+  pub calls : Each (IfBack (BackIn me None b.calls b.last_call boot)) ms
+  pub dones : Each (IfDone (DoneIn me None b.calls b.last_call boot past)) ms
 
-released : (boot : ℕ) (seats : List Seat) (cs : ℕ → Option Seat) (clock : ℕ) (sent : List Message) (past : List Entry) (t : Turn) → BackedIn None (loaded t) boot seats cs clock sent past → TurnSends (loaded t) boot past t.sent
-    → BackedIn None (held_after t) boot seats cs clock (sent ++ given_out t) past
-released boot seats cs clock sent past t h s =
-    let all : AllOf (HeldWaits seats clock past) (t.backs.held ++ t.outs) = h.waiting refl in
-    let q = held_all (HeldWaits seats clock past) t.backs.held t.outs all in
+released : (me : Node) (boot : ℕ) (seats : List Seat) (cs : ℕ → Option Seat) (clock : ℕ) (sent : List Message) (past : List Entry) (t : Turn) → BackedIn me None (loaded t) boot seats cs clock sent past → TurnSends me (loaded t) boot past t.sent
+    → BackedIn me None (held_after t) boot seats cs clock (sent ++ given_out t) past
+released me boot seats cs clock sent past t h s =
+    let all : AllOf (HeldWaits me seats clock past) (t.backs.held ++ t.outs) = h.waiting refl in
+    let q = held_all (HeldWaits me seats clock past) t.backs.held t.outs all in
     let ready : List Held = filter (is_ready t.backs.lists.owed) (t.outs ++ t.backs.held) in
-    let w : AllOf (HeldWaits seats clock past) ready = all_filter (HeldWaits seats clock past) (is_ready t.backs.lists.owed) (t.outs ++ t.backs.held) (all_both (HeldWaits seats clock past) t.outs t.backs.held q.1 q.0) in
+    let w : AllOf (HeldWaits me seats clock past) ready = all_filter (HeldWaits me seats clock past) (is_ready t.backs.lists.owed) (t.outs ++ t.backs.held) (all_both (HeldWaits me seats clock past) t.outs t.backs.held q.1 q.0) in
     record {
       granted = h.granted;
       promised = h.promised;
@@ -422,16 +421,16 @@ released boot seats cs clock sent past t h s =
             expiry = x.1.expiry;
             waits = λ k boot' y. elim (x.1.waits k boot' y) [
               | inl z ↦ inl z
-              | inr z ↦ kept_held seats clock past t.backs.lists.owed (t.backs.held ++ t.outs) k boot' newer at older before after c what n all split line (number_in n x.1.o t.backs.lists.owed x.1.is_in x.1.number) y z
+              | inr z ↦ kept_held me seats clock past t.backs.lists.owed (t.backs.held ++ t.outs) k boot' newer at older before after c what n all split line (number_in n x.1.o t.backs.lists.owed x.1.is_in x.1.number) y z
             ];
           },
         )
       ];
       owing = h.owing;
-      waiting = λ x. all_filter (HeldWaits seats clock past) (λ z. not (is_ready t.backs.lists.owed z)) (t.backs.held ++ t.outs) all;
+      waiting = λ x. all_filter (HeldWaits me seats clock past) (λ z. not (is_ready t.backs.lists.owed z)) (t.backs.held ++ t.outs) all;
       outs = h.outs;
-      calls = each_more (IfBack (BackIn None t.backs.calls t.backs.last_call boot)) sent (given_out t) h.calls (each_more (IfBack (BackIn None t.backs.calls t.backs.last_call boot)) t.sent (replies_of ready) s.calls (replies_back (BackIn None t.backs.calls t.backs.last_call boot) seats clock past ready w));
-      dones = each_more (IfDone (DoneIn None t.backs.calls t.backs.last_call boot past)) sent (given_out t) h.dones (each_more (IfDone (DoneIn None t.backs.calls t.backs.last_call boot past)) t.sent (replies_of ready) s.dones (replies_done (DoneIn None t.backs.calls t.backs.last_call boot past) seats clock past ready w));
+      calls = each_more (IfBack (BackIn me None t.backs.calls t.backs.last_call boot)) sent (given_out t) h.calls (each_more (IfBack (BackIn me None t.backs.calls t.backs.last_call boot)) t.sent (replies_of ready) s.calls (replies_back me (BackIn me None t.backs.calls t.backs.last_call boot) seats clock past ready w));
+      dones = each_more (IfDone (DoneIn me None t.backs.calls t.backs.last_call boot past)) sent (given_out t) h.dones (each_more (IfDone (DoneIn me None t.backs.calls t.backs.last_call boot past)) t.sent (replies_of ready) s.dones (replies_done me (DoneIn me None t.backs.calls t.backs.last_call boot past) seats clock past ready w));
       seated = h.seated;
     }
 
@@ -444,31 +443,41 @@ pub break_gift : (os : List Owed) (head : Head) (ls : List Line) → GoodGift he
 break_gift [] head ls = tt
 break_gift (o ∷ os) head ls = on_gift o.what (o ∷ os) head ls
 
-good_by_call : (boot : ℕ) (past : List Entry) (t : Started) (o : Owed) (x : Option BackCall) → IsBy the_server past → AreGoodSent past t.sent → AreGoodSent past (starts_by the_server boot t o x).sent
-good_by_call boot past t o None by h = let m : Message = break_message the_server boot o.client (t.backs.known o.client) (started_call t.backs o) in good_more past t.sent (m ∷ []) h (record { sender = by; half = λ z. refl; reply = call_good past m.head [] (breaks_call (started_call t.backs o).breaks); gift = break_gift (started_call t.backs o).breaks m.head (lines_of past); key = tt }, tt)
-good_by_call boot past t o (Some c) by h = h
+-- it is a server
+abbrev pub IsServing : Node → Type 0
+IsServing me = IsOfServer (actors.Node me) me
 
-calls_good : (boot : ℕ) (past : List Entry) (os : List Owed) (t : Started) → IsBy the_server past → AreGoodSent past t.sent → AreGoodSent past (starts the_server boot os t).sent
-calls_good boot past [] t by h = h
-calls_good boot past (o ∷ os) t by h = calls_good boot past os (starts_by the_server boot t o (t.backs.calls o.client)) by (good_by_call boot past t o (t.backs.calls o.client) by h)
+serving_key : (me : Node) (k : Key) (past : List Entry) → IsServing me → HasOwnKey me k past
+serving_key (Server i) k past is = tt
+serving_key (Client j) k past is = absurd is
+serving_key (Admin j) k past is = tt
+serving_key Loc k past is = tt
+
+good_by_call : (me : Node) (boot : ℕ) (past : List Entry) (t : Started) (o : Owed) (x : Option BackCall) → IsServing me → IsBy me past → AreGoodSent past t.sent → AreGoodSent past (starts_by me boot t o x).sent
+good_by_call me boot past t o None is by h = let m : Message = break_message me boot o.client (t.backs.known o.client) (started_call t.backs o) in good_more past t.sent (m ∷ []) h (record { sender = by; half = λ z. refl; reply = call_good past m.head [] (breaks_call (started_call t.backs o).breaks); gift = break_gift (started_call t.backs o).breaks m.head (lines_of past); key = serving_key me (called_key m.head) past is }, tt)
+good_by_call me boot past t o (Some c) is by h = h
+
+calls_good : (me : Node) (boot : ℕ) (past : List Entry) (os : List Owed) (t : Started) → IsServing me → IsBy me past → AreGoodSent past t.sent → AreGoodSent past (starts me boot os t).sent
+calls_good me boot past [] t is by h = h
+calls_good me boot past (o ∷ os) t is by h = calls_good me boot past os (starts_by me boot t o (t.backs.calls o.client)) is by (good_by_call me boot past t o (t.backs.calls o.client) is by h)
 
 -- the whole end: `past` begins with the entry, which sends all this
-pub record Pumps (boot : ℕ) (seats : List Seat) (cs : ℕ → Option Seat) (clock : ℕ) (sent : List Message) (past : List Entry) (t : Turn) : Type 0 where
-  pub good : AreGoodSent past (pumped the_server boot t).sent
+pub record Pumps (me : Node) (boot : ℕ) (seats : List Seat) (cs : ℕ → Option Seat) (clock : ℕ) (sent : List Message) (past : List Entry) (t : Turn) : Type 0 where
+  pub good : AreGoodSent past (pumped me boot t).sent
   pub clients : AllOf (λ (o : Owed). IsClient o.client) t.backs.lists.owed
-  pub backed : BackedIn None (pumped the_server boot t).backs boot seats cs clock (sent ++ (pumped the_server boot t).sent) past
+  pub backed : BackedIn me None (pumped me boot t).backs boot seats cs clock (sent ++ (pumped me boot t).sent) past
 
 was_sent : (e : Entry) (past : List Entry) (j : Node) (k : Key) (user : List ℕ) (call : FsCall) → SendsTo j k user call e.sent → WasSent j k user call (e ∷ past)
 was_sent e past j k user call h = inl h
 
-pub pumps : (boot : ℕ) (seats : List Seat) (cs : ℕ → Option Seat) (clock : ℕ) (sent : List Message) (e : Entry) (past : List Entry) (t : Turn) → e.actor ≡ actors.Node the_server → e.sent ≡ (pumped the_server boot t).sent → clock_of (lines_of (e ∷ past)) ≡ clock → BackedIn None (loaded t) boot seats cs clock sent (e ∷ past) → TurnSends (loaded t) boot (e ∷ past) t.sent → server_boot the_server (lines_of (e ∷ past)) ≡ Some boot → Pumps boot seats cs clock sent (e ∷ past) t
-pumps boot seats cs clock sent e past t by is time h s up =
-    let q = held_all (HeldWaits seats clock (e ∷ past)) t.backs.held t.outs (h.waiting refl) in
+pub pumps : (me : Node) (boot : ℕ) (seats : List Seat) (cs : ℕ → Option Seat) (clock : ℕ) (sent : List Message) (e : Entry) (past : List Entry) (t : Turn) → IsServing me → e.actor ≡ actors.Node me → e.sent ≡ (pumped me boot t).sent → clock_of (lines_of (e ∷ past)) ≡ clock → BackedIn me None (loaded t) boot seats cs clock sent (e ∷ past) → TurnSends me (loaded t) boot (e ∷ past) t.sent → server_boot me (lines_of (e ∷ past)) ≡ Some boot → Pumps me boot seats cs clock sent (e ∷ past) t
+pumps me boot seats cs clock sent e past t serving by is time h s up =
+    let q = held_all (HeldWaits me seats clock (e ∷ past)) t.backs.held t.outs (h.waiting refl) in
     record {
-      good = calls_good boot (e ∷ past) t.backs.lists.owed _ by (good_more (e ∷ past) t.sent _ s.good (replies_good (loaded t) boot seats cs clock sent (e ∷ past) (t.outs ++ t.backs.held) h time (all_both (HeldWaits seats clock (e ∷ past)) t.outs t.backs.held q.1 q.0) up by));
+      good = calls_good me boot (e ∷ past) t.backs.lists.owed _ serving by (good_more (e ∷ past) t.sent _ s.good (replies_good me (loaded t) boot seats cs clock sent (e ∷ past) (t.outs ++ t.backs.held) h time (all_both (HeldWaits me seats clock (e ∷ past)) t.outs t.backs.held q.1 q.0) up by));
       clients = (h.clients refl).owed;
-      backed = started_all boot seats cs clock sent (e ∷ past) t.backs.lists.owed _ (released boot seats cs clock sent (e ∷ past) t h s) (h.owing refl) (h.clients refl).owed (λ j k user call x. was_sent e past j k user call (subst (λ (ms : List Message). SendsTo j k user call ms) (sym is) x));
+      backed = started_all me boot seats cs clock sent (e ∷ past) t.backs.lists.owed _ (released me boot seats cs clock sent (e ∷ past) t h s) (h.owing refl) (h.clients refl).owed (λ j k user call x. was_sent e past j k user call (subst (λ (ms : List Message). SendsTo j k user call ms) (sym is) x));
     }
 
-pub break_good : (past : List Entry) (boot : ℕ) (n : Node) (known : ℕ) (c : BackCall) → IsBy the_server past → AreGoodSent past (break_message the_server boot n known c ∷ [])
-break_good past boot n known c by = let m : Message = break_message the_server boot n known c in (record { sender = by; half = λ z. refl; reply = call_good past m.head [] (breaks_call c.breaks); gift = break_gift c.breaks m.head (lines_of past); key = tt }, tt)
+pub break_good : (me : Node) (past : List Entry) (boot : ℕ) (n : Node) (known : ℕ) (c : BackCall) → IsServing me → IsBy me past → AreGoodSent past (break_message me boot n known c ∷ [])
+break_good me past boot n known c is by = let m : Message = break_message me boot n known c in (record { sender = by; half = λ z. refl; reply = call_good past m.head [] (breaks_call c.breaks); gift = break_gift c.breaks m.head (lines_of past); key = serving_key me (called_key m.head) past is }, tt)

@@ -18,12 +18,12 @@ use Rattle.afs_law.proofs.Basics.{each_at, by_client, ByClient, Each, IfCall, Of
 use Rattle.afs_law.proofs.Facts.{Origin}
 
 -- what holds of all that was sent holds of the message that an entry is given
-given_each : (P : Message → Type 0) (ls : List Line) (sent : List Message) (m : Message) → given_message ls sent ≡ Some m → Each P sent → P m
+pub given_each : (P : Message → Type 0) (ls : List Line) (sent : List Message) (m : Message) → given_message ls sent ≡ Some m → Each P sent → P m
 given_each P [] sent m e h = absurd cc
 given_each P (lines.Given place ∷ ls) sent m e h = each_at P sent place m e h
 given_each P (l ∷ ls) sent m e h = given_each P ls sent m e h
 
-older_each : (P : Message → Type 0) (newer : List Entry) (at : Entry) (older : List Entry) → Each P (sent_of (newer ++ (at ∷ older))) → Each P (sent_of older)
+pub older_each : (P : Message → Type 0) (newer : List Entry) (at : Entry) (older : List Entry) → Each P (sent_of (newer ++ (at ∷ older))) → Each P (sent_of older)
 older_each P [] at older h = (each_front P (sent_of older) at.sent h).0
 older_each P (e ∷ newer) at older h = older_each P newer at older (each_front P (sent_of (newer ++ (at ∷ older))) e.sent h).0
 

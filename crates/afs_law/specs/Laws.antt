@@ -316,29 +316,29 @@ IsPromisedIn p (q ∷ ps) = (q ≡ p) ⊎ IsPromisedIn p ps
 -- a grant that lasts, of which no break became owed and that its client hasn't dropped, is promised still
 abbrev pub GrantsAreKept : Type 0
 GrantsAreKept =
-    (s : Script) (history : List Entry) (end : Cell) → IsOneServer s → RunsTo history s end → (c : Node) (f : Fid) (expiry : ℕ) → live_grant (Server 1) c f (lines_at (Server 1) (past_of (set_up s ∷ []) history)) ≡ Some expiry → end.clock < expiry
-    → ((end.hosts 1).down ≡ None) × IsPromisedIn (record { client = c; fid = f; expiry = expiry }) (end.hosts 1).state.backs.lists.promises
+    (s : Script) (history : List Entry) (end : Cell) → RunsTo history s end → (i : ℕ) (c : Node) (f : Fid) (expiry : ℕ) → live_grant (Server i) c f (lines_at (Server i) (past_of (set_up s ∷ []) history)) ≡ Some expiry → end.clock < expiry
+    → ((end.hosts i).down ≡ None) × IsPromisedIn (record { client = c; fid = f; expiry = expiry }) (end.hosts i).state.backs.lists.promises
 
 abbrev pub IsOwedIn : List OwedBreak → Node → Option Fid → ℕ → Type 0
 IsOwedIn [] c what n = ⊥
 IsOwedIn (o ∷ os) c what n = ((o.client ≡ c) × ((o.what ≡ what) × (o.number ≡ n))) ⊎ IsOwedIn os c what n
 
 -- a break is ended, or the server is up and owes it still
-abbrev pub IsAccounted : Host → ℕ → Owes
-IsAccounted host clock newer at older before after c what n = EndedBy (Server 1) clock newer at older before after c what n ⊎ ((host.down ≡ None) × IsOwedIn host.state.backs.lists.owed c what n)
+abbrev pub IsAccounted : ℕ → Host → ℕ → Owes
+IsAccounted i host clock newer at older before after c what n = EndedBy (Server i) clock newer at older before after c what n ⊎ ((host.down ≡ None) × IsOwedIn host.state.backs.lists.owed c what n)
 
 abbrev pub BreaksAreOwed : Type 0
-BreaksAreOwed = (s : Script) (history : List Entry) (end : Cell) → IsOneServer s → RunsTo history s end → AllOwes (Server 1) (IsAccounted (end.hosts 1) end.clock) (past_of (set_up s ∷ []) history)
+BreaksAreOwed = (s : Script) (history : List Entry) (end : Cell) → RunsTo history s end → (i : ℕ) → AllOwes (Server i) (IsAccounted i (end.hosts i) end.clock) (past_of (set_up s ∷ []) history)
 
 -- the client gave up what this break is on
-abbrev pub IsHandled : ℕ → List Entry → OwedBreak → Type 0
-IsHandled j past o = (g : GoodSettle (Server 1) (Client j) o.number past []) × (g.what ≡ o.what)
+abbrev pub IsHandled : ℕ → ℕ → List Entry → OwedBreak → Type 0
+IsHandled i j past o = (g : GoodSettle (Server i) (Client j) o.number past []) × (g.what ≡ o.what)
 
 -- where a client's reply to the call of its server is under way which that waits for, the client gave up all that the call breaks
 abbrev pub RepliesFollowDrops : Type 0
 RepliesFollowDrops =
-    (s : Script) (history : List Entry) (end : Cell) → IsOneServer s → RunsTo history s end → (j place : ℕ) (m : Message) (b : BackCall) → message_at end.sent place ≡ Some m → HasCode m.carried → m.head.to ≡ Server 1 → m.head.from ≡ Client j
-    → (end.hosts 1).down ≡ None → m.head.epoch ≡ (end.hosts 1).state.lasting.boot → (end.hosts 1).state.backs.calls (Client j) ≡ Some b → m.head.number ≡ b.number → AllByRecursion (IsHandled j (past_of (set_up s ∷ []) history)) b.breaks
+    (s : Script) (history : List Entry) (end : Cell) → RunsTo history s end → (i j place : ℕ) (m : Message) (b : BackCall) → message_at end.sent place ≡ Some m → HasCode m.carried → m.head.to ≡ Server i → m.head.from ≡ Client j
+    → (end.hosts i).down ≡ None → m.head.epoch ≡ (end.hosts i).state.lasting.boot → (end.hosts i).state.backs.calls (Client j) ≡ Some b → m.head.number ≡ b.number → AllByRecursion (IsHandled i j (past_of (set_up s ∷ []) history)) b.breaks
 
 -- the client waits for the reply to this call
 pub record IsAwaited (c : ClientState) (head : Head) : Type 0 where

@@ -7,3 +7,5 @@ pub mod OneServer
 pub mod Once
 pub mod Laws
 pub mod Parts
+pub mod ServerParts
+pub mod ClientParts

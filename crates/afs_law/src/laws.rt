@@ -1,7 +1,9 @@
 //! Laws about the runs of a script. Each is the contract of a function that does nothing.
 
 ghost use Rattle.afs_law.specs.Laws.{AcknowledgedAreKept, AcknowledgedAreMade, AnswersAreRecent, ChangesAreFolded, EffectsAreTold, KeysRunOnce, ReadsAreNewest, RunsAreLegal, RunsAreOne, SetUpsAreFirst, StartsAreFolded, VolumesAreTold, PairsAreKnown, TrustedIsGood, RoomlessAreRefused, UnservedAreRefused, CallsRunOnce, RepliesAreCaused, RepliesWereRun, KeptWereRun, DurableAreChanges, GrantsAreKept, BreaksAreOwed, RepliesFollowDrops, UnawaitedAreUntrusted, DeadAreUntrusted};
+ghost use Rattle.afs_law.specs.ClientParts.{AnswersAreDue, CachedAreFetched, ChangesAreAlone, GiftsAreDropped, WaitsAreSilent};
 ghost use Rattle.afs_law.specs.Parts.{ActsAreTold, CallsAreAsked, ChangesAreIdeal, EntriesAreSound, LinesAreInPlace, MessagesAreOwn};
+ghost use Rattle.afs_law.specs.ServerParts.{BreaksAreGood, FallsAreKept, GoodReadsAreLegal, GrantsAreGood, RepliesAreTrue, RepliesWait, VersionsAreKept};
 
 /// Every run of a script for one server is legal.
 pub fn runs_are_legal()
@@ -110,17 +112,17 @@ pub fn durable_are_changes()
     ensures { DurableAreChanges }
 {}
 
-/// In a run of a script for one server, a grant that lasts, and was neither withdrawn nor dropped by its client, is promised still.
+/// A grant that lasts, and was neither withdrawn nor dropped by its client, is promised still.
 pub fn grants_are_kept()
     ensures { GrantsAreKept }
 {}
 
-/// In a run of a script for one server, a break that became owed is ended, or is owed still.
+/// A break that became owed is ended, or its server owes it still.
 pub fn breaks_are_owed()
     ensures { BreaksAreOwed }
 {}
 
-/// In a run of a script for one server, a client that answers a break has given up what the break is on.
+/// A client that answers a break has given up what the break is on.
 pub fn replies_follow_drops()
     ensures { RepliesFollowDrops }
 {}
@@ -156,6 +158,35 @@ pub fn lines_are_in_place()
     ensures { LinesAreInPlace }
 {}
 
+/// What carries a call is a call by its header; and what a client's call gives back that dropped in the very act, and fetched nothing of
+/// since.
+pub fn gifts_are_dropped()
+    ensures { GiftsAreDropped }
+{}
+
+/// An act changes things once, however often its call is repeated, and also when it is over.
+pub fn changes_are_alone()
+    ensures { ChangesAreAlone }
+{}
+
+/// What an act fetches is of replies to its own calls, and its answer has a cause: such a reply, what it read, the third timeout of its
+/// call, or that it had nothing to give back.
+pub fn answers_are_due()
+    ensures { AnswersAreDue }
+{}
+
+/// While a client waits for a call it reads nothing and is answered nothing; and unless the reply is spoiled it dropped nothing since that
+/// the call names.
+pub fn waits_are_silent()
+    ensures { WaitsAreSilent }
+{}
+
+/// An entry of a client's cache is of the server whose reply the client's last fetched read of that object was of, and since then the
+/// client dropped neither the object nor all that the server promised.
+pub fn cached_are_fetched()
+    ensures { CachedAreFetched }
+{}
+
 /// Each message is sent by the node that its header names as sender, and each call of a client under a key that no file call had
 /// which was sent before the act that it began last.
 pub fn messages_are_own()
@@ -165,4 +196,40 @@ pub fn messages_are_own()
 /// Each change is what the ideal cell makes of the call that ran.
 pub fn changes_are_ideal()
     ensures { ChangesAreIdeal }
+{}
+
+/// Each promise of a server is made where it runs a call whose reply promises that object, for 7200 ticks.
+pub fn grants_are_good()
+    ensures { GrantsAreGood }
+{}
+
+/// Behind each change its breaks are owed, and each break that becomes owed, is settled or is given up has its cause.
+pub fn breaks_are_good()
+    ensures { BreaksAreGood }
+{}
+
+/// A server's reply with code 0 waits until no break is open that an entry given its call owes, or, where that changed something, any on all.
+pub fn replies_wait()
+    ensures { RepliesWait }
+{}
+
+/// Each reply of a server to a client tells what the ideal operation made of the call that its entry was given, and is of that call's kind.
+pub fn replies_are_true()
+    ensures { RepliesAreTrue }
+{}
+
+/// While a server is down, what its interrupted step may have left holds the ideal volumes, behind what a restart tells of that step.
+pub fn falls_are_kept()
+    ensures { FallsAreKept }
+{}
+
+/// A run, of any number of servers, is legal where what its clients read and answer is good.
+pub fn good_reads_are_legal()
+    ensures { GoodReadsAreLegal }
+{}
+
+/// Each version that was told, or a later one of its object, is held by the server that accepts stores of its volume, and by what an
+/// interrupted step of that may have left.
+pub fn versions_are_kept()
+    ensures { VersionsAreKept }
 {}

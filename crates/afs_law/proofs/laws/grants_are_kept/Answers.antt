@@ -1,4 +1,4 @@
-use Rattle.afs_law.proofs.Standing.{run_promised}
+use Rattle.afs_law.proofs.Owning.{run_promised}
 use Rattle.afs_law.proofs.laws.grants_are_kept.Goals as goal
 
 pub returns : goal.returns

@@ -1,4 +1,4 @@
-use Rattle.afs_law.proofs.Standing.{run_handled}
+use Rattle.afs_law.proofs.Owning.{run_handled}
 use Rattle.afs_law.proofs.laws.replies_follow_drops.Goals as goal
 
 pub returns : goal.returns

@@ -1,0 +1,140 @@
+-- The clock of a cell is what the lines tell, however many servers it has.
+use Rattle.afs_history.specs.declared.lines.Line.{Line}
+use Rattle.afs_history.specs.declared.lines.Line.TheVariants as lines
+use Rattle.afs_history.specs.declared.scripts.Script.{Script}
+use Rattle.afs_history.specs.declared.scripts.VolumeLine.{VolumeLine}
+use Rattle.afs_ideal.specs.Tables.{Table}
+use Rattle.afs_law.proofs.Acting.{begins_acts, given_acts, is_of, waits_acts}
+use Rattle.afs_law.proofs.Backing.{all_lines}
+use Rattle.afs_law.proofs.Basics.{both}
+use Rattle.afs_law.proofs.Choosing.{IfCut, Works, disk_works, is_from, risen_from, risen_lines, serves_works, starts_works, times_works, wakes_works}
+use Rattle.afs_law.proofs.Ideals.{Held, blow_blank, held_kept, own_from, volumes_first}
+use Rattle.afs_law.proofs.KeysOnce.{IsKnown, any_told, by_key}
+use Rattle.afs_law.proofs.Law.{AreVersions, all_versions, first_passed}
+use Rattle.afs_law.proofs.Loading.{is_tickless}
+use Rattle.afs_law.proofs.Moving.{Behind, EachMove, IsKept, each_moved}
+use Rattle.afs_law.proofs.Origins.{asked_first}
+use Rattle.afs_law.specs.Ideal.{clock_of, first_lines, set_up}
+use Rattle.afs_law.specs.Past.{lines_of, onto}
+use Rattle.afs_num.specs.declared.histories.Version.{Version}
+use Rattle.afs_num.specs.declared.messages.Message.{Message}
+use Rattle.afs_num.specs.declared.types.Key.{Key}
+use Rattle.afs_num.specs.declared.types.Node.{Node}
+use Rattle.afs_num.specs.declared.types.Node.TheVariants.{Client, Server}
+use Rattle.afs_records.specs.Durable.{Stored}
+use Rattle.afs_num.specs.declared.messages.Received.TheVariants.{Whole}
+use Rattle.afs_rows.specs.ClientRow.{begin_row, client_row, timeout_row}
+use Rattle.afs_rows.specs.Runs.{Cell, Entry, Fall, Moved, at_rest, begun_by_disk, blow_line, in_boot, in_step, start}
+use Rattle.afs_rows.specs.ServerRow.{Begun, key_of, made, versioned}
+use Rattle.afs_rows.specs.States.{ServerState}
+use Rattle.std.proofs.Common.{suc, ◌≡◌, ℕ, ◌+◌, inl, inr, Bool, true, false, List, [], ◌∷◌, ◌++◌, length, refl, sym, ap, ◌∙◌}
+use Rattle.std.specs.Prelude.{⊤}
+
+-- ---- what holds of each line of a server's step
+
+-- nothing is asked of the message
+abbrev pub AnyCall : Message → List Line → List Line → Type 0
+AnyCall m front rest = ⊤
+
+pub any_cut : (ls : List Line) (fall : Fall) → IfCut (λ m. AnyCall m [] ls) fall
+any_cut ls at_rest = tt
+any_cut ls (in_step m clock) = tt
+any_cut ls in_boot = tt
+
+lines_by : (q p : Line → Bool) → ((l : Line) → p l ≡ true → q l ≡ true) → (ls : List Line) → all_lines p ls ≡ true → all_lines q ls ≡ true
+lines_by q p w [] h = refl
+lines_by q p w (l ∷ ls) h = let b = both (p l) (all_lines p ls) h in rw (w l b.0, lines_by q p w ls b.1) refl
+
+lines_more : (q : Line → Bool) (a b : List Line) → all_lines q a ≡ true → all_lines q b ≡ true → all_lines q (a ++ b) ≡ true
+lines_more q [] b h k = k
+lines_more q (l ∷ a) b h k = let x = both (q l) (all_lines q a) h in rw (x.0, lines_more q a b x.1 k) refl
+
+lines_told : (q : Line → Bool) → ((v : Version) → q (lines.Version v) ≡ true) → (vs : List Version) (ls : List Line) → all_lines q ls ≡ true → all_lines q (versioned vs ls) ≡ true
+lines_told q w [] ls h = h
+lines_told q w (v ∷ vs) ls h = rw (w v, lines_told q w vs ls h) refl
+
+-- a test that holds of a server's lines, of changes and of versions
+pub record IsCalm (me : Node) (q : Line → Bool) : Type 0 where
+  pub own : (l : Line) → is_from me l ≡ true → q l ≡ true
+  pub change : (k : Key) (n : ℕ) → q (lines.Change me k n) ≡ true
+  pub version : (v : Version) → q (lines.Version v) ≡ true
+
+pub works_lines : (P : Message → List Line → List Line → Type 0) (me : Node) (x : ServerState) (b : Table Stored) (ls : List Line) (q : Line → Bool) → IsCalm me q → Works P me x b ls → all_lines q ls ≡ true
+works_lines P me x b ls q w (inl s) = lines_by q (is_from me) w.own ls s.lines
+works_lines P me x b ls q w (inr s) =
+    let behind : all_lines q (versioned (made s.change) s.rest) ≡ true = lines_told q w.version (made s.change) s.rest (lines_by q (is_from me) w.own s.rest s.behind) in
+    ap (all_lines q) s.split ∙ lines_more q s.front _ (lines_by q (is_from me) w.own s.front s.before) (rw (w.change (key_of s.head) (length (made s.change)), behind) refl)
+
+-- ---- the clock
+
+own_tickless : (me : Node) (l : Line) → is_from me l ≡ true → is_tickless l ≡ true
+own_tickless me (lines.Tick n) h = absurd cc
+own_tickless me l h = refl
+
+of_tickless : (j : ℕ) (l : Line) → is_of j l ≡ true → is_tickless l ≡ true
+of_tickless j (lines.Tick n) h = absurd cc
+of_tickless j l h = refl
+
+calm_tickless : (me : Node) → IsCalm me is_tickless
+calm_tickless me = record { own = own_tickless me; change = λ k n. refl; version = λ v. refl }
+
+tick_line : (l : Line) (o : List Line) → is_tickless l ≡ true → clock_of (l ∷ o) ≡ clock_of o
+tick_line (lines.Tick n) o h = absurd cc
+tick_line l o h = refl
+
+pub tickless_clock : (ls o : List Line) → all_lines is_tickless ls ≡ true → clock_of (onto o ls) ≡ clock_of o
+tickless_clock [] o h = refl
+tickless_clock (l ∷ ls) o h = let q = both (is_tickless l) (all_lines is_tickless ls) h in tickless_clock ls (l ∷ o) q.1 ∙ tick_line l o q.0
+
+abbrev pub TicksIn : Cell → List Entry → Type 0
+TicksIn c past = clock_of (lines_of past) ≡ c.clock
+
+abbrev pub HeldTicks : Script → Cell → List Entry → Type 0
+HeldTicks s c past = Held s c past × TicksIn c past
+
+stands : (c : Cell) (past : List Entry) (ls : List Line) → TicksIn c past → all_lines is_tickless ls ≡ true → clock_of (onto (lines_of past) ls) ≡ c.clock
+stands c past ls t h = tickless_clock ls (lines_of past) h ∙ t
+
+pub works_stand : (c : Cell) (past : List Entry) (i : ℕ) (b : Table Stored) (ls : List Line) → TicksIn c past → Works AnyCall (Server i) (c.hosts i).state b ls → clock_of (onto (lines_of past) ls) ≡ c.clock
+works_stand c past i b ls t w = stands c past ls t (works_lines AnyCall (Server i) (c.hosts i).state b ls is_tickless (calm_tickless (Server i)) w)
+
+acts_stand : (c : Cell) (past : List Entry) (n : ℕ) (ls : List Line) → TicksIn c past → all_lines (is_of n) ls ≡ true → clock_of (onto (lines_of past) ls) ≡ c.clock
+acts_stand c past n ls t h = stands c past ls t (lines_by is_tickless (is_of n) (of_tickless n) ls h)
+
+blow_stands : (c : Cell) (past : List Entry) (i place : ℕ) (t : Bool) → TicksIn c past → clock_of (onto (lines_of past) (lines.Given place ∷ blow_line i t ∷ [])) ≡ c.clock
+blow_stands c past i place true h = h
+blow_stands c past i place false h = h
+
+ticks_moves : (s : Script) → EachMove (HeldTicks s) (Behind TicksIn)
+ticks_moves s = record {
+  void = λ c past h. h.1;
+  ticked = λ c past n h. ap (λ (t : ℕ). t + suc n) h.1;
+  begun = λ c past n act h r. acts_stand c past n (begin_row (Client n) (c.clients n) c.clock act).lines h.1 (begins_acts n (c.clients n) c.clock act r).of;
+  told = λ c past n place m h at to. acts_stand c past n (client_row (Client n) (c.clients n) c.clock place (Whole m)).lines h.1 (given_acts (by_key (IsKnown h.0.0.0.keys.callees c.clients)) any_told n (c.clients n) c.clock place m (h.0.0.0.keys.replies n) (h.0.0.1.seats n)).of;
+  waited = λ c past n act h r. acts_stand c past n (timeout_row (Client n) (c.clients n) act).lines h.1 (waits_acts n (c.clients n) act r).of;
+  fallen = λ c past n h. h.1;
+  risen = λ c past n h. h.1;
+  served = λ c past i place m armed h up at to. works_stand c past i _ _ h.1 (serves_works AnyCall (Server i) (c.hosts i).state c.clock place m (λ rest. tt));
+  cut = λ c past i place m t h up at to. blow_stands c past i place t h.1;
+  stopped = λ c past i h up. h.1;
+  stop_set = λ c past i calls pick armed h up. h.1;
+  fail_set = λ c past i call armed h up. h.1;
+  timed = λ c past i n b armed h up at. works_stand c past i _ _ h.1 (times_works AnyCall (Server i) (c.hosts i).state c.clock n b);
+  woken = λ c past i armed h up. works_stand c past i _ _ h.1 (wakes_works AnyCall (Server i) (c.hosts i).state c.clock);
+  started = λ c past i after fall h down.
+      let f : Begun = begun_by_disk (Server i) (c.hosts i).state after fall in
+      let ls : List Line = risen_lines (Server i) c.clock c.count f in
+      works_stand c past i _ _ h.1 (starts_works AnyCall (Server i) (c.hosts i).state c.clock c.count f (disk_works AnyCall (Server i) (c.hosts i).state after fall ls (any_cut ls fall) (risen_from (Server i) c.clock c.count f)));
+  early = λ c past i fall h down. h.1;
+  midway = λ c past i after fall h down. works_stand c past i _ _ h.1 (disk_works AnyCall (Server i) (c.hosts i).state after fall (lines.Fault (Server i) ∷ []) (any_cut (lines.Fault (Server i) ∷ []) fall) (rw (own_from i) refl));
+  full = λ c past i after fall h down. works_stand c past i _ _ h.1 (disk_works AnyCall (Server i) (c.hosts i).state after fall (lines.Full (Server i) ∷ []) (any_cut (lines.Full (Server i) ∷ []) fall) (rw (own_from i) refl));
+}
+
+pub ticks_kept : (s : Script) → IsKept (HeldTicks s)
+ticks_kept s c past x h = (held_kept s c past x h.0, each_moved (HeldTicks s) (Behind TicksIn) (ticks_moves s) c past x h)
+
+first_clock : (vs : List VolumeLine) → clock_of (onto [] (first_lines vs)) ≡ 0
+first_clock vs = first_passed (λ ls. clock_of ls ≡ 0) (λ v o h. h) vs [] refl
+
+pub ticks_first : (s : Script) → HeldTicks s (start s) (set_up s ∷ [])
+ticks_first s = ((asked_first s, volumes_first s), first_clock s.volumes)

@@ -1,0 +1,117 @@
+-- What a legal history asks of the promises of servers, each proved of the runs of every script, with any number of servers.
+use Rattle.afs_law.specs.Breaks.{GoodQuit, GoodSettle, HasOwe, lines_at, live_grant}
+use Rattle.afs_law.specs.Grants.{is_promised}
+use Rattle.afs_law.specs.Ideal.{Accepts, HasVersion, clock_of, set_up, volume_after}
+use Rattle.afs_law.specs.Laws.{IsKept}
+use Rattle.afs_law.specs.Legal.{GoodCode, GoodGrant, GoodOwe, GoodReadBy, GoodReply, IsChanged, IsResult, Legal, answer_at, versions_first}
+use Rattle.afs_law.specs.Once.{past_of}
+use Rattle.afs_law.specs.Parts.{AllLines, EachEntry, EachSent, LineRule}
+use Rattle.afs_law.specs.Past.{HasCode, Ran, answered_key, code_told, lines_of}
+use Rattle.afs_model.specs.FsRows.{call_number, reply_number}
+use Rattle.afs_num.specs.declared.calls.FsCall.{FsCall}
+use Rattle.afs_num.specs.declared.histories.Actor.TheVariants as actors
+use Rattle.afs_num.specs.declared.histories.Version.{Version}
+use Rattle.afs_num.specs.declared.messages.Call.TheVariants as ask
+use Rattle.afs_num.specs.declared.messages.Carried.{Carried}
+use Rattle.afs_num.specs.declared.messages.Carried.TheVariants as carried
+use Rattle.afs_num.specs.declared.messages.Message.{Message}
+use Rattle.afs_num.specs.declared.messages.Reply.TheVariants as tell
+use Rattle.afs_num.specs.declared.types.Fid.{Fid}
+use Rattle.afs_num.specs.declared.types.Node.TheVariants.{Client, Server}
+use Rattle.afs_history.specs.declared.lines.Line.TheVariants as lines
+use Rattle.afs_history.specs.declared.scripts.Script.{Script}
+use Rattle.afs_rows.specs.Runs.{Cell, Entry, Fall, Host, RunsTo, begun_by_disk}
+use Rattle.afs_rows.specs.States.{volume_in}
+use Rattle.std.specs.Prelude.{◌≡◌, ◌<◌, ℕ, ℤ, List, [], ◌∷◌, ◌++◌, Some, true, ⊤}
+
+-- ---- promises
+
+abbrev pub IsGrantGood : LineRule
+IsGrantGood who (lines.Grant server c f index expiry) past own next = GoodGrant server c f index expiry past own
+IsGrantGood who l past own next = ⊤
+
+-- each promise of a run is made where a call runs whose reply promises that object, for 7200 ticks
+abbrev pub GrantsAreGood : Type 0
+GrantsAreGood = (s : Script) (history : List Entry) (end : Cell) → RunsTo history s end → AllLines IsGrantGood s history
+
+-- ---- breaks
+
+-- behind a change stands a break for each other client whose last promise on one of the fids that change lasts; and what is owed, settled or
+-- given up is good
+abbrev pub IsBreakGood : Script → LineRule
+IsBreakGood s who (lines.Change server k count) past own next =
+    (j : ℕ) (f : Fid) (x : ℕ) → (Client j ≡ k.node → ⊥) → IsChanged f (versions_first next) → live_grant server (Client j) f (own ++ lines_at server past) ≡ Some x → clock_of (own ++ lines_of past) < x → HasOwe server (Client j) (Some f) next
+IsBreakGood s who (lines.Owe server c what n) past own next = GoodOwe s server c what n past own
+IsBreakGood s who (lines.Settle server c n) past own next = GoodSettle server c n past own
+IsBreakGood s who (lines.Quit server c n) past own next = GoodQuit server c n past own
+IsBreakGood s who l past own next = ⊤
+
+-- so is each line of a run
+abbrev pub BreaksAreGood : Type 0
+BreaksAreGood = (s : Script) (history : List Entry) (end : Cell) → RunsTo history s end → AllLines (IsBreakGood s) s history
+
+-- each reply with code 0 of a server waits until no break is open that is owed by an entry which was given its call, or, where that
+-- changed something, any on all; and the server that sends it is up
+abbrev pub RepliesWait : Type 0
+RepliesWait = (s : Script) (history : List Entry) (end : Cell) → RunsTo history s end → EachEntry (λ past e. EachSent GoodReply (e ∷ past) e.sent) (set_up s ∷ []) history
+
+-- ---- replies
+
+-- it is of the call's kind
+abbrev pub IsKind : FsCall → Carried → Type 0
+IsKind call (carried.Refusal code) = ⊤
+IsKind call (carried.Reply (tell.File reply)) = reply_number reply ≡ call_number call
+IsKind call c = ⊥
+
+-- the reply is that of the entry which ran its call, and tells what the ideal operation made of it there; and if it isn't a refusal it is of that
+-- call's kind
+pub record IsTrue (m : Message) (past : List Entry) : Type 0 where
+  pub ran : Ran m.head past
+  pub user : List ℕ
+  pub call : FsCall
+  pub carries : ran.message.carried ≡ carried.Call user (ask.File call)
+  pub code : ℤ
+  pub told : code_told m.carried ≡ Some code
+  pub result : IsResult m.head.from code (answer_at user call ran.older) (answered_key m.head) ran.at.lines (lines_of past)
+  pub kind : IsKind call m.carried
+
+-- where it is one of a server to a client
+abbrev pub IsTruthful : List Entry → Message → Type 0
+IsTruthful past m = (i j : ℕ) → m.head.from ≡ Server i → m.head.to ≡ Client j → HasCode m.carried → IsTrue m past
+
+-- so is each reply of a run
+abbrev pub RepliesAreTrue : Type 0
+RepliesAreTrue = (s : Script) (history : List Entry) (end : Cell) → RunsTo history s end → EachEntry (λ past e. EachSent IsTruthful (e ∷ past) e.sent) (set_up s ∷ []) history
+
+-- ---- what is kept
+
+-- the entry that a restart would make, where the record of the interrupted step is on the disk, by what it tells of that step
+abbrev pub told_by_restart : ℕ → Host → Fall → Entry
+told_by_restart i host fall = record { actor = actors.Node (Server i); lines = (begun_by_disk (Server i) host.state true fall).before []; sent = []; volumes = [] }
+
+-- while a server is down, what its step that was interrupted may have left is the ideal volumes too, behind what a restart tells of that step
+abbrev pub FallsAreKept : Type 0
+FallsAreKept =
+    (s : Script) (history : List Entry) (end : Cell) → RunsTo history s end → (i : ℕ) (fall : Fall) → (end.hosts i).down ≡ Some fall → (id : ℕ) → Accepts s id (Server i) (lines_of (past_of (set_up s ∷ []) history))
+    → volume_in id (begun_by_disk (Server i) (end.hosts i).state true fall).state.lasting.volumes ≡ volume_after id (told_by_restart i (end.hosts i) fall ∷ past_of (set_up s ∷ []) history)
+
+-- the server of a version's volume holds that version of its object or a later one, and so does what an interrupted step may have left
+abbrev pub VersionsAreKept : Type 0
+VersionsAreKept =
+    (s : Script) (history : List Entry) (end : Cell) → RunsTo history s end → (i : ℕ) (v : Version) → Accepts s v.fid.volume (Server i) (lines_of (past_of (set_up s ∷ []) history)) → HasVersion v.fid v.index v.body (lines_of (past_of (set_up s ∷ []) history))
+    → IsKept v (end.hosts i).state.lasting.volumes (lines_of (past_of (set_up s ∷ []) history))
+    × ((fall : Fall) → (end.hosts i).down ≡ Some fall → IsKept v (begun_by_disk (Server i) (end.hosts i).state true fall).state.lasting.volumes (lines_of (told_by_restart i (end.hosts i) fall ∷ past_of (set_up s ∷ []) history)))
+
+-- ---- all of it
+
+abbrev pub IsReadGood : Script → LineRule
+IsReadGood s who (lines.Read c f index source body) past own next = GoodReadBy s (is_promised body) c f index source body past own
+IsReadGood s who l past own next = ⊤
+
+abbrev pub IsCodeGood : Script → LineRule
+IsCodeGood s who (lines.Answer c code) past own next = GoodCode s c code past own
+IsCodeGood s who l past own next = ⊤
+
+-- a run is legal where what its clients read and answer is good: of all else that is asked of a history, nothing is left
+abbrev pub GoodReadsAreLegal : Type 0
+GoodReadsAreLegal = (s : Script) (history : List Entry) (end : Cell) → RunsTo history s end → AllLines (IsReadGood s) s history → AllLines (IsCodeGood s) s history → Legal history s
