@@ -3,8 +3,8 @@ use afs_num::calls::FsReply;
 use afs_num::sequences::Sequence;
 use afs_num::types::Fid;
 use afs_num::volumes::Change;
+use afs_server_parts::grants::Grants;
 use afs_server_parts::spelled::SpelledMessage;
-use afs_server_parts::telling::Grant;
 
 /// What becomes of a call: no answer; its caller is told this server's boot number; its kept reply is sent again; it is refused
 /// with this code; it is told this, and granted these promises; its caller gives its promises on these fids up; or it changes the
@@ -15,7 +15,7 @@ pub enum Decided {
     TellsBoot,
     Repeats(SpelledMessage),
     Refuses(i32),
-    Shows(FsReply, Sequence<Grant>),
+    Shows(FsReply, Grants),
     GivesUp(Sequence<Fid>),
     Changes(u32, Change),
 }
