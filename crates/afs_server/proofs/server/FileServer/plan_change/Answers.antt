@@ -23,7 +23,8 @@ new_breaks-requires-clause-draws c =
     let few = few_lasting n fids c.args.now ps in
     let given : length c.deref.result.now ≡ length c.in_ok-withdrawn.withdrawn.items = search rules in
     let draws = c.requires.draws in
-    omega (arith, given, long, few, draws)
+    let below : c.args.self.now.lists.last_owed + length c.in_ok-withdrawn.withdrawn.items < 4000000000 = omega (arith, long, few, draws) in
+    subst (λ (k : ℕ). c.args.self.now.lists.last_owed + k < 4000000000) (sym given) below
 
 pub new_breaks-requires-clause-promised : goal.new_breaks-requires-clause-promised
 new_breaks-requires-clause-promised c =
@@ -56,7 +57,7 @@ returns c =
     let owed : c.in_ok-breaks.breaks.items ≡ owes_from m.lists.last_owed c.in_ok-withdrawn.withdrawn.items = search rules in
     let breaks : c.in_ok-breaks.breaks.items ≡ breaks_new head.from (fids_changed x.versions) c.args.now m.lists =
     owed ∙ ap (owes_from m.lists.last_owed) (found ∙ ap (λ (fs : List Fid). hits_each head.from fs (lasting c.args.now m.lists.promises)) changed) in
-    let given : c.deref.result.now ≡ c.in_ok-breaks.breaks.items = search rules in
+    let given : c.deref-2.result.now ≡ c.in_ok-breaks.breaks.items = search rules in
     let ends = c.in_ok-saved.ensures.ends in
     let lines : c.in_ok-saved-2.field-0 ≡ change_lines c.args.server head (c.args.now + 7200) x (breaks_new head.from (fids_changed x.versions) c.args.now m.lists) = search (rules, grants, breaks) in
     record {
