@@ -8,7 +8,7 @@ use Rattle.afs_server_parts.specs.Kept.{Spells}
 use Rattle.afs_server.specs.Answering.{answer_turn, with_lists}
 use Rattle.afs_server.specs.Ending.{Ends}
 use Rattle.afs_server.specs.Saving.{breaks_new, change_kept, change_lines, fids_changed, fids_granted, hits_each, hits_fresh, new_grants, reply_told}
-use Rattle.afs_server.specs.Seen.{backs_seen, IsPromiseToNode}
+use Rattle.afs_server.specs.Seen.{backs_seen, IsPromiseToNode, Memory}
 use Rattle.afs_server.proofs.Short.{reply_short}
 use Rattle.afs_server.proofs.Withdrawn.{few_lasting, found_to_nodes, fresh_are}
 use Rattle.afs_server.proofs.server.FileServer.plan_change.Goals as goal
@@ -23,8 +23,8 @@ new_breaks-requires-clause-draws c =
     let few = few_lasting n fids c.args.now ps in
     let given : length c.deref.result.now ≡ length c.in_ok-withdrawn.withdrawn.items = search rules in
     let draws = c.requires.draws in
-    let below : c.args.self.now.lists.last_owed + length c.in_ok-withdrawn.withdrawn.items < 4000000000 = omega (arith, long, few, draws) in
-    subst (λ (k : ℕ). c.args.self.now.lists.last_owed + k < 4000000000) (sym given) below
+    let last = ap (λ (m : Memory). m.lists.last_owed) c.self.view_is in
+    omega (arith, given, long, few, last, draws)
 
 pub new_breaks-requires-clause-promised : goal.new_breaks-requires-clause-promised
 new_breaks-requires-clause-promised c =
