@@ -1,6 +1,6 @@
-ghost use Rattle.std.specs.Prelude.{◌≡◌, ◌+◌, ◌≤◌, [], length, OnOk, OnErr};
+ghost use Rattle.std.specs.Prelude.{◌≡◌, ◌+◌, ◌≤◌, [], length, Some, OnOk, OnErr};
 ghost use Rattle.afs_num.specs.Keyed.{HasRoom, KeepsRoom};
-ghost use Rattle.afs_model.specs.Calls.{Calls, runs, call_seat, paired, admitted, started, finished};
+ghost use Rattle.afs_model.specs.Calls.{Calls, runs, call_seat, call_seated, paired, admitted, started, finished};
 ghost use Rattle.afs_call.specs.Admitting.{means};
 
 use crate::seat::{Admit, Seat, is_last};
@@ -80,6 +80,18 @@ impl CallTable {
         ensures room { KeepsRoom (call_seat key.node self.old.seats) self.old.room self.new.room }
     {
         put_last(&mut self.seats, Seat::begun(key));
+    }
+
+    /// A call that is to run ends in the step in which it begins, with this reply, which is kept. It takes no memory; a caller's
+    /// first call needs room for one caller.
+    pub fn answer(&mut self, key: Key, reply: Octets)
+        requires runs { paired key.epoch key.number (call_seat key.node self.old.seats) ≡ runs }
+        requires room { HasRoom (call_seat key.node self.old.seats) self.old.room }
+        ensures boot { self.new.boot ≡ self.old.boot }
+        ensures seats { self.new.seats ≡ call_seated (record { caller = key.node; epoch = key.epoch; number = key.number; reply = Some reply }) self.old.seats }
+        ensures room { KeepsRoom (call_seat key.node self.old.seats) self.old.room self.new.room }
+    {
+        put_last(&mut self.seats, Seat::ended(key, reply));
     }
 
     /// A call has ended with this reply, which is kept where the call is still its caller's last one. It takes no

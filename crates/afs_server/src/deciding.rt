@@ -24,6 +24,7 @@ use afs_num::calls::{AfsFetchStatus, FsCall, FsReply};
 use afs_num::messages::{Call, Carried, Received};
 use afs_num::sequences::Sequence;
 use afs_num::types::{Fid, Head, Mem, Node};
+use afs_server_parts::grants::Grants;
 use afs_server_parts::spelled::SpelledMessage;
 use afs_server_parts::telling::Grant;
 use afs_volstore::VolStore;
@@ -120,45 +121,43 @@ fn is_on_volume(call: &FsCall) -> bool
 }
 
 /// A promise on this fid, of which this status is told.
-fn grant(alloc: Global, fid: Fid, status: &AfsFetchStatus) -> Mem<Sequence<Grant>>
-    ensures { IfOk result (λ gs. gs ≡ record { fid = fid; index = status.now.sync_counter } ∷ []) }
+fn grant(fid: Fid, status: &AfsFetchStatus) -> Grants
+    ensures { result ≡ record { fid = fid; index = status.now.sync_counter } ∷ [] }
 {
-    let mut grants = Sequence::new(alloc);
-    grants.push(Grant {
+    Grants::one(Grant {
         fid,
         index: status.sync_counter,
-    })?;
-    Ok(grants)
+    })
 }
 
 /// The promise that a reply to FetchData of this fid grants.
-fn granted_data(alloc: Global, fid: Fid, reply: &FsReply) -> Mem<Sequence<Grant>>
-    ensures { IfOk result (λ gs. gs ≡ granted_data fid reply.now) }
+fn granted_data(alloc: Global, fid: Fid, reply: &FsReply) -> Grants
+    ensures { result ≡ granted_data fid reply.now }
 {
     match reply {
-        FsReply::FetchData { status, .. } => grant(alloc, fid, status),
-        _ => Ok(Sequence::new(alloc)),
+        FsReply::FetchData { status, .. } => grant(fid, status),
+        _ => Grants::none(alloc),
     }
 }
 
 /// The promise that a reply to FetchStatus of this fid grants.
-fn granted_status(alloc: Global, fid: Fid, reply: &FsReply) -> Mem<Sequence<Grant>>
-    ensures { IfOk result (λ gs. gs ≡ granted_status fid reply.now) }
+fn granted_status(alloc: Global, fid: Fid, reply: &FsReply) -> Grants
+    ensures { result ≡ granted_status fid reply.now }
 {
     match reply {
-        FsReply::FetchStatus { status, .. } => grant(alloc, fid, status),
-        _ => Ok(Sequence::new(alloc)),
+        FsReply::FetchStatus { status, .. } => grant(fid, status),
+        _ => Grants::none(alloc),
     }
 }
 
 /// The promises that this reply to the call grants.
-fn granted(alloc: Global, call: &FsCall, reply: &FsReply) -> Mem<Sequence<Grant>>
-    ensures { IfOk result (λ gs. gs ≡ granted_in call.now reply.now) }
+fn granted(alloc: Global, call: &FsCall, reply: &FsReply) -> Grants
+    ensures { result ≡ granted_in call.now reply.now }
 {
     match call {
         FsCall::FetchData { fid, .. } => granted_data(alloc, *fid, reply),
         FsCall::FetchStatus { fid } => granted_status(alloc, *fid, reply),
-        _ => Ok(Sequence::new(alloc)),
+        _ => Grants::none(alloc),
     }
 }
 
@@ -168,7 +167,7 @@ fn read_as(alloc: Global, call: &FsCall, read: Result<FsReply, OpFault>) -> Mem<
 {
     match read {
         Ok(reply) => {
-            let grants = granted(alloc, call, &reply)?;
+            let grants = granted(alloc, call, &reply);
             Ok(Decided::Shows(reply, grants))
         }
         Err(OpFault::Code(code)) => Ok(Decided::Refuses(code.0)),
@@ -343,7 +342,7 @@ impl FileServer {
                     clock: now,
                     microseconds: 0,
                 };
-                Ok(Decided::Shows(reply, Sequence::new(self.alloc)))
+                Ok(Decided::Shows(reply, Grants::none(self.alloc)))
             }
             FsCall::BulkStatus { fids } => {
                 self.statuses(store, head, user, fids.as_slice(), now)

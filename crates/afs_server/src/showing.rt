@@ -35,6 +35,7 @@ use afs_server_parts::spelled::SpelledMessage;
 use afs_server_parts::telling::{Grant, tell_grants};
 use afs_volstore::VolStore;
 use std::alloc::Global;
+use std::slice::from_ref;
 
 /// A promise lasts so many ticks.
 const PROMISE_TICKS: u32 = 7200;
@@ -84,25 +85,46 @@ fn shown_reply(
     Ok(spelled)
 }
 
-/// The reply to the call of this header, which ran, is kept, and its caller is promised these fids.
+/// A client is granted these promises until this time.
+fn grant_told(
+    alloc: Global,
+    promises: &mut Promises,
+    client: Node,
+    grants: &[Grant],
+    expiry: u32,
+) -> Mem<()>
+    ensures granted { OnOk result (promises.new ≡ grants_all client expiry (map (λ (g : told.Grant). g.fid) grants.now) promises.old) }
+    ensures err { OnErr result (promises.new ≡ promises.old) }
+{
+    match grants {
+        [grant] => promises.grant_all(client, from_ref(&grant.fid), expiry),
+        _ => {
+            let fids = fids_of(alloc, grants)?;
+            promises.grant_all(client, fids.as_slice(), expiry)
+        }
+    }
+}
+
+/// The reply to the call of this header, which ran, is kept, and its caller is granted these promises.
 fn keep_granted(
+    alloc: Global,
     callers: &mut Callers,
     promises: &mut Promises,
     head: &Head,
     reply: Octets,
-    fids: &[Fid],
+    grants: &[Grant],
     expiry: u32,
 ) -> Mem<()>
     requires runs { paired head.now.epoch head.now.number (call_seat head.now.from callers.old.seats) ≡ runs }
     requires spelling { IsSpelling reply }
     ensures boot { callers.new.boot ≡ callers.old.boot }
     ensures seats { OnOk result (KeepsReply head.now reply callers.old.seats callers.new.seats) }
-    ensures granted { OnOk result (promises.new ≡ grants_all head.now.from expiry fids.now promises.old) }
+    ensures granted { OnOk result (promises.new ≡ grants_all head.now.from expiry (map (λ (g : told.Grant). g.fid) grants.now) promises.old) }
     ensures err { OnErr result (callers.new.seats ≡ callers.old.seats) }
     ensures as_was { OnErr result (promises.new ≡ promises.old) }
 {
     callers.reserve(1)?;
-    promises.grant_all(head.from, fids, expiry)?;
+    grant_told(alloc, promises, head.from, grants, expiry)?;
     keep_reply(callers, head, reply);
     Ok(())
 }
@@ -166,14 +188,14 @@ impl FileServer {
             expiry,
             now,
         )?;
-        let fids = fids_of(self.alloc, grants)?;
         let Replied { ended, kept } = replied;
         keep_granted(
+            self.alloc,
             &mut self.callers,
             &mut self.promises,
             head,
             kept,
-            fids.as_slice(),
+            grants,
             expiry,
         )?;
         self.promises.expire(now);

@@ -1,5 +1,5 @@
 -- The kept replies of a table of calls, read as messages.
-use Rattle.std.proofs.Common.{◌≡◌, ℕ, Bool, true, false, cond, not, List, [], ◌∷◌, ◌++◌, map, Option, Some, None, refl, sym, ap, subst, ◌∙◌, eqb, eq-eqb, ◌≤◌, arith}
+use Rattle.std.proofs.Common.{◌≡◌, ℕ, Bool, true, false, cond, not, List, [], ◌∷◌, ◌++◌, map, Option, Some, None, refl, sym, ap, subst, ◌∙◌, eqb, ◌≤◌, arith}
 use Rattle.std.specs.Prelude.{IfSome}
 use Rattle.std.specs.Option.{option_map}
 use Rattle.std.specs.List.{All}
@@ -7,12 +7,10 @@ use Rattle.std.proofs.lemmas.List.Elements.{All-filter, All-push}
 use Rattle.afs_num.specs.Keyed.{HasRoom, KeepsRoom}
 use Rattle.afs_num.specs.Nodes.{same_node}
 use Rattle.afs_num.specs.declared.types.Head.{Head}
-use Rattle.afs_num.specs.declared.types.Key.{Key}
 use Rattle.afs_num.specs.declared.types.Node.{Node}
 use Rattle.afs_num.specs.declared.messages.Message.{Message}
 use Rattle.afs_num.specs.declared.messages.Received.{Received}
-use Rattle.afs_model.specs.Calls.{CallSeat, Admitted, runs, kept, in_progress, older, wrong_boot, pair_below, call_seat, other_seats, call_seated, repeated, paired, admitted, started, finished, is_last_call}
-use Rattle.afs_model.proofs.Basics.{own_seat, same_node-refl}
+use Rattle.afs_model.specs.Calls.{CallSeat, Admitted, runs, kept, in_progress, older, wrong_boot, pair_below, call_seat, other_seats, call_seated, repeated, paired, admitted}
 use Rattle.afs_call.specs.declared.seat.Admit.{Admit}
 use Rattle.afs_call.specs.declared.seat.Admit.TheVariants.{Run, Kept, InProgress, Old, WrongBoot}
 use Rattle.afs_call.specs.Admitting.{means}
@@ -86,27 +84,6 @@ runs_by (wrong_boot boot) b h e = absurd cc
 
 pub runs_read : (e n : ℕ) (m : Node) (seats : List Seat) → All KeepsSpelling seats → paired e n (call_seat m (read_seats seats)) ≡ runs → paired e n (call_seat m seats) ≡ runs
 runs_read e n m seats h r = runs_by _ _ (seats_read e n m seats h) r
-
--- ---- a call that ends in the step in which it begins
-
-abbrev begun_seat : Key → Seat
-begun_seat key = record { caller = key.node; epoch = key.epoch; number = key.number; reply = None }
-
-abbrev ended_seat : Key → List ℕ → Seat
-ended_seat key reply = record { caller = key.node; epoch = key.epoch; number = key.number; reply = Some reply }
-
-kept_again : (t : Bool) (m : Node) (s : Seat) (rest seats : List Seat) → same_node s.caller m ≡ t → other_seats m (rest ++ seats) ≡ rest → other_seats m (cond (not t) (s ∷ rest) rest ++ seats) ≡ cond (not t) (s ∷ rest) rest
-kept_again true m s rest seats e ih = ih
-kept_again false m s rest seats e ih = rw e (ap (λ (ss : List Seat). s ∷ ss) ih)
-
-others_again : (x : Seat) (seats : List Seat) → other_seats x.caller (other_seats x.caller seats ++ x ∷ []) ≡ other_seats x.caller seats
-others_again x [] = rw (same_node-refl x.caller) refl
-others_again x (s ∷ seats) = kept_again (same_node s.caller x.caller) x.caller s (other_seats x.caller seats) (x ∷ []) refl (others_again x seats)
-
-pub ended_at_once : (key : Key) (reply : List ℕ) (seats : List Seat) → finished key reply (started key seats) ≡ call_seated (ended_seat key reply) seats
-ended_at_once key reply seats =
-    let own : is_last_call key (call_seat key.node (started key seats)) ≡ true = ap (is_last_call key) (own_seat (begun_seat key) seats) ∙ rw (eq-eqb key.epoch key.epoch refl, eq-eqb key.number key.number refl) refl in
-    rw own (ap (λ (ss : List Seat). ss ++ ended_seat key reply ∷ []) (others_again (begun_seat key) seats))
 
 -- ---- the seats, after one was taken
 

@@ -100,8 +100,7 @@ impl Callers {
         ensures seats { self.new.seats ≡ call_seated (record { caller = key.node; epoch = key.epoch; number = key.number; reply = reply_in (Some reply) }) self.old.seats }
         ensures room { KeepsRoom (call_seat key.node self.old.seats) self.old.room self.new.room }
     {
-        self.table.start(key);
-        self.table.finish(key, reply);
+        self.table.answer(key, reply);
     }
 
     /// The seat of a caller as it was kept, with this reply to its last call: none where the bytes spell no message. A caller's

@@ -7,6 +7,7 @@ pub mod breaks;
 pub mod callees;
 pub mod callers;
 pub mod calling;
+pub mod grants;
 pub mod held;
 pub mod owed;
 pub mod pumping;

@@ -8,7 +8,7 @@ use Rattle.afs_server_parts.specs.Kept.{Spells}
 use Rattle.afs_server.specs.Answering.{answer_turn, with_lists}
 use Rattle.afs_server.specs.Ending.{Ends}
 use Rattle.afs_server.specs.Saving.{breaks_new, change_kept, change_lines, fids_changed, fids_granted, hits_each, hits_fresh, new_grants, reply_told}
-use Rattle.afs_server.specs.Seen.{backs_seen, IsPromiseToNode}
+use Rattle.afs_server.specs.Seen.{backs_seen, IsPromiseToNode, Memory}
 use Rattle.afs_server.proofs.Short.{reply_short}
 use Rattle.afs_server.proofs.Withdrawn.{few_lasting, found_to_nodes, fresh_are}
 use Rattle.afs_server.proofs.server.FileServer.plan_change.Goals as goal
@@ -23,7 +23,8 @@ new_breaks-requires-clause-draws c =
     let few = few_lasting n fids c.args.now ps in
     let given : length c.deref.result.now ≡ length c.in_ok-withdrawn.withdrawn.items = search rules in
     let draws = c.requires.draws in
-    omega (arith, given, long, few, draws)
+    let last = ap (λ (m : Memory). m.lists.last_owed) c.self.view_is in
+    omega (arith, given, long, few, last, draws)
 
 pub new_breaks-requires-clause-promised : goal.new_breaks-requires-clause-promised
 new_breaks-requires-clause-promised c =
@@ -56,7 +57,7 @@ returns c =
     let owed : c.in_ok-breaks.breaks.items ≡ owes_from m.lists.last_owed c.in_ok-withdrawn.withdrawn.items = search rules in
     let breaks : c.in_ok-breaks.breaks.items ≡ breaks_new head.from (fids_changed x.versions) c.args.now m.lists =
     owed ∙ ap (owes_from m.lists.last_owed) (found ∙ ap (λ (fs : List Fid). hits_each head.from fs (lasting c.args.now m.lists.promises)) changed) in
-    let given : c.deref.result.now ≡ c.in_ok-breaks.breaks.items = search rules in
+    let given : c.deref-2.result.now ≡ c.in_ok-breaks.breaks.items = search rules in
     let ends = c.in_ok-saved.ensures.ends in
     let lines : c.in_ok-saved-2.field-0 ≡ change_lines c.args.server head (c.args.now + 7200) x (breaks_new head.from (fids_changed x.versions) c.args.now m.lists) = search (rules, grants, breaks) in
     record {

@@ -7,5 +7,5 @@ use Rattle.afs_server.proofs.server.FileServer.serve_else.Goals as goal
 pub returns-in-GetTime-clause-decides : goal.returns-in-GetTime-clause-decides
 returns-in-GetTime-clause-decides g c =
     let is : c.args.call.now ≡ calls.GetTime = search rules in
-    let none : c.new.result ≡ [] = search rules in
-    time_told (server_seen c.args.self.now c.args.store.now) c.args.now c.args.head.now c.args.user.now c.args.call.now c.new.result is none
+    let none : c.none.result ≡ [] = search rules in
+    time_told (server_seen c.args.self.now c.args.store.now) c.args.now c.args.head.now c.args.user.now c.args.call.now c.none.result is none
