@@ -37,7 +37,7 @@ fn read_user(alloc: Global, r: &mut Reader) -> Result<Octets, ShapeFault>
 
 /// Reads a call of this opcode behind its header: its user and its fields. `NoRow` where the opcode has none, then
 /// `Field` with the first bad one.
-#[tactic(auto, unfolding(afs_model::specs::Rpc::asked_at), using(afs_shape::proofs::TakenLaws::is_body))]
+#[tactic(auto, unfolding(afs_model::specs::Rpc::asked_at))]
 pub fn read_asked<M: Messages>(
     alloc: Global,
     opcode: u32,

@@ -52,7 +52,7 @@ pub fn no_fields(alloc: Global, r: &Reader) -> Result<Fields, ShapeFault>
 }
 
 /// What stands behind a code: the reply to a call of this opcode, or nothing.
-#[tactic(auto, unfolding(afs_model::specs::Rpc::answer_at), using(afs_shape::proofs::TakenLaws::is_body))]
+#[tactic(auto, unfolding(afs_model::specs::Rpc::answer_at))]
 fn read_answer<M: Messages>(
     alloc: Global,
     opcode: u32,
