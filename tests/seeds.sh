@@ -3,7 +3,9 @@
 # REFERENCE is a command that plays a script as the program does, as 'python3 FOLDER/afscell.py'; COUNT scripts of each kind are
 # made by tests/generate.py, with the seeds from FIRST, or 1, on. Each is played without and with --wire; output, status and the
 # line on standard error have to be the same. Every tenth script of `disks` is played over disks in a folder besides, by both, and
-# the disks have to have the same bytes then. It is no part of the gate: the reference program isn't in the repository.
+# the disks have to have the same bytes then. A reference program that reads a copy of a disk at the end leaves there what a record
+# has written whose second or third device call failed, where this one cuts it: such a script differs in its disk alone.
+# It is no part of the gate: the reference program isn't in the repository.
 # A reference program that has a location database asks it for a volume that the script doesn't have, and this one answers 363524 at
 # once: a spoiled script that names another volume in an act may differ so, and in nothing else.
 # AFSCELL names another program to test, as the one that the gate built.
