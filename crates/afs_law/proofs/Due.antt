@@ -197,13 +197,17 @@ now_used s n place c act m past own q zero_told k = record { reply = m; by = k.0
 read_enough : (s : Script) (n place : ℕ) (c : ClientState) (act : Going) (m : Message) (past : List Entry) → IsTold s n place c act m past → code_told m.carried ≡ Some (pos 0) → IsEnough s n past (IsRead n m past)
 read_enough s n place c act m past q zero_told o k = inr (now_used s n place c act m past o q zero_told k.0, k.1)
 
-by_reply : (s : Script) (n place : ℕ) (c : ClientState) (act : Going) (m : Message) (past : List Entry) (code : Code) → IsTold s n place c act m past → code_told m.carried ≡ Some code.0 → (own : List Line) → IsGiven n m past own → Runs s n past own act → IsDueCode s (Client n) code past own
-by_reply s n place c act m past code q told own k r = record { act = act; runs = r; cause = inl (record { reply = m; by = k.0; is_reply = q.reply; told = told; to = q.to; before = k.1; call = call_of c act; asks = call_is c act; called = q.called }) }
+-- a reply of the call's kind has this code, where that is 0, only where the act ends with this call
+abbrev IsEnd : ClientState → Going → Carried → Code → Type 0
+IsEnd c act x code = IsKind (call_of c act) x → code.0 ≡ pos 0 → EndsAct (next act)
+
+by_reply : (s : Script) (n place : ℕ) (c : ClientState) (act : Going) (m : Message) (past : List Entry) (code : Code) → IsTold s n place c act m past → code_told m.carried ≡ Some code.0 → IsEnd c act m.carried code → (own : List Line) → IsGiven n m past own → Runs s n past own act → IsDueCode s (Client n) code past own
+by_reply s n place c act m past code q told w own k r = record { act = act; runs = r; cause = inl (record { reply = m; by = k.0; is_reply = q.reply; told = told; to = q.to; before = k.1; call = call_of c act; asks = call_is c act; called = q.called; ends = w }) }
 
 -- its act is answered, and what it may have changed dropped
-ends_due : (s : Script) (n place : ℕ) (c : ClientState) (act : Going) (m : Message) (past : List Entry) (es : List CacheEntry) (code : Code) → IsTold s n place c act m past → code_told m.carried ≡ Some code.0 → Due s n past [] (given place (dropped (Client n) es (lines.Answer (Client n) code ∷ [])))
-ends_due s n place c act m past es code q told =
-    (tt, drops_due s n past (IsGiven n m past) (given_steady n m past) es (lines.Given place ∷ []) (lines.Answer (Client n) code ∷ []) act (q.at, refl) q.runs (λ o k r. (by_reply s n place c act m past code q told o k r, tt)))
+ends_due : (s : Script) (n place : ℕ) (c : ClientState) (act : Going) (m : Message) (past : List Entry) (es : List CacheEntry) (code : Code) → IsTold s n place c act m past → code_told m.carried ≡ Some code.0 → IsEnd c act m.carried code → Due s n past [] (given place (dropped (Client n) es (lines.Answer (Client n) code ∷ [])))
+ends_due s n place c act m past es code q told w =
+    (tt, drops_due s n past (IsGiven n m past) (given_steady n m past) es (lines.Given place ∷ []) (lines.Answer (Client n) code ∷ []) act (q.at, refl) q.runs (λ o k r. (by_reply s n place c act m past code q told w o k r, tt)))
 
 use_by : (s : Script) (c : Node) (f : Fid) (past : List Entry) (own : List Line) (t : Bool) → t ≡ true → HasUsed s c past own → IsUsed s t c f Fetched past own
 use_by s c f past own true e h = λ z. h
