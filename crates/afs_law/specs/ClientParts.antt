@@ -12,7 +12,7 @@ use Rattle.afs_law.specs.Legal.{EndsAct, GoodGift, HasChange, HasChangeBy, HasOw
 use Rattle.afs_law.specs.Once.{past_of}
 use Rattle.afs_law.specs.Parts.{AllLines, EachEntry, EachSent, LineRule, waited_key}
 use Rattle.afs_law.specs.Past.{CalledSince, IsReply, answered_key, code_told, given_message, has_begun, has_sent, is_of_act, lines_of, lines_on, onto, running, sent_of}
-use Rattle.afs_law.specs.ServerParts.{IsKind}
+use Rattle.afs_law.specs.ServerParts.{IsCodeGood, IsKind}
 use Rattle.afs_num.specs.declared.calls.FsCall.{FsCall}
 use Rattle.afs_num.specs.declared.histories.Actor.TheVariants as actors
 use Rattle.afs_num.specs.declared.histories.ReadSource.{ReadSource}
@@ -118,6 +118,11 @@ IsDue s who l past own next = ⊤
 -- of its call, or at once
 abbrev pub AnswersAreDue : Type 0
 AnswersAreDue = (s : Script) (history : List Entry) (end : Cell) → RunsTo history s end → AllLines (IsDue s) s history
+
+-- each answer of a run has its cause: a reply that tells what the ideal cell made of the act's own call, or what the act read, or the third
+-- timeout of its call, or that it had nothing to give back
+abbrev pub AnswersAreGood : Type 0
+AnswersAreGood = (s : Script) (history : List Entry) (end : Cell) → IsOfCell s → RunsTo history s end → AllLines (IsCodeGood s) s history
 
 -- ---- what a client waits for
 
