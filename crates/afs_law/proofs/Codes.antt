@@ -26,7 +26,6 @@ use Rattle.afs_law.specs.ServerParts.{IsCodeGood, IsKind}
 use Rattle.afs_num.specs.declared.calls.FsCall.{FsCall}
 use Rattle.afs_num.specs.declared.histories.Actor.{Actor}
 use Rattle.afs_num.specs.declared.messages.Call.TheVariants as ask
-use Rattle.afs_num.specs.declared.messages.Carried.{Carried}
 use Rattle.afs_num.specs.declared.messages.Carried.TheVariants as carried
 use Rattle.afs_num.specs.declared.messages.Message.{Message}
 use Rattle.afs_num.specs.declared.types.Code.{Code}
@@ -37,7 +36,7 @@ use Rattle.afs_num.specs.declared.types.Node.TheVariants.{Admin, Client, Loc, Se
 use Rattle.afs_rows.specs.Going.{ClientState, Going}
 use Rattle.afs_rows.specs.Runs.{Cell, Entry, start}
 use Rattle.afs_rows.specs.ServerRow.{key_of}
-use Rattle.std.proofs.Common.{◌≡◌, ℕ, ℤ, ◌⊎◌, inl, inr, List, [], ◌∷◌, ◌++◌, Option, Some, None, sym, ap, subst, ◌∙◌}
+use Rattle.std.proofs.Common.{◌≡◌, ℕ, ℤ, inl, inr, List, [], ◌∷◌, ◌++◌, Option, Some, None, sym, ap, subst, ◌∙◌}
 
 -- ---- a reply to a client's call is of a server
 
