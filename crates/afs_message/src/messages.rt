@@ -103,7 +103,7 @@ pub fn read_message(alloc: Global, served: &[u32], bytes: &[u8]) -> Mem<Received
 #[tactic(auto, unfolding(afs_model::specs::Messages::spelled))]
 fn encode_notice(alloc: Global, head: &Head) -> Mem<Octets>
     ensures spelled { IfOk result (λ bytes. bytes ≡ spelled (record { head = head.now; carried = Carried.Notice })) }
-    ensures fits { AreWords (head_words head.now) }
+    ensures fits { OnOk result (AreWords (head_words head.now)) }
 {
     let mut w = Writer::with_capacity(alloc, 32)?;
     write_head(head, &mut w)?;
