@@ -103,11 +103,12 @@ pub fn read_message(alloc: Global, served: &[u32], bytes: &[u8]) -> Mem<Received
 #[tactic(auto, unfolding(afs_model::specs::Messages::spelled))]
 fn encode_notice(alloc: Global, head: &Head) -> Mem<Octets>
     ensures spelled { IfOk result (λ bytes. bytes ≡ spelled (record { head = head.now; carried = Carried.Notice })) }
-    ensures fits { OnOk result (AreWords (head_words head.now)) }
+    ensures fits { AreWords (head_words head.now) }
 {
-    let mut w = Writer::with_capacity(alloc, 32)?;
+    let mut w = Writer::new(alloc);
     write_head(head, &mut w)?;
-    Ok(Octets::from_vec(w.into_vec()?))
+    let bytes = w.into_vec()?;
+    Ok(Octets::from_vec(bytes))
 }
 
 #[tactic(auto, unfolding(afs_model::specs::Messages::spelled))]
