@@ -107,7 +107,7 @@ fn encode_notice(alloc: Global, head: &Head) -> Mem<Octets>
 {
     let mut w = Writer::with_capacity(alloc, 32)?;
     write_head(head, &mut w)?;
-    Ok(Octets::from_vec(w.into_vec()))
+    Ok(Octets::from_vec(w.into_vec()?))
 }
 
 #[tactic(auto, unfolding(afs_model::specs::Messages::spelled))]
