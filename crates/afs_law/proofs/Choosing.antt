@@ -178,7 +178,7 @@ quits_from : (me n : Node) (os : List OwedBreak) → AreFrom me (map (quit_line 
 quits_from me n [] = refl
 quits_from me n (o ∷ os) = one_from me _ (quits_from me n os)
 
-granted_from : (me client : Node) (expiry : ℕ) (fs : List Found) (ls : List Line) → AreFrom me ls → AreFrom me (granted me client expiry fs ls)
+pub granted_from : (me client : Node) (expiry : ℕ) (fs : List Found) (ls : List Line) → AreFrom me ls → AreFrom me (granted me client expiry fs ls)
 granted_from me client expiry [] ls h = h
 granted_from me client expiry (f ∷ fs) ls h = one_from me _ (granted_from me client expiry fs ls h)
 
@@ -207,7 +207,7 @@ renewed_from : (me : Node) (boot : ℕ) (head : Head) (b : Backs) (o : Option Ba
 renewed_from me boot head b None = refl
 renewed_from me boot head b (Some c) = either_from (is_back_awaited boot c head) me _ _ refl refl
 
-carried_from : (me : Node) (x : ServerState) (clock : ℕ) (b : Backs) (d : Decision) (head : Head) (c : Carried) → AreFrom me (turned_by me x clock b d head c).lines
+pub carried_from : (me : Node) (x : ServerState) (clock : ℕ) (b : Backs) (d : Decision) (head : Head) (c : Carried) → AreFrom me (turned_by me x clock b d head c).lines
 carried_from me x clock b d head (carried.Call user call) = for_from me x clock b d
 carried_from me x clock b d head (carried.Refusal code) = either_from (same_node head.to me) me _ _ (settled_from me x.lasting.boot head b (b.calls head.from)) refl
 carried_from me x clock b d head (carried.Reply reply) = either_from (same_node head.to me) me _ _ (settled_from me x.lasting.boot head b (b.calls head.from)) refl

@@ -82,6 +82,7 @@ pub mod Ours
 pub mod Due
 pub mod Kept
 pub mod Later
+pub mod Recording
 pub mod Entering
 pub mod Assembled
 pub mod Dying
