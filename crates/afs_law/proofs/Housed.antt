@@ -24,7 +24,7 @@ HomesIn s c = Each (IfCall (IsHome s)) c.sent
 
 -- ---- where a volume is
 
-abbrev IsPlaced : ℕ → List VolumeLine → List Location → Type 0
+abbrev pub IsPlaced : ℕ → List VolumeLine → List Location → Type 0
 IsPlaced id vs table = is_at id (Server (server_at table id)) vs ⊎ ((q : Node) → is_at id q vs → ⊥)
 
 found_at : (t : Bool) (id : ℕ) (v : VolumeLine) (vs : List VolumeLine) (table : List Location) → nat_eq v.id id ≡ t → counts_later v.id vs ≡ false → IsPlaced id vs table
@@ -44,7 +44,7 @@ placed_by true id v vs e (inr away) = inr (λ q z. elim z [
 ])
 placed_by false id v vs e h = found_at (nat_eq v.id id) id v vs (locations_in vs) refl e h
 
-placed : (id : ℕ) (vs : List VolumeLine) → IsPlaced id vs (locations_in vs)
+pub placed : (id : ℕ) (vs : List VolumeLine) → IsPlaced id vs (locations_in vs)
 placed id [] = inr (λ q z. z)
 placed id (v ∷ vs) = placed_by (counts_later v.id vs) id v vs refl (placed id vs)
 

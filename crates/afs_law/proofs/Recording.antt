@@ -12,11 +12,13 @@ use Rattle.afs_law.proofs.Changing.{HeldCuts, IsPlaced, change_ideal, cut_placed
 use Rattle.afs_law.proofs.Choosing.{Works, disk_works, is_from, risen_from, risen_lines, serves_works, starts_works, times_works, wakes_works}
 use Rattle.afs_law.proofs.Cutting.{CutsIn}
 use Rattle.afs_law.proofs.Edits.{Grow, SoundIn, edits_told, on_top, sound_same}
-use Rattle.afs_law.proofs.Ideals.{AreBlank, Changes, Held, blank_by, blank_last, blow_blank, changes_all, cut_by, from_blank, of_blank, own_from, saved_at}
+use Rattle.afs_law.proofs.Facts.{IsFine}
+use Rattle.afs_law.proofs.Housed.{IsPlaced as IsPlaced', placed}
+use Rattle.afs_law.proofs.Ideals.{AreBlank, Changes, Held, VolumesIn, blank_by, blank_last, blow_blank, changes_all, cut_by, from_blank, of_blank, own_from, saved_at}
 use Rattle.afs_law.proofs.KeysOnce.{IsKnown, any_told, by_key}
 use Rattle.afs_law.proofs.Moving.{Behind, EachMove, IsKept, each_moved}
 use Rattle.afs_law.proofs.Saving.{first_on}
-use Rattle.afs_law.specs.Ideal.{set_up, volume_after}
+use Rattle.afs_law.specs.Ideal.{is_at, set_up, volume_after}
 use Rattle.afs_law.specs.Legal.{EndsBoot, IdealChange}
 use Rattle.afs_law.specs.Past.{lines_of, onto}
 use Rattle.afs_num.specs.declared.histories.Actor.TheVariants as actors
@@ -25,8 +27,8 @@ use Rattle.afs_num.specs.declared.messages.Received.TheVariants.{Whole}
 use Rattle.afs_num.specs.declared.types.Key.{Key}
 use Rattle.afs_num.specs.declared.types.Node.TheVariants.{Client, Server}
 use Rattle.afs_records.specs.Durable.{Stored}
-use Rattle.afs_rows.specs.ClientRow.{begin_row, client_row, timeout_row}
-use Rattle.afs_rows.specs.Runs.{Cell, Entry, Fall, Input, Moved, at_rest, begun_by_disk, in_boot, server_stays, blow_line, moved, start}
+use Rattle.afs_rows.specs.ClientRow.{server_at}
+use Rattle.afs_rows.specs.Runs.{Cell, Entry, Fall, Input, Moved, at_rest, begun_by_disk, in_boot, locations, server_stays, blow_line, moved, start}
 use Rattle.afs_rows.specs.ServerRow.{Begun, Change, key_of, made, versioned}
 use Rattle.std.proofs.Common.{suc, ◌≡◌, ℕ, ◌⊎◌, inl, inr, Bool, true, false, cond, eq-eqb, eqb, length, List, [], ◌∷◌, ◌++◌, Option, Some, None, refl, sym, ap, subst, ◌∙◌}
 use Rattle.std.specs.Prelude.{⊤}
@@ -50,16 +52,29 @@ pub record IsSaved (s : Script) (past : List Entry) (e : Entry) : Type 0 where
   pub grow : Grow ideal.id versions (lines.Change (Server server) key count ∷ onto (lines_of past) front)
   pub after : volume_after ideal.id (e ∷ past) ≡ Some (counted (edited_all ideal.id ideal.edits ideal.before))
 
--- it tells no version, or such a change; and what is told agrees with the ideal volumes
-pub record IsRecorded (s : Script) (past : List Entry) (e : Entry) : Type 0 where
-  pub told : AreBlank e.lines ⊎ IsSaved s past e
-  pub sound : (id : ℕ) → SoundIn id (volume_after id (e ∷ past)) (lines_of (e ∷ past))
-  pub ascend : Ascend (lines_of (e ∷ past))
+-- what is told by now agrees with the ideal volumes, which are at their servers
+pub record IsAgreed (s : Script) (past : List Entry) : Type 0 where
+  pub sound : (id : ℕ) → SoundIn id (volume_after id past) (lines_of past)
+  pub ascend : Ascend (lines_of past)
+  pub fine : (id : ℕ) (v : Volume) → volume_after id past ≡ Some v → IsFine v
+  pub home : (id : ℕ) (v : Volume) → volume_after id past ≡ Some v → is_at id (Server (server_at (locations s) id)) s.volumes
 
--- so does each entry but the oldest, which is the set-up
+-- each entry but the oldest, which is the set-up, tells no version, or such a change
+abbrev pub IsTold : Script → Entry → List Entry → Type 0
+IsTold s e past = (AreBlank e.lines ⊎ IsSaved s past e) ⊎ (past ≡ [])
+
 abbrev pub AreRecorded : Script → List Entry → Type 0
 AreRecorded s [] = ⊤
-AreRecorded s (e ∷ past) = (IsRecorded s past e ⊎ (past ≡ [])) × AreRecorded s past
+AreRecorded s (e ∷ past) = (IsTold s e past × IsAgreed s (e ∷ past)) × AreRecorded s past
+
+home_by : (s : Script) (c : Cell) (past : List Entry) (id : ℕ) (v : Volume) → VolumesIn s c past → volume_after id past ≡ Some v → IsPlaced' id s.volumes (locations s) → is_at id (Server (server_at (locations s) id)) s.volumes
+home_by s c past id v V at (inl x) = x
+home_by s c past id v V at (inr away) = let no_ : None ≡ Some v = sym (V.none id (λ i. away (Server i))) ∙ at in absurd cc
+
+agreed : (s : Script) (c : Cell) (past : List Entry) → VolumesIn s c past → Ascend (lines_of past) → IsAgreed s past
+agreed s c past V a =
+    let home : (id : ℕ) (v : Volume) → volume_after id past ≡ Some v → is_at id (Server (server_at (locations s) id)) s.volumes = λ id v at. home_by s c past id v V at (placed id s.volumes) in
+    record { sound = V.sound; ascend = a; fine = λ id v at. V.fine (server_at (locations s) id) id v (V.ideal (server_at (locations s) id) id (home id v at) ∙ at); home = home }
 
 -- ---- what a step tells
 
@@ -136,21 +151,25 @@ pub record Recorded (s : Script) (c : Cell) (past : List Entry) : Type 0 where
   pub ascends : HeldAscend s c past
   pub all : AreRecorded s past
 
-pub recorded_now : (s : Script) (c : Cell) (past : List Entry) (x : Input) → Recorded s c past → IsRecorded s past (moved c x).entry
-recorded_now s c past x h =
-    let k : HeldAscend s (moved c x).cell ((moved c x).entry ∷ past) = ascend_kept s c past x h.ascends in
-    record { told = each_moved (HeldCuts s) (ToldStep s) (told_moves s) c past x h.cuts; sound = k.0.1.sound; ascend = k.1 }
+pub told_now : (s : Script) (c : Cell) (past : List Entry) (x : Input) → Recorded s c past → AreBlank (moved c x).entry.lines ⊎ IsSaved s past (moved c x).entry
+told_now s c past x h = each_moved (HeldCuts s) (ToldStep s) (told_moves s) c past x h.cuts
 
 pub recorded_kept : (s : Script) → IsKept (Recorded s)
-recorded_kept s c past x h = record { cuts = cuts_kept s c past x h.cuts; ascends = ascend_kept s c past x h.ascends; all = (inl (recorded_now s c past x h), h.all) }
+recorded_kept s c past x h =
+    let k : HeldAscend s (moved c x).cell ((moved c x).entry ∷ past) = ascend_kept s c past x h.ascends in
+    record { cuts = cuts_kept s c past x h.cuts; ascends = k; all = ((inl (told_now s c past x h), agreed s (moved c x).cell ((moved c x).entry ∷ past) k.0.1 k.1), h.all) }
 
 pub recorded_first : (s : Script) → Recorded s (start s) (set_up s ∷ [])
-recorded_first s = record { cuts = cuts_first s; ascends = ascend_first s; all = (inr refl, tt) }
+recorded_first s = let k : HeldAscend s (start s) (set_up s ∷ []) = ascend_first s in record { cuts = cuts_first s; ascends = k; all = ((inr refl, agreed s (start s) (set_up s ∷ []) k.0.1 k.1), tt) }
 
--- of an entry that isn't the oldest
-pub recorded_at : (s : Script) (newer : List Entry) (e d : Entry) (older : List Entry) → AreRecorded s (newer ++ (e ∷ (d ∷ older))) → IsRecorded s (d ∷ older) e
-recorded_at s [] e d older h = elim h.0 [
+-- what holds of a moment
+pub agreed_at : (s : Script) (newer : List Entry) (e : Entry) (older : List Entry) → AreRecorded s (newer ++ (e ∷ older)) → IsAgreed s (e ∷ older)
+agreed_at s [] e older h = h.0.1
+agreed_at s (y ∷ newer) e older h = agreed_at s newer e older h.1
+
+pub told_at : (s : Script) (newer : List Entry) (e d : Entry) (older : List Entry) → AreRecorded s (newer ++ (e ∷ (d ∷ older))) → AreBlank e.lines ⊎ IsSaved s (d ∷ older) e
+told_at s [] e d older h = elim h.0.0 [
   | inl x ↦ x
   | inr z ↦ absurd cc
 ]
-recorded_at s (y ∷ newer) e d older h = recorded_at s newer e d older h.1
+told_at s (y ∷ newer) e d older h = told_at s newer e d older h.1
