@@ -207,7 +207,7 @@ renewed_from : (me : Node) (boot : ℕ) (head : Head) (b : Backs) (o : Option Ba
 renewed_from me boot head b None = refl
 renewed_from me boot head b (Some c) = either_from (is_back_awaited boot c head) me _ _ refl refl
 
-pub carried_from : (me : Node) (x : ServerState) (clock : ℕ) (b : Backs) (d : Decision) (head : Head) (c : Carried) → AreFrom me (turned_by me x clock b d head c).lines
+carried_from : (me : Node) (x : ServerState) (clock : ℕ) (b : Backs) (d : Decision) (head : Head) (c : Carried) → AreFrom me (turned_by me x clock b d head c).lines
 carried_from me x clock b d head (carried.Call user call) = for_from me x clock b d
 carried_from me x clock b d head (carried.Refusal code) = either_from (same_node head.to me) me _ _ (settled_from me x.lasting.boot head b (b.calls head.from)) refl
 carried_from me x clock b d head (carried.Reply reply) = either_from (same_node head.to me) me _ _ (settled_from me x.lasting.boot head b (b.calls head.from)) refl

@@ -7,7 +7,7 @@ use Rattle.afs_ideal.specs.Replies.{change_reply}
 use Rattle.afs_ideal.specs.Volumes.{Volume}
 use Rattle.afs_law.proofs.Basics.{Above, Each, IfCall, LastSeat, OfCall, at_put, each_at, each_map, each_more, kept_last}
 use Rattle.afs_law.proofs.Acting.{begins_acts, given_acts, waits_acts}
-use Rattle.afs_law.proofs.Choosing.{AreFrom, carried_from, granted_from, is_from, risen_lines}
+use Rattle.afs_law.proofs.Choosing.{granted_from, is_from, risen_lines}
 use Rattle.afs_law.proofs.Cutting.{comes_first, now_up}
 use Rattle.afs_law.proofs.Facts.{IsOne}
 use Rattle.afs_law.proofs.Firm.{IsSentBy}
@@ -72,7 +72,7 @@ pub record HasGrant (server c : Node) (f : Fid) (index expiry : ℕ) (ls : List 
 abbrev pub AreGranted : Head → ℕ → List Found → List Line → Type 0
 AreGranted head expiry fs ls = (f : Found) → IsAmong f fs → HasGrant head.from head.to f.fid f.vnode.index expiry ls
 
--- what was read, of the ideal volumes; the entry tells no version
+-- what was read, of the ideal volumes; the entry tells no version and no stop
 pub record TellsRead (V : ℕ → Option Volume) (user : List ℕ) (call : FsCall) (m : Message) (ls : List Line) : Type 0 where
   pub reading : Reading
   pub expiry : ℕ
@@ -80,6 +80,7 @@ pub record TellsRead (V : ℕ → Option Volume) (user : List ℕ) (call : FsCal
   pub read : IsReading V user call reading
   pub granted : AreGranted m.head expiry reading.granted ls
   pub blank : AreBlank ls
+  pub going : HasStopped m.head.from ls → ⊥
 
 -- the entry that tells the change of this key, and the ideal volume there
 pub record HasMade (k : Key) (change : Change) (past : List Entry) : Type 0 where
@@ -341,14 +342,18 @@ refused_told s c past e i j place m code h p older at r n same ls fresh =
       says = inl (record { refused = tt; first = λ z. fresh (subst (λ (q : List Entry). HasChange k (lines_of q)) older (subst (λ (l : List Line). HasChange k (onto (lines_of p.older) l)) alone z)) });
     }
 
+granted_going : (s me c : Node) (x : ℕ) (fs : List Found) → HasStopped s (granted me c x fs []) → ⊥
+granted_going s me c x [] h = h
+granted_going s me c x (f ∷ fs) h = granted_going s me c x fs h
+
 -- what is read
 shown_told : (s : Script) (c : Cell) (past : List Entry) (e : Entry) (i j place : ℕ) (m : Message) (g : Reading) → Held s c past → (p : Place i (c.hosts i).state m (e ∷ past)) → p.older ≡ past → p.at ≡ e → (r : Runs (Server i) (c.hosts i).state m j) → IsReading (held_by (c.hosts i).state) r.user r.call g
-    → (tail : List Line) → e.lines ≡ lines.Given place ∷ granted (Server i) m.head.from (c.clock + promise_ticks) g.granted tail → AreFrom (Server i) tail → Tells (read_reply_to (c.hosts i).state.lasting.boot m.head (c.clock + promise_ticks) g) (e ∷ past)
-shown_told s c past e i j place m g h p older at r n tail ls from =
+    → e.lines ≡ lines.Given place ∷ granted (Server i) m.head.from (c.clock + promise_ticks) g.granted [] → Tells (read_reply_to (c.hosts i).state.lasting.boot m.head (c.clock + promise_ticks) g) (e ∷ past)
+shown_told s c past e i j place m g h p older at r n ls =
     let answer : answers_in (held_by (c.hosts i).state) r.user r.call ≡ answer_at r.user r.call p.older = reading_code s c past i r.user r.call g h n ∙ ap (answer_at r.user r.call) (sym older) in
     let V : ℕ → Option Volume = λ id. volume_after id p.older in
     let after : answers_in V r.user r.call ≡ answers_in (held_by (c.hosts i).state) r.user r.call = answers_after p.older r.user r.call ∙ sym answer in
-    let lines_at : p.at.lines ≡ lines.Given place ∷ granted (Server i) m.head.from (c.clock + promise_ticks) g.granted tail = ap (λ (y : Entry). y.lines) at ∙ ls in
+    let lines_at : p.at.lines ≡ lines.Given place ∷ granted (Server i) m.head.from (c.clock + promise_ticks) g.granted [] = ap (λ (y : Entry). y.lines) at ∙ ls in
     let k : Key = key_of m.head in
     record {
       ran = ran_at i j (c.hosts i).state m (e ∷ past) p r;
@@ -365,9 +370,10 @@ shown_told s c past e i j place m g h p older at r n tail ls from =
         is = refl;
         read = record { is = read_to (held_by (c.hosts i).state) V r.call g p.ideal n.is; code = ap code_given after ∙ n.code; still = λ z. n.still (subst IsChanging after z) };
         granted = λ f z. subst (λ (l : List Line). HasGrant m.head.to m.head.from f.fid f.vnode.index (c.clock + promise_ticks) l) (sym lines_at)
-            (grant_more m.head.to m.head.from f.fid f.vnode.index (c.clock + promise_ticks) (lines.Given place) (granted (Server i) m.head.from (c.clock + promise_ticks) g.granted tail)
-            (subst (λ (q : Node). HasGrant q m.head.from f.fid f.vnode.index (c.clock + promise_ticks) (granted (Server i) m.head.from (c.clock + promise_ticks) g.granted tail)) (sym r.to) (has_granted (Server i) m.head.from (c.clock + promise_ticks) g.granted tail f z)));
-        blank = subst AreBlank (sym lines_at) (blank_by (is_from (Server i)) (from_blank (Server i)) (lines.Given place ∷ granted (Server i) m.head.from (c.clock + promise_ticks) g.granted tail) (granted_from (Server i) m.head.from (c.clock + promise_ticks) g.granted tail from));
+            (grant_more m.head.to m.head.from f.fid f.vnode.index (c.clock + promise_ticks) (lines.Given place) (granted (Server i) m.head.from (c.clock + promise_ticks) g.granted [])
+            (subst (λ (q : Node). HasGrant q m.head.from f.fid f.vnode.index (c.clock + promise_ticks) (granted (Server i) m.head.from (c.clock + promise_ticks) g.granted [])) (sym r.to) (has_granted (Server i) m.head.from (c.clock + promise_ticks) g.granted [] f z)));
+        blank = subst AreBlank (sym lines_at) (blank_by (is_from (Server i)) (from_blank (Server i)) (lines.Given place ∷ granted (Server i) m.head.from (c.clock + promise_ticks) g.granted []) (granted_from (Server i) m.head.from (c.clock + promise_ticks) g.granted [] refl));
+        going = subst (λ (l : List Line). HasStopped m.head.to l → ⊥) (sym lines_at) (granted_going m.head.to (Server i) m.head.from (c.clock + promise_ticks) g.granted);
       }));
     }
 
@@ -440,12 +446,11 @@ served_makes s c past e i place m (refuses head code) h home k up at actor ls ow
 served_makes s c past e i place m (shows head g) h home k up at actor ls own y =
     let x : ServerState = (c.hosts i).state in
     let p : Place i x m (e ∷ past) = place_here s c past e i place m (shows head g) h up at actor ls in
-    let tail : List Line = (turned_by (Server i) x c.clock (expired c.clock x.backs) (shows head g) m.head m.carried).lines in
     let R : RanFor (Server i) x m y.0 (shows head g) = y.1 in
     subst (λ (z : Head). IsTold (e ∷ past) (read_reply_to x.lasting.boot z (c.clock + promise_ticks) g)) (sym R.why.0) (λ q j from to told.
-    shown_told s c past e i y.0 place m g h p refl refl R.run R.why.1 tail
-    (ls ∙ ap (λ (z : Head). lines.Given place ∷ granted (Server i) z.from (c.clock + promise_ticks) g.granted tail) R.why.0)
-    (carried_from (Server i) x c.clock (expired c.clock x.backs) (shows head g) m.head m.carried))
+    shown_told s c past e i y.0 place m g h p refl refl R.run R.why.1
+    (ls ∙ (ap (λ (z : Head). lines.Given place ∷ granted (Server i) z.from (c.clock + promise_ticks) g.granted (turned_by (Server i) x c.clock (expired c.clock x.backs) (shows head g) m.head m.carried).lines) R.why.0
+    ∙ ap (λ (l : List Line). lines.Given place ∷ granted (Server i) m.head.from (c.clock + promise_ticks) g.granted l) (turn_lines (Server i) x c.clock (shows head g) m R.run.user R.run.call R.run.carries))))
 served_makes s c past e i place m (saves head ch) h home k up at actor ls own y =
     let x : ServerState = (c.hosts i).state in
     let p : Place i x m (e ∷ past) = place_here s c past e i place m (saves head ch) h up at actor ls in
