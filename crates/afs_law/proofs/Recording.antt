@@ -9,7 +9,7 @@ use Rattle.afs_law.proofs.Ascending.{Ascend, AscendIn, HeldAscend, ascend_first,
 use Rattle.afs_law.proofs.Backing.{all_lines}
 use Rattle.afs_law.proofs.Basics.{IfCall, each_at}
 use Rattle.afs_law.proofs.Changing.{HeldCuts, IsPlaced, change_ideal, cut_placed, cuts_first, cuts_kept, none_first}
-use Rattle.afs_law.proofs.Choosing.{Works, disk_works, is_from, risen_from, risen_lines, serves_works, starts_works, times_works, wakes_works}
+use Rattle.afs_law.proofs.Choosing.{AreFrom, Works, disk_works, is_from, risen_from, risen_lines, serves_works, starts_works, times_works, wakes_works}
 use Rattle.afs_law.proofs.Cutting.{CutsIn}
 use Rattle.afs_law.proofs.Edits.{Grow, SoundIn, edits_told, on_top, sound_same}
 use Rattle.afs_law.proofs.Facts.{IsFine}
@@ -47,6 +47,8 @@ pub record IsSaved (s : Script) (past : List Entry) (e : Entry) : Type 0 where
   pub split : e.lines ≡ front ++ (lines.Change (Server server) key count ∷ versioned versions rest)
   pub before : AreBlank front
   pub behind : AreBlank rest
+  pub from_front : AreFrom (Server server) front
+  pub from_rest : AreFrom (Server server) rest
   pub ideal : IdealChange s (Server server) key count past (onto [] front) (versioned versions rest)
   pub are : versions ≡ versions_by ideal.id ideal.edits ideal.before
   pub grow : Grow ideal.id versions (lines.Change (Server server) key count ∷ onto (lines_of past) front)
@@ -81,9 +83,11 @@ agreed s c past V a =
 abbrev ToldStep : Script → Cell → List Entry → Moved → Type 0
 ToldStep s c past m = AreBlank m.entry.lines ⊎ IsSaved s past m.entry
 
-saved_from : (s : Script) (past : List Entry) (e : Entry) (i : ℕ) (k : Key) (front rest : List Line) (vs : List Version) → e.volumes ≡ [] → e.actor ≡ actors.Node (Server i) → e.lines ≡ front ++ (lines.Change (Server i) k (length vs) ∷ versioned vs rest) → AreBlank front → AreBlank rest
+saved_from : (s : Script) (past : List Entry) (e : Entry) (i : ℕ) (k : Key) (front rest : List Line) (vs : List Version) → e.volumes ≡ [] → e.actor ≡ actors.Node (Server i) → e.lines ≡ front ++ (lines.Change (Server i) k (length vs) ∷ versioned vs rest) → AreFrom (Server i) front → AreFrom (Server i) rest
     → IdealChange s (Server i) k (length vs) past (onto [] front) (versioned vs rest) → ((id : ℕ) → SoundIn id (volume_after id past) (lines_of past)) → IsSaved s past e
-saved_from s past e i k front rest vs none actor split before behind I sound =
+saved_from s past e i k front rest vs none actor split from_front from_rest I sound =
+    let before : AreBlank front = blank_by (is_from (Server i)) (from_blank (Server i)) front from_front in
+    let behind : AreBlank rest = blank_by (is_from (Server i)) (from_blank (Server i)) rest from_rest in
     let are : vs ≡ versions_by I.id I.edits I.before = sym (first_on vs rest (none_first rest behind)) ∙ I.versions in
     let base : List Line = lines.Change (Server i) k (length vs) ∷ onto (lines_of past) front in
     let N : Volume = counted (edited_all I.id I.edits I.before) in
@@ -99,6 +103,8 @@ saved_from s past e i k front rest vs none actor split before behind I sound =
       split = split;
       before = before;
       behind = behind;
+      from_front = from_front;
+      from_rest = from_rest;
       ideal = I;
       are = are;
       grow = subst (λ (ws : List Version). Grow I.id ws base) (sym are)
@@ -109,7 +115,7 @@ saved_from s past e i k front rest vs none actor split before behind I sound =
 works_saved : (s : Script) (c : Cell) (past : List Entry) (i : ℕ) (b : Table Stored) (e : Entry) → Held s c past → e.volumes ≡ [] → e.actor ≡ actors.Node (Server i) → Works (IsPlaced c past i) (Server i) (c.hosts i).state b e.lines → AreBlank e.lines ⊎ IsSaved s past e
 works_saved s c past i b e h none actor (inl w) = inl (blank_by (is_from (Server i)) (from_blank (Server i)) e.lines w.lines)
 works_saved s c past i b e h none actor (inr S) =
-    inr (saved_from s past e i (key_of S.head) S.front S.rest (made S.change) none actor S.split (blank_by (is_from (Server i)) (from_blank (Server i)) S.front S.before) (blank_by (is_from (Server i)) (from_blank (Server i)) S.rest S.behind) (change_ideal s c past i b e.lines h S) h.1.sound)
+    inr (saved_from s past e i (key_of S.head) S.front S.rest (made S.change) none actor S.split S.before S.behind (change_ideal s c past i b e.lines h S) h.1.sound)
 
 acts_told : (s : Script) (past : List Entry) (n : ℕ) (e : Entry) → all_lines (is_of n) e.lines ≡ true → AreBlank e.lines ⊎ IsSaved s past e
 acts_told s past n e h = inl (blank_by (is_of n) (of_blank n) e.lines h)
