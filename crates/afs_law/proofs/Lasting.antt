@@ -41,7 +41,7 @@ withdrawn_onto s c f [] o h = h
 withdrawn_onto s c f (l ∷ ls) o h = withdrawn_onto s c f ls (l ∷ o) (withdrawn_more s c f l o h)
 
 -- a stop withdraws, wherever it stands
-stop_withdraws : (s c : Node) (f : Fid) (ls o : List Line) → HasStopped s (onto o ls) → HasStopped s o ⊎ ((b : List Line) → IsWithdrawn s c f (onto b ls))
+pub stop_withdraws : (s c : Node) (f : Fid) (ls o : List Line) → HasStopped s (onto o ls) → HasStopped s o ⊎ ((b : List Line) → IsWithdrawn s c f (onto b ls))
 stop_withdraws s c f [] o h = inl h
 stop_withdraws s c f (lines.Crash n ∷ ls) o h = elim (stop_withdraws s c f ls (lines.Crash n ∷ o) h) [
   | inl x ↦ elim x [
@@ -160,7 +160,7 @@ pub record OwnChange (server : Node) (j : ℕ) (k : Key) (past : List Entry) : T
 own_more : (server : Node) (j : ℕ) (k : Key) (e : Entry) (past : List Entry) → OwnChange server j k past → OwnChange server j k (e ∷ past)
 own_more server j k e past h = record { key = h.key; node = h.node; later = h.later; by = by_onto server h.key e.lines (lines_of past) h.by }
 
-stopped_either : (s : Node) (ls o : List Line) → HasStopped s (onto o ls) → HasStopped s ls ⊎ HasStopped s o
+pub stopped_either : (s : Node) (ls o : List Line) → HasStopped s (onto o ls) → HasStopped s ls ⊎ HasStopped s o
 stopped_either s [] o h = inr h
 stopped_either s (lines.Crash n ∷ ls) o h = elim (stopped_either s ls (lines.Crash n ∷ o) h) [
   | inl x ↦ inl (inr x)
@@ -178,14 +178,14 @@ stopped_either s (lines.Fault n ∷ ls) o h = elim (stopped_either s ls (lines.F
 ]
 stopped_either s (l ∷ ls) o h = stopped_either s ls (l ∷ o) h
 
-stopped_of : (s : Node) (ls : List Line) → (HasStopped s ls → ⊥) → HasStopped s (onto [] ls) → ⊥
+pub stopped_of : (s : Node) (ls : List Line) → (HasStopped s ls → ⊥) → HasStopped s (onto [] ls) → ⊥
 stopped_of s ls none h = none (elim (stopped_either s ls [] h) [ inl x ↦ x | inr x ↦ absurd x ])
 
 -- a change there of an own key is under a later one
-pub own_later : (s : Script) (server : Node) (j : ℕ) (newer : List Entry) (at : Entry) (older : List Entry) (e : Entry) → (r : HasRunAt server j at older) → (x : IsSaved s (newer ++ (at ∷ older)) e) → Server x.server ≡ server → x.key.node ≡ Client j → (HasStopped server (lines_on (onto [] at.lines) newer) → ⊥) → IsLater x.key (called_key r.message.head)
-own_later s server j newer at older e r x is own going =
-    later_key s (Server x.server) x.key x.count (newer ++ (at ∷ older)) (onto [] x.front) (versioned x.versions x.rest) x.ideal
-    (record { newer = newer; at = at; older = older; split = refl; message = r.message; given = r.given; is_call = r.is_call; to = r.to ∙ sym is; from = r.from ∙ sym own; up = subst (λ (q : Node). server_boot q (lines_of older) ≡ Some r.message.head.boot) (sym is) r.up; node = r.node ∙ ap actors.Node (sym is); going = subst (λ (q : Node). HasStopped q (lines_on (onto [] at.lines) newer) → ⊥) (sym is) going })
+pub own_later : (s : Script) (server : Node) (j : ℕ) (past newer : List Entry) (at : Entry) (older : List Entry) (e : Entry) → past ≡ newer ++ (at ∷ older) → (r : HasRunAt server j at older) → (x : IsSaved s past e) → Server x.server ≡ server → x.key.node ≡ Client j → (HasStopped server (lines_on (onto [] at.lines) newer) → ⊥) → IsLater x.key (called_key r.message.head)
+own_later s server j past newer at older e split r x is own going =
+    later_key s (Server x.server) x.key x.count past (onto [] x.front) (versioned x.versions x.rest) x.ideal
+    (record { newer = newer; at = at; older = older; split = split; message = r.message; given = r.given; is_call = r.is_call; to = r.to ∙ sym is; from = r.from ∙ sym own; up = subst (λ (q : Node). server_boot q (lines_of older) ≡ Some r.message.head.boot) (sym is) r.up; node = r.node ∙ ap actors.Node (sym is); going = subst (λ (q : Node). HasStopped q (lines_on (onto [] at.lines) newer) → ⊥) (sym is) going })
 
 abbrev Fate : Node → ℕ → Fid → Key → List Line → List Entry → Entry → List Entry → Type 0
 Fate server j f k base newer at older =
@@ -201,7 +201,7 @@ own_fate true s server j f base e newer at older r x is t =
         | inl z ↦ absurd (stopped_of server at.lines r.going z)
         | inr w ↦ inl (withdrawn_onto server (Client j) f e.lines (lines_on base newer) (w base))
       ]
-      | inr going ↦ inr (inr (record { key = x.saved.key; node = own; later = own_later s server j newer at older e r x.saved is own going; by = subst (λ (q : Node). HasChangeBy q x.saved.key (lines_of (e ∷ (newer ++ (at ∷ older))))) is (saved_by s (newer ++ (at ∷ older)) e x.saved (lines_of (newer ++ (at ∷ older)))) }))
+      | inr going ↦ inr (inr (record { key = x.saved.key; node = own; later = own_later s server j (newer ++ (at ∷ older)) newer at older e refl r x.saved is own going; by = subst (λ (q : Node). HasChangeBy q x.saved.key (lines_of (e ∷ (newer ++ (at ∷ older))))) is (saved_by s (newer ++ (at ∷ older)) e x.saved (lines_of (newer ++ (at ∷ older)))) }))
     ]
 
 touched_fate : (s : Script) (server : Node) (j : ℕ) (f : Fid) (base : List Line) (e : Entry) (newer : List Entry) (at : Entry) (older : List Entry) → is_at f.volume server s.volumes → (r : HasRunAt server j at older) → (last_version f (lines_of (e ∷ (newer ++ (at ∷ older)))) ≡ last_version f (lines_of (newer ++ (at ∷ older)))) ⊎ HasTouched s (newer ++ (at ∷ older)) e f

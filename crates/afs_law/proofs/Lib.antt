@@ -83,6 +83,10 @@ pub mod Due
 pub mod Kept
 pub mod Later
 pub mod Recording
+pub mod Fetching
+pub mod Lasting
+pub mod Trusting
+pub mod Holding
 pub mod Entering
 pub mod Assembled
 pub mod Dying

@@ -347,7 +347,7 @@ behind_by server l [] o h = h
 behind_by server l (lines.Change q m count ∷ own) o h = inr (behind_by server l own o h)
 behind_by server l (x ∷ own) o h = behind_by server l own o h
 
-new_behind : (k : Key) (own o : List Line) → IsNew k (own ++ o) → IsNew k o
+pub new_behind : (k : Key) (own o : List Line) → IsNew k (own ++ o) → IsNew k o
 new_behind k [] o h = h
 new_behind k (l ∷ own) o h = new_behind k own o (new_one k (change_in l) (IsNew k (own ++ o)) h)
 

@@ -130,7 +130,7 @@ key_more : (k : Key) (o : Option Key) (X : Type 0) → X → IsKey k o X
 key_more k None X h = h
 key_more k (Some l) X h = inr h
 
-change_later : (k : Key) (ls o : List Line) → HasChange k o → HasChange k (onto o ls)
+pub change_later : (k : Key) (ls o : List Line) → HasChange k o → HasChange k (onto o ls)
 change_later k [] o h = h
 change_later k (l ∷ ls) o h = change_later k ls (l ∷ o) (key_more k (change_in l) (HasChange k o) h)
 
@@ -218,7 +218,7 @@ made_well (calls.MakeDir d name st) expiry id caller times v n some = record { t
 made_well (calls.RemoveDir d name) expiry id caller times v n some = record { told = refl; kind = refl }
 made_well call expiry id caller times v n some = absurd (some refl)
 
-change_here : (k : Key) (me : Node) (n : ℕ) (front rest o : List Line) → HasChange k (onto o (front ++ lines.Change me k n ∷ rest))
+pub change_here : (k : Key) (me : Node) (n : ℕ) (front rest o : List Line) → HasChange k (onto o (front ++ lines.Change me k n ∷ rest))
 change_here k me n [] rest o = change_later k rest (lines.Change me k n ∷ o) (inl refl)
 change_here k me n (l ∷ front) rest o = change_here k me n front rest (l ∷ o)
 
