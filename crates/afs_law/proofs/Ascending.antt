@@ -20,10 +20,10 @@ use Rattle.afs_law.proofs.Remaining.{accepted}
 use Rattle.afs_law.proofs.Saving.{onto_versioned, versions_by_next}
 use Rattle.afs_law.proofs.Latest.{has_onto, holding_by, later_by}
 use Rattle.afs_law.specs.Ideal.{HasVersion, first_lines, is_at, last_version, set_up, versions_in, volume_after}
-use Rattle.afs_law.specs.Laws.{IsKept}
+use Rattle.afs_law.specs.Laws.{IsKept, told_by_restart}
 use Rattle.afs_law.specs.Once.{past_of}
 use Rattle.afs_law.specs.Past.{lines_of, onto}
-use Rattle.afs_law.specs.ServerParts.{VersionsAreKept, told_by_restart}
+use Rattle.afs_law.specs.ServerParts.{VersionsAreKept}
 use Rattle.afs_num.specs.declared.histories.Body.{Body}
 use Rattle.afs_num.specs.declared.histories.Version.{Version}
 use Rattle.afs_num.specs.declared.messages.Received.TheVariants.{Whole}

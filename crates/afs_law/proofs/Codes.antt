@@ -17,7 +17,8 @@ use Rattle.afs_law.proofs.Placing.{run_placed}
 use Rattle.afs_law.proofs.Telling.{IsTold, Tells}
 use Rattle.afs_law.proofs.Truthful.{Truthful, truthful_first, truthful_kept}
 use Rattle.afs_law.proofs.Users.{given_each}
-use Rattle.afs_law.specs.ClientParts.{AnswersAreGood, IsDue, IsDueCode, IsGivenAtOnce, IsOfCell, IsReplied}
+use Rattle.afs_law.specs.ClientParts.{AnswersAreGood, IsDue, IsDueCode, IsGivenAtOnce, IsReplied}
+use Rattle.afs_law.specs.Cells.{IsOfCell}
 use Rattle.afs_law.specs.Ideal.{change_in, set_up, user_of}
 use Rattle.afs_law.specs.Legal.{GoodCode, HasChange, HasNothing, IsCaused, IsInPlace, IsKey, IsOfClient, IsResult, IsTold as IsToldOf, answer_at, as_asked}
 use Rattle.afs_law.specs.Parts.{EachEntry, EachLine}

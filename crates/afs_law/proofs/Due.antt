@@ -20,7 +20,8 @@ use Rattle.afs_law.proofs.Ours.{AreNear, AreOurs, IsOurs, Ours, begins_our, give
 use Rattle.afs_law.proofs.Passing.{sent_either}
 use Rattle.afs_law.proofs.Trying.{GivenWaits, Waits, waits_first, waits_kept}
 use Rattle.afs_law.specs.Breaks.{HasTimeout}
-use Rattle.afs_law.specs.ClientParts.{AnswersAreDue, IsDue, IsDueCode, IsOfCell, IsUsed}
+use Rattle.afs_law.specs.ClientParts.{AnswersAreDue, IsDue, IsDueCode, IsUsed}
+use Rattle.afs_law.specs.Cells.{IsOfCell}
 use Rattle.afs_law.specs.Grants.{is_promised}
 use Rattle.afs_law.specs.Ideal.{set_up, user_of}
 use Rattle.afs_law.specs.Legal.{EndsAct, HasUsed, IsAtOnce, has_read}

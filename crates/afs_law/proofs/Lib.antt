@@ -84,6 +84,7 @@ pub mod Codes
 pub mod Kept
 pub mod Later
 pub mod Entering
+pub mod Readings
 pub mod Assembled
 pub mod Dying
 pub mod Made
