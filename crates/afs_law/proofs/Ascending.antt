@@ -161,5 +161,5 @@ pub run_versions : VersionsAreKept
 run_versions s h end r i v home told =
     let past : List Entry = past_of (set_up s ∷ []) h in
     let k : HeldAscend s end past = ascend_at s h end r in
-    let at : is_at v.fid.volume (Server i) s.volumes = accepted s v.fid.volume i (lines_of past) home in
+    let at : is_at v.fid.volume (Server i) s.volumes = accepted s v.fid.volume (Server i) (lines_of past) home in
     (kept_in s end past i v k.0.1 k.1 at told, λ fall down. kept_behind s end past i v fall k down at told)

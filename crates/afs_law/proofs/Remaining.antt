@@ -26,9 +26,9 @@ fault_key : (ls : List Line) (n : Node) → change_key (ls ++ lines.Fault n ∷ 
 fault_key [] n = refl
 fault_key (l ∷ ls) n = ap (first_key (change_in l)) (fault_key ls n)
 
-pub accepted : (s : Script) (id i : ℕ) (ls : List Line) → Accepts s id (Server i) ls → is_at id (Server i) s.volumes
-accepted s id i [] h = h
-accepted s id i (l ∷ ls) h = accepted s id i ls h
+pub accepted : (s : Script) (id : ℕ) (q : Node) (ls : List Line) → Accepts s id q ls → is_at id q s.volumes
+accepted s id q [] h = h
+accepted s id q (l ∷ ls) h = accepted s id q ls h
 
 pub accepts : (s : Script) (id : ℕ) (q : Node) (ls : List Line) → is_at id q s.volumes → Accepts s id q ls
 accepts s id q [] h = h
@@ -57,7 +57,7 @@ found_ideal s c past i fall id h down only =
     ∙ (only_held s m.cell (m.entry ∷ past) i id V only ∙ ap (λ (k : Option Key). changed_under id k (sent_of past) (volume_after id past)) keys)
 
 pub run_falls : FallsAreKept
-run_falls s h end r i fall down id at = found_ideal s end (past_of (set_up s ∷ []) h) i fall id (volumes_at s h end r) down (λ q there. one_place id q (Server i) s.volumes there (accepted s id i (lines_of (past_of (set_up s ∷ []) h)) at))
+run_falls s h end r i fall down id at = found_ideal s end (past_of (set_up s ∷ []) h) i fall id (volumes_at s h end r) down (λ q there. one_place id q (Server i) s.volumes there (accepted s id (Server i) (lines_of (past_of (set_up s ∷ []) h)) at))
 
 -- what a server holds, and what its interrupted step may have left, of each volume that is no other's
 pub survives : (s : Script) (h : List Entry) (end : Cell) (i : ℕ) → RunsTo h s end → Survives s i (end.hosts i) (past_of (set_up s ∷ []) h)
