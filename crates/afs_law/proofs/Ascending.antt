@@ -20,10 +20,10 @@ use Rattle.afs_law.proofs.Remaining.{accepted}
 use Rattle.afs_law.proofs.Saving.{onto_versioned, versions_by_next}
 use Rattle.afs_law.proofs.Latest.{has_onto, holding_by, later_by}
 use Rattle.afs_law.specs.Ideal.{HasVersion, first_lines, is_at, last_version, set_up, versions_in, volume_after}
-use Rattle.afs_law.specs.Laws.{IsKept}
+use Rattle.afs_law.specs.Laws.{IsKept, told_by_restart}
 use Rattle.afs_law.specs.Once.{past_of}
 use Rattle.afs_law.specs.Past.{lines_of, onto}
-use Rattle.afs_law.specs.ServerParts.{VersionsAreKept, told_by_restart}
+use Rattle.afs_law.specs.ServerParts.{VersionsAreKept}
 use Rattle.afs_num.specs.declared.histories.Body.{Body}
 use Rattle.afs_num.specs.declared.histories.Version.{Version}
 use Rattle.afs_num.specs.declared.messages.Received.TheVariants.{Whole}
@@ -161,5 +161,5 @@ pub run_versions : VersionsAreKept
 run_versions s h end r i v home told =
     let past : List Entry = past_of (set_up s ∷ []) h in
     let k : HeldAscend s end past = ascend_at s h end r in
-    let at : is_at v.fid.volume (Server i) s.volumes = accepted s v.fid.volume i (lines_of past) home in
+    let at : is_at v.fid.volume (Server i) s.volumes = accepted s v.fid.volume (Server i) (lines_of past) home in
     (kept_in s end past i v k.0.1 k.1 at told, λ fall down. kept_behind s end past i v fall k down at told)

@@ -80,6 +80,7 @@ pub mod Caused
 pub mod Trying
 pub mod Ours
 pub mod Due
+pub mod Codes
 pub mod Kept
 pub mod Later
 pub mod Recording
@@ -88,6 +89,7 @@ pub mod Lasting
 pub mod Trusting
 pub mod Holding
 pub mod Entering
+pub mod Readings
 pub mod Assembled
 pub mod Dying
 pub mod Made

@@ -3,6 +3,7 @@ pub mod Ideal
 pub mod Grants
 pub mod Breaks
 pub mod Legal
+pub mod Cells
 pub mod OneServer
 pub mod Once
 pub mod Laws

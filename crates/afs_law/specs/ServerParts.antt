@@ -2,7 +2,7 @@
 use Rattle.afs_law.specs.Breaks.{GoodQuit, GoodSettle, HasOwe, lines_at, live_grant}
 use Rattle.afs_law.specs.Grants.{is_promised}
 use Rattle.afs_law.specs.Ideal.{Accepts, HasVersion, clock_of, set_up, volume_after}
-use Rattle.afs_law.specs.Laws.{IsKept}
+use Rattle.afs_law.specs.Laws.{IsKept, told_by_restart}
 use Rattle.afs_law.specs.Legal.{GoodCode, GoodGrant, GoodOwe, GoodReadBy, GoodReply, IsChanged, IsResult, Legal, answer_at, versions_first}
 use Rattle.afs_law.specs.Once.{past_of}
 use Rattle.afs_law.specs.Parts.{AllLines, EachEntry, EachSent, LineRule}
@@ -84,10 +84,6 @@ abbrev pub RepliesAreTrue : Type 0
 RepliesAreTrue = (s : Script) (history : List Entry) (end : Cell) → RunsTo history s end → EachEntry (λ past e. EachSent IsTruthful (e ∷ past) e.sent) (set_up s ∷ []) history
 
 -- ---- what is kept
-
--- the entry that a restart would make, where the record of the interrupted step is on the disk, by what it tells of that step
-abbrev pub told_by_restart : ℕ → Host → Fall → Entry
-told_by_restart i host fall = record { actor = actors.Node (Server i); lines = (begun_by_disk (Server i) host.state true fall).before []; sent = []; volumes = [] }
 
 -- while a server is down, what its step that was interrupted may have left is the ideal volumes too, behind what a restart tells of that step
 abbrev pub FallsAreKept : Type 0
