@@ -88,6 +88,7 @@ pub mod Fetching
 pub mod Lasting
 pub mod Trusting
 pub mod Holding
+pub mod Arriving
 pub mod Entering
 pub mod Readings
 pub mod Assembled

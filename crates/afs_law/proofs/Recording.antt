@@ -73,7 +73,7 @@ home_by : (s : Script) (c : Cell) (past : List Entry) (id : ℕ) (v : Volume) �
 home_by s c past id v V at (inl x) = x
 home_by s c past id v V at (inr away) = let no_ : None ≡ Some v = sym (V.none id (λ i. away (Server i))) ∙ at in absurd cc
 
-agreed : (s : Script) (c : Cell) (past : List Entry) → VolumesIn s c past → Ascend (lines_of past) → IsAgreed s past
+pub agreed : (s : Script) (c : Cell) (past : List Entry) → VolumesIn s c past → Ascend (lines_of past) → IsAgreed s past
 agreed s c past V a =
     let home : (id : ℕ) (v : Volume) → volume_after id past ≡ Some v → is_at id (Server (server_at (locations s) id)) s.volumes = λ id v at. home_by s c past id v V at (placed id s.volumes) in
     record { sound = V.sound; ascend = a; fine = λ id v at. V.fine (server_at (locations s) id) id v (V.ideal (server_at (locations s) id) id (home id v at) ∙ at); home = home }
