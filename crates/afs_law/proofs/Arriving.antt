@@ -21,7 +21,7 @@ use Rattle.afs_law.proofs.Moving.{IsKept}
 use Rattle.afs_law.proofs.Ops.{changes_is}
 use Rattle.afs_law.proofs.Reasons.{IsAsked}
 use Rattle.afs_law.proofs.Recent.{has_more, sent_before, sent_given}
-use Rattle.afs_law.proofs.Recording.{AreRecorded, IsAgreed, Recorded, agreed, recorded_first, recorded_kept}
+use Rattle.afs_law.proofs.Recording.{AreRecorded, IsAgreed, Recorded, agreed, below_agreed, recorded_first, recorded_kept}
 use Rattle.afs_law.proofs.Saving.{later_not}
 use Rattle.afs_law.proofs.Silent.{GivenSilent, silent_first, silent_kept}
 use Rattle.afs_law.proofs.Telling.{HasGrant, IsRefused, IsTold, Tells}
@@ -140,7 +140,7 @@ file_same a b e = cc
 pub zero_told : (x : Carried) (r : FsReply) → x ≡ carried.Reply (tell.File r) → code_told x ≡ Some (pos 0)
 zero_told x r e = subst (λ (y : Carried). code_told y ≡ Some (pos 0)) (sym e) refl
 
-not_refused : (x : Carried) (r : FsReply) → x ≡ carried.Reply (tell.File r) → IsRefused x → ⊥
+pub not_refused : (x : Carried) (r : FsReply) → x ≡ carried.Reply (tell.File r) → IsRefused x → ⊥
 not_refused x r e h = subst IsRefused e h
 
 none_at : (place : ℕ) (m : Message) → message_at [] place ≡ Some m → ⊥
@@ -150,10 +150,6 @@ none_given : (ls : List Line) (m : Message) → given_message ls [] ≡ Some m �
 none_given [] m e = absurd cc
 none_given (lines.Given place ∷ ls) m e = none_at place m e
 none_given (l ∷ ls) m e = none_given ls m e
-
-below_agreed : (s : Script) (newer : List Entry) (at d : Entry) (older : List Entry) → AreRecorded s (newer ++ (at ∷ (d ∷ older))) → IsAgreed s (d ∷ older)
-below_agreed s [] at d older h = h.1.0.1
-below_agreed s (y ∷ newer) at d older h = below_agreed s newer at d older h.1
 
 given_agreed : (s : Script) (newer : List Entry) (at : Entry) (older : List Entry) (m : Message) → AreRecorded s (newer ++ (at ∷ older)) → given_message at.lines (sent_of older) ≡ Some m → IsAgreed s older
 given_agreed s newer at [] m h e = absurd (none_given at.lines m e)

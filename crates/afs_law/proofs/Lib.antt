@@ -89,6 +89,7 @@ pub mod Lasting
 pub mod Trusting
 pub mod Holding
 pub mod Arriving
+pub mod Storing
 pub mod Entering
 pub mod Readings
 pub mod Assembled

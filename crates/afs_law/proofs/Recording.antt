@@ -179,3 +179,7 @@ told_at s [] e d older h = elim h.0.0 [
   | inr z ↦ absurd cc
 ]
 told_at s (y ∷ newer) e d older h = told_at s newer e d older h.1
+
+pub below_agreed : (s : Script) (newer : List Entry) (at d : Entry) (older : List Entry) → AreRecorded s (newer ++ (at ∷ (d ∷ older))) → IsAgreed s (d ∷ older)
+below_agreed s [] at d older h = h.1.0.1
+below_agreed s (y ∷ newer) at d older h = below_agreed s newer at d older h.1
