@@ -6,14 +6,15 @@ use Rattle.afs_ideal.specs.Replies.{change_reply, status_at, status_of, vnode_at
 use Rattle.afs_ideal.specs.Tables.{get}
 use Rattle.afs_ideal.specs.Volumes.{Edit, Vnode, Volume, amended, body_of, counted, edited_all, fid_of, if_unique, version_at, vnode_of}
 use Rattle.afs_law.proofs.Acting.{last_key}
-use Rattle.afs_law.proofs.Arriving.{Arrives, Based, not_refused, told_sent}
+use Rattle.afs_law.proofs.Arriving.{Arrives, Based, around, not_refused}
 use Rattle.afs_law.proofs.Basics.{some_of}
 use Rattle.afs_law.proofs.Edits.{Sound, SoundIn, fid_at, there}
 use Rattle.afs_law.proofs.Facts.{Leaves}
 use Rattle.afs_law.proofs.Fetching.{been_now, been_over, has_over}
+use Rattle.afs_law.proofs.Holding.{change_of}
 use Rattle.afs_law.proofs.Ideals.{AreBlank, blank_key, no_more}
 use Rattle.afs_law.proofs.Latest.{has_onto}
-use Rattle.afs_law.proofs.Ops.{Storing, amend_of, changes_is, storing, stored_fid, stored_vnode}
+use Rattle.afs_law.proofs.Ops.{Storing, amend_of, change_same, storing, stored_fid, stored_vnode}
 use Rattle.afs_law.proofs.Origins.{under_more}
 use Rattle.afs_law.proofs.Recording.{AreRecorded, IsAgreed, IsSaved, below_agreed, told_at}
 use Rattle.afs_law.proofs.Reasons.{IsMaking, IsRead}
@@ -22,7 +23,7 @@ use Rattle.afs_law.proofs.Serving.{last_has}
 use Rattle.afs_law.proofs.Telling.{HasMade, Tells, TellsMade}
 use Rattle.afs_law.specs.Ideal.{HasBeen, HasVersion, IsLast, TellsIn, TellsOf, call_under, change_key, first_key, last_version, shown_status, volume_after}
 use Rattle.afs_law.specs.Legal.{HasChange, IdealChange}
-use Rattle.afs_law.specs.Past.{lines_of, onto, sent_of}
+use Rattle.afs_law.specs.Past.{answered_key, lines_of, onto, sent_of}
 use Rattle.afs_num.specs.declared.calls.AfsFetchStatus.{AfsFetchStatus}
 use Rattle.afs_num.specs.declared.calls.FsCall.{FsCall}
 use Rattle.afs_num.specs.declared.calls.FsCall.TheVariants as calls
@@ -42,7 +43,7 @@ use Rattle.afs_records.specs.Durable.{time_in}
 use Rattle.afs_rows.specs.ClientRow.{call_of, status_told}
 use Rattle.afs_rows.specs.Going.{Going}
 use Rattle.afs_rows.specs.Runs.{Cell, Entry}
-use Rattle.afs_rows.specs.ServerRow.{Change, carried_by, promise_ticks, result, stored_by, versioned}
+use Rattle.afs_rows.specs.ServerRow.{Change, Reading, carried_by, promise_ticks, result, stored_by, versioned}
 use Rattle.std.proofs.Common.{◌≡◌, ◌+◌, ℕ, ◌⊎◌, inl, inr, Bool, true, false, cond, eq-eqb, nat_eq, List, [], ◌∷◌, ◌++◌, Option, Some, None, refl, sym, ap, subst, ◌∙◌}
 use Rattle.std.specs.Option.{option_map}
 
@@ -146,3 +147,92 @@ stored f call user id v es shown k newer at older caller times is key S =
           (subst (TellsIn st.sync_counter (seen.Status (status_told st))) (sym (ap (if_unique f.unique) got ∙ unique_found f.unique new x.unique)) (sym (status_is id caller times V f.vnode new got), told_is id caller times V f.vnode new got)));
       last = ap (option_map (λ (w : Version). w.index)) last ∙ ap Some (sym index);
     }
+
+-- ---- where the reply comes
+
+stored_volume : (call : FsCall) (f : Fid) (id : ℕ) → stored_fid call ≡ Some f → volume_called call ≡ Some id → f.volume ≡ id
+stored_volume (calls.StoreData g st p w l b) f id is e = let same : g ≡ f = cc in ap (λ (h : Fid). h.volume) (sym same) ∙ some_of g.volume id e
+stored_volume (calls.StoreAcl g acl) f id is e = let same : g ≡ f = cc in ap (λ (h : Fid). h.volume) (sym same) ∙ some_of g.volume id e
+stored_volume (calls.StoreStatus g st) f id is e = let same : g ≡ f = cc in ap (λ (h : Fid). h.volume) (sym same) ∙ some_of g.volume id e
+stored_volume call f id is e = absurd cc
+
+-- a store isn't answered by what was read
+no_read : (V : ℕ → Option Volume) (call : FsCall) (r : Reading) (f : Fid) → stored_fid call ≡ Some f → IsRead V call r → ⊥
+no_read V (calls.StoreData g st p w l b) r f is h = h
+no_read V (calls.StoreAcl g acl) r f is h = h
+no_read V (calls.StoreStatus g st) r f is h = h
+no_read V call r f is h = absurd cc
+
+call_same : (a b : List ℕ × FsCall) → a ≡ b → (a.0 ≡ b.0) × (a.1 ≡ b.1)
+call_same a b e = (ap (λ (p : List ℕ × FsCall). p.0) e, ap (λ (p : List ℕ × FsCall). p.1) e)
+
+-- of the operation that both tell
+made_step : (s : Script) (k : Key) (at : Entry) (older : List Entry) (f : Fid) (call : FsCall) (user : List ℕ) (ch : Change) → (T : IsTelling s k at older) → stored_fid call ≡ Some f → T.saved.ideal.call ≡ call → T.saved.ideal.user ≡ user → volume_called call ≡ Some ch.id → volume_after ch.id older ≡ Some ch.before.volume
+    → op ch.id (the_user user) call ch.before.volume ≡ changes ch.edits ch.shown → IsStep f call user ch.id ch.before.volume ch.edits ch.shown at older
+made_step s k at older f call user ch T is its_call its_user of_volume volume res =
+    let I = T.saved.ideal in
+    let id : I.id ≡ ch.id = some_of I.id ch.id (sym I.of_volume ∙ (ap volume_called its_call ∙ of_volume)) in
+    let before : I.before ≡ ch.before.volume = some_of I.before ch.before.volume (sym I.at ∙ (ap (λ (i : ℕ). volume_after i older) id ∙ volume)) in
+    let both_ : changes I.edits I.shown ≡ changes ch.edits ch.shown = sym I.result ∙ (ap (λ (i : ℕ). op i (the_user I.user) I.call I.before) id ∙ (ap (λ (u : List ℕ). op ch.id (the_user u) I.call I.before) its_user
+    ∙ (ap (λ (x : FsCall). op ch.id (the_user user) x I.before) its_call ∙ (ap (op ch.id (the_user user) call) before ∙ res)))) in
+    let edits : I.edits ≡ ch.edits = (change_same I.edits ch.edits I.shown ch.shown both_).0 in
+    let after : volume_after ch.id (at ∷ older) ≡ Some (counted (edited_all ch.id ch.edits ch.before.volume)) = ap (λ (i : ℕ). volume_after i (at ∷ older)) (sym id) ∙ (T.saved.after ∙ (ap (λ (i : ℕ). Some (counted (edited_all i I.edits I.before))) id
+    ∙ (ap (λ (es : List Edit). Some (counted (edited_all ch.id es I.before))) edits ∙ ap (λ (v : Volume). Some (counted (edited_all ch.id ch.edits v))) before))) in
+    record {
+      volume = stored_volume call f ch.id is of_volume;
+      result' = res;
+      before = subst (λ (o : Option Volume). SoundIn ch.id o (lines_of older)) volume (T.agreed.sound ch.id);
+      after = after;
+      behind = subst (λ (o : Option Volume). SoundIn ch.id o (lines_of (at ∷ older))) after (T.after.sound ch.id);
+    }
+
+made_store : (s : Script) (c : Cell) (past : List Entry) (n : ℕ) (act : Going) (m : Message) (call : FsCall) (f : Fid) (status : AfsFetchStatus) (V : ℕ → Option Volume) (ls : List Line) (newer : List Entry) (at : Entry) (older : List Entry) → Based s c past → (a : Arrives s c past n act m) → call_of (c.clients n) act ≡ call → stored_fid call ≡ Some f → status_in m.carried ≡ Some status
+    → (z : TellsMade V a.tells.user a.tells.call m ls past) → past ≡ newer ++ (at ∷ older) → change_key at.lines ≡ Some (answered_key m.head) → volume_after z.change.id older ≡ Some z.change.before.volume → IsStore call f status (last_key n (c.clients n)) past
+made_store s c past n act m call f status V ls newer at [] B a same is told z split key volume = absurd cc
+made_store s c past n act m call f status V ls newer at (d ∷ older) B a same is told z split key volume =
+    let k : Key = answered_key m.head in
+    let ch : Change = z.change in
+    let t : Tells m past = a.tells in
+    let T : IsTelling s k at (d ∷ older) = telling s k newer at d older (subst (AreRecorded s) split B.recorded.all) key in
+    let I = T.saved.ideal in
+    let its : t.call ≡ call = a.call ∙ same in
+    let one : call_under k (sent_of past) ≡ Some (I.user, I.call) = subst (λ (p : List Entry). call_under k (sent_of p) ≡ Some (I.user, I.call)) (sym split) (under_over k newer (at ∷ (d ∷ older)) (I.user, I.call) (under_more k (sent_of (d ∷ older)) at.sent (I.user, I.call)
+    (subst (λ (l : Key). call_under l (sent_of (d ∷ older)) ≡ Some (I.user, I.call)) T.same I.one))) in
+    let p = call_same (I.user, I.call) ((c.clients n).user, call_of (c.clients n) act) (some_of (I.user, I.call) ((c.clients n).user, call_of (c.clients n) act) (sym one ∙ (ap (λ (l : Key). call_under l (sent_of past)) a.key ∙ (around s c past n B).under act a.runs))) in
+    let S : IsStep f call t.user ch.id ch.before.volume ch.edits ch.shown at (d ∷ older) = made_step s k at (d ∷ older) f call t.user ch T is (p.1 ∙ same) (p.0 ∙ sym a.user) (ap volume_called (sym its) ∙ z.making.of_volume) volume
+    (ap (λ (x : FsCall). op ch.id (the_user t.user) x ch.before.volume) (sym its) ∙ z.making.result) in
+    let st : AfsFetchStatus = status_at ch.id ch.caller (time_in (stored_by z.clock ch)) (result ch) f.vnode in
+    let E : ℕ = z.clock + promise_ticks in
+    let is_st : Some status ≡ Some st = sym told ∙ (ap status_in z.is ∙ (ap (λ (x : FsCall). status_in (carried_by E (change_reply ch.id ch.caller (time_in (stored_by z.clock ch)) (result ch) ch.shown x))) (z.making.called ∙ its) ∙ made_status call f E ch.id ch.caller (time_in (stored_by z.clock ch)) (result ch) ch.shown is)) in
+    subst (λ (l : Key). IsStore call f status l past) a.key (subst (λ (x : AfsFetchStatus). IsStore call f x k past) (sym (some_of status st is_st))
+    (subst (IsStore call f st k) (sym split) (stored f call t.user ch.id ch.before.volume ch.edits ch.shown k newer at (d ∷ older) ch.caller (time_in (stored_by z.clock ch)) is key S)))
+
+pub store_of : (s : Script) (c : Cell) (past : List Entry) (n : ℕ) (act : Going) (m : Message) (r : FsReply) (call : FsCall) (f : Fid) (status : AfsFetchStatus) → Based s c past → (a : Arrives s c past n act m) → m.carried ≡ carried.Reply (tell.File r) → call_of (c.clients n) act ≡ call → stored_fid call ≡ Some f → status_in m.carried ≡ Some status
+    → IsStore call f status (last_key n (c.clients n)) past
+store_of s c past n act m r call f status B a file same is told = elim a.tells.says [
+  | inl y ↦ absurd (not_refused m.carried r file y.refused)
+  | inr y ↦ elim y [
+    | inl z ↦ absurd (no_read _ a.tells.call z.reading f (ap stored_fid (a.call ∙ same) ∙ is) z.read.is)
+    | inr z ↦ made_store s c past n act m call f status _ _ z.here.newer z.here.at z.here.older B a same is told z z.here.split z.here.key z.here.volume
+  ]
+]
+
+read_unchanging : (V : ℕ → Option Volume) (call : FsCall) (r : Reading) → IsRead V call r → volume_changed call ≡ None
+read_unchanging V (calls.FetchData g p w) r h = refl
+read_unchanging V (calls.FetchAcl g) r h = refl
+read_unchanging V (calls.FetchStatus g) r h = refl
+read_unchanging V (calls.GetVolumeStatus n) r h = refl
+read_unchanging V (calls.GiveUpCallBacks fids callbacks) r h = refl
+read_unchanging V calls.GetTime r h = refl
+read_unchanging V (calls.BulkStatus fids) r h = refl
+read_unchanging V call r h = absurd h
+
+-- the reply with code 0 to a changing call: its change was told
+pub done_of : (s : Script) (c : Cell) (past : List Entry) (n : ℕ) (act : Going) (m : Message) (r : FsReply) → (a : Arrives s c past n act m) → m.carried ≡ carried.Reply (tell.File r) → (volume_changed (call_of (c.clients n) act) ≡ None) ⊎ HasChange (last_key n (c.clients n)) (lines_of past)
+done_of s c past n act m r a file = elim a.tells.says [
+  | inl y ↦ absurd (not_refused m.carried r file y.refused)
+  | inr y ↦ elim y [
+    | inl z ↦ inl (ap volume_changed (sym a.call) ∙ read_unchanging _ a.tells.call z.reading z.read.is)
+    | inr z ↦ inr (subst (λ (k : Key). HasChange k (lines_of past)) a.key (change_of (answered_key m.head) past z.here.newer z.here.at z.here.older z.here.split z.here.key))
+  ]
+]
