@@ -90,6 +90,9 @@ pub mod Trusting
 pub mod Holding
 pub mod Arriving
 pub mod Storing
+pub mod Looking
+pub mod Minding
+pub mod Taking
 pub mod Entering
 pub mod Readings
 pub mod Assembled
