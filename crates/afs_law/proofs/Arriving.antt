@@ -178,16 +178,16 @@ brings_of s c past n act m r B a is reading =
 -- ---- it can be shown
 
 -- what was read of an object can be shown: it is whole, no older than what the client saw, and the newest, unless its promise was withdrawn
-pub record IsFetched (s : Script) (n : ℕ) (m : Message) (k : Key) (past : List Entry) (f : Fid) (index : ℕ) (status : ReadStatus) (body : Option Body) (expiry : ℕ) : Type 0 where
+pub record IsFetched (s : Script) (n : ℕ) (m : Message) (from : Node) (k : Key) (past : List Entry) (f : Fid) (index : ℕ) (status : ReadStatus) (body : Option Body) (expiry : ℕ) : Type 0 where
   pub grant : GrantOf (Client n) f expiry m past
-  pub server : grant.server ≡ m.head.from
-  pub home : is_at f.volume m.head.from s.volumes
+  pub server : grant.server ≡ from
+  pub home : is_at f.volume from s.volumes
   pub whole : IsWhole f index status body past
   pub least : index_in (last_version f (until (Client n) f expiry m past grant)) ≤ index
-  pub kept : IsDropped m.head.from (Client n) f (since (Client n) f expiry m past grant) → ⊥
+  pub kept : IsDropped from (Client n) f (since (Client n) f expiry m past grant) → ⊥
   pub low : Seen n f index past
-  pub newest : IsWithdrawn m.head.from (Client n) f (since (Client n) f expiry m past grant) ⊎ IsLast f index (lines_of past)
-  pub ran : HasRunAt m.head.from n grant.ran.at grant.ran.older
+  pub newest : IsWithdrawn from (Client n) f (since (Client n) f expiry m past grant) ⊎ IsLast f index (lines_of past)
+  pub ran : HasRunAt from n grant.ran.at grant.ran.older
   pub key : called_key ran.message.head ≡ k
 
 -- an entry that was given a call stands behind the one that sent it
@@ -252,13 +252,13 @@ last_up_to : (o : Option Version) (i : ℕ) → option_map (λ (v : Version). v.
 last_up_to None i e = absurd cc
 last_up_to (Some v) i e = le_of_eq (some_of v.index i e)
 
-index_is : (o : Option Version) (i : ℕ) → option_map (λ (v : Version). v.index) o ≡ Some i → index_in o ≡ i
+pub index_is : (o : Option Version) (i : ℕ) → option_map (λ (v : Version). v.index) o ≡ Some i → index_in o ≡ i
 index_is None i e = absurd cc
 index_is (Some v) i e = some_of v.index i e
 
 -- what a reply brings of an object that its call names can be shown, unless a break overtook it
 pub fetched : (s : Script) (c : Cell) (past : List Entry) (n : ℕ) (act : Going) (m : Message) (z : code_told m.carried ≡ Some (pos 0)) (f : Fid) (index : ℕ) (status : ReadStatus) (body : Option Body) (expiry : ℕ) → Based s c past → (a : Arrives s c past n act m) → (x : IsSight s n m past (by_of s c past n act m a z) f index status body expiry)
-    → names_call (f ∷ []) (call_of (c.clients n) act) ≡ true → (c.clients n).spoiled ≡ false → Waits n (c.clients n) act past → IsFetched s n m (last_key n (c.clients n)) past f index status body expiry
+    → names_call (f ∷ []) (call_of (c.clients n) act) ≡ true → (c.clients n).spoiled ≡ false → Waits n (c.clients n) act past → IsFetched s n m (c.clients n).callee (last_key n (c.clients n)) past f index status body expiry
 fetched s c past n act m z f index status body expiry B a x named unspoiled W =
     let q : IsBy n m past = by_of s c past n act m a z in
     let g : GrantOf (Client n) f expiry m past = grant_by s n m past q f index status body expiry x in
@@ -271,7 +271,7 @@ fetched s c past n act m z f index status body expiry B a x named unspoiled W =
     let r : HasRunAt m.head.from n ran.at ran.older = run_at n m past ran a.to x.going in
     let same : last_version f (lines_of (ran.at ∷ ran.older)) ≡ last_version f (lines_of ran.older) = blank_last f ran.at.lines (lines_of ran.older) x.blank in
     let least : last_version f (onto (lines_of ran.older) x.line.before) ≡ last_version f (lines_of ran.older) = blank_last f x.line.before (lines_of ran.older) (blank_front x.line.before (lines.Grant m.head.from (Client n) f x.given expiry) x.line.after (subst AreBlank x.line.split x.blank)) in
-    record {
+    subst (λ (p : Node). IsFetched s n m p k past f index status body expiry) a.from (record {
       grant = g;
       server = refl;
       home = x.home;
@@ -288,4 +288,4 @@ fetched s c past n act m z f index status body expiry B a x named unspoiled W =
       ];
       ran = r;
       key = key;
-    }
+    })

@@ -53,7 +53,7 @@ under_over : (k : Key) (newer older : List Entry) (x : List ℕ × FsCall) → c
 under_over k [] older x e = e
 under_over k (y ∷ newer) older x e = under_more k (sent_of (newer ++ older)) y.sent x (under_over k newer older x e)
 
-no_key : (ls : List Line) (k : Key) → AreBlank ls → change_key ls ≡ Some k → ⊥
+pub no_key : (ls : List Line) (k : Key) → AreBlank ls → change_key ls ≡ Some k → ⊥
 no_key ls k b e = let none : change_key ls ≡ None = ap change_key (sym (no_more ls)) ∙ blank_key ls [] b in let no_ : None ≡ Some k = sym none ∙ e in absurd cc
 
 saved_key : (s : Script) (past : List Entry) (y : Entry) (z : IsSaved s past y) (k : Key) → change_key y.lines ≡ Some k → z.key ≡ k
