@@ -210,7 +210,7 @@ stands_behind k (z ∷ a) x b (y ∷ newer) at older e none some =
     let r : IsBehind a newer at = stands_behind k a x b newer at older (rest_of z y (a ++ (x ∷ b)) (newer ++ (at ∷ older)) e) none some in
     record { mid = r.mid; split = ap (λ (q : Entry). q ∷ a) (head_of z y (a ++ (x ∷ b)) (newer ++ (at ∷ older)) e) ∙ ap (λ (p : List Entry). y ∷ p) r.split }
 
-lines_more : (a b : List Entry) (o : List Line) → lines_on o (a ++ b) ≡ lines_on (lines_on o b) a
+pub lines_more : (a b : List Entry) (o : List Line) → lines_on o (a ++ b) ≡ lines_on (lines_on o b) a
 lines_more [] b o = refl
 lines_more (e ∷ a) b o = ap (λ (ls : List Line). onto ls e.lines) (lines_more a b o)
 
@@ -225,7 +225,7 @@ since_sent s c f a newer at before after l r line d =
     (drops_base s c f newer (onto [] after) (onto (lines_on [] r.mid) at.lines)
     (λ z. subst (IsDropped s c f) (sym (ap (onto (lines_on [] r.mid)) line ∙ onto_front (lines_on [] r.mid) before (l ∷ after))) (dropped_base s c f after [] (l ∷ onto (lines_on [] r.mid) before) (λ q. absurd q) z)) d))
 
-is_its_call : (k : Key) (h : Head) (x : Carried) (user : List ℕ) (call : FsCall) → x ≡ carried.Call user (ask.File call) → called_key h ≡ k → is_called k h x ≡ true
+pub is_its_call : (k : Key) (h : Head) (x : Carried) (user : List ℕ) (call : FsCall) → x ≡ carried.Call user (ask.File call) → called_key h ≡ k → is_called k h x ≡ true
 is_its_call k h x user call e same = subst (λ (y : Carried). is_called k h y ≡ true) (sym e) (ap (λ (l : Key). same_key l k) same ∙ same_key-refl k)
 
 

@@ -121,7 +121,7 @@ touch_volume s past e f x = touched_volume f x.saved.ideal.id x.saved.versions (
 -- the server that tells it is the one of its volume
 pub touch_home : (s : Script) (past : List Entry) (e : Entry) (f : Fid) (server : Node) → (x : HasTouched s past e f) → is_at f.volume server s.volumes → Server x.saved.server ≡ server
 touch_home s past e f server x home =
-    one_place f.volume (Server x.saved.server) server s.volumes (subst (λ (id : ℕ). is_at id (Server x.saved.server) s.volumes) (sym (touch_volume s past e f x)) (accepted s x.saved.ideal.id x.saved.server (onto [] x.saved.front ++ lines_of past) x.saved.ideal.home)) home
+    one_place f.volume (Server x.saved.server) server s.volumes (subst (λ (id : ℕ). is_at id (Server x.saved.server) s.volumes) (sym (touch_volume s past e f x)) (accepted s x.saved.ideal.id (Server x.saved.server) (onto [] x.saved.front ++ lines_of past) x.saved.ideal.home)) home
 
 -- under another node's key it withdraws
 pub touch_withdraws : (s : Script) (past : List Entry) (e : Entry) (f : Fid) (server c : Node) (o : List Line) → (x : HasTouched s past e f) → Server x.saved.server ≡ server → (x.saved.key.node ≡ c → ⊥) → IsWithdrawn server c f (onto o e.lines)

@@ -92,6 +92,8 @@ pub mod Arriving
 pub mod Storing
 pub mod Looking
 pub mod Minding
+pub mod Proceeding
+pub mod Resolving
 pub mod Taking
 pub mod Entering
 pub mod Readings

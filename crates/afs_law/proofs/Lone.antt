@@ -352,7 +352,7 @@ new_behind k [] o h = h
 new_behind k (l ∷ own) o h = new_behind k own o (new_one k (change_in l) (IsNew k (own ++ o)) h)
 
 -- its call has no later pair than its client's last
-pair_behind : (callees : Key → Node) (clients : ℕ → ClientState) (j : ℕ) (k : Key) (sent : List Message) → k.node ≡ Client j → has_sent k sent ≡ true → Each (IfCall (λ h user call. IsKnown callees clients h.to (key_of h))) sent → UpTo k.epoch k.number (clients j).epoch (clients j).last
+pub pair_behind : (callees : Key → Node) (clients : ℕ → ClientState) (j : ℕ) (k : Key) (sent : List Message) → k.node ≡ Client j → has_sent k sent ≡ true → Each (IfCall (λ h user call. IsKnown callees clients h.to (key_of h))) sent → UpTo k.epoch k.number (clients j).epoch (clients j).last
 pair_behind callees clients j k sent node h all =
     let a : IsAmong k (ByClient (λ h user call. IsKnown callees clients h.to (key_of h))) = among k (λ h user call. IsKnown callees clients h.to (key_of h)) sent h all in
     let key : called_key a.head ≡ k = same_key-true (called_key a.head) k a.key in

@@ -14,11 +14,10 @@ use Rattle.afs_law.proofs.Ticking.{tickless_clock}
 use Rattle.afs_law.proofs.Asking.{used_found}
 use Rattle.afs_law.proofs.Walking.{back_again, lines_assoc, onto_last, own_lines, shown_good, shown_promised}
 use Rattle.afs_law.specs.Grants.{GrantOf, IsDropped, IsWithdrawn, fetch_reply, has_fetched, is_promised, read_reply, since, until}
-use Rattle.afs_law.specs.Ideal.{HasVersion, IsLast, Reach, clock_of, is_at, is_zero_code, last_version, raised, reach, reach_over, seen}
-use Rattle.afs_law.specs.Legal.{GoodRead, GoodReadBy, Shows}
-use Rattle.afs_law.specs.Parts.{EachLine}
+use Rattle.afs_law.specs.Ideal.{Accepts, HasVersion, IsLast, Reach, WasLast, clock_of, is_at, is_zero_code, last_version, raised, reach, reach_over, seen}
+use Rattle.afs_law.specs.Legal.{Shows}
+use Rattle.afs_law.specs.Parts.{EachLine, LineRule}
 use Rattle.afs_law.specs.Past.{given_message, has_begun, lines_of, onto, sent_of}
-use Rattle.afs_law.specs.ServerParts.{IsReadGood}
 use Rattle.afs_num.specs.Fids.{same_fid}
 use Rattle.afs_num.specs.Nodes.{same_node}
 use Rattle.afs_num.specs.declared.histories.Actor.{Actor}
@@ -100,6 +99,34 @@ reach_blank c f past own r (lines.Change q k count ∷ a) d b = absurd cc
 reach_blank c f past own r (lines.Version v ∷ a) d b = absurd cc
 reach_blank c f past own r (l ∷ a) d b = reach_blank c f past own r a d b
 
+-- ---- what is asked of a read but for the reply that was used
+
+pub record ShownRead (s : Script) (c : Node) (f : Fid) (index : ℕ) (source : ReadSource) (body : ReadBody) (past : List Entry) (own : List Line) : Type 0 where
+  pub whole : Shows f index body past own
+  pub not_older : seen c f past own ≤ index
+  pub reply : Message
+  pub by : read_reply c f source past own ≡ Some reply
+  pub expiry : ℕ
+  pub grant : GrantOf c f expiry reply past
+  pub home : Accepts s f.volume grant.server (until c f expiry reply past grant)
+  pub granted : (v : Version) → last_version f (until c f expiry reply past grant) ≡ Some v → v.index ≤ index
+  pub lasts : clock_of (own ++ lines_of past) < expiry
+  pub kept : IsDropped grant.server c f (own ++ since c f expiry reply past grant) → ⊥
+  pub newest : IsWithdrawn grant.server c f (own ++ since c f expiry reply past grant) ⊎ IsLast f index (own ++ lines_of past)
+
+pub record ShownRights (c : Node) (f : Fid) (index : ℕ) (body : ReadBody) (past : List Entry) (own : List Line) : Type 0 where
+  pub whole : Shows f index body past own
+  pub not_older : seen c f past own ≤ index
+  pub was : WasLast c f index (own ++ lines_of past)
+
+abbrev pub ShownBy : Script → Bool → Node → Fid → ℕ → ReadSource → ReadBody → List Entry → List Line → Type 0
+ShownBy s true c f index source body past own = ShownRead s c f index source body past own
+ShownBy s false c f index source body past own = ShownRights c f index body past own
+
+abbrev pub IsShown : Script → LineRule
+IsShown s who (lines.Read c f index source body) past own next = ShownBy s (is_promised body) c f index source body past own
+IsShown s who l past own next = ⊤
+
 -- ---- an entry of the cache that can be shown, behind these lines of its step, the oldest first
 
 pub record Ready (s : Script) (n : ℕ) (f : Fid) (e : CacheEntry) (past : List Entry) (ls : List Line) : Type 0 where
@@ -135,13 +162,12 @@ ready_more s n f g e past ls index body b up r =
     }
 
 -- what can be shown is read well
-ready_good : (s : Script) (n clock : ℕ) (past : List Entry) (ls : List Line) (need : Need) (e : CacheEntry) (body : ReadBody) → clock_of (onto (lines_of past) ls) ≡ clock → clock < e.expiry → shown_by need e ≡ Some body → Ready s n e.fid e past ls → GoodRead s (Client n) e.fid e.index Cached body past (onto [] ls)
+ready_good : (s : Script) (n clock : ℕ) (past : List Entry) (ls : List Line) (need : Need) (e : CacheEntry) (body : ReadBody) → clock_of (onto (lines_of past) ls) ≡ clock → clock < e.expiry → shown_by need e ≡ Some body → Ready s n e.fid e past ls → ShownRead s (Client n) e.fid e.index Cached body past (onto [] ls)
 ready_good s n clock past ls need e body ticks lasts shown r =
     let new : List Line = since (Client n) e.fid e.expiry r.reply past r.grant in
     record {
       whole = shown_good need e body past (onto [] ls) r.whole (subst (HasVersion e.fid e.index r.whole.is) (own_lines ls (lines_of past)) (has_onto e.fid e.index r.whole.is ls (lines_of past) r.whole.told)) shown;
       not_older = subst (λ (o : List Line). (reach_over (Client n) e.fid past false (reach (Client n) e.fid past) o).seen ≤ e.index) (sym (back_again ls)) r.low;
-      used = λ z. absurd cc;
       reply = r.reply;
       by = r.by;
       expiry = e.expiry;
@@ -211,26 +237,26 @@ blank_read ls n f index source body h = blank_both ls (lines.Read (Client n) f i
 
 -- ---- they are good, and show nothing above the entries
 
-by_promise : (s : Script) (t : Bool) (c : Node) (f : Fid) (index : ℕ) (source : ReadSource) (body : ReadBody) (past : List Entry) (own : List Line) → t ≡ true → GoodRead s c f index source body past own → GoodReadBy s t c f index source body past own
+pub by_promise : (s : Script) (t : Bool) (c : Node) (f : Fid) (index : ℕ) (source : ReadSource) (body : ReadBody) (past : List Entry) (own : List Line) → t ≡ true → ShownRead s c f index source body past own → ShownBy s t c f index source body past own
 by_promise s true c f index source body past own e g = g
 by_promise s false c f index source body past own e g = absurd cc
 
 abbrev pub AllReady : Script → ℕ → ℕ → List CacheEntry → List Entry → List Line → Type 0
 AllReady s n clock cache past ls = (f : Fid) (e : CacheEntry) → find_cached f cache ≡ Some e → clock < e.expiry → Ready s n f e past ls
 
-look_good : (s : Script) (n clock : ℕ) (past : List Entry) (ls : List Line) (cache : List CacheEntry) (l : Look) → clock_of (onto (lines_of past) ls) ≡ clock → (x : IsLook clock cache l) → AllReady s n clock cache past ls → GoodReadBy s (is_promised l.body) (Client n) l.fid l.index l.source l.body past (onto [] ls)
+look_good : (s : Script) (n clock : ℕ) (past : List Entry) (ls : List Line) (cache : List CacheEntry) (l : Look) → clock_of (onto (lines_of past) ls) ≡ clock → (x : IsLook clock cache l) → AllReady s n clock cache past ls → ShownBy s (is_promised l.body) (Client n) l.fid l.index l.source l.body past (onto [] ls)
 look_good s n clock past ls cache l ticks x ready =
-    subst (λ (k : Look). GoodReadBy s (is_promised k.body) (Client n) k.fid k.index k.source k.body past (onto [] ls)) (sym x.same)
+    subst (λ (k : Look). ShownBy s (is_promised k.body) (Client n) k.fid k.index k.source k.body past (onto [] ls)) (sym x.same)
     (by_promise s (is_promised l.body) (Client n) x.entry.fid x.entry.index Cached l.body past (onto [] ls) (shown_promised x.need x.entry l.body x.shown) (ready_good s n clock past ls x.need x.entry l.body ticks x.lasts x.shown (ready x.entry.fid x.entry x.found x.lasts)))
 
-pub looks_good : (s : Script) (who : Actor) (n clock : ℕ) (past : List Entry) (ls : List Line) (cache : List CacheEntry) (looks : List Look) (tail : List Line) → AreBlank ls → clock_of (onto (lines_of past) ls) ≡ clock → AreLooks clock cache looks → AllReady s n clock cache past ls → ((o : List Line) → EachLine (IsReadGood s) who past o tail) → EachLine (IsReadGood s) who past (onto [] ls) (looked (Client n) looks tail)
+pub looks_good : (s : Script) (who : Actor) (n clock : ℕ) (past : List Entry) (ls : List Line) (cache : List CacheEntry) (looks : List Look) (tail : List Line) → AreBlank ls → clock_of (onto (lines_of past) ls) ≡ clock → AreLooks clock cache looks → AllReady s n clock cache past ls → ((o : List Line) → EachLine (IsShown s) who past o tail) → EachLine (IsShown s) who past (onto [] ls) (looked (Client n) looks tail)
 looks_good s who n clock past ls cache [] tail b ticks h ready t = t (onto [] ls)
 looks_good s who n clock past ls cache (l ∷ looks) tail b ticks h ready t =
     let x : Line = lines.Read (Client n) l.fid l.index l.source l.body in
     let e : CacheEntry = h.0.entry in
     let same : x ≡ lines.Read (Client n) e.fid e.index Cached l.body = ap (λ (k : Look). lines.Read (Client n) k.fid k.index k.source k.body) h.0.same in (
       look_good s n clock past ls cache l ticks h.0 ready,
-      subst (λ (o : List Line). EachLine (IsReadGood s) who past o (looked (Client n) looks tail)) (onto_last [] ls x)
+      subst (λ (o : List Line). EachLine (IsShown s) who past o (looked (Client n) looks tail)) (onto_last [] ls x)
       (looks_good s who n clock past (ls ++ x ∷ []) cache looks tail (subst (λ (y : Line). AreBlank (ls ++ y ∷ [])) (sym same) (blank_read ls n e.fid e.index Cached l.body b))
       (ap clock_of (onto_last (lines_of past) ls x) ∙ (ap (λ (y : Line). clock_of (y ∷ onto (lines_of past) ls)) same ∙ ticks)) h.1
       (λ f u found lasts. subst (λ (y : Line). Ready s n f u past (ls ++ y ∷ [])) (sym same) (ready_more s n f e.fid u past ls e.index l.body b (λ z. le_of_eq (ap (λ (k : CacheEntry). k.index) (some_of e u (sym h.0.found ∙ (ap (λ (g : Fid). find_cached g cache) z ∙ found))))) (ready f u found lasts))) t),

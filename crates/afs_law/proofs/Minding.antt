@@ -76,7 +76,7 @@ pub record IsMoved (n : ℕ) (y : ClientState) (past : List Entry) : Type 0 wher
 
 -- ---- lines without a change
 
-blank_change : (k : Key) (ls o : List Line) → AreBlank ls → HasChange k (onto o ls) → HasChange k o
+pub blank_change : (k : Key) (ls o : List Line) → AreBlank ls → HasChange k (onto o ls) → HasChange k o
 blank_change k [] o b h = h
 blank_change k (lines.Change q l count ∷ ls) o b h = absurd cc
 blank_change k (lines.Version v ∷ ls) o b h = absurd cc
@@ -107,7 +107,7 @@ under_by : (t : Bool) (c o : Option (List ℕ × FsCall)) (x : List ℕ × FsCal
 under_by true c o x b e w = refl
 under_by false c o x b e w = w e
 
-under_sent : (k : Key) (sent : List Message) (x : List ℕ × FsCall) → call_under k sent ≡ Some x → has_sent k sent ≡ true
+pub under_sent : (k : Key) (sent : List Message) (x : List ℕ × FsCall) → call_under k sent ≡ Some x → has_sent k sent ≡ true
 under_sent k [] x e = absurd cc
 under_sent k (m ∷ sent) x e = under_by (is_called k m.head m.carried) _ (call_under k sent) x (has_sent k sent) e (under_sent k sent x)
 

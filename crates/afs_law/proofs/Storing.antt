@@ -49,7 +49,7 @@ use Rattle.std.specs.Option.{option_map}
 
 -- ---- where a change was told
 
-under_over : (k : Key) (newer older : List Entry) (x : List ℕ × FsCall) → call_under k (sent_of older) ≡ Some x → call_under k (sent_of (newer ++ older)) ≡ Some x
+pub under_over : (k : Key) (newer older : List Entry) (x : List ℕ × FsCall) → call_under k (sent_of older) ≡ Some x → call_under k (sent_of (newer ++ older)) ≡ Some x
 under_over k [] older x e = e
 under_over k (y ∷ newer) older x e = under_more k (sent_of (newer ++ older)) y.sent x (under_over k newer older x e)
 
