@@ -43,7 +43,7 @@ use Rattle.std.proofs.Common.{◌≡◌, ◌≤◌, ◌<◌, ℕ, ◌⊎◌, inl
 -- ---- an entry behind the step
 
 -- the client waits on
-abbrev IsSame : ClientState → Step ClientState → Type 0
+abbrev pub IsSame : ClientState → Step ClientState → Type 0
 IsSame x st = (st.state.running ≡ x.running) → (st.state.last ≡ x.last) → ⊥
 
 -- it was there; and where the client goes on to another call, what it waited for is done
