@@ -8,6 +8,7 @@ pub mod Backing
 pub mod Turning
 pub mod Facts
 pub mod Booting
+pub mod Rising
 pub mod Loading
 pub mod Ops
 pub mod Apart
@@ -72,6 +73,7 @@ pub mod Latest
 pub mod Ascending
 pub mod Sending
 pub mod Gifts
+pub mod Heard
 pub mod Lone
 pub mod Silent
 pub mod Addressed
