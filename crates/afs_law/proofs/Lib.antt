@@ -74,6 +74,7 @@ pub mod Ascending
 pub mod Sending
 pub mod Gifts
 pub mod Heard
+pub mod Queued
 pub mod Lone
 pub mod Silent
 pub mod Addressed
