@@ -75,6 +75,7 @@ pub mod Sending
 pub mod Gifts
 pub mod Heard
 pub mod Queued
+pub mod Timing
 pub mod Lone
 pub mod Silent
 pub mod Addressed

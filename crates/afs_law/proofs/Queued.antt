@@ -124,7 +124,7 @@ served_queued : (past : List Entry) (e : Entry) → Each IsUncalled e.sent → (
 served_queued past e none h j = ((λ x y i own k mine. absurd (own_fact (λ head user call. ⊥) j x own (each_in IsUncalled e.sent x none i)).holds), h j)
 
 -- a later pair of a client is none below
-later_pair : (n : ℕ) (c : ClientState) (st : Step ClientState) → Acts n (who_at c) c.gifts st → (e k : ℕ) → UpTo e k c.epoch c.last → UpTo e k st.state.epoch st.state.last
+pub later_pair : (n : ℕ) (c : ClientState) (st : Step ClientState) → Acts n (who_at c) c.gifts st → (e k : ℕ) → UpTo e k c.epoch c.last → UpTo e k st.state.epoch st.state.last
 later_pair n c st a e k h = elim a.goes [
   | inl r ↦ subst (λ (x : ℕ). UpTo e k x st.state.last) (sym r.epoch) (subst (λ (x : ℕ). UpTo e k c.epoch x) (sym r.last) h)
   | inr y ↦ elim y [
