@@ -76,7 +76,7 @@ idle_due s who past own (lines.Answer n code ∷ ls) h = absurd cc
 idle_due s who past own (l ∷ ls) h = (tt, idle_due s who past (l ∷ own) ls (both (is_idle l) (all_lines is_idle ls) h).1)
 
 -- those of a client
-abbrev Due : Script → ℕ → List Entry → List Line → List Line → Type 0
+abbrev pub Due : Script → ℕ → List Entry → List Line → List Line → Type 0
 Due s n past own ls = EachLine (IsDue s) (actors.Node (Client n)) past own ls
 
 abbrev Runs : Script → ℕ → List Entry → List Line → Going → Type 0
@@ -393,15 +393,15 @@ takes_due s n clock place c act m past call reply same a q z = plain_due s n pla
 
 -- ---- what counts for the act that runs
 
-record IsWaiting (s : Script) (n place : ℕ) (c : ClientState) (head : Head) (x : Carried) (past : List Entry) : Type 0 where
-  asked' : (act : Going) → c.running ≡ Some act → CalledSince (last_key n c) (user_at s n) (call_of c act) past
-  acts : running s (Client n) (lines_of past) ≡ c.running
-  at : message_at (sent_of past) place ≡ Some (record { head = head; carried = x })
-  to : head.to ≡ Client n
-  firm : IsFirm head x
-  open' : AreOpen c
+pub record IsWaiting (s : Script) (n place : ℕ) (c : ClientState) (head : Head) (x : Carried) (past : List Entry) : Type 0 where
+  pub asked' : (act : Going) → c.running ≡ Some act → CalledSince (last_key n c) (user_at s n) (call_of c act) past
+  pub acts : running s (Client n) (lines_of past) ≡ c.running
+  pub at : message_at (sent_of past) place ≡ Some (record { head = head; carried = x })
+  pub to : head.to ≡ Client n
+  pub firm : IsFirm head x
+  pub open' : AreOpen c
 
-its_key : (n : ℕ) (c : ClientState) (act : Going) (head : Head) → head.to ≡ Client n → is_awaited c act head ≡ true → last_key n c ≡ answered_key head
+pub its_key : (n : ℕ) (c : ClientState) (act : Going) (head : Head) → head.to ≡ Client n → is_awaited c act head ≡ true → last_key n c ≡ answered_key head
 its_key n c act head to e =
     let p = both (same_node head.from c.callee) _ e in
     let q = both (nat_eq head.epoch c.epoch) _ p.1 in
@@ -459,7 +459,7 @@ hears_due : (s : Script) (n clock place : ℕ) (c : ClientState) (head : Head) (
 hears_due s n clock place c head (carried.Call user call) past w = admits_due s n place c head (carried.Call user call) (admitted c.epoch c.seats head) past
 hears_due s n clock place c head x past w = awaits_due s n clock place c head x past c.running w refl
 
-told_due : (s : Script) (n clock place : ℕ) (c : ClientState) (m : Message) (past : List Entry) → IsWaiting s n place c m.head m.carried past → Due s n past [] (client_row (Client n) c clock place (Whole m)).lines
+pub told_due : (s : Script) (n clock place : ℕ) (c : ClientState) (m : Message) (past : List Entry) → IsWaiting s n place c m.head m.carried past → Due s n past [] (client_row (Client n) c clock place (Whole m)).lines
 unfolding client_row
 told_due s n clock place c m past w = either_due s n past (same_node m.head.to (Client n)) _ _ (hears_due s n clock place c m.head m.carried past w) (tt, tt)
 
@@ -573,7 +573,7 @@ due_kept s c past x h = (waits_kept s c past x h.0, each_moved (DueFacts s) (Beh
 abbrev DueStep : Script → Cell → List Entry → Moved → Type 0
 DueStep s c past m = EachLine (IsDue s) m.entry.actor past [] m.entry.lines
 
-waiting_for : (s : Script) (c : Cell) (past : List Entry) (n place : ℕ) (m : Message) → GivenWaits s c past → message_at c.sent place ≡ Some m → m.head.to ≡ Client n → IsWaiting s n place (c.clients n) m.head m.carried past
+pub waiting_for : (s : Script) (c : Cell) (past : List Entry) (n place : ℕ) (m : Message) → GivenWaits s c past → message_at c.sent place ≡ Some m → m.head.to ≡ Client n → IsWaiting s n place (c.clients n) m.head m.carried past
 waiting_for s c past n place m h at to = record {
   asked' = λ act r. h.0.0.0.0.1.asked n act r;
   acts = h.0.0.0.0.1.acts n;

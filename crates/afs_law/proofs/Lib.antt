@@ -85,8 +85,10 @@ pub mod Trying
 pub mod Ours
 pub mod Due
 pub mod Codes
+pub mod Using
 pub mod Kept
 pub mod Later
+pub mod Settled
 pub mod Entering
 pub mod Assembled
 pub mod Dying
