@@ -89,9 +89,9 @@ pub mod Using
 pub mod Kept
 pub mod Later
 pub mod Settled
+pub mod Untrusted
 pub mod Entering
 pub mod Assembled
-pub mod Dying
 pub mod Made
 pub mod Surviving
 pub mod Worked

@@ -188,6 +188,10 @@ queued_before j (e ∷ newer) older x y h i own k mine low = elim (in_either x (
   | inr now ↦ absurd (below_not x.head.epoch x.head.number y.head.epoch y.head.number low (h.0 x y now own (in_over y newer older k) mine))
 ]
 
+pub queued_older : (j : ℕ) (newer older : List Entry) → AreQueued j (newer ++ older) → AreQueued j older
+queued_older j [] older h = h
+queued_older j (e ∷ newer) older h = queued_older j newer older h.1
+
 pub had_state : (newer : List Entry) (at : Entry) (older : List Entry) (m : Message) → HadStates (newer ++ (at ∷ older)) → IsIn m (sent_of older) → (c : Cell) × HearsIn c older
 had_state [] at older m h i = of_some older h.0 i
   where

@@ -279,7 +279,7 @@ silent_unfetched j f (lines.Read n g index source body ∷ ls) h = absurd cc
 silent_unfetched j f (lines.Answer n code ∷ ls) h = absurd cc
 silent_unfetched j f (l ∷ ls) h = silent_unfetched j f ls h
 
-given_in : (ls : List Line) (sent : List Message) (m : Message) → given_message ls sent ≡ Some m → IsIn m sent
+pub given_in : (ls : List Line) (sent : List Message) (m : Message) → given_message ls sent ≡ Some m → IsIn m sent
 given_in [] sent m e = absurd cc
 given_in (lines.Given place ∷ ls) sent m e = in_at sent place m e
 given_in (l ∷ ls) sent m e = given_in ls sent m e
