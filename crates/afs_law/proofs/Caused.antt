@@ -79,7 +79,7 @@ caused_in s c past i j place m act h at code from to runs epoch number =
 
 -- ---- who sends it
 
-code_in : (j : ℕ) (to : Node) (X : Type 0) (x : Carried) → HasCode x → to ≡ Client j → OfReply (OfClient to X) x → X
+pub code_in : (j : ℕ) (to : Node) (X : Type 0) (x : Carried) → HasCode x → to ≡ Client j → OfReply (OfClient to X) x → X
 code_in j to X (carried.Refusal code) is e h = by_client j to X e h
 code_in j to X (carried.Reply reply) is e h = by_client j to X e h
 code_in j to X (carried.Call user call) is e h = absurd is

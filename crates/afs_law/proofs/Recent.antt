@@ -32,7 +32,7 @@ has_more : (k : Key) (a b : List Message) → has_sent k a ≡ true → has_sent
 has_more k [] b h = absurd cc
 has_more k (m ∷ a) b h = more_by (is_called k m.head m.carried) (has_sent k a) (has_sent k (a ++ b)) h (λ y. has_more k a b y)
 
-sent_before : (k : Key) (newer older : List Entry) → has_sent k (sent_of older) ≡ true → has_sent k (sent_of (newer ++ older)) ≡ true
+pub sent_before : (k : Key) (newer older : List Entry) → has_sent k (sent_of older) ≡ true → has_sent k (sent_of (newer ++ older)) ≡ true
 sent_before k [] older h = h
 sent_before k (e ∷ newer) older h = has_more k (sent_of (newer ++ older)) e.sent (sent_before k newer older h)
 
