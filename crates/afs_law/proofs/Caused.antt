@@ -47,7 +47,7 @@ is_reply head (carried.Reply reply) is firm = (firm, tt)
 is_reply head (carried.Call user call) is firm = absurd is
 is_reply head carried.Notice is firm = absurd is
 
-key_is : (j : ℕ) (head : Head) (e n : ℕ) → head.to ≡ Client j → head.epoch ≡ e → head.number ≡ n → answered_key head ≡ record { node = Client j; epoch = e; number = n }
+pub key_is : (j : ℕ) (head : Head) (e n : ℕ) → head.to ≡ Client j → head.epoch ≡ e → head.number ≡ n → answered_key head ≡ record { node = Client j; epoch = e; number = n }
 key_is j head e n to epoch number =
     ap (λ (q : Node). record { node = q; epoch = head.epoch; number = head.number }) to
     ∙ (ap (λ (x : ℕ). record { node = Client j; epoch = x; number = head.number }) epoch ∙ ap (λ (x : ℕ). record { node = Client j; epoch = e; number = x }) number)

@@ -58,7 +58,7 @@ version_lines : (s : Script) (who : Actor) (past : List Entry) (own : List Line)
 version_lines s who past own [] ls h = h
 version_lines s who past own (v ∷ vs) ls h = (tt, version_lines s who past (lines.Version v ∷ own) vs ls h)
 
-blank_onto : (o ls : List Line) → AreBlank o → AreBlank ls → AreBlank (onto o ls)
+pub blank_onto : (o ls : List Line) → AreBlank o → AreBlank ls → AreBlank (onto o ls)
 blank_onto o [] h k = h
 blank_onto o (l ∷ ls) h k = let q = both (is_blank l) _ k in blank_onto (l ∷ o) ls (rw (q.0, h) refl) q.1
 
@@ -78,7 +78,7 @@ by_over : (s : Node) (k : Key) (own o : List Line) → AreBlank own → HasChang
 by_over s k [] o h x = x
 by_over s k (l ∷ own) o h x = let q = both (is_blank l) _ h in by_over s k own o q.1 (by_line s k l (own ++ o) q.0 x)
 
-none_first : (ls : List Line) → AreBlank ls → versions_first ls ≡ []
+pub none_first : (ls : List Line) → AreBlank ls → versions_first ls ≡ []
 none_first [] h = refl
 none_first (lines.Version v ∷ ls) h = absurd cc
 none_first (l ∷ ls) h = refl
@@ -95,19 +95,19 @@ plain_call call id e = refl
 -- ---- where a change stands
 
 -- the entry was given this message, and the change stands behind that
-record IsServed (c : Cell) (i : ℕ) (m : Message) (front : List Line) : Type 0 where
-  place : ℕ
-  front' : front ≡ lines.Given place ∷ []
-  at : message_at c.sent place ≡ Some m
-  up : (c.hosts i).down ≡ None
+pub record IsServed (c : Cell) (i : ℕ) (m : Message) (front : List Line) : Type 0 where
+  pub place : ℕ
+  pub front' : front ≡ lines.Given place ∷ []
+  pub at : message_at c.sent place ≡ Some m
+  pub up : (c.hosts i).down ≡ None
 
 -- or the change stands first, in a restart behind the step that was interrupted
-record IsBegun (c : Cell) (past : List Entry) (i : ℕ) (m : Message) (front rest : List Line) : Type 0 where
-  front' : front ≡ []
-  boots : EndsBoot (Server i) rest
-  cut : CutOf i (c.hosts i).state m past
+pub record IsBegun (c : Cell) (past : List Entry) (i : ℕ) (m : Message) (front rest : List Line) : Type 0 where
+  pub front' : front ≡ []
+  pub boots : EndsBoot (Server i) rest
+  pub cut : CutOf i (c.hosts i).state m past
 
-abbrev IsPlaced : Cell → List Entry → ℕ → Message → List Line → List Line → Type 0
+abbrev pub IsPlaced : Cell → List Entry → ℕ → Message → List Line → List Line → Type 0
 IsPlaced c past i m front rest = IsSent c.sent m × (IsServed c i m front ⊎ IsBegun c past i m front rest)
 
 -- the call is the one under its key
@@ -138,7 +138,7 @@ not_stopped : (c : Cell) (past : List Entry) (i : ℕ) (m : Message) (front rest
 not_stopped c past i m front rest (inl x) z = subst (λ (f : List Line). HasStopped (Server i) (onto [] f)) x.front' z
 not_stopped c past i m front rest (inr x) z = subst (λ (f : List Line). HasStopped (Server i) (onto [] f)) x.front' z
 
-change_ideal : (s : Script) (c : Cell) (past : List Entry) (i : ℕ) (b : Table Stored) (ls : List Line) → Held s c past → (S : Saves (IsPlaced c past i) (Server i) (c.hosts i).state b ls)
+pub change_ideal : (s : Script) (c : Cell) (past : List Entry) (i : ℕ) (b : Table Stored) (ls : List Line) → Held s c past → (S : Saves (IsPlaced c past i) (Server i) (c.hosts i).state b ls)
     → IdealChange s (Server i) (key_of S.head) (length (made S.change)) past (onto [] S.front) (versioned (made S.change) S.rest)
 unfolding placed_called
 change_ideal s c past i b ls h S =
@@ -236,7 +236,7 @@ acts_ideal : (s : Script) (c : Cell) (past : List Entry) (n : ℕ) (who : Actor)
 acts_ideal s c past n who ls h = all_blank s who past [] ls (blank_by (is_of n) (of_blank n) ls h)
 
 -- the message of an interrupted step, where its change comes first
-cut_placed : (s : Script) (c : Cell) (past : List Entry) (i : ℕ) (rest : List Line) → HeldCuts s c past → EndsBoot (Server i) rest → CutIs (λ m. IsPlaced c past i m [] rest) (c.hosts i).down
+pub cut_placed : (s : Script) (c : Cell) (past : List Entry) (i : ℕ) (rest : List Line) → HeldCuts s c past → EndsBoot (Server i) rest → CutIs (λ m. IsPlaced c past i m [] rest) (c.hosts i).down
 cut_placed s c past i rest h ends m clock e = (h.0.1.cut i m clock e, inr (record { front' = refl; boots = ends; cut = h.1 i m clock e }))
 
 stays_ideal : (s : Script) (c : Cell) (past : List Entry) (i : ℕ) (after : Bool) (fall : Fall) (l : Line) → HeldCuts s c past → (c.hosts i).down ≡ Some fall → is_from (Server i) l ≡ true → EndsBoot (Server i) (l ∷ []) → EachLine (IsIdeal s) (actors.Node (Server i)) past [] ((begun_by_disk (Server i) (c.hosts i).state after fall).before (l ∷ []))

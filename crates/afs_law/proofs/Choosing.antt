@@ -178,7 +178,7 @@ quits_from : (me n : Node) (os : List OwedBreak) → AreFrom me (map (quit_line 
 quits_from me n [] = refl
 quits_from me n (o ∷ os) = one_from me _ (quits_from me n os)
 
-granted_from : (me client : Node) (expiry : ℕ) (fs : List Found) (ls : List Line) → AreFrom me ls → AreFrom me (granted me client expiry fs ls)
+pub granted_from : (me client : Node) (expiry : ℕ) (fs : List Found) (ls : List Line) → AreFrom me ls → AreFrom me (granted me client expiry fs ls)
 granted_from me client expiry [] ls h = h
 granted_from me client expiry (f ∷ fs) ls h = one_from me _ (granted_from me client expiry fs ls h)
 

@@ -228,7 +228,7 @@ pub record Changes (id : ℕ) (V : Volume) (past : List Entry) (e : Entry) : Typ
   pub after : (other : ℕ) → volume_after other (e ∷ past) ≡ cond (eqb id other) (Some V) (volume_after other past)
   pub sound : (other : ℕ) → SoundIn other (volume_after other past) (lines_of past) → SoundIn other (volume_after other (e ∷ past)) (lines_of (e ∷ past))
 
-changes_all : (past : List Entry) (e : Entry) (me : Node) (k : Key) (user : List ℕ) (call : FsCall) (id : ℕ) (v : Volume) (es : List Edit) (shown : ℕ) (front rest : List Line) → e.volumes ≡ [] → e.lines ≡ front ++ (lines.Change me k (length (versions_by id es v)) ∷ versioned (versions_by id es v) rest) → AreBlank front → AreBlank rest
+pub changes_all : (past : List Entry) (e : Entry) (me : Node) (k : Key) (user : List ℕ) (call : FsCall) (id : ℕ) (v : Volume) (es : List Edit) (shown : ℕ) (front rest : List Line) → e.volumes ≡ [] → e.lines ≡ front ++ (lines.Change me k (length (versions_by id es v)) ∷ versioned (versions_by id es v) rest) → AreBlank front → AreBlank rest
     → call_under k (sent_of past) ≡ Some (user, call) → volume_called call ≡ Some id → volume_after id past ≡ Some v → op id (the_user user) call v ≡ changes es shown → SoundIn id (volume_after id past) (lines_of past) → Changes id (counted (edited_all id es v)) past e
 changes_all past e me k user call id v es shown front rest none split before behind one of at res sound =
     let vs : List Version = versions_by id es v in

@@ -96,15 +96,15 @@ looks_tail n (l ∷ looks) ls h t =
     }
 
 -- none of these entries is of the object
-abbrev AreElse : Fid → List CacheEntry → Type 0
+abbrev pub AreElse : Fid → List CacheEntry → Type 0
 AreElse f [] = ⊤
 AreElse f (e ∷ es) = (e.fid ≡ f → ⊥) × AreElse f es
 
-dropped_fetched : (n : ℕ) (f : Fid) (es : List CacheEntry) (ls : List Line) → has_fetched (Client n) f (dropped (Client n) es ls) ≡ has_fetched (Client n) f ls
+pub dropped_fetched : (n : ℕ) (f : Fid) (es : List CacheEntry) (ls : List Line) → has_fetched (Client n) f (dropped (Client n) es ls) ≡ has_fetched (Client n) f ls
 dropped_fetched n f [] ls = refl
 dropped_fetched n f (e ∷ es) ls = dropped_fetched n f es ls
 
-dropped_spares : (q : Node) (n : ℕ) (f : Fid) (es : List CacheEntry) (ls : List Line) → AreElse f es → Spares q n f ls → Spares q n f (dropped (Client n) es ls)
+pub dropped_spares : (q : Node) (n : ℕ) (f : Fid) (es : List CacheEntry) (ls : List Line) → AreElse f es → Spares q n f ls → Spares q n f (dropped (Client n) es ls)
 dropped_spares q n f [] ls h w o x = w o x
 dropped_spares q n f (e ∷ es) ls h w o x = elim (dropped_spares q n f es ls h.1 w (lines.Drop (Client n) e.fid ∷ o) x) [
   | inl y ↦ absurd (h.0 y.1)
@@ -115,7 +115,7 @@ else_by : (t : Bool) (f : Fid) (e : CacheEntry) (o : Option CacheEntry) → same
 else_by true f e o q z = absurd cc
 else_by false f e o q z = ((λ same. let no_ : false ≡ true = sym q ∙ (ap (λ (g : Fid). same_fid g f) same ∙ same_fid-refl f) in absurd cc), z)
 
-else_none : (f : Fid) (es : List CacheEntry) → find_cached f es ≡ None → AreElse f es
+pub else_none : (f : Fid) (es : List CacheEntry) → find_cached f es ≡ None → AreElse f es
 else_none f [] e = tt
 else_none f (x ∷ es) e = let p = else_by (same_fid x.fid f) f x (find_cached f es) refl e in (p.0, else_none f es p.1)
 
@@ -157,7 +157,7 @@ pub same_entries : (n : ℕ) (cache : List CacheEntry) (past : List Entry) (ls :
 same_entries n cache past ls t f e found = inl (record { was = e; found = found; server = refl; fetched = t.fetched f; spares = t.spares e.server f })
 
 -- some are left out, and dropped
-not_true : (b : Bool) → not b ≡ true → b ≡ false
+pub not_true : (b : Bool) → not b ≡ true → b ≡ false
 not_true true e = absurd cc
 not_true false e = refl
 
@@ -216,7 +216,7 @@ refreshed_by false e x h = refl
 refreshed_server : (clock : ℕ) (g : Fid) (index : ℕ) (status : ReadStatus) (made : Option Body → Option Body) (e : CacheEntry) → (refreshed clock g index status made e).server ≡ e.server
 refreshed_server clock g index status made e = refreshed_by (same_fid e.fid g && is_trusted clock e) e _ refl
 
-mapped : (o : Option CacheEntry) (r : CacheEntry → CacheEntry) (e : CacheEntry) → option_map r o ≡ Some e → (u : CacheEntry) × ((o ≡ Some u) × (r u ≡ e))
+pub mapped : (o : Option CacheEntry) (r : CacheEntry → CacheEntry) (e : CacheEntry) → option_map r o ≡ Some e → (u : CacheEntry) × ((o ≡ Some u) × (r u ≡ e))
 mapped None r e q = absurd cc
 mapped (Some u) r e q = (u, (refl, some_of (r u) e q))
 
@@ -229,15 +229,15 @@ stored_keeps n place clock c past g index status made apart = record {
 }
 
 -- what was fetched
-fetched_on : (p a b c : Bool) → p ≡ true → a ≡ true → b ≡ true → cond (p && (a && b)) true c ≡ true
+pub fetched_on : (p a b c : Bool) → p ≡ true → a ≡ true → b ≡ true → cond (p && (a && b)) true c ≡ true
 fetched_on p a b c e f g = rw (e, f, g) refl
 
-fetched_off : (p a b c : Bool) → b ≡ false → cond (p && (a && b)) true c ≡ c
+pub fetched_off : (p a b c : Bool) → b ≡ false → cond (p && (a && b)) true c ≡ c
 fetched_off true true b c e = rw e refl
 fetched_off true false b c e = refl
 fetched_off false a b c e = refl
 
-other_fid : (g f : Fid) (t : Bool) → same_fid g f ≡ t → (g ≡ f → ⊥) → same_fid g f ≡ false
+pub other_fid : (g f : Fid) (t : Bool) → same_fid g f ≡ t → (g ≡ f → ⊥) → same_fid g f ≡ false
 other_fid g f true e ne = absurd (ne (same_fid-true g f e))
 other_fid g f false e ne = e
 
@@ -267,7 +267,7 @@ entry_keeps n clock place c m past act u body p server apart q =
     (again_keeps n place c c past act apart refl)
 
 -- several statuses
-abbrev IsAmong : Fid → List CacheEntry → Type 0
+abbrev pub IsAmong : Fid → List CacheEntry → Type 0
 IsAmong f [] = ⊥
 IsAmong f (e ∷ es) = (e.fid ≡ f) ⊎ IsAmong f es
 
@@ -285,20 +285,20 @@ puts_found capacity q f (x ∷ es) cache e h found = elim (puts_found capacity q
   ]
 ]
 
-or_true : (b c : Bool) → c ≡ true → cond b true c ≡ true
+pub or_true : (b c : Bool) → c ≡ true → cond b true c ≡ true
 or_true true c e = refl
 or_true false c e = e
 
-all_fetched : (n : ℕ) (f : Fid) (es : List CacheEntry) (ls : List Line) → IsAmong f es → has_fetched (Client n) f (looked (Client n) (map status_look es) ls) ≡ true
+pub all_fetched : (n : ℕ) (f : Fid) (es : List CacheEntry) (ls : List Line) → IsAmong f es → has_fetched (Client n) f (looked (Client n) (map status_look es) ls) ≡ true
 all_fetched n f [] ls h = absurd h
 all_fetched n f (e ∷ es) ls (inl x) = fetched_on true (same_node (Client n) (Client n)) (same_fid e.fid f) (has_fetched (Client n) f (looked (Client n) (map status_look es) ls)) refl (same_node-refl (Client n)) (ap (λ (g : Fid). same_fid g f) x ∙ same_fid-refl f)
 all_fetched n f (e ∷ es) ls (inr x) = or_true (true && (same_node (Client n) (Client n) && same_fid e.fid f)) (has_fetched (Client n) f (looked (Client n) (map status_look es) ls)) (all_fetched n f es ls x)
 
-none_fetched : (n : ℕ) (f : Fid) (es : List CacheEntry) (ls : List Line) → AreElse f es → has_fetched (Client n) f (looked (Client n) (map status_look es) ls) ≡ has_fetched (Client n) f ls
+pub none_fetched : (n : ℕ) (f : Fid) (es : List CacheEntry) (ls : List Line) → AreElse f es → has_fetched (Client n) f (looked (Client n) (map status_look es) ls) ≡ has_fetched (Client n) f ls
 none_fetched n f [] ls h = refl
 none_fetched n f (e ∷ es) ls h = fetched_off true (same_node (Client n) (Client n)) (same_fid e.fid f) (has_fetched (Client n) f (looked (Client n) (map status_look es) ls)) (other_fid e.fid f (same_fid e.fid f) refl h.0) ∙ none_fetched n f es ls h.1
 
-looks_spare : (q : Node) (n : ℕ) (f : Fid) (looks : List Look) (ls : List Line) → Spares q n f ls → Spares q n f (looked (Client n) looks ls)
+pub looks_spare : (q : Node) (n : ℕ) (f : Fid) (looks : List Look) (ls : List Line) → Spares q n f ls → Spares q n f (looked (Client n) looks ls)
 looks_spare q n f [] ls w o x = w o x
 looks_spare q n f (l ∷ looks) ls w o x = looks_spare q n f looks ls w (lines.Read (Client n) l.fid l.index l.source l.body ∷ o) x
 
@@ -421,10 +421,10 @@ spared (inl a) w = absurd (w a)
 spared (inr b) w = b
 
 -- a break drops what it names, and leaves the others
-unnamed : (f : Fid) (fs : List Fid) (e : CacheEntry) → same_fid e.fid f ≡ true → is_named e.fid fs ≡ false → IsNamedIn f fs → ⊥
+pub unnamed : (f : Fid) (fs : List Fid) (e : CacheEntry) → same_fid e.fid f ≡ true → is_named e.fid fs ≡ false → IsNamedIn f fs → ⊥
 unnamed f fs e same none x = let yes : is_named e.fid fs ≡ true = in_named e.fid f fs (ap (λ (g : Fid). same_fid f g) (same_fid-true e.fid f same) ∙ same_fid-refl f) x in let no_ : false ≡ true = sym none ∙ yes in absurd cc
 
-drops_fetched : (n : ℕ) (f : Fid) (fs : List Fid) → has_fetched (Client n) f (map (drop_line (Client n)) fs) ≡ false
+pub drops_fetched : (n : ℕ) (f : Fid) (fs : List Fid) → has_fetched (Client n) f (map (drop_line (Client n)) fs) ≡ false
 drops_fetched n f [] = refl
 drops_fetched n f (g ∷ fs) = drops_fetched n f fs
 

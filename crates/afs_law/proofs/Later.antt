@@ -17,7 +17,7 @@ use Rattle.std.proofs.Common.{◌≡◌, ◌<◌, ◌≤◌, ℕ, ◌⊎◌, inl
 
 -- ---- a server that doesn't stop stays in its boot
 
-stopped_in : (s : Node) (ls o : List Line) → HasStopped s ls → HasStopped s (onto o ls)
+pub stopped_in : (s : Node) (ls o : List Line) → HasStopped s ls → HasStopped s (onto o ls)
 stopped_in s [] o h = absurd h
 stopped_in s (lines.Crash n ∷ ls) o (inl e) = stopped_onto s ls (lines.Crash n ∷ o) (inl e)
 stopped_in s (lines.Crash n ∷ ls) o (inr h) = stopped_in s ls (lines.Crash n ∷ o) h

@@ -53,13 +53,13 @@ use Rattle.std.specs.Prelude.{⊤}
 
 -- ---- of the act that runs only the client's last call may change something
 
-abbrev LastOf : (ℕ → ClientState) → List Entry → Type 0
+abbrev pub LastOf : (ℕ → ClientState) → List Entry → Type 0
 LastOf clients past = (j : ℕ) (act : Going) → (clients j).running ≡ Some act → (k : Key) → is_of_act (Client j) k past ≡ true → IsChangingUnder k (sent_of past) → k ≡ last_key j (clients j)
 
-abbrev LonesOf : (ℕ → ClientState) → List Entry → Type 0
+abbrev pub LonesOf : (ℕ → ClientState) → List Entry → Type 0
 LonesOf clients past = LastOf clients past × AreLone (sent_of past) past
 
-abbrev LonesIn : Cell → List Entry → Type 0
+abbrev pub LonesIn : Cell → List Entry → Type 0
 LonesIn c past = LonesOf c.clients past
 
 -- an entry in which this client begins nothing and calls nobody
@@ -234,7 +234,7 @@ client_lones s c past n st told A h a f =
 
 -- ---- every step
 
-abbrev GivenLones : Script → Cell → List Entry → Type 0
+abbrev pub GivenLones : Script → Cell → List Entry → Type 0
 GivenLones s c past = Given s c past × LonesIn c past
 
 void_aside : (e : Entry) → e.sent ≡ [] → ((j : ℕ) → has_begun (Client j) e.lines ≡ false) → (j : ℕ) → Aside j e
@@ -267,7 +267,7 @@ lone_moves s = record {
 
 -- ---- what the history alone tells: a key that changed something is that of a changing call, and acts run at clients alone
 
-abbrev AreChanging : List Entry → Type 0
+abbrev pub AreChanging : List Entry → Type 0
 AreChanging past = (k : Key) → HasChange k (lines_of past) → IsChangingUnder k (sent_of past)
 
 ideal_changing : (s : Script) (server : Node) (k : Key) (count : ℕ) (past : List Entry) (own next : List Line) → IdealChange s server k count past own next → IsChangingUnder k (sent_of past)
@@ -292,7 +292,7 @@ changing_over s past e h w k x = elim (changed_in s e.actor past [] e.lines (lin
 ]
 
 -- at every moment
-abbrev AreActs : Script → List Entry → Type 0
+abbrev pub AreActs : Script → List Entry → Type 0
 AreActs s [] = ⊤
 AreActs s (e ∷ past) = ((n : Node) → is_client n ≡ false → running s n (lines_of (e ∷ past)) ≡ None) × AreActs s past
 
@@ -335,7 +335,7 @@ client_named Loc e = absurd cc
 
 -- ---- a change is the first of its act
 
-abbrev Lones : Script → Cell → List Entry → Type 0
+abbrev pub Lones : Script → Cell → List Entry → Type 0
 Lones s c past = ((GivenLones s c past × HeldCuts s c past) × Placed s c past) × (AreChanging past × AreActs s past)
 
 new_one : (k : Key) (o : Option Key) (A : Type 0) → IsNot k o A → A
@@ -347,12 +347,12 @@ behind_by server l [] o h = h
 behind_by server l (lines.Change q m count ∷ own) o h = inr (behind_by server l own o h)
 behind_by server l (x ∷ own) o h = behind_by server l own o h
 
-new_behind : (k : Key) (own o : List Line) → IsNew k (own ++ o) → IsNew k o
+pub new_behind : (k : Key) (own o : List Line) → IsNew k (own ++ o) → IsNew k o
 new_behind k [] o h = h
 new_behind k (l ∷ own) o h = new_behind k own o (new_one k (change_in l) (IsNew k (own ++ o)) h)
 
 -- its call has no later pair than its client's last
-pair_behind : (callees : Key → Node) (clients : ℕ → ClientState) (j : ℕ) (k : Key) (sent : List Message) → k.node ≡ Client j → has_sent k sent ≡ true → Each (IfCall (λ h user call. IsKnown callees clients h.to (key_of h))) sent → UpTo k.epoch k.number (clients j).epoch (clients j).last
+pub pair_behind : (callees : Key → Node) (clients : ℕ → ClientState) (j : ℕ) (k : Key) (sent : List Message) → k.node ≡ Client j → has_sent k sent ≡ true → Each (IfCall (λ h user call. IsKnown callees clients h.to (key_of h))) sent → UpTo k.epoch k.number (clients j).epoch (clients j).last
 pair_behind callees clients j k sent node h all =
     let a : IsAmong k (ByClient (λ h user call. IsKnown callees clients h.to (key_of h))) = among k (λ h user call. IsKnown callees clients h.to (key_of h)) sent h all in
     let key : called_key a.head ≡ k = same_key-true (called_key a.head) k a.key in
@@ -393,7 +393,7 @@ alone_lines s c past who own [] h w = tt
 alone_lines s c past who own (lines.Change server k count ∷ ls) h w = (first_of_act s c past server k count own ls h w.0.1, alone_lines s c past who (lines.Change server k count ∷ own) ls h w.1)
 alone_lines s c past who own (l ∷ ls) h w = (tt, alone_lines s c past who (l ∷ own) ls h w.1)
 
-lones_kept : (s : Script) → IsKept (Lones s)
+pub lones_kept : (s : Script) → IsKept (Lones s)
 lones_kept s c past x h = (
   (((given_kept s c past x h.0.0.0.0, each_moved (GivenLones s) (Behind LonesIn) (lone_moves s) c past x h.0.0.0), cuts_kept s c past x h.0.0.1), placed_kept s c past x h.0.1),
   (
@@ -406,7 +406,7 @@ since_none : (t : Bool) → cond t false false ≡ true → ⊥
 since_none true h = absurd cc
 since_none false h = absurd cc
 
-lones_first : (s : Script) → Lones s (start s) (set_up s ∷ [])
+pub lones_first : (s : Script) → Lones s (start s) (set_up s ∷ [])
 lones_first s = (
   (((given_first s, (λ j act r. absurd cc, (λ j k l x y c d. absurd (since_none (has_begun (Client j) (set_up s).lines) (both (same_node k.node (Client j)) (is_sent_since (Client j) k (set_up s ∷ [])) x).1), tt))), cuts_first s), placed_first s),
   (

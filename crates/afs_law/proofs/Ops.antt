@@ -248,7 +248,7 @@ pub record Storing (f : Fid) (a : Amend) (v : Volume) (es : List Edit) (n : ℕ)
   pub edits : es ≡ amends f.vnode a ∷ []
   pub shows : n ≡ f.vnode
 
-change_same : (es fs : List Edit) (a b : ℕ) → changes es a ≡ changes fs b → (es ≡ fs) × (a ≡ b)
+pub change_same : (es fs : List Edit) (a b : ℕ) → changes es a ≡ changes fs b → (es ≡ fs) × (a ≡ b)
 change_same es fs a b e = (cc, cc)
 
 limits_passed : (o : Option ℕ) (es fs : List Edit) (a b : ℕ) → by_tests o (changes es a) ≡ changes fs b → (es ≡ fs) × (a ≡ b)

@@ -28,7 +28,7 @@ more_by : (t x y : Bool) → cond t true x ≡ true → (x ≡ true → y ≡ tr
 more_by true x y h w = refl
 more_by false x y h w = w h
 
-has_more : (k : Key) (a b : List Message) → has_sent k a ≡ true → has_sent k (a ++ b) ≡ true
+pub has_more : (k : Key) (a b : List Message) → has_sent k a ≡ true → has_sent k (a ++ b) ≡ true
 has_more k [] b h = absurd cc
 has_more k (m ∷ a) b h = more_by (is_called k m.head m.carried) (has_sent k a) (has_sent k (a ++ b)) h (λ y. has_more k a b y)
 
@@ -57,7 +57,7 @@ sent_at k (o ∷ sent) zero m e t = absurd cc
 sent_at k (o ∷ sent) (suc zero) m e t = let one : o ≡ m = cc in subst (λ (x : Bool). cond x true (has_sent k sent) ≡ true) (sym (ap (λ (q : Message). is_called k q.head q.carried) one ∙ t)) refl
 sent_at k (o ∷ sent) (suc (suc place)) m e t = or_true (is_called k o.head o.carried) (has_sent k sent) (sent_at k sent (suc place) m e t)
 
-sent_given : (k : Key) (ls : List Line) (sent : List Message) (m : Message) → given_message ls sent ≡ Some m → is_called k m.head m.carried ≡ true → has_sent k sent ≡ true
+pub sent_given : (k : Key) (ls : List Line) (sent : List Message) (m : Message) → given_message ls sent ≡ Some m → is_called k m.head m.carried ≡ true → has_sent k sent ≡ true
 sent_given k [] sent m e t = absurd cc
 sent_given k (lines.Given place ∷ ls) sent m e t = sent_at k sent place m e t
 sent_given k (l ∷ ls) sent m e t = sent_given k ls sent m e t
