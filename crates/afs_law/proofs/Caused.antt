@@ -41,7 +41,7 @@ ran_one past j m ran user call is to sent ones told =
     let one : IsOne sent ran.message.head user call = by_client j ran.message.head.from (IsOne sent ran.message.head user call) from (subst (λ (x : Carried). OfCall (ByClient (IsOne sent)) ran.message.head x) is its) in
     subst (λ (k : Key). call_under k sent ≡ Some (user, call)) ran.key one
 
-is_reply : (head : Head) (x : Carried) → HasCode x → IsFirm head x → IsReply (record { head = head; carried = x })
+pub is_reply : (head : Head) (x : Carried) → HasCode x → IsFirm head x → IsReply (record { head = head; carried = x })
 is_reply head (carried.Refusal code) is firm = (firm.0, tt)
 is_reply head (carried.Reply reply) is firm = (firm, tt)
 is_reply head (carried.Call user call) is firm = absurd is
