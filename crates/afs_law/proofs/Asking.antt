@@ -451,7 +451,7 @@ front_by : (t x y : Bool) → cond t true x ≡ false → (x ≡ false → y ≡
 front_by true x y h w = absurd cc
 front_by false x y h w = w h
 
-not_front : (k : Key) (a b : List Message) → has_sent k (a ++ b) ≡ false → has_sent k a ≡ false
+pub not_front : (k : Key) (a b : List Message) → has_sent k (a ++ b) ≡ false → has_sent k a ≡ false
 not_front k [] b h = refl
 not_front k (m ∷ a) b h = front_by (is_called k m.head m.carried) (has_sent k (a ++ b)) (has_sent k a) h (λ y. not_front k a b y)
 

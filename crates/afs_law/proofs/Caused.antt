@@ -41,7 +41,7 @@ ran_one past j m ran user call is to sent ones told =
     let one : IsOne sent ran.message.head user call = by_client j ran.message.head.from (IsOne sent ran.message.head user call) from (subst (λ (x : Carried). OfCall (ByClient (IsOne sent)) ran.message.head x) is its) in
     subst (λ (k : Key). call_under k sent ≡ Some (user, call)) ran.key one
 
-is_reply : (head : Head) (x : Carried) → HasCode x → IsFirm head x → IsReply (record { head = head; carried = x })
+pub is_reply : (head : Head) (x : Carried) → HasCode x → IsFirm head x → IsReply (record { head = head; carried = x })
 is_reply head (carried.Refusal code) is firm = (firm.0, tt)
 is_reply head (carried.Reply reply) is firm = (firm, tt)
 is_reply head (carried.Call user call) is firm = absurd is
@@ -79,7 +79,7 @@ caused_in s c past i j place m act h at code from to runs epoch number =
 
 -- ---- who sends it
 
-code_in : (j : ℕ) (to : Node) (X : Type 0) (x : Carried) → HasCode x → to ≡ Client j → OfReply (OfClient to X) x → X
+pub code_in : (j : ℕ) (to : Node) (X : Type 0) (x : Carried) → HasCode x → to ≡ Client j → OfReply (OfClient to X) x → X
 code_in j to X (carried.Refusal code) is e h = by_client j to X e h
 code_in j to X (carried.Reply reply) is e h = by_client j to X e h
 code_in j to X (carried.Call user call) is e h = absurd is

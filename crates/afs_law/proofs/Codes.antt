@@ -41,23 +41,23 @@ use Rattle.std.proofs.Common.{◌≡◌, ℕ, ℤ, inl, inr, List, [], ◌∷◌
 
 -- ---- a reply to a client's call is of a server
 
-each_both : (P Q : Message → Type 0) (ms : List Message) → Each P ms → Each Q ms → Each (λ m. P m × Q m) ms
+pub each_both : (P Q : Message → Type 0) (ms : List Message) → Each P ms → Each Q ms → Each (λ m. P m × Q m) ms
 each_both P Q [] h k = tt
 each_both P Q (m ∷ ms) h k = ((h.0, k.0), each_both P Q ms h.1 k.1)
 
 -- a message that carries this call under this key, of which T holds
-record HasSent (T : Message → Type 0) (k : Key) (user : List ℕ) (call : FsCall) : Type 0 where
-  message : Message
-  key : called_key message.head ≡ k
-  carries : message.carried ≡ carried.Call user (ask.File call)
-  holds : T message
+pub record HasSent (T : Message → Type 0) (k : Key) (user : List ℕ) (call : FsCall) : Type 0 where
+  pub message : Message
+  pub key : called_key message.head ≡ k
+  pub carries : message.carried ≡ carried.Call user (ask.File call)
+  pub holds : T message
 
 sent_call : (T : Message → Type 0) (k : Key) (user : List ℕ) (call : FsCall) (ms : List Message) → Sends k user call ms → Each T ms → HasSent T k user call
 sent_call T k user call [] x h = absurd x
 sent_call T k user call (m ∷ ms) (inl x) h = record { message = m; key = x.0; carries = x.1; holds = h.0 }
 sent_call T k user call (m ∷ ms) (inr x) h = sent_call T k user call ms x h.1
 
-since_call : (T : Message → Type 0) (k : Key) (user : List ℕ) (call : FsCall) (past : List Entry) → CalledSince k user call past → Each T (sent_of past) → HasSent T k user call
+pub since_call : (T : Message → Type 0) (k : Key) (user : List ℕ) (call : FsCall) (past : List Entry) → CalledSince k user call past → Each T (sent_of past) → HasSent T k user call
 since_call T k user call [] x h = absurd x
 since_call T k user call (e ∷ past) (inl x) h = sent_call T k user call e.sent x.1 (each_front T (sent_of past) e.sent h).1
 since_call T k user call (e ∷ past) (inr x) h = since_call T k user call past x.1 (each_front T (sent_of past) e.sent h).0

@@ -72,11 +72,11 @@ abbrev pub Spares : Node → ℕ → Fid → List Line → Type 0
 Spares q n f ls = (o : List Line) → IsDropped q (Client n) f (onto o ls) → IsDropped q (Client n) f o
 
 -- the end of a step
-record IsTail (n : ℕ) (ls : List Line) : Type 0 where
-  fetched : (f : Fid) → has_fetched (Client n) f ls ≡ false
-  spares : (q : Node) (f : Fid) → Spares q n f ls
+pub record IsTail (n : ℕ) (ls : List Line) : Type 0 where
+  pub fetched : (f : Fid) → has_fetched (Client n) f ls ≡ false
+  pub spares : (q : Node) (f : Fid) → Spares q n f ls
 
-no_tail : (n : ℕ) → IsTail n []
+pub no_tail : (n : ℕ) → IsTail n []
 no_tail n = record { fetched = λ f. refl; spares = λ q f o x. x }
 
 answer_tail : (n : ℕ) (code : Code) → IsTail n (lines.Answer (Client n) code ∷ [])
@@ -122,38 +122,38 @@ else_none f (x ∷ es) e = let p = else_by (same_fid x.fid f) f x (find_cached f
 -- ---- an entry behind a step
 
 -- it was there, and nothing of it was dropped or fetched
-record IsOldEntry (n : ℕ) (cache : List CacheEntry) (ls : List Line) (f : Fid) (e : CacheEntry) : Type 0 where
-  was : CacheEntry
-  found : find_cached f cache ≡ Some was
-  server : was.server ≡ e.server
-  fetched : has_fetched (Client n) f ls ≡ false
-  spares : Spares e.server n f ls
+pub record IsOldEntry (n : ℕ) (cache : List CacheEntry) (ls : List Line) (f : Fid) (e : CacheEntry) : Type 0 where
+  pub was : CacheEntry
+  pub found : find_cached f cache ≡ Some was
+  pub server : was.server ≡ e.server
+  pub fetched : has_fetched (Client n) f ls ≡ false
+  pub spares : Spares e.server n f ls
 
 -- or it was fetched
-record IsNewEntry (n : ℕ) (past : List Entry) (ls : List Line) (f : Fid) (e : CacheEntry) : Type 0 where
-  fetched : has_fetched (Client n) f ls ≡ true
-  reply : Message
-  given : given_message ls (sent_of past) ≡ Some reply
-  is_reply : IsReply reply
-  told : code_told reply.carried ≡ Some (pos 0)
-  to : reply.head.to ≡ Client n
-  from : reply.head.from ≡ e.server
-  kept : IsDropped e.server (Client n) f (onto [] ls) → ⊥
+pub record IsNewEntry (n : ℕ) (past : List Entry) (ls : List Line) (f : Fid) (e : CacheEntry) : Type 0 where
+  pub fetched : has_fetched (Client n) f ls ≡ true
+  pub reply : Message
+  pub given : given_message ls (sent_of past) ≡ Some reply
+  pub is_reply : IsReply reply
+  pub told : code_told reply.carried ≡ Some (pos 0)
+  pub to : reply.head.to ≡ Client n
+  pub from : reply.head.from ≡ e.server
+  pub kept : IsDropped e.server (Client n) f (onto [] ls) → ⊥
 
-abbrev Entries : ℕ → List CacheEntry → List Entry → List Line → List CacheEntry → Type 0
+abbrev pub Entries : ℕ → List CacheEntry → List Entry → List Line → List CacheEntry → Type 0
 Entries n cache past ls after = (f : Fid) (e : CacheEntry) → find_cached f after ≡ Some e → IsOldEntry n cache ls f e ⊎ IsNewEntry n past ls f e
 
 -- and each object has one
-record Keeps (n : ℕ) (cache : List CacheEntry) (past : List Entry) (s : Step ClientState) : Type 0 where
-  apart : AreApart s.state.cache
-  each : Entries n cache past s.lines s.state.cache
+pub record Keeps (n : ℕ) (cache : List CacheEntry) (past : List Entry) (s : Step ClientState) : Type 0 where
+  pub apart : AreApart s.state.cache
+  pub each : Entries n cache past s.lines s.state.cache
 
 either_keeps : (t : Bool) (n : ℕ) (cache : List CacheEntry) (past : List Entry) (a b : Step ClientState) → Keeps n cache past a → Keeps n cache past b → Keeps n cache past (cond t a b)
 either_keeps true n cache past a b h k = h
 either_keeps false n cache past a b h k = k
 
 -- the same cache
-same_entries : (n : ℕ) (cache : List CacheEntry) (past : List Entry) (ls : List Line) → IsTail n ls → Entries n cache past ls cache
+pub same_entries : (n : ℕ) (cache : List CacheEntry) (past : List Entry) (ls : List Line) → IsTail n ls → Entries n cache past ls cache
 same_entries n cache past ls t f e found = inl (record { was = e; found = found; server = refl; fetched = t.fetched f; spares = t.spares e.server f })
 
 -- some are left out, and dropped
@@ -388,10 +388,10 @@ takes_keeps n clock place c m past act call (replies.BulkStatus statuses callbac
 takes_keeps n clock place c m past act call replies.GiveUpCallBacks apart q = given_keeps n place c past act call apart
 takes_keeps n clock place c m past act call reply apart q = plain_keeps n place c past call zero_code apart
 
-record IsHeard (n place : ℕ) (head : Head) (x : Carried) (past : List Entry) : Type 0 where
-  at : message_at (sent_of past) place ≡ Some (record { head = head; carried = x })
-  to : head.to ≡ Client n
-  firm : IsFirm head x
+pub record IsHeard (n place : ℕ) (head : Head) (x : Carried) (past : List Entry) : Type 0 where
+  pub at : message_at (sent_of past) place ≡ Some (record { head = head; carried = x })
+  pub to : head.to ≡ Client n
+  pub firm : IsFirm head x
 
 counts_keeps : (n clock place : ℕ) (c : ClientState) (act : Going) (head : Head) (x : Carried) (past : List Entry) → AreApart c.cache → IsHeard n place head x past → is_awaited c act head ≡ true → Keeps n c.cache past (counts (Client n) c clock place act head x)
 counts_keeps n clock place c act head (carried.Call user call) past apart w e = told_keeps n place c c past [] apart refl
@@ -468,7 +468,7 @@ hears_keeps n clock place c head x past apart w = awaits_keeps n clock place c h
 
 -- ---- its steps
 
-given_keep : (n clock place : ℕ) (c : ClientState) (m : Message) (past : List Entry) → AreApart c.cache → IsHeard n place m.head m.carried past → Keeps n c.cache past (client_row (Client n) c clock place (Whole m))
+pub given_keep : (n clock place : ℕ) (c : ClientState) (m : Message) (past : List Entry) → AreApart c.cache → IsHeard n place m.head m.carried past → Keeps n c.cache past (client_row (Client n) c clock place (Whole m))
 unfolding client_row
 given_keep n clock place c m past apart w = either_keeps (same_node m.head.to (Client n)) n c.cache past _ _ (hears_keeps n clock place c m.head m.carried past apart w) (told_keeps n place c c past [] apart refl)
 
@@ -486,7 +486,7 @@ first_keeps : (n clock : ℕ) (y : ClientState) (act : Act) (g : Going) (need : 
 first_keeps n clock y act g gives_back past apart = first_gives n clock y act g past (in_order (map gift_of (trusted_in clock y.cache))) apart
 first_keeps n clock y act g need past apart = walks_keeps n y clock y.cache y.cache past (λ ls. lines.Begin (Client n) act ∷ ls) g (λ ls t. then_begun n act y.cache past ls y.cache (same_old n y.cache ls t)) apart
 
-begins_keep : (n clock : ℕ) (c : ClientState) (act : Act) (past : List Entry) → AreApart c.cache → Keeps n c.cache past (begin_row (Client n) c clock act)
+pub begins_keep : (n clock : ℕ) (c : ClientState) (act : Act) (past : List Entry) → AreApart c.cache → Keeps n c.cache past (begin_row (Client n) c clock act)
 unfolding begin_row
 begins_keep n clock c act past apart = first_keeps n clock (record c { busy = 0 }) act (began c.table act) (next (began c.table act)) past apart
 
@@ -498,7 +498,7 @@ dead_apart : (cache : List CacheEntry) (o : Option ℕ) → AreApart cache → A
 dead_apart cache None apart = apart
 dead_apart cache (Some id) apart = apart_filter (λ x. not (nat_eq x.fid.volume id)) cache apart
 
-waits_keep : (n : ℕ) (c : ClientState) (act : Going) (past : List Entry) → AreApart c.cache → Keeps n c.cache past (timeout_row (Client n) c act)
+pub waits_keep : (n : ℕ) (c : ClientState) (act : Going) (past : List Entry) → AreApart c.cache → Keeps n c.cache past (timeout_row (Client n) c act)
 waits_keep n c act past apart =
     let o : Option ℕ = volume_changed (call_of c act) in
     either_keeps (nat_lt c.tries 2) n c.cache past _ _
@@ -559,7 +559,7 @@ client_kept s c past n st h a k j =
 idle_kept : (s : Script) (c : Cell) (past : List Entry) (x : Entry) → KeptIn c past → all_lines is_idle x.lines ≡ true → Rested c.clients (x ∷ past)
 idle_kept s c past x h idle j = ((h j).0, λ f e found. stays_kept j f e e x past refl ((idle_leaves s j x.lines (lines_of past) idle).fetched f) (λ o d. (idle_leaves s j x.lines o idle).dropped e.server f d) ((h j).1 f e found))
 
-heard_now : (s : Script) (c : Cell) (past : List Entry) (n place : ℕ) (m : Message) → Given s c past → message_at c.sent place ≡ Some m → m.head.to ≡ Client n → IsHeard n place m.head m.carried past
+pub heard_now : (s : Script) (c : Cell) (past : List Entry) (n place : ℕ) (m : Message) → Given s c past → message_at c.sent place ≡ Some m → m.head.to ≡ Client n → IsHeard n place m.head m.carried past
 heard_now s c past n place m h at to = record { at = ap (λ (ms : List Message). message_at ms place) h.0.0.0.0.hears.told ∙ at; to = to; firm = each_at (λ m. IsFirm m.head m.carried) c.sent place m at h.0.1 }
 
 kept_moves : (s : Script) → EachMove (GivenKept s) (Behind KeptIn)

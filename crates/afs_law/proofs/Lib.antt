@@ -8,6 +8,7 @@ pub mod Backing
 pub mod Turning
 pub mod Facts
 pub mod Booting
+pub mod Rising
 pub mod Loading
 pub mod Ops
 pub mod Apart
@@ -72,6 +73,9 @@ pub mod Latest
 pub mod Ascending
 pub mod Sending
 pub mod Gifts
+pub mod Heard
+pub mod Queued
+pub mod Timing
 pub mod Lone
 pub mod Silent
 pub mod Addressed
@@ -81,8 +85,11 @@ pub mod Trying
 pub mod Ours
 pub mod Due
 pub mod Codes
+pub mod Using
 pub mod Kept
 pub mod Later
+pub mod Settled
+pub mod Untrusted
 pub mod Recording
 pub mod Fetching
 pub mod Lasting
@@ -100,7 +107,6 @@ pub mod Receiving
 pub mod Entering
 pub mod Readings
 pub mod Assembled
-pub mod Dying
 pub mod Made
 pub mod Surviving
 pub mod Worked

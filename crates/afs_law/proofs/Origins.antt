@@ -18,6 +18,7 @@ use Rattle.afs_law.proofs.Law.{first_passed}
 use Rattle.afs_law.proofs.Moving.{Behind, EachMove, IsKept, each_moved, run_keeps}
 use Rattle.afs_law.proofs.Seating.{AreSeated}
 use Rattle.afs_law.specs.Grants.{IsDropped, has_fetched, is_promised}
+use Rattle.afs_law.specs.Breaks.{HasTimeout}
 use Rattle.afs_law.specs.Ideal.{call_in, call_under, set_up, user_of}
 use Rattle.afs_law.specs.Legal.{as_asked}
 use Rattle.afs_law.specs.Once.{past_of}
@@ -57,6 +58,7 @@ abbrev pub is_idle : Line → Bool
 is_idle (lines.Begin n act) = false
 is_idle (lines.Read n f index source body) = false
 is_idle (lines.Answer n code) = false
+is_idle (lines.Timeout n callee epoch number count) = is_server n
 is_idle (lines.Crash n) = is_server n
 is_idle (lines.Drop n f) = is_server n
 is_idle (lines.DropAll n q) = is_server n
@@ -74,6 +76,7 @@ pub record Leaves (s : Script) (j : ℕ) (ls o : List Line) : Type 0 where
   pub begins : has_begun (Client j) ls ≡ false
   pub fetched : (f : Fid) → has_fetched (Client j) f ls ≡ false
   pub dropped : (q : Node) (f : Fid) → IsDropped q (Client j) f (onto o ls) → IsDropped q (Client j) f o
+  pub timed : (q : Node) (epoch number count : ℕ) → HasTimeout (Client j) q epoch number count (onto o ls) → HasTimeout (Client j) q epoch number count o
 
 idle_line : (s : Script) (j : ℕ) (l : Line) (o : List Line) → is_idle l ≡ true → running s (Client j) (l ∷ o) ≡ running s (Client j) o
 idle_line s j (lines.Begin n act) o h = absurd cc
@@ -100,12 +103,17 @@ idle_dropped q j f (lines.DropAll n s) o h (inl e) = absurd (no_server n j h e.0
 idle_dropped q j f (lines.DropAll n s) o h (inr x) = x
 idle_dropped q j f l o h x = x
 
+idle_timed : (q : Node) (j epoch number count : ℕ) (l : Line) (o : List Line) → is_idle l ≡ true → HasTimeout (Client j) q epoch number count (l ∷ o) → HasTimeout (Client j) q epoch number count o
+idle_timed q j epoch number count (lines.Timeout n callee d k i) o h (inl x) = absurd (no_server n j h x.0)
+idle_timed q j epoch number count (lines.Timeout n callee d k i) o h (inr x) = x
+idle_timed q j epoch number count l o h x = x
+
 pub idle_leaves : (s : Script) (j : ℕ) (ls o : List Line) → all_lines is_idle ls ≡ true → Leaves s j ls o
-idle_leaves s j [] o h = record { runs = refl; begins = refl; fetched = λ f. refl; dropped = λ q f x. x }
+idle_leaves s j [] o h = record { runs = refl; begins = refl; fetched = λ f. refl; dropped = λ q f x. x; timed = λ q d k i x. x }
 idle_leaves s j (l ∷ ls) o h =
     let q = both (is_idle l) (all_lines is_idle ls) h in
     let r : Leaves s j ls (l ∷ o) = idle_leaves s j ls (l ∷ o) q.1 in
-    record { runs = r.runs ∙ idle_line s j l o q.0; begins = idle_begins j l ls q.0 ∙ r.begins; fetched = λ f. idle_fetched j f l ls q.0 ∙ r.fetched f; dropped = λ s f x. idle_dropped s j f l o q.0 (r.dropped s f x) }
+    record { runs = r.runs ∙ idle_line s j l o q.0; begins = idle_begins j l ls q.0 ∙ r.begins; fetched = λ f. idle_fetched j f l ls q.0 ∙ r.fetched f; dropped = λ s f x. idle_dropped s j f l o q.0 (r.dropped s f x); timed = λ s d k i x. idle_timed s j d k i l o q.0 (r.timed s d k i x) }
 
 -- those of another client
 other_node : (n : Node) (i j : ℕ) → same_node n (Client i) ≡ true → (i ≡ j → ⊥) → same_node n (Client j) ≡ false
@@ -140,12 +148,17 @@ other_dropped q i j f (lines.DropAll n s) o h ne (inl e) = absurd (no_other n i 
 other_dropped q i j f (lines.DropAll n s) o h ne (inr x) = x
 other_dropped q i j f l o h ne x = x
 
+other_timed : (q : Node) (i j epoch number count : ℕ) (l : Line) (o : List Line) → is_of i l ≡ true → (i ≡ j → ⊥) → HasTimeout (Client j) q epoch number count (l ∷ o) → HasTimeout (Client j) q epoch number count o
+other_timed q i j epoch number count (lines.Timeout n callee d k m) o h ne (inl x) = absurd (no_other n i j h ne x.0)
+other_timed q i j epoch number count (lines.Timeout n callee d k m) o h ne (inr x) = x
+other_timed q i j epoch number count l o h ne x = x
+
 pub other_leaves : (s : Script) (i j : ℕ) (ls o : List Line) → all_lines (is_of i) ls ≡ true → (i ≡ j → ⊥) → Leaves s j ls o
-other_leaves s i j [] o h ne = record { runs = refl; begins = refl; fetched = λ f. refl; dropped = λ q f x. x }
+other_leaves s i j [] o h ne = record { runs = refl; begins = refl; fetched = λ f. refl; dropped = λ q f x. x; timed = λ q d k m x. x }
 other_leaves s i j (l ∷ ls) o h ne =
     let q = both (is_of i l) (all_lines (is_of i) ls) h in
     let r : Leaves s j ls (l ∷ o) = other_leaves s i j ls (l ∷ o) q.1 ne in
-    record { runs = r.runs ∙ other_line s i j l o q.0 ne; begins = other_begins i j l ls q.0 ne ∙ r.begins; fetched = λ f. other_fetched i j f l ls q.0 ne ∙ r.fetched f; dropped = λ s f x. other_dropped s i j f l o q.0 ne (r.dropped s f x) }
+    record { runs = r.runs ∙ other_line s i j l o q.0 ne; begins = other_begins i j l ls q.0 ne ∙ r.begins; fetched = λ f. other_fetched i j f l ls q.0 ne ∙ r.fetched f; dropped = λ s f x. other_dropped s i j f l o q.0 ne (r.dropped s f x); timed = λ s d k m x. other_timed s i j d k m l o q.0 ne (r.timed s d k m x) }
 
 -- a server's
 from_server : (n : Node) (i : ℕ) → same_node n (Server i) ≡ true → is_server n ≡ true
@@ -155,6 +168,7 @@ from_idle : (i : ℕ) (l : Line) → is_from (Server i) l ≡ true → is_idle l
 from_idle i (lines.Begin n act) h = absurd cc
 from_idle i (lines.Read n f index source body) h = absurd cc
 from_idle i (lines.Answer n code) h = absurd cc
+from_idle i (lines.Timeout n callee epoch number count) h = from_server n i h
 from_idle i (lines.Crash n) h = from_server n i h
 from_idle i (lines.Drop n f) h = absurd cc
 from_idle i (lines.DropAll n q) h = absurd cc

@@ -14,6 +14,7 @@ use Rattle.afs_ideal.specs.Directories.{directory_bytes, name_bytes, directory_o
 use Rattle.afs_ideal.specs.SetUp.{laid_at, led}
 use Rattle.afs_ideal.specs.VnodeImage.{image}
 use Rattle.afs_law.proofs.Basics.{some_of}
+use Rattle.afs_law.proofs.Heard.{ran_heard}
 use Rattle.afs_law.proofs.Remaining.{accepted}
 use Rattle.afs_law.specs.Grants.{GrantOf, until}
 use Rattle.afs_num.specs.declared.histories.Actor.{Actor}
@@ -30,7 +31,7 @@ use Rattle.afs_rows.specs.Runs.{Cell, Entry, Input, begins, comes_up, gives, mov
 use Rattle.afs_xdr.specs.Words.{opaque, pad, word, opaque_at, word_at, counted_at}
 use Rattle.afs_law.specs.Ideal.{set_up}
 use Rattle.afs_law.specs.Once.{past_of}
-use Rattle.afs_law.specs.Past.{WasSent, SendsTo, IsCall, server_boot, CalledSince, IsToCome, called_key, IsUnheard, IsCallUnder, Ran, answered_key, code_told, given_message, lines_of, sent_of}
+use Rattle.afs_law.specs.Past.{WasSent, SendsTo, IsCall, server_boot, CalledSince, IsToCome, called_key, Ran, answered_key, code_told, given_message, lines_of, sent_of}
 use Rattle.afs_num.specs.declared.calls.FsCall.{FsCall}
 use Rattle.afs_num.specs.declared.calls.FsCall.TheVariants as calls
 use Rattle.afs_num.specs.declared.histories.Actor.TheVariants as actors
@@ -220,14 +221,6 @@ abbrev answers_ahead : List Entry → List Entry
 answers_ahead [] = []
 answers_ahead (e ∷ []) = record e { lines = [] } ∷ record e { sent = [] } ∷ []
 answers_ahead (e ∷ f ∷ es) = e ∷ answers_ahead (f ∷ es)
-
-heard_in : (newer : List Entry) (at : Entry) (older : List Entry) (s : Node) (k : Key) (boot : ℕ) → IsUnheard s k boot (newer ++ (at ∷ older)) → IsCallUnder s k boot (given_message at.lines (sent_of older)) → ⊥
-heard_in [] at older s k boot h x = h.0 x
-heard_in (e ∷ newer) at older s k boot h x = heard_in newer at older s k boot h.1 x
-
--- who ran a call was given it
-ran_heard : (reply : Head) (past : List Entry) → Ran reply past → IsUnheard reply.from (answered_key reply) reply.boot past → ⊥
-ran_heard reply past r h = heard_in r.newer r.at r.older reply.from (answered_key reply) reply.boot (subst (IsUnheard reply.from (answered_key reply) reply.boot) r.split h) (subst (IsCallUnder reply.from (answered_key reply) reply.boot) (sym r.given) ((r.is_call, r.callee), (r.key, r.boot)))
 
 answered_ahead : Legal (answers_ahead (entries (start (script 1)) store_front)) (script 1) → ⊥
 unfolding moved begin_row client_row server_row back_timeout_row wake_row start_row record_bytes head_form volume_form spelled opaque pad word laid_at led name_ok directory_bytes name_bytes rights_of image acl_text digits entry_text directory_of names_at opaque_at word_at counted_at whole_at count_at name_at spelled_at bytes_below

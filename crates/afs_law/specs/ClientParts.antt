@@ -12,7 +12,9 @@ use Rattle.afs_law.specs.Legal.{EndsAct, GoodGift, HasChange, HasChangeBy, HasOw
 use Rattle.afs_law.specs.Once.{past_of}
 use Rattle.afs_law.specs.Parts.{AllLines, EachEntry, EachSent, LineRule, waited_key}
 use Rattle.afs_law.specs.Past.{CalledSince, IsReply, answered_key, code_told, given_message, has_begun, has_sent, is_of_act, lines_of, lines_on, onto, running, sent_of}
+use Rattle.afs_law.specs.Breaks.{IsNamedIn}
 use Rattle.afs_law.specs.ServerParts.{IsCodeGood, IsKind, IsReadGood}
+use Rattle.afs_num.specs.declared.calls.FsCall.TheVariants as calls
 use Rattle.afs_num.specs.declared.calls.FsCall.{FsCall}
 use Rattle.afs_num.specs.declared.histories.Actor.TheVariants as actors
 use Rattle.afs_num.specs.declared.histories.ReadSource.{ReadSource}
@@ -65,9 +67,21 @@ pub record AreAskedFor (s : Script) (c : Node) (f : Fid) (source : ReadSource) (
   pub used : HasUsed s c past own
   pub asks : used.call ≡ asked act
 
--- what is promised and was fetched just now is of a reply with code 0 to a call of the running act; rights are such, too
+-- a call by which an act reads this object
+abbrev pub IsReadBy : Fid → FsCall → Type 0
+IsReadBy f (calls.FetchData g position wanted) = g ≡ f
+IsReadBy f (calls.FetchStatus g) = g ≡ f
+IsReadBy f (calls.BulkStatus fids) = IsNamedIn f fids
+IsReadBy f call = ⊥
+
+-- the entry was given a reply with code 0 to such a call of the running act
+pub record IsUse (s : Script) (c : Node) (f : Fid) (past : List Entry) (own : List Line) : Type 0 where
+  pub used : HasUsed s c past own
+  pub of : IsReadBy f used.call
+
+-- what is promised and was fetched just now is of a reply with code 0 to a call of the running act that reads it; rights are such, too
 abbrev pub IsUsed : Script → Bool → Node → Fid → ReadSource → List Entry → List Line → Type 0
-IsUsed s true c f source past own = source ≡ Fetched → HasUsed s c past own
+IsUsed s true c f source past own = source ≡ Fetched → IsUse s c f past own
 IsUsed s false c f source past own = AreAskedFor s c f source past own
 
 -- ---- answers

@@ -355,19 +355,19 @@ pub record IsAwaited (c : ClientState) (head : Head) : Type 0 where
   pub epoch : head.epoch ≡ c.epoch
   pub number : head.number ≡ c.last
 
--- A changing call that may still run, and that its client doesn't wait for, be its act answered or dead: what the client trusts of
--- the fids that it may change, it was promised in an older boot. So it trusts none of them while the server hasn't stopped
+-- A changing call that its server may still run, and that its client doesn't wait for, be its act answered or dead: what the client keeps of
+-- the fids that it may change, it was promised in an older boot of that server. So it keeps none of them while the server hasn't stopped
 abbrev pub UnawaitedAreUntrusted : Type 0
 UnawaitedAreUntrusted =
-    (s : Script) (history : List Entry) (end : Cell) → IsOneServer s → RunsTo history s end → (j place : ℕ) (head : Head) (user : List ℕ) (call : FsCall) (id : ℕ) → message_at end.sent place ≡ Some (record { head = head; carried = carried.Call user (ask.File call) }) → head.from ≡ Client j
-    → volume_changed call ≡ Some id → admitted (end.hosts 1).state.lasting.boot (end.hosts 1).state.seats head ≡ pairs.runs → (IsAwaited (end.clients j) head → ⊥)
-    → (f : Fid) (e : CacheEntry) → is_in_scope call f ≡ true → find_cached f (end.clients j).cache ≡ Some e → end.clock < e.expiry
-    → (reply : Message) × ((fetch_reply (Client j) f (past_of (set_up s ∷ []) history) ≡ Some reply) × (reply.head.boot < (end.hosts 1).state.lasting.boot))
+    (s : Script) (history : List Entry) (end : Cell) → RunsTo history s end → (i j place : ℕ) (head : Head) (user : List ℕ) (call : FsCall) (id : ℕ) → message_at end.sent place ≡ Some (record { head = head; carried = carried.Call user (ask.File call) }) → head.from ≡ Client j → head.to ≡ Server i
+    → volume_changed call ≡ Some id → admitted (end.hosts i).state.lasting.boot (end.hosts i).state.seats head ≡ pairs.runs → (IsAwaited (end.clients j) head → ⊥)
+    → (f : Fid) (e : CacheEntry) → is_in_scope call f ≡ true → find_cached f (end.clients j).cache ≡ Some e
+    → (reply : Message) × ((fetch_reply (Client j) f (past_of (set_up s ∷ []) history) ≡ Some reply) × (reply.head.boot < (end.hosts i).state.lasting.boot))
 
--- A changing call that its client gave up at the third timeout and that the server, which is up, would run: the client trusts nothing of
--- the volume that it may change
+-- A changing call that its client gave up at the third timeout and that its server would run, up or down: the client keeps nothing of the
+-- volume that it may change
 abbrev pub DeadAreUntrusted : Type 0
 DeadAreUntrusted =
-    (s : Script) (history : List Entry) (end : Cell) → IsOneServer s → RunsTo history s end → (j place : ℕ) (head : Head) (user : List ℕ) (call : FsCall) (id : ℕ) → message_at end.sent place ≡ Some (record { head = head; carried = carried.Call user (ask.File call) }) → head.from ≡ Client j
-    → volume_changed call ≡ Some id → HasTimeout (Client j) (Server 1) head.epoch head.number 3 (lines_of (past_of (set_up s ∷ []) history)) → (end.hosts 1).down ≡ None → admitted (end.hosts 1).state.lasting.boot (end.hosts 1).state.seats head ≡ pairs.runs
-    → (f : Fid) (e : CacheEntry) → f.volume ≡ id → find_cached f (end.clients j).cache ≡ Some e → end.clock < e.expiry → ⊥
+    (s : Script) (history : List Entry) (end : Cell) → RunsTo history s end → (i j place : ℕ) (head : Head) (user : List ℕ) (call : FsCall) (id : ℕ) → message_at end.sent place ≡ Some (record { head = head; carried = carried.Call user (ask.File call) }) → head.from ≡ Client j → head.to ≡ Server i
+    → volume_changed call ≡ Some id → HasTimeout (Client j) (Server i) head.epoch head.number 3 (lines_of (past_of (set_up s ∷ []) history)) → admitted (end.hosts i).state.lasting.boot (end.hosts i).state.seats head ≡ pairs.runs
+    → (f : Fid) (e : CacheEntry) → f.volume ≡ id → find_cached f (end.clients j).cache ≡ Some e → ⊥

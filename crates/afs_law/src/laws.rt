@@ -126,13 +126,13 @@ pub fn replies_follow_drops()
     ensures { RepliesFollowDrops }
 {}
 
-/// In a run of a script for one server, a changing call that may still run, and for which its client no longer waits, can change nothing
-/// that this client trusts, but for what it was promised in an older boot.
+/// In a run, a changing call that its server may still run, and for which its client no longer waits, can change nothing that this client
+/// keeps, but for what it was promised in an older boot of that server.
 pub fn unawaited_are_untrusted()
     ensures { UnawaitedAreUntrusted }
 {}
 
-/// In a run of a script for one server, a client trusts nothing of the volume of a changing call that it gave up and that may still run.
+/// In a run, a client keeps nothing of the volume of a changing call that it gave up and that its server may still run.
 pub fn dead_are_untrusted()
     ensures { DeadAreUntrusted }
 {}
