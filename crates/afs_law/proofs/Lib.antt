@@ -104,6 +104,8 @@ pub mod Resolving
 pub mod Taking
 pub mod Bringing
 pub mod Receiving
+pub mod Beside
+pub mod Watched
 pub mod Entering
 pub mod Readings
 pub mod Assembled

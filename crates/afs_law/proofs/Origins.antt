@@ -116,7 +116,7 @@ idle_leaves s j (l ∷ ls) o h =
     record { runs = r.runs ∙ idle_line s j l o q.0; begins = idle_begins j l ls q.0 ∙ r.begins; fetched = λ f. idle_fetched j f l ls q.0 ∙ r.fetched f; dropped = λ s f x. idle_dropped s j f l o q.0 (r.dropped s f x); timed = λ s d k i x. idle_timed s j d k i l o q.0 (r.timed s d k i x) }
 
 -- those of another client
-other_node : (n : Node) (i j : ℕ) → same_node n (Client i) ≡ true → (i ≡ j → ⊥) → same_node n (Client j) ≡ false
+pub other_node : (n : Node) (i j : ℕ) → same_node n (Client i) ≡ true → (i ≡ j → ⊥) → same_node n (Client j) ≡ false
 other_node n i j e ne = ap (λ (q : Node). same_node q (Client j)) (same_node-true n (Client i) e) ∙ node_apart (Client i) (Client j) (λ z. ne (client_number i j z))
 
 other_line : (s : Script) (i j : ℕ) (l : Line) (o : List Line) → is_of i l ≡ true → (i ≡ j → ⊥) → running s (Client j) (l ∷ o) ≡ running s (Client j) o

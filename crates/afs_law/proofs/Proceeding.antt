@@ -92,7 +92,7 @@ pub record Result (s : Script) (n : ℕ) (x : ClientState) (clock : ℕ) (past :
 
 -- ---- silent lines show nothing
 
-silent_reach : (c : Node) (f : Fid) (past : List Entry) (own : Bool) (r : Reach) (ls : List Line) → AreBlank ls → is_silent ls ≡ true → reach_over c f past own r ls ≡ r
+pub silent_reach : (c : Node) (f : Fid) (past : List Entry) (own : Bool) (r : Reach) (ls : List Line) → AreBlank ls → is_silent ls ≡ true → reach_over c f past own r ls ≡ r
 silent_reach c f past own r [] b q = refl
 silent_reach c f past own r (lines.Begin m act ∷ ls) b q = absurd cc
 silent_reach c f past own r (lines.Read m g index source body ∷ ls) b q = absurd cc
