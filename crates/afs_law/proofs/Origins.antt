@@ -174,7 +174,7 @@ from_idle i (lines.Drop n f) h = absurd cc
 from_idle i (lines.DropAll n q) h = absurd cc
 from_idle i l h = refl
 
-all_idle : (i : ℕ) (ls : List Line) → AreFrom (Server i) ls → all_lines is_idle ls ≡ true
+pub all_idle : (i : ℕ) (ls : List Line) → AreFrom (Server i) ls → all_lines is_idle ls ≡ true
 all_idle i [] h = refl
 all_idle i (l ∷ ls) h = let q = both (is_from (Server i) l) (all_lines (is_from (Server i)) ls) h in rw (from_idle i l q.0, all_idle i ls q.1) refl
 
