@@ -102,6 +102,8 @@ pub mod Minding
 pub mod Proceeding
 pub mod Resolving
 pub mod Taking
+pub mod Bringing
+pub mod Receiving
 pub mod Entering
 pub mod Readings
 pub mod Assembled

@@ -137,7 +137,7 @@ idle_moved n y past none = record { unsent = λ act r. absurd (none_runs y.runni
 
 -- ---- the client moved on
 
-idle_done : (n : ℕ) (x : ClientState) (f : Fid) (server : Node) (past : List Entry) → x.running ≡ None → HasDone n x f server past
+pub idle_done : (n : ℕ) (x : ClientState) (f : Fid) (server : Node) (past : List Entry) → x.running ≡ None → HasDone n x f server past
 idle_done n x f server past none = ((λ act r. absurd (none_runs x.running act none r)), λ act r. absurd (none_runs x.running act none r))
 
 moved_entry : (s : Script) (c : Cell) (past : List Entry) (n : ℕ) (st : Step ClientState) (f : Fid) (e : CacheEntry) → Based s c past → Trusts s n (c.clients n) c.clock past → IsTurn n st → IsMoved n st.state past → ((f : Fid) (server : Node) → IsSame (c.clients n) st ⊎ HasDone n (c.clients n) f server past)

@@ -40,7 +40,7 @@ behind_by : (t a b : Bool) → a ≡ true → cond t (not a) b ≡ true → (t �
 behind_by true a b h l = let no_ : true ≡ false = sym l ∙ ap not h in absurd cc
 behind_by false a b h l = (refl, l)
 
-late_within : (n : Node) (k : Key) (newer : List Entry) (at : Entry) (older : List Entry) → has_sent k (sent_of older) ≡ true → is_new_to_act n k (newer ++ (at ∷ older)) ≡ true → AreWithin n (newer ++ at ∷ [])
+pub late_within : (n : Node) (k : Key) (newer : List Entry) (at : Entry) (older : List Entry) → has_sent k (sent_of older) ≡ true → is_new_to_act n k (newer ++ (at ∷ older)) ≡ true → AreWithin n (newer ++ at ∷ [])
 late_within n k [] at older h l = ((behind_by (has_begun n at.lines) (has_sent k (sent_of older)) (is_new_to_act n k older) h l).0, tt)
 late_within n k (e ∷ newer) at older h l =
     let rest : List Entry = newer ++ (at ∷ older) in
@@ -62,7 +62,7 @@ sent_given k [] sent m e t = absurd cc
 sent_given k (lines.Given place ∷ ls) sent m e t = sent_at k sent place m e t
 sent_given k (l ∷ ls) sent m e t = sent_given k ls sent m e t
 
-ran_within : (n : Node) (reply : Head) (past : List Entry) (user : List ℕ) (call : FsCall) → (r : Ran reply past) → r.message.carried ≡ carried.Call user (ask.File call) → is_new_to_act n (answered_key reply) past ≡ true → AreWithin n (r.newer ++ r.at ∷ [])
+pub ran_within : (n : Node) (reply : Head) (past : List Entry) (user : List ℕ) (call : FsCall) → (r : Ran reply past) → r.message.carried ≡ carried.Call user (ask.File call) → is_new_to_act n (answered_key reply) past ≡ true → AreWithin n (r.newer ++ r.at ∷ [])
 ran_within n reply past user call r carries late =
     let k : Key = answered_key reply in
     let is : is_called k r.message.head r.message.carried ≡ true = ap (is_called k r.message.head) carries ∙ (ap (λ (l : Key). same_key l k) r.key ∙ same_key-refl k) in
