@@ -105,6 +105,7 @@ pub mod Taking
 pub mod Bringing
 pub mod Receiving
 pub mod Entering
+pub mod Trusted
 pub mod Readings
 pub mod Assembled
 pub mod Made

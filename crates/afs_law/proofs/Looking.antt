@@ -162,7 +162,7 @@ ready_more s n f g e past ls index body b up r =
     }
 
 -- what can be shown is read well
-ready_good : (s : Script) (n clock : ℕ) (past : List Entry) (ls : List Line) (need : Need) (e : CacheEntry) (body : ReadBody) → clock_of (onto (lines_of past) ls) ≡ clock → clock < e.expiry → shown_by need e ≡ Some body → Ready s n e.fid e past ls → ShownRead s (Client n) e.fid e.index Cached body past (onto [] ls)
+pub ready_good : (s : Script) (n clock : ℕ) (past : List Entry) (ls : List Line) (need : Need) (e : CacheEntry) (body : ReadBody) → clock_of (onto (lines_of past) ls) ≡ clock → clock < e.expiry → shown_by need e ≡ Some body → Ready s n e.fid e past ls → ShownRead s (Client n) e.fid e.index Cached body past (onto [] ls)
 ready_good s n clock past ls need e body ticks lasts shown r =
     let new : List Line = since (Client n) e.fid e.expiry r.reply past r.grant in
     record {
@@ -232,7 +232,7 @@ pub blank_both : (a b : List Line) → AreBlank a → AreBlank b → AreBlank (a
 blank_both [] b h k = k
 blank_both (l ∷ a) b h k = let q = both (is_blank l) _ h in rw (q.0, blank_both a b q.1 k) refl
 
-blank_read : (ls : List Line) (n : ℕ) (f : Fid) (index : ℕ) (source : ReadSource) (body : ReadBody) → AreBlank ls → AreBlank (ls ++ lines.Read (Client n) f index source body ∷ [])
+pub blank_read : (ls : List Line) (n : ℕ) (f : Fid) (index : ℕ) (source : ReadSource) (body : ReadBody) → AreBlank ls → AreBlank (ls ++ lines.Read (Client n) f index source body ∷ [])
 blank_read ls n f index source body h = blank_both ls (lines.Read (Client n) f index source body ∷ []) h refl
 
 -- ---- they are good, and show nothing above the entries

@@ -217,7 +217,7 @@ pub record IsFront (s : Script) (n : ℕ) (x : ClientState) (clock : ℕ) (past 
   pub each : (f : Fid) (e : CacheEntry) → find_cached f first ≡ Some e → FrontOld s n x clock past ls f e ⊎ FrontNew s n x clock past ls f e
   pub done' : (f : Fid) (server : Node) → HasDone n x f server past
 
-ready_old : (s : Script) (n : ℕ) (x : ClientState) (clock : ℕ) (past : List Entry) (ls : List Line) (f : Fid) (e : CacheEntry) → AreBlank ls → Trusts s n x clock past → ((g : Fid) (u : CacheEntry) → find_cached g x.cache ≡ Some u → IsFetchedEntry n g u past) → HasDone n x f e.server past → clock < e.expiry → FrontOld s n x clock past ls f e → Ready s n f e past ls
+pub ready_old : (s : Script) (n : ℕ) (x : ClientState) (clock : ℕ) (past : List Entry) (ls : List Line) (f : Fid) (e : CacheEntry) → AreBlank ls → Trusts s n x clock past → ((g : Fid) (u : CacheEntry) → find_cached g x.cache ≡ Some u → IsFetchedEntry n g u past) → HasDone n x f e.server past → clock < e.expiry → FrontOld s n x clock past ls f e → Ready s n f e past ls
 ready_old s n x clock past ls f e b T K D lasts F =
     let S : Stands s n x clock f e past = T.entries f e F.found in
     let r : Rests s n f e past = S.rests in

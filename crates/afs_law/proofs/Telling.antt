@@ -205,7 +205,7 @@ pub record IsWell (call : FsCall) (c : Carried) : Type 0 where
   pub told : code_told c ≡ Some (pos 0)
   pub kind : IsKind call c
 
-made_well : (call : FsCall) (expiry id : ℕ) (caller : Caller) (times : Fid → ℕ) (v : Volume) (n : ℕ) → (volume_changed call ≡ None → ⊥) → IsWell call (carried_by expiry (change_reply id caller times v n call))
+pub made_well : (call : FsCall) (expiry id : ℕ) (caller : Caller) (times : Fid → ℕ) (v : Volume) (n : ℕ) → (volume_changed call ≡ None → ⊥) → IsWell call (carried_by expiry (change_reply id caller times v n call))
 made_well (calls.StoreData f st p w l b) expiry id caller times v n some = record { told = refl; kind = refl }
 made_well (calls.StoreAcl f acl) expiry id caller times v n some = record { told = refl; kind = refl }
 made_well (calls.StoreStatus f st) expiry id caller times v n some = record { told = refl; kind = refl }
