@@ -115,7 +115,7 @@ IsBrought s n x m past u = IsFetched s n m u.server (last_key n x) past u.fid u.
 
 -- ---- what was known before, behind lines that show something of other objects
 
-fid_of : (f : Fid) (cache : List CacheEntry) (e : CacheEntry) → find_cached f cache ≡ Some e → e.fid ≡ f
+pub fid_of : (f : Fid) (cache : List CacheEntry) (e : CacheEntry) → find_cached f cache ≡ Some e → e.fid ≡ f
 fid_of f cache e found = same_fid-true e.fid f (found-cached-fid f cache e found)
 
 abbrev pub IsTaken : Script → Cell → List Entry → ℕ → ℕ → Going → Message → Type 0

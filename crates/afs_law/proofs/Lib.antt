@@ -107,6 +107,7 @@ pub mod Receiving
 pub mod Beside
 pub mod Watched
 pub mod Entering
+pub mod Trusted
 pub mod Readings
 pub mod Assembled
 pub mod Made

@@ -31,7 +31,6 @@ use Rattle.afs_law.specs.Legal.{IsCaused, HasChangeBy, GoodRead, HasChange, Lega
 use Rattle.afs_history.specs.declared.lines.Line.{Line}
 use Rattle.afs_law.specs.Once.{past_of, ChangesOnce}
 use Rattle.afs_law.specs.Cells.{IsOfCell}
-use Rattle.afs_law.specs.OneServer.{IsOneServer}
 use Rattle.afs_law.specs.Past.{IsReply, AreWithin, IsUpTo, CalledSince, HasCode, IsCall, lines_of, onto, running, IsUnheard, called_key, answered_key, Ran}
 use Rattle.afs_rows.specs.Runs.{Fall, begun_by_disk, message_at, Leads, start, Input, Entry, Cell, RunsTo, Host, first_lasting, first_stored, volumes_at}
 use Rattle.afs_rows.specs.ServerRow.{Begun, Change, is_client, lasting_after, lasting_started, record_of, serves, runs, refuses, not_served, whole, is_client, no_room, key_of, made, versioned}
@@ -104,7 +103,7 @@ PairsAreKnown = (s : Script) (history : List Entry) (end : Cell) → RunsTo hist
 -- what an idle client trusts can be shown: a read of it from the cache would be good
 abbrev pub TrustedIsGood : Type 0
 TrustedIsGood =
-    (s : Script) (history : List Entry) (end : Cell) → IsOneServer s → RunsTo history s end → (j : ℕ) → (end.clients j).running ≡ None → (f : Fid) (e : CacheEntry) → find_cached f (end.clients j).cache ≡ Some e → end.clock < e.expiry
+    (s : Script) (history : List Entry) (end : Cell) → IsOfCell s → RunsTo history s end → (j : ℕ) → (end.clients j).running ≡ None → (f : Fid) (e : CacheEntry) → find_cached f (end.clients j).cache ≡ Some e → end.clock < e.expiry
     → ((body : Body) → e.body ≡ Some body → GoodRead s (Client j) f e.index Cached (seen.Contents body) (past_of (set_up s ∷ []) history) []) × GoodRead s (Client j) f e.index Cached (seen.Status e.status) (past_of (set_up s ∷ []) history) []
 
 -- a good read shows the newest version where no break of its grant is outstanding
