@@ -1,4 +1,6 @@
 -- The reply for which a client waits, where it comes: it tells what the ideal cell made of its call; and what it brings can be shown.
+use Rattle.afs_law.proofs.Passing.{sent_left}
+use Rattle.afs_law.proofs.Loading.{onto_both}
 use Rattle.afs_history.specs.declared.lines.Line.{Line}
 use Rattle.afs_history.specs.declared.lines.Line.TheVariants as lines
 use Rattle.afs_history.specs.declared.scripts.Script.{Script}
@@ -8,33 +10,31 @@ use Rattle.afs_law.proofs.Addressed.{AsksOf, IsHome, IsServer, callee_server}
 use Rattle.afs_law.proofs.Basics.{ByClient, Each, IfCall, OfCall, both, by_client, each_at, same_key-refl, same_node-true, some_of, yes_no}
 use Rattle.afs_law.proofs.Caused.{is_reply, key_is, ran_one}
 use Rattle.afs_law.proofs.Edits.{index_in}
-use Rattle.afs_law.proofs.Facts.{IsWhole, Seen}
+use Rattle.afs_law.proofs.Words.{IsWhole, Seen}
 use Rattle.afs_law.proofs.Fetching.{Brings, IsBy, IsSight, blank_front, brings, grant_by}
 use Rattle.afs_law.proofs.Firm.{IsFirm}
 use Rattle.afs_law.proofs.Holding.{IsAround, dropped_base}
-use Rattle.afs_law.proofs.Ideals.{AreBlank, blank_last, onto_front}
+use Rattle.afs_law.proofs.Ideals.{AreBlank, blank_last}
 use Rattle.afs_law.proofs.Kept.{GivenKept, kept_first, kept_kept}
-use Rattle.afs_law.proofs.KeysOnce.{HasRun, IsKnown, known_pair, of_change}
+use Rattle.afs_law.proofs.KeysOnce.{HasRun, known_pair, of_change}
 use Rattle.afs_law.proofs.Lasting.{HasRunAt, OwnChange, fate}
 use Rattle.afs_law.proofs.Lone.{Lones, lones_first, lones_kept}
 use Rattle.afs_law.proofs.Moving.{IsKept}
 use Rattle.afs_law.proofs.Ops.{changes_is}
-use Rattle.afs_law.proofs.Reasons.{IsAsked}
-use Rattle.afs_law.proofs.Recent.{has_more, sent_before, sent_given}
+use Rattle.afs_law.proofs.Recent.{sent_before, sent_given}
 use Rattle.afs_law.proofs.Recording.{AreRecorded, IsAgreed, Recorded, agreed, below_agreed, recorded_first, recorded_kept}
 use Rattle.afs_law.proofs.Saving.{later_not}
 use Rattle.afs_law.proofs.Silent.{GivenSilent, silent_first, silent_kept}
-use Rattle.afs_law.proofs.Telling.{HasGrant, IsRefused, IsTold, Tells}
+use Rattle.afs_law.proofs.Telling.{IsRefused, IsTold, Tells}
 use Rattle.afs_law.proofs.Ticking.{HeldTicks, ticks_first, ticks_kept}
 use Rattle.afs_law.proofs.Trusting.{IsKeyed, Waits}
 use Rattle.afs_law.proofs.Truthful.{Truthful, asks_of, truthful_first, truthful_kept}
-use Rattle.afs_law.proofs.Users.{given_each, older_each}
+use Rattle.afs_law.proofs.Sent.{given_each, older_each}
 use Rattle.afs_law.specs.Breaks.{HasStopped}
 use Rattle.afs_law.specs.ClientParts.{IsUnspoiled}
 use Rattle.afs_law.specs.Grants.{GrantOf, IsDropped, IsWithdrawn, since, until}
 use Rattle.afs_law.specs.Ideal.{IsLast, call_under, is_at, last_version, set_up}
-use Rattle.afs_law.specs.Legal.{IsLater}
-use Rattle.afs_law.specs.Past.{HasCode, IsCall, IsReply, Ran, answered_key, called_key, code_told, given_message, has_sent, is_called, lines_of, lines_on, onto, same_key, sent_of, server_boot}
+use Rattle.afs_law.specs.Past.{HasCode, IsReply, Ran, answered_key, called_key, code_told, given_message, has_sent, is_called, lines_of, lines_on, onto, same_key, sent_of}
 use Rattle.afs_num.specs.Nodes.{same_node}
 use Rattle.afs_num.specs.declared.calls.FsCall.{FsCall}
 use Rattle.afs_num.specs.declared.calls.FsReply.{FsReply}
@@ -54,11 +54,12 @@ use Rattle.afs_num.specs.declared.types.Node.{Node}
 use Rattle.afs_num.specs.declared.types.Node.TheVariants.{Client, Server}
 use Rattle.afs_rows.specs.ClientRow.{call_of, is_awaited, names_call, opcode_of, server_at}
 use Rattle.afs_rows.specs.Going.{ClientState, Going}
-use Rattle.afs_rows.specs.Runs.{Cell, Entry, locations, message_at, moved, start}
+use Rattle.afs_rows.specs.Runs.{Cell, Entry, locations, message_at, start}
 use Rattle.afs_rows.specs.ServerRow.{promised_in}
-use Rattle.std.proofs.Common.{◌≡◌, ◌≤◌, ℕ, ◌⊎◌, inl, inr, Bool, true, false, cond, eqb-true, nat_eq, List, [], ◌∷◌, ◌++◌, Option, Some, None, pos, refl, sym, ap, subst, ◌∙◌, le_of_eq}
+use Rattle.std.proofs.Common.{◌≡◌, ◌≤◌, ℕ, ◌⊎◌, inl, inr, true, false, eqb-true, nat_eq, List, [], ◌∷◌, ◌++◌, Option, Some, None, pos, refl, sym, ap, subst, ◌∙◌, le_of_eq}
 use Rattle.std.specs.Option.{option_map}
 use Rattle.std.specs.Prelude.{◌&&◌}
+use Rattle.afs_law.proofs.Backing.{entries_same, entry_same}
 
 -- ---- what is known of a run
 
@@ -195,20 +196,14 @@ record IsBehind (a : List Entry) (newer : List Entry) (at : Entry) : Type 0 wher
   mid : List Entry
   split : a ≡ newer ++ (at ∷ mid)
 
-rest_of : (x y : Entry) (a b : List Entry) → x ∷ a ≡ y ∷ b → a ≡ b
-rest_of x y a b e = cc
-
-head_of : (x y : Entry) (a b : List Entry) → x ∷ a ≡ y ∷ b → x ≡ y
-head_of x y a b e = cc
-
 stands_behind : (k : Key) (a : List Entry) (x : Entry) (b newer : List Entry) (at : Entry) (older : List Entry) → a ++ (x ∷ b) ≡ newer ++ (at ∷ older) → has_sent k (sent_of b) ≡ false → has_sent k (sent_of older) ≡ true → IsBehind a newer at
-stands_behind k [] x b [] at older e none some = absurd (yes_no (has_sent k (sent_of older)) some (subst (λ (p : List Entry). has_sent k (sent_of p) ≡ false) (rest_of x at b older e) none))
+stands_behind k [] x b [] at older e none some = absurd (yes_no (has_sent k (sent_of older)) some (subst (λ (p : List Entry). has_sent k (sent_of p) ≡ false) (entries_same x at b older e) none))
 stands_behind k [] x b (y ∷ newer) at older e none some =
-    absurd (yes_no (has_sent k (sent_of b)) (subst (λ (p : List Entry). has_sent k (sent_of p) ≡ true) (sym (rest_of x y b (newer ++ (at ∷ older)) e)) (sent_before k newer (at ∷ older) (has_more k (sent_of older) at.sent some))) none)
-stands_behind k (z ∷ a) x b [] at older e none some = record { mid = a; split = ap (λ (q : Entry). q ∷ a) (head_of z at (a ++ (x ∷ b)) older e) }
+    absurd (yes_no (has_sent k (sent_of b)) (subst (λ (p : List Entry). has_sent k (sent_of p) ≡ true) (sym (entries_same x y b (newer ++ (at ∷ older)) e)) (sent_before k newer (at ∷ older) (sent_left k (sent_of older) at.sent some))) none)
+stands_behind k (z ∷ a) x b [] at older e none some = record { mid = a; split = ap (λ (q : Entry). q ∷ a) (entry_same z at (a ++ (x ∷ b)) older e) }
 stands_behind k (z ∷ a) x b (y ∷ newer) at older e none some =
-    let r : IsBehind a newer at = stands_behind k a x b newer at older (rest_of z y (a ++ (x ∷ b)) (newer ++ (at ∷ older)) e) none some in
-    record { mid = r.mid; split = ap (λ (q : Entry). q ∷ a) (head_of z y (a ++ (x ∷ b)) (newer ++ (at ∷ older)) e) ∙ ap (λ (p : List Entry). y ∷ p) r.split }
+    let r : IsBehind a newer at = stands_behind k a x b newer at older (entries_same z y (a ++ (x ∷ b)) (newer ++ (at ∷ older)) e) none some in
+    record { mid = r.mid; split = ap (λ (q : Entry). q ∷ a) (entry_same z y (a ++ (x ∷ b)) (newer ++ (at ∷ older)) e) ∙ ap (λ (p : List Entry). y ∷ p) r.split }
 
 pub lines_more : (a b : List Entry) (o : List Line) → lines_on o (a ++ b) ≡ lines_on (lines_on o b) a
 lines_more [] b o = refl
@@ -223,11 +218,10 @@ since_sent : (s c : Node) (f : Fid) (a newer : List Entry) (at : Entry) (before 
 since_sent s c f a newer at before after l r line d =
     subst (λ (p : List Entry). IsDropped s c f (lines_on [] p)) (sym r.split) (subst (IsDropped s c f) (sym (lines_more newer (at ∷ r.mid) []))
     (drops_base s c f newer (onto [] after) (onto (lines_on [] r.mid) at.lines)
-    (λ z. subst (IsDropped s c f) (sym (ap (onto (lines_on [] r.mid)) line ∙ onto_front (lines_on [] r.mid) before (l ∷ after))) (dropped_base s c f after [] (l ∷ onto (lines_on [] r.mid) before) (λ q. absurd q) z)) d))
+    (λ z. subst (IsDropped s c f) (sym (ap (onto (lines_on [] r.mid)) line ∙ onto_both (lines_on [] r.mid) before (l ∷ after))) (dropped_base s c f after [] (l ∷ onto (lines_on [] r.mid) before) (λ q. absurd q) z)) d))
 
 pub is_its_call : (k : Key) (h : Head) (x : Carried) (user : List ℕ) (call : FsCall) → x ≡ carried.Call user (ask.File call) → called_key h ≡ k → is_called k h x ≡ true
 is_its_call k h x user call e same = subst (λ (y : Carried). is_called k h y ≡ true) (sym e) (ap (λ (l : Key). same_key l k) same ∙ same_key-refl k)
-
 
 abbrev run_at : (n : ℕ) (m : Message) (past : List Entry) (ran : Ran m.head past) → m.head.to ≡ Client n → (HasStopped m.head.from ran.at.lines → ⊥) → HasRunAt m.head.from n ran.at ran.older
 run_at n m past ran to going = record {

@@ -4,9 +4,9 @@ use Rattle.afs_history.specs.declared.lines.Line.TheVariants as lines
 use Rattle.afs_history.specs.declared.scripts.Script.{Script}
 use Rattle.afs_law.proofs.Acting.{is_of}
 use Rattle.afs_law.proofs.Backing.{all_lines}
-use Rattle.afs_law.proofs.Basics.{both, raised_up_to, same_fid-true, some_of}
+use Rattle.afs_law.proofs.Basics.{both, raised_up_to, same_fid-true}
 use Rattle.afs_law.proofs.Edits.{index_in, touches}
-use Rattle.afs_law.proofs.Facts.{Reached}
+use Rattle.afs_law.proofs.Words.{Reached}
 use Rattle.afs_law.proofs.Holding.{IsBeside}
 use Rattle.afs_law.proofs.Ideals.{AreBlank, blank_by, of_blank}
 use Rattle.afs_law.proofs.Latest.{has_onto}
@@ -14,7 +14,7 @@ use Rattle.afs_law.proofs.Looking.{reach_blank}
 use Rattle.afs_law.proofs.Origins.{all_idle, idle_leaves, is_idle, other_leaves, other_node}
 use Rattle.afs_law.proofs.Proceeding.{silent_reach}
 use Rattle.afs_law.proofs.Recording.{IsAgreed, IsSaved}
-use Rattle.afs_law.proofs.Serving.{last_has}
+use Rattle.afs_law.proofs.Finding.{last_has}
 use Rattle.afs_law.specs.ClientParts.{is_silent}
 use Rattle.afs_law.specs.Ideal.{HasVersion, Reach, is_zero_code, last_version, raised, reach, reach_over}
 use Rattle.afs_law.specs.Past.{is_of_act, lines_of, onto}
@@ -28,7 +28,7 @@ use Rattle.afs_num.specs.declared.types.Node.{Node}
 use Rattle.afs_num.specs.declared.types.Node.TheVariants.{Client, Server}
 use Rattle.afs_rows.specs.Runs.{Entry}
 use Rattle.afs_rows.specs.ServerRow.{versioned}
-use Rattle.std.proofs.Common.{◌≡◌, ◌≤◌, ℕ, ◌⊎◌, inl, inr, Bool, true, false, cond, List, [], ◌∷◌, ◌++◌, Option, Some, None, refl, sym, ap, subst, ◌∙◌, le_trans, arith}
+use Rattle.std.proofs.Common.{◌≡◌, ◌≤◌, ℕ, ◌⊎◌, inl, inr, Bool, true, false, cond, List, [], ◌∷◌, Option, Some, None, refl, sym, ap, subst, ◌∙◌, le_trans, arith}
 use Rattle.std.specs.Prelude.{◌&&◌}
 
 -- ---- a server's lines

@@ -4,27 +4,25 @@ use Rattle.afs_history.specs.declared.lines.Line.TheVariants as lines
 use Rattle.afs_history.specs.declared.scripts.Script.{Script}
 use Rattle.afs_ideal.specs.Operations.{volume_changed}
 use Rattle.afs_law.proofs.Acting.{last_key}
-use Rattle.afs_law.proofs.Answering.{put_found}
-use Rattle.afs_law.proofs.Apart.{found_filter, found_out}
-use Rattle.afs_law.proofs.Arriving.{Arrives, Based, IsFetched, around, by_of, fetched, index_is, is_its_call}
+use Rattle.afs_law.proofs.Apart.{found_filter, found_out, put_found}
+use Rattle.afs_law.proofs.Arriving.{Arrives, Based, IsFetched, around, fetched, index_is, is_its_call}
 use Rattle.afs_law.proofs.Ascending.{Ascend}
-use Rattle.afs_law.proofs.Basics.{both, found-cached-fid, raised_up_to, same_fid-refl, same_fid-true, same_node-refl, some_of}
+use Rattle.afs_law.proofs.Basics.{both, found-cached-fid, raised_up_to, same_fid-refl, same_fid-true, same_node-refl}
 use Rattle.afs_law.proofs.Edits.{granted_in, index_in}
-use Rattle.afs_law.proofs.Facts.{IsBody, IsWhole, Seen}
-use Rattle.afs_law.proofs.Fetching.{AreSights, IsBy, IsRights, IsSight}
+use Rattle.afs_law.proofs.Words.{IsBody, IsWhole, Seen}
+use Rattle.afs_law.proofs.Fetching.{IsRights}
 use Rattle.afs_law.proofs.Ideals.{AreBlank, blank_last}
 use Rattle.afs_law.proofs.Kept.{AreElse, IsAmong, Spares, all_fetched, dropped_fetched, dropped_spares, else_none, fetched_off, fetched_on, looks_spare, none_fetched, not_true, other_fid}
 use Rattle.afs_law.proofs.Lasting.{withdrawn_onto}
 use Rattle.afs_law.proofs.Latest.{has_onto}
-use Rattle.afs_law.proofs.Law.{any_home}
-use Rattle.afs_law.proofs.Looking.{HasNoZero, IsShown, ReadsUpTo, ShownBy, ShownRead, ShownRights, blank_read, by_promise, made_still, reach_blank, seen_up}
-use Rattle.afs_law.proofs.Origins.{of_client}
+use Rattle.afs_law.proofs.SettingUp.{any_home}
+use Rattle.afs_law.proofs.Looking.{HasNoZero, IsShown, ReadsUpTo, ShownRead, blank_read, by_promise, made_still, reach_blank, seen_up, begun_by}
 use Rattle.afs_law.proofs.Recent.{ran_within}
 use Rattle.afs_law.proofs.Recording.{IsAgreed}
 use Rattle.afs_law.proofs.Resolving.{done_reading}
 use Rattle.afs_law.proofs.Proceeding.{Result}
 use Rattle.afs_law.proofs.Taking.{FrontNew, FrontOld, IsFront, dropped_blank, dropped_unread, dropped_zero, unread_up, walks_result}
-use Rattle.afs_law.proofs.Trusting.{IsKeyed, Stands, Trusts, Waits}
+use Rattle.afs_law.proofs.Trusting.{IsKeyed, Trusts}
 use Rattle.afs_law.proofs.Walking.{back_again, lines_assoc, looked_message, looked_more, onto_last, own_lines}
 use Rattle.afs_law.specs.Grants.{IsDropped, IsWithdrawn, has_fetched, is_promised, since, until}
 use Rattle.afs_law.specs.Ideal.{HasVersion, IsLast, is_at, Reach, Unless, WasBefore, WasLast, clock_of, last_version, reach, reach_over}
@@ -33,9 +31,6 @@ use Rattle.afs_law.specs.Parts.{EachLine}
 use Rattle.afs_law.specs.Past.{AreWithin, begins_act, code_told, given_message, has_begun, is_called, is_new_to_act, lines_of, onto, sent_of}
 use Rattle.afs_num.specs.Fids.{same_fid}
 use Rattle.afs_num.specs.Nodes.{same_node}
-use Rattle.afs_num.specs.declared.calls.AfsCallBack.{AfsCallBack}
-use Rattle.afs_num.specs.declared.calls.AfsFetchStatus.{AfsFetchStatus}
-use Rattle.afs_num.specs.declared.calls.AfsVolSync.{AfsVolSync}
 use Rattle.afs_num.specs.declared.histories.Actor.{Actor}
 use Rattle.afs_num.specs.declared.histories.Actor.TheVariants as actors
 use Rattle.afs_num.specs.declared.histories.Body.{Body}
@@ -49,13 +44,14 @@ use Rattle.afs_num.specs.declared.types.Fid.{Fid}
 use Rattle.afs_num.specs.declared.types.Key.{Key}
 use Rattle.afs_num.specs.declared.types.Node.{Node}
 use Rattle.afs_num.specs.declared.types.Node.TheVariants.{Client}
-use Rattle.afs_rows.specs.ClientRow.{body_kept, call_of, dropped, entries_told, entry_told, find_cached, given, is_named, is_older, is_trusted, joined, look_at, looked, names_call, put_entries, put_entry, read_lines, status_look, status_told, takes_rights, walks_on, with_statuses}
+use Rattle.afs_rows.specs.ClientRow.{body_kept, call_of, dropped, find_cached, given, is_older, joined, look_at, looked, put_entries, put_entry, read_lines, status_look, takes_rights, walks_on, with_statuses}
 use Rattle.afs_rows.specs.Going.{ClientState, Going, with_read}
 use Rattle.afs_rows.specs.Runs.{Cell, Entry, message_at}
 use Rattle.afs_rows.specs.States.{CacheEntry}
-use Rattle.std.proofs.Common.{◌≡◌, ◌≤◌, ◌<◌, ℕ, ◌⊎◌, inl, inr, Bool, true, false, cond, filter, not, eqb-true, nat_eq, nat_lt, ltb-false, ltb-true, List, [], ◌∷◌, ◌++◌, map, Option, Some, None, pos, refl, sym, ap, subst, ◌∙◌, append-nil, le_of_eq, arith}
+use Rattle.std.proofs.Common.{◌≡◌, ◌≤◌, ◌<◌, ℕ, ◌⊎◌, inl, inr, Bool, true, false, cond, filter, not, eqb-true, nat_eq, nat_lt, ltb-false, List, [], ◌∷◌, ◌++◌, map, Option, Some, None, pos, refl, sym, ap, subst, ◌∙◌, append-nil, le_of_eq}
 use Rattle.std.specs.Option.{option_map}
 use Rattle.std.specs.Prelude.{⊤, ◌&&◌, ◌||◌}
+use Rattle.afs_law.proofs.Following.{named_later}
 
 -- ---- one object
 
@@ -166,7 +162,7 @@ entry_front s c past n place act m u body capacity B T a p shows lasts F =
         tt,
         (
           by_promise s (is_promised body) (Client n) u.fid u.index Fetched body past (lines.Given place ∷ []) p
-          (fetched_shown s n c.clock m u.server (last_key n x) past u.fid u.index u.status u.body u.expiry body (lines.Given place ∷ []) refl B.ticks.1 lasts a.0.1 F.low (λ o d. d) shows F),
+              (fetched_shown s n c.clock m u.server (last_key n x) past u.fid u.index u.status u.body u.expiry body (lines.Given place ∷ []) refl B.ticks.1 lasts a.0.1 F.low (λ o d. d) shows F),
           h,
         ),
       );
@@ -225,14 +221,10 @@ statuses_shown s n clock x m past older (u ∷ us) ls tail h t b ticks given spa
     let rest : List Line = looked (Client n) (map status_look us) [] in (
       fetched_shown s n clock m u.server (last_key n x) past u.fid u.index u.status u.body u.expiry (seen.Status u.status) ls b ticks t.0 given low.0 (spares u.server u.fid) refl h.0.0,
       subst (λ (o : List Line). EachLine (IsShown s) (actors.Node (Client n)) past o (looked (Client n) (map status_look us) tail)) (onto_last [] ls l)
-      (statuses_shown s n clock x m past older us (ls ++ l ∷ []) tail h.1 t.1 (blank_read ls n u.fid u.index Fetched (seen.Status u.status) b) (ap clock_of (onto_last (lines_of past) ls l) ∙ ticks) (ap (λ (o : List Line). given_message o (sent_of past)) (onto_last [] ls l) ∙ given)
-      (λ q f o d. spares q f o (subst (IsDropped q (Client n) f) (onto_last o ls l) d)) (low_more s n x m past older ls u us b h.0.1 h.1 low.1)
-      (subst (λ (o : List Line). EachLine (IsShown s) (actors.Node (Client n)) past (onto [] o) tail) (sym (lines_assoc ls rest l)) w)),
+          (statuses_shown s n clock x m past older us (ls ++ l ∷ []) tail h.1 t.1 (blank_read ls n u.fid u.index Fetched (seen.Status u.status) b) (ap clock_of (onto_last (lines_of past) ls l) ∙ ticks) (ap (λ (o : List Line). given_message o (sent_of past)) (onto_last [] ls l) ∙ given)
+          (λ q f o d. spares q f o (subst (IsDropped q (Client n) f) (onto_last o ls l) d)) (low_more s n x m past older ls u us b h.0.1 h.1 low.1)
+          (subst (λ (o : List Line). EachLine (IsShown s) (actors.Node (Client n)) past (onto [] o) tail) (sym (lines_assoc ls rest l)) w)),
     )
-
-or_back : (t b : Bool) → b ≡ true → cond t true b ≡ true
-or_back true b h = refl
-or_back false b h = h
 
 -- which of them a cache then has
 puts_kind : (s : Script) (n : ℕ) (x : ClientState) (m : Message) (past older : List Entry) (capacity : ℕ) (es cache : List CacheEntry) (f : Fid) (e : CacheEntry) → Ascend (lines_of past) → AllBrought s n x m past older es → ((g : Fid) (o : CacheEntry) → find_cached g cache ≡ Some o → IsWhole g o.index o.status o.body past) → find_cached f (put_entries capacity es cache) ≡ Some e
@@ -247,15 +239,18 @@ puts_kind s n x m past older capacity (u ∷ us) cache f e A h w found =
     ]) found) [
       | inl y ↦ inl (inr y.0, y.1)
       | inr y ↦ elim (put_found capacity f u cache e y.1) [
-        | inl z ↦ inl (inl z.0, subst (λ (k : CacheEntry). IsFetched s n m k.server (last_key n x) past f k.index k.status k.body k.expiry × (index_in (last_version f (lines_of older)) ≡ k.index)) z.1
-            (subst (λ (g : Fid). IsFetched s n m u.server (last_key n x) past g u.index u.status v.body u.expiry × (index_in (last_version g (lines_of older)) ≡ u.index)) z.0 (F, h.0.1)))
+        | inl z ↦ inl (
+          inl z.0,
+          subst (λ (k : CacheEntry). IsFetched s n m k.server (last_key n x) past f k.index k.status k.body k.expiry × (index_in (last_version f (lines_of older)) ≡ k.index)) z.1
+              (subst (λ (g : Fid). IsFetched s n m u.server (last_key n x) past g u.index u.status v.body u.expiry × (index_in (last_version g (lines_of older)) ≡ u.index)) z.0 (F, h.0.1)),
+        )
         | inr z ↦ inr ((z.0, y.0), z.1)
       ]
     ]
 
 kept_fetched : (n : ℕ) (f : Fid) (es : List CacheEntry) (o : List Line) → has_fetched (Client n) f o ≡ true → has_fetched (Client n) f (onto o (looked (Client n) (map status_look es) [])) ≡ true
 kept_fetched n f [] o h = h
-kept_fetched n f (u ∷ us) o h = kept_fetched n f us (read_of n u ∷ o) (or_back (true && (same_node (Client n) (Client n) && same_fid u.fid f)) (has_fetched (Client n) f o) h)
+kept_fetched n f (u ∷ us) o h = kept_fetched n f us (read_of n u ∷ o) (named_later (true && (same_node (Client n) (Client n) && same_fid u.fid f)) (has_fetched (Client n) f o) h)
 
 back_fetched : (n : ℕ) (f : Fid) (es : List CacheEntry) (o : List Line) → IsAmong f es → has_fetched (Client n) f (onto o (looked (Client n) (map status_look es) [])) ≡ true
 back_fetched n f [] o h = absurd h
@@ -299,8 +294,11 @@ bulk_front s c past older n place act m es capacity B T a trusted h =
     record {
       on = λ tail. ap (λ (o : List Line). lines.Given place ∷ o) (looked_more (Client n) (map status_look es) tail);
       blank = statuses_blank n es;
-      shown = λ tail w. (tt, subst (EachLine (IsShown s) (actors.Node (Client n)) past (lines.Given place ∷ [])) (looked_more (Client n) (map status_look es) tail)
-          (statuses_shown s n c.clock x m past older es (lines.Given place ∷ []) tail h trusted refl B.ticks.1 a.0.1 (λ q f o d. d) (first_low s n place x m past older es h) w));
+      shown = λ tail w. (
+        tt,
+        subst (EachLine (IsShown s) (actors.Node (Client n)) past (lines.Given place ∷ [])) (looked_more (Client n) (map status_look es) tail)
+            (statuses_shown s n c.clock x m past older es (lines.Given place ∷ []) tail h trusted refl B.ticks.1 a.0.1 (λ q f o d. d) (first_low s n place x m past older es h) w),
+      );
       up = λ f. statuses_up s n x m past older es f (index_in (last_version f (lines_of past))) [] h (λ u e F i. subst (λ (g : Fid). u.index ≤ index_in (last_version g (lines_of past))) e (A.ascend.top u.fid u.index F.whole.is F.whole.told)) tt;
       zero' = λ f. made_still (Client n) f past false (reach (Client n) f past) (lines.Given place ∷ rs) (statuses_blank n es) (statuses_begun n es) ∙ (T.waits act a.0.0.runs).made a.1.1 f;
       ticks = statuses_clock n es (lines.Given place ∷ lines_of past) ∙ B.ticks.1;
@@ -337,16 +335,12 @@ bulk_result s c past older n place act m es B T a trusted h =
 
 -- ---- rights
 
-either_off : (t b : Bool) → cond t true b ≡ false → (t ≡ false) × (b ≡ false)
-either_off true b e = absurd cc
-either_off false b e = (refl, e)
-
 within_line : (c : Node) (f : Fid) (i : ℕ) (l : Line) (ls : List Line) → begins_act c l ≡ false → WasLast c f i ls → WasLast c f i (l ∷ ls)
 within_line c f i l ls e h = inr (subst (λ (t : Bool). Unless t (IsLast f i ls ⊎ WasBefore c f i ls)) (sym e) h)
 
 within_lines : (c : Node) (f : Fid) (i : ℕ) (ls o : List Line) → has_begun c ls ≡ false → WasLast c f i o → WasLast c f i (onto o ls)
 within_lines c f i [] o e h = h
-within_lines c f i (l ∷ ls) o e h = let p = either_off (begins_act c l) (has_begun c ls) e in within_lines c f i ls (l ∷ o) p.1 (within_line c f i l o p.0 h)
+within_lines c f i (l ∷ ls) o e h = let p = begun_by (begins_act c l) (has_begun c ls) e in within_lines c f i ls (l ∷ o) p.1 (within_line c f i l o p.0 h)
 
 within_entries : (c : Node) (f : Fid) (i : ℕ) (es older : List Entry) → AreWithin c es → WasLast c f i (lines_of older) → WasLast c f i (lines_of (es ++ older))
 within_entries c f i [] older w h = h

@@ -6,14 +6,14 @@ use Rattle.afs_law.proofs.Addressed.{IsServer, callee_server}
 use Rattle.afs_law.proofs.Basics.{ByClient, Each, IfCall, IfReply, OfCall, OfClient, OfReply, by_client, each_at, some_of}
 use Rattle.afs_law.proofs.KeysOnce.{IsKnown}
 use Rattle.afs_law.specs.Laws.{RepliesAreCaused}
-use Rattle.afs_law.proofs.Facts.{IsOne}
+use Rattle.afs_law.proofs.Words.{IsOne}
 use Rattle.afs_law.proofs.Firm.{IsFirm}
 use Rattle.afs_law.proofs.Moving.{run_keeps}
 use Rattle.afs_law.proofs.Nexts.{asks_is}
 use Rattle.afs_law.proofs.Origins.{KnownAsked}
 use Rattle.afs_law.proofs.Telling.{IsTold, Tells}
 use Rattle.afs_law.proofs.Truthful.{Truthful, truthful_first, truthful_kept}
-use Rattle.afs_law.proofs.Users.{given_each, older_each}
+use Rattle.afs_law.proofs.Sent.{given_each, older_each}
 use Rattle.afs_law.specs.Ideal.{call_under, set_up, user_of}
 use Rattle.afs_law.specs.Legal.{Cause, as_asked}
 use Rattle.afs_law.specs.Once.{past_of}

@@ -6,18 +6,17 @@ use Rattle.afs_ideal.specs.Operations.{volume_called}
 use Rattle.afs_ideal.specs.Tables.{Table}
 use Rattle.afs_law.proofs.Acting.{begins_acts, given_acts, is_of, waits_acts}
 use Rattle.afs_law.proofs.Backing.{all_lines}
-use Rattle.afs_law.proofs.Basics.{Above, IfCall, both, each_at}
+use Rattle.afs_law.proofs.Basics.{Above, IfCall, both, each_at, runs_admitted}
 use Rattle.afs_law.proofs.Choosing.{Saves, Works, disk_works, is_from, risen_from, risen_lines, serves_works, starts_works, times_works, wakes_works}
 use Rattle.afs_law.proofs.Cutting.{CutOf, CutsIn, HearsCuts, comes_first, cuts_moves, now_up}
 use Rattle.afs_law.proofs.Edits.{on_top}
-use Rattle.afs_law.proofs.Facts.{IsOne, Origin}
+use Rattle.afs_law.proofs.Words.{IsOne, Origin}
 use Rattle.afs_law.proofs.Ideals.{AreBlank, CutIs, Held, IsCalled, IsSent, Saved, blank_by, blank_key, blow_blank, cut_by, found_volume, from_blank, held_kept, is_blank, no_more, of_blank, of_this, own_from, saved_at, volumes_first}
 use Rattle.afs_law.proofs.KeysOnce.{HasRun, IsKnown, any_told, by_key, new_key, not_run, of_change, server_number}
-use Rattle.afs_law.proofs.Law.{any_home}
+use Rattle.afs_law.proofs.SettingUp.{any_home}
 use Rattle.afs_law.proofs.Moving.{Behind, EachMove, IsKept, each_moved}
 use Rattle.afs_law.proofs.Origins.{asked_first}
 use Rattle.afs_law.proofs.Saving.{first_on, later_by}
-use Rattle.afs_law.proofs.Standing.{runs_admitted}
 use Rattle.afs_law.specs.Breaks.{HasStopped}
 use Rattle.afs_law.specs.Ideal.{change_key, set_up, user_of}
 use Rattle.afs_law.specs.Legal.{EndsBoot, HasChangeBy, IdealChange, IsNew, as_asked, versions_first}

@@ -282,8 +282,6 @@ pub wakes_works : (P : Message → List Line → List Line → Type 0) (me : Nod
 unfolding wake_row
 wakes_works P me x clock = inl (record { left = same_left _; lines = refl })
 
--- what a restart begins with, before these lines
-
 after_works : (P : Message → List Line → List Line → Type 0) (me : Node) (x : ServerState) (clock : ℕ) (m : Message) (d : Decision) (ls : List Line) → P m [] ls → IfSaves (Chosen me x m) d → AreFrom me ls → Works P me x (begun_after me x clock d).state.lasting.volumes ((begun_after me x clock d).before ls)
 after_works P me x clock m (saves head ch) ls p c h = inr (record { message = m; head = head; change = ch; clock = clock; chosen = c; front = []; rest = ls; split = refl; before = refl; behind = h; left = same_left _; given = p })
 after_works P me x clock m d ls p c h = inl (record { left = same_left _; lines = h })

@@ -4,23 +4,22 @@ use Rattle.afs_history.specs.declared.lines.Line.TheVariants as lines
 use Rattle.afs_history.specs.declared.scripts.Script.{Script}
 use Rattle.afs_ideal.specs.Operations.{Result, changes}
 use Rattle.afs_law.proofs.Addressed.{IsHome, IsServer}
-use Rattle.afs_law.proofs.Asking.{called_one, each_front}
+use Rattle.afs_law.proofs.Sent.{called_one, each_front, given_each}
 use Rattle.afs_law.proofs.Basics.{Each, IfCall, IfReply, some_of}
 use Rattle.afs_law.proofs.Caused.{IsOfCallee, of_callee, ran_one}
 use Rattle.afs_law.proofs.Changing.{run_each}
 use Rattle.afs_law.proofs.Due.{run_due}
-use Rattle.afs_law.proofs.Facts.{IsOne}
+use Rattle.afs_law.proofs.Words.{IsOne}
 use Rattle.afs_law.proofs.Ideals.{of_this}
 use Rattle.afs_law.proofs.KeysOnce.{IsKnown}
 use Rattle.afs_law.proofs.Origins.{KnownAsked}
 use Rattle.afs_law.proofs.Placing.{run_placed}
-use Rattle.afs_law.proofs.Telling.{IsTold, Tells}
+use Rattle.afs_law.proofs.Telling.{IsTold, Tells, key_more}
 use Rattle.afs_law.proofs.Truthful.{Truthful, truthful_first, truthful_kept}
-use Rattle.afs_law.proofs.Users.{given_each}
 use Rattle.afs_law.specs.ClientParts.{AnswersAreGood, IsDue, IsDueCode, IsGivenAtOnce, IsReplied}
 use Rattle.afs_law.specs.Cells.{IsOfCell}
 use Rattle.afs_law.specs.Ideal.{change_in, set_up, user_of}
-use Rattle.afs_law.specs.Legal.{GoodCode, HasChange, HasNothing, IsCaused, IsInPlace, IsKey, IsOfClient, IsResult, IsTold as IsToldOf, answer_at, as_asked}
+use Rattle.afs_law.specs.Legal.{GoodCode, HasChange, HasNothing, IsCaused, IsInPlace, IsOfClient, IsResult, IsTold as IsToldOf, answer_at, as_asked}
 use Rattle.afs_law.specs.Parts.{EachEntry, EachLine}
 use Rattle.afs_law.specs.Past.{CalledSince, Sends, answered_key, called_key, lines_of, sent_of}
 use Rattle.afs_law.specs.ServerParts.{IsCodeGood, IsKind}
@@ -37,7 +36,7 @@ use Rattle.afs_num.specs.declared.types.Node.TheVariants.{Admin, Client, Loc, Se
 use Rattle.afs_rows.specs.Going.{ClientState, Going}
 use Rattle.afs_rows.specs.Runs.{Cell, Entry, start}
 use Rattle.afs_rows.specs.ServerRow.{key_of}
-use Rattle.std.proofs.Common.{◌≡◌, ℕ, ℤ, inl, inr, List, [], ◌∷◌, ◌++◌, Option, Some, None, sym, ap, subst, ◌∙◌}
+use Rattle.std.proofs.Common.{◌≡◌, ℕ, ℤ, inl, inr, List, [], ◌∷◌, ◌++◌, Option, Some, sym, ap, subst, ◌∙◌}
 
 -- ---- a reply to a client's call is of a server
 
@@ -74,13 +73,9 @@ callee_server s callees clients j k user call past node called known homes =
 
 -- ---- the cause
 
-key_front : (k : Key) (o : Option Key) (X : Type 0) → X → IsKey k o X
-key_front k None X h = h
-key_front k (Some l) X h = inr h
-
 change_front : (k : Key) (own o : List Line) → HasChange k o → HasChange k (own ++ o)
 change_front k [] o h = h
-change_front k (l ∷ own) o h = key_front k (change_in l) (HasChange k (own ++ o)) (change_front k own o h)
+change_front k (l ∷ own) o h = key_more k (change_in l) (HasChange k (own ++ o)) (change_front k own o h)
 
 told_front : (k : Key) (r : Option Result) (own o : List Line) → IsToldOf k r o → IsToldOf k r (own ++ o)
 told_front k (Some (changes es shown)) own o h = change_front k own o h

@@ -5,12 +5,12 @@ use Rattle.afs_history.specs.declared.lines.Line.TheVariants as lines
 use Rattle.afs_history.specs.declared.scripts.Script.{Script}
 use Rattle.afs_ideal.specs.Operations.{volume_changed}
 use Rattle.afs_law.proofs.Acting.{last_key, read_all, walked_reads}
-use Rattle.afs_law.proofs.Asking.{call_is}
+use Rattle.afs_law.proofs.Sent.{call_is}
 use Rattle.afs_law.proofs.Backing.{all_lines}
 use Rattle.afs_law.proofs.Basics.{a_key, at_put, both, each_at, same_node-refl, some_of}
 use Rattle.afs_law.proofs.Changing.{run_each}
 use Rattle.afs_law.proofs.Choosing.{disk_works, one_from, risen_from, risen_lines, serves_works, starts_works, times_works, wakes_works}
-use Rattle.afs_law.proofs.Facts.{IsOpen, is_passing}
+use Rattle.afs_law.proofs.Words.{IsOpen, is_passing}
 use Rattle.afs_law.proofs.Firm.{IsFirm}
 use Rattle.afs_law.proofs.Following.{AreOpen}
 use Rattle.afs_law.proofs.Moving.{Behind, EachMove, IsKept, each_moved}

@@ -1,23 +1,22 @@
 -- What a reply to a reading call of a client brings: what the object was where the call ran, and the promise that was made there.
 use Rattle.afs_history.specs.declared.lines.Line.{Line}
-use Rattle.afs_history.specs.declared.lines.Line.TheVariants as lines
 use Rattle.afs_history.specs.declared.scripts.Script.{Script}
 use Rattle.afs_ideal.specs.AccessLists.{acl_text}
 use Rattle.afs_ideal.specs.Operations.{Caller, Found}
 use Rattle.afs_ideal.specs.Volumes.{Volume, a_directory, body_of, bytes_by, type_of, version_at, vnode_of}
 use Rattle.afs_law.proofs.Basics.{both}
-use Rattle.afs_law.proofs.Edits.{Sound, SoundIn, index_in, live_index}
-use Rattle.afs_law.proofs.Facts.{IsBody, IsWhole}
-use Rattle.afs_law.proofs.Ideals.{AreBlank, blank_last, is_blank}
+use Rattle.afs_law.proofs.Edits.{Sound, SoundIn, live_index}
+use Rattle.afs_law.proofs.Words.{IsBody, IsWhole}
+use Rattle.afs_law.proofs.Ideals.{AreBlank, is_blank}
 use Rattle.afs_law.proofs.Latest.{has_onto}
-use Rattle.afs_law.proofs.Reasons.{AllSeen, IsAsked, IsOneOf, IsRead, IsSeen}
+use Rattle.afs_law.proofs.Reasons.{AllSeen, IsAsked, IsOneOf, IsRead}
 use Rattle.afs_law.proofs.Recording.{IsAgreed}
-use Rattle.afs_law.proofs.Serving.{IsAmong, body_there, last_has, own_found, told_kind, told_there}
+use Rattle.afs_law.proofs.Finding.{IsAmong, body_there, last_has, own_found, told_kind, told_there}
 use Rattle.afs_law.proofs.Telling.{AreGranted, HasGrant}
 use Rattle.afs_law.specs.Breaks.{HasStopped}
 use Rattle.afs_law.specs.Grants.{GrantOf}
 use Rattle.afs_law.specs.Ideal.{HasBeen, HasVersion, IsLast, TellsOf, is_at, last_version, shown_status, volume_after}
-use Rattle.afs_law.specs.Past.{IsReply, Ran, code_told, lines_of, onto}
+use Rattle.afs_law.specs.Past.{IsReply, Ran, code_told, lines_of}
 use Rattle.afs_num.specs.declared.calls.AfsCallBack.{AfsCallBack}
 use Rattle.afs_num.specs.declared.calls.AfsFetchStatus.{AfsFetchStatus}
 use Rattle.afs_num.specs.declared.calls.FsCall.{FsCall}
@@ -41,7 +40,7 @@ use Rattle.afs_rows.specs.ClientRow.{body_told, server_at, status_told}
 use Rattle.afs_rows.specs.Runs.{Entry, locations}
 use Rattle.afs_rows.specs.ServerRow.{Reading, Sight, promise_until, promised_in, sight_status}
 use Rattle.afs_shape.specs.Rows.{no_callback}
-use Rattle.std.proofs.Common.{◌≡◌, ◌≤◌, ℕ, inl, inr, Bool, List, [], ◌∷◌, ◌++◌, map, Option, Some, None, pos, refl, sym, ap, subst, ◌∙◌, le_of_eq}
+use Rattle.std.proofs.Common.{◌≡◌, ℕ, inl, inr, List, [], ◌∷◌, ◌++◌, map, Option, Some, None, pos, refl, sym, ap, subst, ◌∙◌}
 use Rattle.std.specs.Option.{option_map}
 use Rattle.std.specs.Prelude.{⊤}
 
@@ -172,7 +171,7 @@ sights s j m past q expiry caller [] xs granted A seen w g blank going home = tt
 sights s j m past q expiry caller (f ∷ fs) [] granted A seen w g blank going home = absurd seen
 sights s j m past q expiry caller (f ∷ fs) (x ∷ xs) granted A seen w g blank going home = (
   subst (λ (z : Fid). IsSight s j m past q z x.found.vnode.index (shown_status x.found.vnode) None expiry) (sym seen.0.fid)
-  (sight s j m past q expiry x.found x.stored None A seen.0.at seen.0.found (g x.found (w x.found (inl refl))) blank going (home x.found.fid.volume (inl (ap (λ (z : Fid). z.volume) seen.0.fid))) tt),
+      (sight s j m past q expiry x.found x.stored None A seen.0.at seen.0.found (g x.found (w x.found (inl refl))) blank going (home x.found.fid.volume (inl (ap (λ (z : Fid). z.volume) seen.0.fid))) tt),
   sights s j m past q expiry caller fs xs granted A seen.1 (λ y z. w y (inr z)) g blank going (λ id z. home id (inr z)),
 )
 

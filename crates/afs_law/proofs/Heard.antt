@@ -12,7 +12,7 @@ use Rattle.afs_law.proofs.Knowing.{cut_due}
 use Rattle.afs_law.proofs.Moving.{EachMove, IsKept, each_moved}
 use Rattle.afs_law.proofs.Rising.{ran_boot}
 use Rattle.afs_law.proofs.Sending.{rises_posts, served_posts, times_posts, wakes_posts}
-use Rattle.afs_law.proofs.Facts.{MayRun}
+use Rattle.afs_law.proofs.Words.{MayRun}
 use Rattle.afs_law.specs.Ideal.{set_up}
 use Rattle.afs_law.specs.Past.{IsCallUnder, IsUnheard, Ran, answered_key, given_message, sent_of}
 use Rattle.afs_model.specs.Calls.{call_seat}
@@ -33,6 +33,7 @@ use Rattle.afs_rows.specs.ServerRow.{Decision, begun_after, change_reply_to, dec
 use Rattle.afs_rows.specs.States.{Seat, ServerState}
 use Rattle.std.proofs.Math.Nat.{le_trans}
 use Rattle.std.proofs.Common.{suc, append-nil, ◌≡◌, ℕ, ◌≤◌, ◌+◌, ◌⊎◌, inl, inr, Bool, true, false, List, [], ◌∷◌, ◌++◌, Option, Some, None, refl, sym, ap, subst, ◌∙◌, arith}
+use Rattle.afs_law.proofs.SettingUp.{last_each}
 
 -- ---- who ran a call was given it
 
@@ -140,10 +141,6 @@ IsNext x y = (y.down ≡ None) ⊎ IsLater x.state y.state
 -- each server that sends is up behind it
 abbrev AreUp : (ℕ → Host) → Message → Type 0
 AreUp hosts m = (i : ℕ) → m.head.from ≡ Server i → (hosts i).down ≡ None
-
-last_each : (P : Message → Type 0) (a b : List Message) → Each P (a ++ b) → Each P b
-last_each P [] b h = h
-last_each P (m ∷ a) b h = last_each P a b h.1
 
 step_heard : (c d : Cell) (past : List Entry) (e : Entry) (ms : List Message) → HearsIn c past → HeardIn c past → d.sent ≡ c.sent ++ ms → ((i : ℕ) → IsNext (c.hosts i) (d.hosts i)) → Each (AreUp d.hosts) ms → HearsIn d (e ∷ past) → HeardIn d (e ∷ past)
 step_heard c d past e ms H h is k new N =

@@ -3,28 +3,26 @@ use Rattle.afs_history.specs.declared.lines.Line.{Line}
 use Rattle.afs_history.specs.declared.lines.Line.TheVariants as lines
 use Rattle.afs_history.specs.declared.scripts.Script.{Script}
 use Rattle.afs_ideal.specs.Operations.{the_user, volume_called, volume_changed}
-use Rattle.afs_ideal.specs.Volumes.{Volume, versions_by}
+use Rattle.afs_ideal.specs.Volumes.{Volume}
 use Rattle.afs_law.proofs.Acting.{last_key}
-use Rattle.afs_law.proofs.Ascending.{Ascend}
 use Rattle.afs_law.proofs.Basics.{up_to_same, same_key-refl, same_key-true, same_node-refl, same_node-true, some_of}
 use Rattle.afs_law.proofs.Edits.{Grow, Sound, SoundIn, index_in, touches}
-use Rattle.afs_law.proofs.Facts.{InScope, IsChangingUnder, IsWhole, Reached, Seen}
+use Rattle.afs_law.proofs.Words.{InScope, IsChangingUnder, Reached}
 use Rattle.afs_law.proofs.Ideals.{AreBlank}
-use Rattle.afs_law.proofs.Lasting.{HasRunAt, HasTouched, own_later, saved_by, stop_withdraws, stopped_either, stopped_of, stopped_or, stops_withdraw, touch, touch_home, touch_volume, touch_withdraws, withdrawn_onto}
-use Rattle.afs_law.proofs.Later.{HasRunSince, later_key, stopped_in}
+use Rattle.afs_law.proofs.Lasting.{HasTouched, own_later, saved_by, stop_withdraws, stopped_either, stopped_of, stopped_or, stops_withdraw, touch, touch_home, touch_volume, touch_withdraws, withdrawn_onto}
+use Rattle.afs_law.proofs.Later.{later_key, stopped_in}
 use Rattle.afs_law.proofs.Latest.{has_onto}
 use Rattle.afs_law.proofs.Lone.{new_behind}
 use Rattle.afs_law.proofs.Ops.{changes_is, in_scope}
 use Rattle.afs_law.proofs.Passing.{grant_over, no_change, whole_over}
-use Rattle.afs_law.proofs.Recording.{AreRecorded, IsAgreed, IsSaved}
+use Rattle.afs_law.proofs.Recording.{IsAgreed, IsSaved}
 use Rattle.afs_law.proofs.Saving.{any_change, later_not, scope_of}
-use Rattle.afs_law.proofs.Serving.{last_has}
 use Rattle.afs_law.proofs.Telling.{change_later}
-use Rattle.afs_law.proofs.Trusting.{AtGiven, AtSaved, HasRunKey, Holding, IsDone, IsFresh, IsKeyed, MayHave, Rests, Stands, Trusts, Waits, key_of_rest, since_rest}
+use Rattle.afs_law.proofs.Trusting.{AtGiven, AtSaved, HasRunKey, Holding, IsDone, IsKeyed, MayHave, Rests, Stands, Trusts, Waits, key_of_rest, since_rest}
 use Rattle.afs_law.specs.Breaks.{HasStopped}
 use Rattle.afs_law.specs.ClientParts.{lines_since_fetch}
-use Rattle.afs_law.specs.Grants.{GrantOf, IsDropped, IsWithdrawn, fetch_reply, has_fetched, since}
-use Rattle.afs_law.specs.Ideal.{HasVersion, IsLast, call_under, change_in, change_key, first_key, last_version, reach, volume_after}
+use Rattle.afs_law.specs.Grants.{IsDropped, IsWithdrawn, fetch_reply, has_fetched, since}
+use Rattle.afs_law.specs.Ideal.{HasVersion, call_under, change_in, change_key, first_key, last_version, reach}
 use Rattle.afs_law.specs.Legal.{HasChange, IsKey, IsLater}
 use Rattle.afs_law.specs.Past.{Called, called_key, given_message, is_of_act, lines_of, lines_on, onto, same_key, sent_of, server_boot}
 use Rattle.afs_num.specs.Nodes.{same_node}
@@ -33,40 +31,34 @@ use Rattle.afs_num.specs.declared.calls.FsCall.TheVariants as calls
 use Rattle.afs_num.specs.declared.histories.Actor.TheVariants as actors
 use Rattle.afs_num.specs.declared.histories.Body.{Body}
 use Rattle.afs_num.specs.declared.histories.Version.{Version}
-use Rattle.afs_num.specs.declared.messages.Message.{Message}
 use Rattle.afs_num.specs.declared.types.Fid.{Fid}
 use Rattle.afs_num.specs.declared.types.Key.{Key}
 use Rattle.afs_num.specs.declared.types.Node.{Node}
 use Rattle.afs_num.specs.declared.types.Node.TheVariants.{Client, Server}
-use Rattle.afs_rows.specs.ClientRow.{call_of, find_cached}
+use Rattle.afs_rows.specs.ClientRow.{call_of}
 use Rattle.afs_rows.specs.Going.{ClientState, Going}
 use Rattle.afs_rows.specs.Runs.{Entry}
 use Rattle.afs_rows.specs.States.{CacheEntry}
 use Rattle.afs_rows.specs.ServerRow.{versioned}
-use Rattle.std.proofs.Common.{◌≡◌, ◌≤◌, ◌<◌, ℕ, ◌⊎◌, inl, inr, Bool, true, false, cond, List, [], ◌∷◌, ◌++◌, Option, Some, None, refl, sym, ap, subst, ◌∙◌, le_of_eq, le_trans, arith}
+use Rattle.std.proofs.Common.{◌≡◌, ◌≤◌, ℕ, ◌⊎◌, inl, inr, Bool, true, false, cond, List, [], ◌∷◌, ◌++◌, Option, Some, None, refl, sym, ap, subst, ◌∙◌, arith}
 use Rattle.std.specs.Option.{option_map}
 use Rattle.std.specs.Prelude.{⊤}
+use Rattle.afs_law.proofs.Backing.{entries_same, entry_same}
 
 -- ---- an entry more
 
-head_same : (x y : Entry) (a b : List Entry) → x ∷ a ≡ y ∷ b → x ≡ y
-head_same x y a b e = cc
-
-rest_same : (x y : Entry) (a b : List Entry) → x ∷ a ≡ y ∷ b → a ≡ b
-rest_same x y a b e = cc
-
 pub at_saved : (k : Key) (past : List Entry) (y : Entry) (P : List Entry → Entry → List Entry → Type 0) → (change_key y.lines ≡ Some k → P [] y past) → ((newer : List Entry) (at : Entry) (older : List Entry) → past ≡ newer ++ (at ∷ older) → change_key at.lines ≡ Some k → P (y ∷ newer) at older) → AtSaved k (y ∷ past) P
 at_saved k past y P now old [] at older e c =
-    let p : y ≡ at = head_same y at past older e in
-    subst (λ (o : List Entry). P [] at o) (rest_same y at past older e) (subst (λ (a : Entry). P [] a past) p (now (subst (λ (a : Entry). change_key a.lines ≡ Some k) (sym p) c)))
-at_saved k past y P now old (z ∷ newer) at older e c = subst (λ (a : Entry). P (a ∷ newer) at older) (head_same y z past (newer ++ (at ∷ older)) e) (old newer at older (rest_same y z past (newer ++ (at ∷ older)) e) c)
+    let p : y ≡ at = entry_same y at past older e in
+    subst (λ (o : List Entry). P [] at o) (entries_same y at past older e) (subst (λ (a : Entry). P [] a past) p (now (subst (λ (a : Entry). change_key a.lines ≡ Some k) (sym p) c)))
+at_saved k past y P now old (z ∷ newer) at older e c = subst (λ (a : Entry). P (a ∷ newer) at older) (entry_same y z past (newer ++ (at ∷ older)) e) (old newer at older (entries_same y z past (newer ++ (at ∷ older)) e) c)
 
 pub at_given : (k : Key) (past : List Entry) (y : Entry) (P : List Entry → Entry → List Entry → Type 0) → (IsKeyed k (given_message y.lines (sent_of past)) → P [] y past) → ((newer : List Entry) (at : Entry) (older : List Entry) → past ≡ newer ++ (at ∷ older) → IsKeyed k (given_message at.lines (sent_of older)) → P (y ∷ newer) at older) → AtGiven k (y ∷ past) P
 at_given k past y P now old [] at older e c =
-    let p : y ≡ at = head_same y at past older e in
-    let q : past ≡ older = rest_same y at past older e in
+    let p : y ≡ at = entry_same y at past older e in
+    let q : past ≡ older = entries_same y at past older e in
     subst (λ (o : List Entry). P [] at o) q (subst (λ (a : Entry). P [] a past) p (now (subst (λ (a : Entry). IsKeyed k (given_message a.lines (sent_of past))) (sym p) (subst (λ (o : List Entry). IsKeyed k (given_message at.lines (sent_of o))) (sym q) c))))
-at_given k past y P now old (z ∷ newer) at older e c = subst (λ (a : Entry). P (a ∷ newer) at older) (head_same y z past (newer ++ (at ∷ older)) e) (old newer at older (rest_same y z past (newer ++ (at ∷ older)) e) c)
+at_given k past y P now old (z ∷ newer) at older e c = subst (λ (a : Entry). P (a ∷ newer) at older) (entry_same y z past (newer ++ (at ∷ older)) e) (old newer at older (entries_same y z past (newer ++ (at ∷ older)) e) c)
 
 -- a change that an entry tells
 now_key : (k q : Key) (o : Option Key) (B : Type 0) → o ≡ Some q → q ≡ k → IsKey k o B
@@ -135,9 +127,6 @@ own_scope s past y f i b A z had =
     (in_scope (the_user I.user) I.call I.id I.before I.edits I.shown f base I.result I.of_volume (subst (λ (vs : List Version). Grow I.id vs base) z.saved.are z.saved.grow) (subst (λ (vs : List Version). touches f vs ≡ true) z.saved.are z.touched))
 
 -- ---- the client
-
-top_now : (f : Fid) (i : ℕ) (b : Body) (past : List Entry) (s : Script) → IsAgreed s past → HasVersion f i b (lines_of past) → i ≤ index_in (last_version f (lines_of past))
-top_now f i b past s A h = A.ascend.top f i b h
 
 waits_beside : (s : Script) (j : ℕ) (x : ClientState) (act : Going) (past : List Entry) (y : Entry) → IsBeside s j past y → IsAround s j x past → x.running ≡ Some act → ((f : Fid) → Reached (Client j) f (index_in (last_version f (lines_of past))) past) → Waits j x act past → Waits j x act (y ∷ past)
 waits_beside s j x act past y B A r reached W = record {

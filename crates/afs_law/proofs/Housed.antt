@@ -48,9 +48,6 @@ pub placed : (id : ℕ) (vs : List VolumeLine) → IsPlaced id vs (locations_in 
 placed id [] = inr (λ q z. z)
 placed id (v ∷ vs) = placed_by (counts_later v.id vs) id v vs refl (placed id vs)
 
-server_number : (i j : ℕ) → Server i ≡ Server j → i ≡ j
-server_number i j e = cc
-
 -- a volume that is nowhere isn't held
 not_held : (s : Script) (c : Cell) (past : List Entry) (i id : ℕ) (o : Option Volume) → VolumesIn s c past → ((q : Node) → is_at id q s.volumes → ⊥) → held_by (c.hosts i).state id ≡ o → held_by (c.hosts i).state id ≡ volume_after id past
 not_held s c past i id None V away e = e ∙ sym (V.none id (λ k. away (Server k)))

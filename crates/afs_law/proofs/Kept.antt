@@ -5,13 +5,12 @@ use Rattle.afs_history.specs.declared.lines.Line.TheVariants as lines
 use Rattle.afs_history.specs.declared.scripts.Script.{Script}
 use Rattle.afs_ideal.specs.Operations.{volume_changed}
 use Rattle.afs_law.proofs.Acting.{Acts, begins_acts, falls_acts, given_acts, rises_acts, waits_acts, who_at}
-use Rattle.afs_law.proofs.Answering.{put_found}
-use Rattle.afs_law.proofs.Apart.{apart_filter, apart_put, apart_refreshed, found_filter, found_out}
+use Rattle.afs_law.proofs.Apart.{apart_filter, apart_put, apart_refreshed, found_filter, found_out, put_found}
 use Rattle.afs_law.proofs.Backing.{all_lines}
 use Rattle.afs_law.proofs.Basics.{at_put, both, each_at, found-cached-fid, found-refreshed, same_fid-refl, same_fid-true, same_node-refl, same_node-true, some_of}
 use Rattle.afs_law.proofs.Choosing.{disk_works, one_from, risen_from, risen_lines, serves_works, starts_works, times_works, wakes_works}
 use Rattle.afs_law.proofs.Due.{AreCached, walked_cached}
-use Rattle.afs_law.proofs.Facts.{AreApart}
+use Rattle.afs_law.proofs.Words.{AreApart}
 use Rattle.afs_law.proofs.Firm.{IsFirm}
 use Rattle.afs_law.proofs.Following.{dropped_named, in_named}
 use Rattle.afs_law.proofs.Gifts.{Given, given_first, given_kept}

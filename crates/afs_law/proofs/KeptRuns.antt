@@ -1,5 +1,6 @@
 -- Worked runs of what survives: a close that was answered, and then one that the disk stopped in; a mode that was set. And disks that
 -- lost what they were answered for.
+use Rattle.afs_law.proofs.Ideals.{at_home}
 use Rattle.afs_history.specs.declared.acts.Act.{Act}
 use Rattle.afs_history.specs.declared.acts.Act.TheVariants as acts
 use Rattle.afs_history.specs.declared.acts.Operand.TheVariants as operands
@@ -11,7 +12,7 @@ use Rattle.afs_ideal.specs.SetUp.{laid_at, led}
 use Rattle.afs_ideal.specs.Tables.{Table, get, set}
 use Rattle.afs_ideal.specs.VnodeImage.{image}
 use Rattle.afs_ideal.specs.Volumes.{Vnode, Volume}
-use Rattle.afs_law.proofs.Remaining.{accepted, survives}
+use Rattle.afs_law.proofs.Remaining.{survives}
 use Rattle.afs_law.proofs.Surviving.{run_survives}
 use Rattle.afs_law.proofs.Worked.{apart_numbers, file, home, of_cell, script}
 use Rattle.afs_law.specs.Ideal.{set_up}
@@ -22,7 +23,7 @@ use Rattle.afs_history.specs.declared.lines.Line.{Line}
 use Rattle.afs_model.specs.Messages.{spelled}
 use Rattle.afs_num.specs.Names.{name_ok}
 use Rattle.afs_num.specs.declared.messages.Message.{Message}
-use Rattle.afs_num.specs.declared.types.Node.TheVariants.{Client, Server}
+use Rattle.afs_num.specs.declared.types.Node.TheVariants.{Client}
 use Rattle.afs_records.specs.Durable.{Stored}
 use Rattle.afs_records.specs.Records.{head_form, record_bytes, volume_form}
 use Rattle.afs_rows.specs.ClientRow.{begin_row, client_row}
@@ -56,7 +57,7 @@ run_both c (x ∷ xs) y ys = ap (λ (es : List Entry). (moved c x).entry ∷ es)
 
 -- its volume is at its one server
 no_others : (ls : List Line) → IsNoOthers (script 1) 1 home ls
-no_others ls q x = elim (accepted (script 1) home q ls x) [ inl y ↦ sym y.1.1 | inr y ↦ absurd y ]
+no_others ls q x = elim (at_home (script 1) home q ls x) [ inl y ↦ sym y.1.1 | inr y ↦ absurd y ]
 
 abbrev fall_of : Option Fall → Fall
 fall_of None = at_rest

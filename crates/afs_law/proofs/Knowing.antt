@@ -5,7 +5,7 @@ use Rattle.afs_law.proofs.Calling.{IsAnswer, IsUncalled, answer_over, any_call}
 use Rattle.afs_law.proofs.Hearing.{HearsIn, first_hears, moved_hears}
 use Rattle.afs_law.proofs.Hosting.{IsDue, IsCutBy, IsSound, decides_due, disk_begins, memory_of, serves_step, starts_step, times_step, wakes_step}
 use Rattle.afs_law.proofs.KeysOnce.{EachChange, HasCut, HasRun, IsCutOf, IsKnown, StandsIn, any_told, by_key, first_stands, moved_keeps, sound_over}
-use Rattle.afs_law.proofs.Law.{first_passed}
+use Rattle.afs_law.proofs.SettingUp.{first_passed}
 use Rattle.afs_law.proofs.Moving.{IsKept}
 use Rattle.afs_law.specs.Ideal.{set_up}
 use Rattle.afs_law.specs.Once.{AreOnce}

@@ -1,18 +1,17 @@
 -- What becomes of the last version of an object behind an entry that ran a client's call: it is changed for other nodes, which withdraws that
 -- client's promise, or under a later key of this client.
+use Rattle.afs_law.proofs.Ideals.{at_home, AreBlank, blank_last, one_place}
+use Rattle.afs_law.proofs.Loading.{onto_both}
 use Rattle.afs_history.specs.declared.lines.Line.{Line}
 use Rattle.afs_history.specs.declared.lines.Line.TheVariants as lines
 use Rattle.afs_history.specs.declared.scripts.Script.{Script}
-use Rattle.afs_law.proofs.Backing.{stopped_onto}
 use Rattle.afs_law.proofs.Basics.{same_node-refl, same_node-true}
 use Rattle.afs_law.proofs.Edits.{on_top, touched_volume, touches, untouched}
-use Rattle.afs_law.proofs.Ideals.{AreBlank, blank_last, one_place, onto_front}
-use Rattle.afs_law.proofs.Later.{HasRunSince, later_key}
+use Rattle.afs_law.proofs.Later.{later_key}
 use Rattle.afs_law.proofs.Recording.{AreRecorded, IsSaved, told_at}
-use Rattle.afs_law.proofs.Remaining.{accepted}
 use Rattle.afs_law.proofs.Saving.{on_breaks, onto_versioned}
 use Rattle.afs_law.specs.Breaks.{HasStopped}
-use Rattle.afs_law.specs.Grants.{IsByOther, IsWithdrawn, change_below}
+use Rattle.afs_law.specs.Grants.{IsWithdrawn}
 use Rattle.afs_law.specs.Ideal.{is_at, last_version}
 use Rattle.afs_law.specs.Legal.{HasChangeBy, IsLater}
 use Rattle.afs_law.specs.Past.{IsCall, called_key, given_message, lines_of, lines_on, onto, sent_of, server_boot}
@@ -26,7 +25,7 @@ use Rattle.afs_num.specs.declared.types.Node.{Node}
 use Rattle.afs_num.specs.declared.types.Node.TheVariants.{Client, Server}
 use Rattle.afs_rows.specs.Runs.{Entry}
 use Rattle.afs_rows.specs.ServerRow.{versioned}
-use Rattle.std.proofs.Common.{◌≡◌, ℕ, ◌⊎◌, inl, inr, Bool, true, false, cond, List, [], ◌∷◌, ◌++◌, Option, Some, None, refl, sym, ap, subst, ◌∙◌}
+use Rattle.std.proofs.Common.{◌≡◌, ℕ, ◌⊎◌, inl, inr, Bool, true, false, List, [], ◌∷◌, ◌++◌, Some, refl, sym, ap, subst, ◌∙◌}
 
 -- ---- further lines
 
@@ -102,7 +101,7 @@ pub record HasTouched (s : Script) (past : List Entry) (e : Entry) (f : Fid) : T
   pub touched : touches f saved.versions ≡ true
 
 saved_lines : (s : Script) (past : List Entry) (e : Entry) (x : IsSaved s past e) (o : List Line) → onto o e.lines ≡ onto (on_top x.versions (lines.Change (Server x.server) x.key x.count ∷ onto o x.front)) x.rest
-saved_lines s past e x o = ap (onto o) x.split ∙ (onto_front o x.front (lines.Change (Server x.server) x.key x.count ∷ versioned x.versions x.rest) ∙ onto_versioned x.versions x.rest (lines.Change (Server x.server) x.key x.count ∷ onto o x.front))
+saved_lines s past e x o = ap (onto o) x.split ∙ (onto_both o x.front (lines.Change (Server x.server) x.key x.count ∷ versioned x.versions x.rest) ∙ onto_versioned x.versions x.rest (lines.Change (Server x.server) x.key x.count ∷ onto o x.front))
 
 touch_by : (t : Bool) (s : Script) (past : List Entry) (e : Entry) (f : Fid) (x : IsSaved s past e) → touches f x.versions ≡ t → (last_version f (lines_of (e ∷ past)) ≡ last_version f (lines_of past)) ⊎ HasTouched s past e f
 touch_by true s past e f x t = inr (record { saved = x; touched = t })
@@ -121,7 +120,7 @@ touch_volume s past e f x = touched_volume f x.saved.ideal.id x.saved.versions (
 -- the server that tells it is the one of its volume
 pub touch_home : (s : Script) (past : List Entry) (e : Entry) (f : Fid) (server : Node) → (x : HasTouched s past e f) → is_at f.volume server s.volumes → Server x.saved.server ≡ server
 touch_home s past e f server x home =
-    one_place f.volume (Server x.saved.server) server s.volumes (subst (λ (id : ℕ). is_at id (Server x.saved.server) s.volumes) (sym (touch_volume s past e f x)) (accepted s x.saved.ideal.id (Server x.saved.server) (onto [] x.saved.front ++ lines_of past) x.saved.ideal.home)) home
+    one_place f.volume (Server x.saved.server) server s.volumes (subst (λ (id : ℕ). is_at id (Server x.saved.server) s.volumes) (sym (touch_volume s past e f x)) (at_home s x.saved.ideal.id (Server x.saved.server) (onto [] x.saved.front ++ lines_of past) x.saved.ideal.home)) home
 
 -- under another node's key it withdraws
 pub touch_withdraws : (s : Script) (past : List Entry) (e : Entry) (f : Fid) (server c : Node) (o : List Line) → (x : HasTouched s past e f) → Server x.saved.server ≡ server → (x.saved.key.node ≡ c → ⊥) → IsWithdrawn server c f (onto o e.lines)

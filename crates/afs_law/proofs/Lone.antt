@@ -1,5 +1,6 @@
 -- An act changes things once, however many servers a cell has: of the calls of one act at most one may change something, and that is its
 -- client's last.
+use Rattle.afs_law.proofs.Following.{none_runs, Follows, begins_follow, falls_follow, given_follow, more_not, rises_follow, waits_follow}
 use Rattle.afs_history.specs.declared.lines.Line.{Line}
 use Rattle.afs_history.specs.declared.lines.Line.TheVariants as lines
 use Rattle.afs_history.specs.declared.scripts.Script.{Script}
@@ -9,15 +10,14 @@ use Rattle.afs_law.proofs.Backing.{all_lines}
 use Rattle.afs_law.proofs.Basics.{ByClient, Each, IfCall, UpTo, at_put, both, by_client, client_number, each_at, node_apart, same_key-true, same_node-true, some_of}
 use Rattle.afs_law.proofs.Changing.{HeldCuts, IdealStep, cuts_first, cuts_kept, ideal_moves, run_each}
 use Rattle.afs_law.proofs.Choosing.{disk_works, one_from, risen_from, risen_lines, serves_works, starts_works, times_works, wakes_works}
-use Rattle.afs_law.proofs.Facts.{AreLone, IsChangingUnder}
+use Rattle.afs_law.proofs.Words.{AreLone, IsChangingUnder}
 use Rattle.afs_law.proofs.Firm.{IsFirm, IsSentBy}
-use Rattle.afs_law.proofs.Following.{Follows, begins_follow, falls_follow, given_follow, more_not, rises_follow, waits_follow}
 use Rattle.afs_law.proofs.Gifts.{Given, given_first, given_kept}
 use Rattle.afs_law.proofs.KeysOnce.{IsKnown, any_told, by_key, known_pair}
-use Rattle.afs_law.proofs.Law.{first_passed}
+use Rattle.afs_law.proofs.SettingUp.{first_passed}
 use Rattle.afs_law.proofs.Moving.{Behind, EachMove, IsKept, each_moved}
 use Rattle.afs_law.proofs.Ops.{changes_is}
-use Rattle.afs_law.proofs.Origins.{AskedIn, any_cut, any_message, blow_idle, idle_leaves, idle_works, is_idle, none_runs, of_client, other_leaves, same_key_at, the_calls}
+use Rattle.afs_law.proofs.Origins.{AskedIn, any_cut, any_message, blow_idle, idle_leaves, idle_works, is_idle, of_client, other_leaves, same_key_at, the_calls}
 use Rattle.afs_law.proofs.Passing.{IsAmong, among, changing_back, changing_more, lone_at, lone_first, lone_more, no_change, was_sent}
 use Rattle.afs_law.proofs.Placing.{Placed, PlacedStep, placed_first, placed_kept, placed_moves}
 use Rattle.afs_law.proofs.Saving.{any_change, later_not}
@@ -50,6 +50,7 @@ use Rattle.afs_rows.specs.ServerRow.{is_client, key_of}
 use Rattle.afs_rows.specs.Steps.{Step}
 use Rattle.std.proofs.Common.{suc, ◌≡◌, ℕ, ◌+◌, ◌⊎◌, inl, inr, Bool, true, false, cond, List, [], ◌∷◌, ◌++◌, Option, Some, None, refl, sym, ap, subst, ◌∙◌}
 use Rattle.std.specs.Prelude.{⊤}
+use Rattle.afs_law.proofs.Looking.{begun_by}
 
 -- ---- of the act that runs only the client's last call may change something
 
@@ -151,10 +152,6 @@ ended_by false o h = h
 read_idle : (t : Bool) (f : Fid) (body : ReadBody) → read_on t f body None ≡ None
 read_idle true f body = refl
 read_idle false f body = refl
-
-begun_by : (t b : Bool) → cond t true b ≡ false → (t ≡ false) × (b ≡ false)
-begun_by true b h = absurd cc
-begun_by false b h = (refl, h)
 
 stays_idle : (s : Script) (n : Node) (ls o : List Line) → has_begun n ls ≡ false → running s n o ≡ None → running s n (onto o ls) ≡ None
 stays_idle s n [] o h r = r
@@ -359,11 +356,11 @@ pair_behind callees clients j k sent node h all =
     let from : a.head.from ≡ Client j = ap (λ (l : Key). l.node) key ∙ node in
     subst (λ (l : Key). UpTo l.epoch l.number (clients j).epoch (clients j).last) key (known_pair callees clients a.head.to (key_of a.head) j from (by_client j a.head.from (IsKnown callees clients a.head.to (key_of a.head)) from a.fact))
 
-under_sent : (t : Bool) (c o : Option (List ℕ × FsCall)) (x : List ℕ × FsCall) (b : Bool) → cond t c o ≡ Some x → (o ≡ Some x → b ≡ true) → cond t true b ≡ true
+pub under_sent : (t : Bool) (c o : Option (List ℕ × FsCall)) (x : List ℕ × FsCall) (b : Bool) → cond t c o ≡ Some x → (o ≡ Some x → b ≡ true) → cond t true b ≡ true
 under_sent true c o x b e w = refl
 under_sent false c o x b e w = w e
 
-has_under : (k : Key) (sent : List Message) (x : List ℕ × FsCall) → call_under k sent ≡ Some x → has_sent k sent ≡ true
+pub has_under : (k : Key) (sent : List Message) (x : List ℕ × FsCall) → call_under k sent ≡ Some x → has_sent k sent ≡ true
 has_under k [] x e = absurd cc
 has_under k (m ∷ sent) x e = under_sent (is_called k m.head m.carried) (call_in m.carried) (call_under k sent) x (has_sent k sent) e (has_under k sent x)
 

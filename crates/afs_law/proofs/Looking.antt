@@ -2,40 +2,35 @@
 use Rattle.afs_history.specs.declared.lines.Line.{Line}
 use Rattle.afs_history.specs.declared.lines.Line.TheVariants as lines
 use Rattle.afs_history.specs.declared.scripts.Script.{Script}
-use Rattle.afs_law.proofs.Basics.{both, found-cached-fid, raised_up_to, same_fid-true, same_node-refl, some_of}
-use Rattle.afs_law.proofs.Backing.{all_lines}
+use Rattle.afs_law.proofs.Basics.{both, found-cached-fid, raised_up_to, same_fid-true, some_of}
 use Rattle.afs_law.proofs.Edits.{granted_in, index_in}
-use Rattle.afs_law.proofs.Facts.{IsBody, IsWhole}
-use Rattle.afs_law.proofs.Ideals.{AreBlank, blank_last, is_blank}
+use Rattle.afs_law.proofs.Words.{IsWhole}
+use Rattle.afs_law.proofs.Ideals.{AreBlank, is_blank}
 use Rattle.afs_law.proofs.Latest.{has_onto}
-use Rattle.afs_law.proofs.Law.{any_home}
-use Rattle.afs_law.proofs.Lasting.{withdrawn_onto}
-use Rattle.afs_law.proofs.Ticking.{tickless_clock}
-use Rattle.afs_law.proofs.Asking.{used_found}
-use Rattle.afs_law.proofs.Walking.{back_again, lines_assoc, onto_last, own_lines, shown_good, shown_promised}
-use Rattle.afs_law.specs.Grants.{GrantOf, IsDropped, IsWithdrawn, fetch_reply, has_fetched, is_promised, read_reply, since, until}
+use Rattle.afs_law.proofs.SettingUp.{any_home}
+use Rattle.afs_law.proofs.Apart.{used_found}
+use Rattle.afs_law.proofs.Walking.{back_again, onto_last, own_lines, shown_good, shown_promised}
+use Rattle.afs_law.specs.Grants.{GrantOf, IsDropped, IsWithdrawn, is_promised, read_reply, since, until}
 use Rattle.afs_law.specs.Ideal.{Accepts, HasVersion, IsLast, Reach, WasLast, clock_of, is_at, is_zero_code, last_version, raised, reach, reach_over, seen}
 use Rattle.afs_law.specs.Legal.{Shows}
 use Rattle.afs_law.specs.Parts.{EachLine, LineRule}
-use Rattle.afs_law.specs.Past.{given_message, has_begun, lines_of, onto, sent_of}
+use Rattle.afs_law.specs.Past.{has_begun, lines_of, onto}
 use Rattle.afs_num.specs.Fids.{same_fid}
 use Rattle.afs_num.specs.Nodes.{same_node}
 use Rattle.afs_num.specs.declared.histories.Actor.{Actor}
-use Rattle.afs_num.specs.declared.histories.Body.{Body}
 use Rattle.afs_num.specs.declared.histories.ReadBody.{ReadBody}
 use Rattle.afs_num.specs.declared.histories.ReadSource.{ReadSource}
-use Rattle.afs_num.specs.declared.histories.ReadSource.TheVariants.{Cached, Fetched}
+use Rattle.afs_num.specs.declared.histories.ReadSource.TheVariants.{Cached}
 use Rattle.afs_num.specs.declared.histories.Version.{Version}
 use Rattle.afs_num.specs.declared.messages.Message.{Message}
 use Rattle.afs_num.specs.declared.types.Fid.{Fid}
 use Rattle.afs_num.specs.declared.types.Node.{Node}
 use Rattle.afs_num.specs.declared.types.Node.TheVariants.{Client}
-use Rattle.afs_rows.specs.ClientRow.{Look, Walked, behind, find_cached, is_trusted, look_at, looked, shown_by, stays, used_first, walked, walked_at, walked_by, walked_with}
-use Rattle.afs_rows.specs.Going.{Going, Need, asks_for, answers, gives_back, next, reads, reads_rights, reads_status, reads_statuses, with_read}
+use Rattle.afs_rows.specs.ClientRow.{Look, Walked, find_cached, is_trusted, look_at, looked, shown_by, stays, used_first, walked, walked_at, walked_by, walked_with}
+use Rattle.afs_rows.specs.Going.{Going, Need, next, reads, reads_status, with_read}
 use Rattle.afs_rows.specs.Runs.{Entry}
 use Rattle.afs_rows.specs.States.{CacheEntry}
 use Rattle.std.proofs.Common.{◌≡◌, ◌≤◌, ◌<◌, zero, suc, ℕ, ◌⊎◌, inl, inr, Bool, true, false, cond, ltb-true, List, [], ◌∷◌, ◌++◌, Option, Some, None, refl, sym, ap, subst, ◌∙◌, arith, le_of_eq}
-use Rattle.std.specs.Option.{option_map}
 use Rattle.std.specs.Prelude.{⊤, ◌&&◌}
 
 -- ---- what the client has seen, behind its own lines
@@ -77,7 +72,7 @@ seen_up c f past own r (lines.Change q k count ∷ ls) n b z s u = absurd cc
 seen_up c f past own r (lines.Version v ∷ ls) n b z s u = absurd cc
 seen_up c f past own r (l ∷ ls) n b z s u = seen_up c f past own r ls n b z s u
 
-begun_by : (t b : Bool) → cond t true b ≡ false → (t ≡ false) × (b ≡ false)
+pub begun_by : (t b : Bool) → cond t true b ≡ false → (t ≡ false) × (b ≡ false)
 begun_by true b e = absurd cc
 begun_by false b e = (refl, e)
 
@@ -257,9 +252,9 @@ looks_good s who n clock past ls cache (l ∷ looks) tail b ticks h ready t =
     let same : x ≡ lines.Read (Client n) e.fid e.index Cached l.body = ap (λ (k : Look). lines.Read (Client n) k.fid k.index k.source k.body) h.0.same in (
       look_good s n clock past ls cache l ticks h.0 ready,
       subst (λ (o : List Line). EachLine (IsShown s) who past o (looked (Client n) looks tail)) (onto_last [] ls x)
-      (looks_good s who n clock past (ls ++ x ∷ []) cache looks tail (subst (λ (y : Line). AreBlank (ls ++ y ∷ [])) (sym same) (blank_read ls n e.fid e.index Cached l.body b))
-      (ap clock_of (onto_last (lines_of past) ls x) ∙ (ap (λ (y : Line). clock_of (y ∷ onto (lines_of past) ls)) same ∙ ticks)) h.1
-      (λ f u found lasts. subst (λ (y : Line). Ready s n f u past (ls ++ y ∷ [])) (sym same) (ready_more s n f e.fid u past ls e.index l.body b (λ z. le_of_eq (ap (λ (k : CacheEntry). k.index) (some_of e u (sym h.0.found ∙ (ap (λ (g : Fid). find_cached g cache) z ∙ found))))) (ready f u found lasts))) t),
+          (looks_good s who n clock past (ls ++ x ∷ []) cache looks tail (subst (λ (y : Line). AreBlank (ls ++ y ∷ [])) (sym same) (blank_read ls n e.fid e.index Cached l.body b))
+          (ap clock_of (onto_last (lines_of past) ls x) ∙ (ap (λ (y : Line). clock_of (y ∷ onto (lines_of past) ls)) same ∙ ticks)) h.1
+          (λ f u found lasts. subst (λ (y : Line). Ready s n f u past (ls ++ y ∷ [])) (sym same) (ready_more s n f e.fid u past ls e.index l.body b (λ z. le_of_eq (ap (λ (k : CacheEntry). k.index) (some_of e u (sym h.0.found ∙ (ap (λ (g : Fid). find_cached g cache) z ∙ found))))) (ready f u found lasts))) t),
     )
 
 pub looks_up : (n clock : ℕ) (cache : List CacheEntry) (looks : List Look) (tail : List Line) (f : Fid) (k : ℕ) → AreLooks clock cache looks → ((e : CacheEntry) → find_cached f cache ≡ Some e → clock < e.expiry → e.index ≤ k) → ReadsUpTo (Client n) f k tail → ReadsUpTo (Client n) f k (looked (Client n) looks tail)

@@ -1,55 +1,49 @@
 -- How what holds of a client's cache passes over a step of its own.
+use Rattle.afs_law.proofs.Passing.{sent_left, grant_over, whole_over}
 use Rattle.afs_history.specs.declared.lines.Line.{Line}
 use Rattle.afs_history.specs.declared.lines.Line.TheVariants as lines
 use Rattle.afs_history.specs.declared.scripts.Script.{Script}
 use Rattle.afs_ideal.specs.Operations.{volume_changed}
 use Rattle.afs_law.proofs.Acting.{last_key}
 use Rattle.afs_law.proofs.Arriving.{IsFetched, index_is}
-use Rattle.afs_law.proofs.Backing.{all_lines}
-use Rattle.afs_law.proofs.Basics.{ByClient, Each, IfCall, OfCall, UpTo, both, by_client, some_of, yes_no}
+use Rattle.afs_law.proofs.Basics.{ByClient, Each, IfCall, OfCall, UpTo, by_client, some_of, yes_no}
 use Rattle.afs_law.proofs.Edits.{index_in}
-use Rattle.afs_law.proofs.Facts.{InScope, IsOne, IsWhole, Reached, Seen}
-use Rattle.afs_law.proofs.Holding.{IsAround, at_given, at_saved, change_in_lines, change_of, done_over, dropped_base, may_back, rests_over, waited_or}
-use Rattle.afs_law.proofs.Ideals.{AreBlank, blank_key, blank_last, no_more}
-use Rattle.afs_law.proofs.Lasting.{HasRunAt, stop_withdraws, stopped_or, withdrawn_onto}
+use Rattle.afs_law.proofs.Words.{InScope, IsOne, IsWhole, Reached, Seen}
+use Rattle.afs_law.proofs.Holding.{IsAround, at_given, at_saved, change_of, done_over, dropped_base, may_back, rests_over, waited_or}
+use Rattle.afs_law.proofs.Ideals.{AreBlank, blank_last}
+use Rattle.afs_law.proofs.Lasting.{stop_withdraws, stopped_or, withdrawn_onto}
 use Rattle.afs_law.proofs.Later.{stopped_in}
 use Rattle.afs_law.proofs.Latest.{has_onto}
-use Rattle.afs_law.proofs.Looking.{HasNoZero, ReadsUpTo, both_up}
-use Rattle.afs_law.proofs.Passing.{grant_over, whole_over}
-use Rattle.afs_law.proofs.Recent.{has_more, sent_before, sent_given}
+use Rattle.afs_law.proofs.Looking.{ReadsUpTo, both_up}
+use Rattle.afs_law.proofs.Recent.{sent_before, sent_given}
 use Rattle.afs_law.proofs.Saving.{later_not}
-use Rattle.afs_law.proofs.Storing.{IsStore, no_key}
-use Rattle.afs_law.proofs.Telling.{change_later}
+use Rattle.afs_law.proofs.Storing.{no_key}
 use Rattle.afs_law.proofs.Trusting.{AtGiven, AtSaved, Holding, IsDone, IsFresh, IsKeyed, MayHave, Rests, Stands, Trusts, Waits, key_of_rest, since_rest}
 use Rattle.afs_law.proofs.Origins.{of_client}
 use Rattle.afs_law.specs.Breaks.{HasStopped}
 use Rattle.afs_law.specs.ClientParts.{lines_since_fetch}
 use Rattle.afs_law.specs.Grants.{IsDropped, IsWithdrawn, fetch_reply, has_fetched, since}
-use Rattle.afs_law.specs.Ideal.{HasVersion, IsLast, call_under, change_in, change_key, last_version, reach}
-use Rattle.afs_law.specs.Legal.{HasChange, IsKey, IsLater}
-use Rattle.afs_law.specs.Parts.{EachLine}
-use Rattle.afs_law.specs.Past.{Called, Sends, called_key, given_message, has_sent, is_called, lines_of, lines_on, onto, sent_of}
-use Rattle.afs_law.specs.ServerParts.{IsReadGood}
+use Rattle.afs_law.specs.Ideal.{IsLast, call_under, change_key, last_version, reach}
+use Rattle.afs_law.specs.Legal.{HasChange, IsLater}
+use Rattle.afs_law.specs.Past.{Called, Sends, called_key, given_message, has_sent, lines_of, lines_on, onto, sent_of}
 use Rattle.afs_num.specs.declared.calls.FsCall.{FsCall}
-use Rattle.afs_num.specs.declared.histories.Actor.{Actor}
-use Rattle.afs_num.specs.declared.histories.Actor.TheVariants as actors
-use Rattle.afs_num.specs.declared.histories.Body.{Body}
 use Rattle.afs_num.specs.declared.histories.Version.{Version}
 use Rattle.afs_num.specs.declared.messages.Carried.{Carried}
 use Rattle.afs_num.specs.declared.messages.Message.{Message}
 use Rattle.afs_num.specs.declared.types.Fid.{Fid}
-use Rattle.afs_num.specs.declared.types.Head.{Head}
 use Rattle.afs_num.specs.declared.types.Key.{Key}
 use Rattle.afs_num.specs.declared.types.Node.{Node}
 use Rattle.afs_num.specs.declared.types.Node.TheVariants.{Client}
-use Rattle.afs_rows.specs.ClientRow.{call_of, find_cached}
+use Rattle.afs_rows.specs.ClientRow.{call_of}
 use Rattle.afs_rows.specs.Going.{ClientState, Going}
 use Rattle.afs_rows.specs.Runs.{Entry}
 use Rattle.afs_rows.specs.States.{CacheEntry}
 use Rattle.afs_rows.specs.Steps.{Step}
-use Rattle.std.proofs.Common.{◌≡◌, ◌≤◌, ◌<◌, ℕ, ◌⊎◌, inl, inr, Bool, true, false, cond, List, [], ◌∷◌, ◌++◌, Option, Some, None, refl, sym, ap, subst, ◌∙◌, le_trans, arith}
+use Rattle.std.proofs.Common.{◌≡◌, ◌≤◌, ◌<◌, ℕ, ◌⊎◌, inl, inr, Bool, true, false, cond, List, [], ◌∷◌, ◌++◌, Option, Some, None, refl, sym, ap, subst, ◌∙◌, le_trans}
 use Rattle.std.specs.Option.{option_map}
 use Rattle.std.specs.Prelude.{⊤}
+use Rattle.afs_law.proofs.Lone.{has_under}
+use Rattle.afs_law.proofs.Sent.{each_front}
 
 -- ---- a step
 
@@ -94,22 +88,10 @@ sends_one S n l user call (m ∷ ms) node (inl z) h =
     subst (λ (k : Key). call_under k S ≡ Some (user, call)) z.0 (by_client n m.head.from (IsOne S m.head user call) from (subst (λ (x : Carried). OfCall (ByClient (IsOne S)) m.head x) z.1 h.0))
 sends_one S n l user call (m ∷ ms) node (inr z) h = sends_one S n l user call ms node z h.1
 
-each_parts : (P : Message → Type 0) (a b : List Message) → Each P (a ++ b) → Each P a × Each P b
-each_parts P [] b h = (tt, h)
-each_parts P (m ∷ a) b h = let r = each_parts P a b h.1 in ((h.0, r.0), r.1)
-
 called_one : (S : List Message) (s : Script) (n : ℕ) (l : Key) (user : List ℕ) (call : FsCall) (act : Going) (past : List Entry) → l.node ≡ Client n → Called s l user call act past → Each (IfCall (IsOne S)) (sent_of past) → call_under l S ≡ Some (user, call)
 called_one S s n l user call act [] node z h = absurd z
-called_one S s n l user call act (e ∷ past) node (inl z) h = sends_one S n l user call e.sent node z.1.0 (each_parts (IfCall (IsOne S)) (sent_of past) e.sent h).1
-called_one S s n l user call act (e ∷ past) node (inr z) h = called_one S s n l user call act past node z (each_parts (IfCall (IsOne S)) (sent_of past) e.sent h).0
-
-under_by : (t : Bool) (c o : Option (List ℕ × FsCall)) (x : List ℕ × FsCall) (b : Bool) → cond t c o ≡ Some x → (o ≡ Some x → b ≡ true) → cond t true b ≡ true
-under_by true c o x b e w = refl
-under_by false c o x b e w = w e
-
-pub under_sent : (k : Key) (sent : List Message) (x : List ℕ × FsCall) → call_under k sent ≡ Some x → has_sent k sent ≡ true
-under_sent k [] x e = absurd cc
-under_sent k (m ∷ sent) x e = under_by (is_called k m.head m.carried) _ (call_under k sent) x (has_sent k sent) e (under_sent k sent x)
+called_one S s n l user call act (e ∷ past) node (inl z) h = sends_one S n l user call e.sent node z.1.0 (each_front (IfCall (IsOne S)) (sent_of past) e.sent h).1
+called_one S s n l user call act (e ∷ past) node (inr z) h = called_one S s n l user call act past node z (each_front (IfCall (IsOne S)) (sent_of past) e.sent h).0
 
 -- ---- the facts of an entry, behind the step
 
@@ -171,7 +153,7 @@ keyed_by k ls sent None e h = absurd h
 keyed_by k ls sent (Some m) e h = sent_given k ls sent m e h
 
 sent_within : (k : Key) (past newer : List Entry) (at : Entry) (older : List Entry) → past ≡ newer ++ (at ∷ older) → has_sent k (sent_of older) ≡ true → has_sent k (sent_of past) ≡ true
-sent_within k past newer at older e h = subst (λ (p : List Entry). has_sent k (sent_of p) ≡ true) (sym e) (sent_before k newer (at ∷ older) (has_more k (sent_of older) at.sent h))
+sent_within k past newer at older e h = subst (λ (p : List Entry). has_sent k (sent_of p) ≡ true) (sym e) (sent_before k newer (at ∷ older) (sent_left k (sent_of older) at.sent h))
 
 none_given : (n : ℕ) (st : Step ClientState) (past : List Entry) (act : Going) (P : List Entry → Entry → List Entry → Type 0) → IsMoved n st.state past → st.state.running ≡ Some act → AtGiven (last_key n st.state) (of_client n st ∷ past) P
 none_given n st past act P M r =
@@ -217,7 +199,7 @@ stands_moved s n x clock st past f e T N A M none S D low zero = record {
 -- ---- an entry that was fetched just now
 
 called_sent : (s : Script) (l : Key) (user : List ℕ) (call : FsCall) (act : Going) (n : ℕ) (x : ClientState) (past : List Entry) → IsSound n x past → l.node ≡ Client n → Called s l user call act past → UpTo l.epoch l.number x.epoch x.last
-called_sent s l user call act n x past N node z = N.pairs l node (under_sent l (sent_of past) (user, call) (called_one (sent_of past) s n l user call act past node z N.ones))
+called_sent s l user call act n x past N node z = N.pairs l node (has_under l (sent_of past) (user, call) (called_one (sent_of past) s n l user call act past node z N.ones))
 
 new_held : (s : Script) (n : ℕ) (x : ClientState) (st : Step ClientState) (past : List Entry) (f : Fid) (index : ℕ) (server : Node) (k : Key) → IsTurn n st → IsSound n x past → IsMoved n st.state past → k ≡ last_key n x → IsLast f index (lines_of past) → (HasStopped server st.lines → ⊥) → Holding s n st.state f index server k (of_client n st ∷ past)
 new_held s n x st past f index server k T N M key last going = record {

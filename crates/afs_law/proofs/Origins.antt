@@ -4,17 +4,17 @@ use Rattle.afs_history.specs.declared.lines.Line.{Line}
 use Rattle.afs_history.specs.declared.lines.Line.TheVariants as lines
 use Rattle.afs_history.specs.declared.scripts.Script.{Script}
 use Rattle.afs_law.proofs.Acting.{Acts, Asks, IsTheCall, Rests, Stops, begins_acts, falls_acts, given_acts, is_of, last_key, rises_acts, waits_acts, who_at}
-use Rattle.afs_law.proofs.Asking.{call_is, under_last, unsent_late}
+use Rattle.afs_law.proofs.Sent.{call_is, under_last, unsent_late, late_by}
 use Rattle.afs_law.proofs.Backing.{all_lines}
 use Rattle.afs_law.proofs.Basics.{ByClient, Each, IfCall, OfCall, OfClient, UpTo, at_put, both, by_client, client_number, each_at, each_map, each_more, if_call, node_apart, a_key, next_not, of_client as of_client_node, same_key-refl, same_key-true, same_node-true, some_of}
 use Rattle.afs_law.proofs.Booting.{is_server}
 use Rattle.afs_law.proofs.Calling.{IsUncalled, uncalled_any}
 use Rattle.afs_ideal.specs.Tables.{Table}
 use Rattle.afs_law.proofs.Choosing.{AreFrom, IfCut, Works, is_from, one_from, risen_from, risen_lines, serves_works, starts_works, disk_works, times_works, wakes_works}
-use Rattle.afs_law.proofs.Facts.{IsOne, Origin}
+use Rattle.afs_law.proofs.Words.{IsOne, Origin}
 use Rattle.afs_law.proofs.KeysOnce.{IsKnown, any_told, by_key, known_pair}
 use Rattle.afs_law.proofs.Knowing.{Known, known_first, known_kept, served_uncalled, started_uncalled, timed_uncalled, woken_uncalled}
-use Rattle.afs_law.proofs.Law.{first_passed}
+use Rattle.afs_law.proofs.SettingUp.{first_passed}
 use Rattle.afs_law.proofs.Moving.{Behind, EachMove, IsKept, each_moved, run_keeps}
 use Rattle.afs_law.proofs.Seating.{AreSeated}
 use Rattle.afs_law.specs.Grants.{IsDropped, has_fetched, is_promised}
@@ -49,8 +49,10 @@ use Rattle.afs_rows.specs.ServerRow.{key_of, made, versioned}
 use Rattle.afs_rows.specs.ServerSteps.{back_timeout_row, server_row, start_row, wake_row}
 use Rattle.afs_rows.specs.States.{Gift, ServerState}
 use Rattle.afs_rows.specs.Steps.{Step}
-use Rattle.std.proofs.Common.{◌≡◌, ℕ, ◌+◌, ◌⊎◌, inl, inr, Bool, true, false, cond, not, List, [], ◌∷◌, ◌++◌, Option, Some, None, refl, sym, ap, subst, ◌∙◌}
+use Rattle.std.proofs.Common.{◌≡◌, ℕ, ◌+◌, ◌⊎◌, inl, inr, Bool, true, false, cond, List, [], ◌∷◌, ◌++◌, Option, Some, None, refl, sym, ap, subst, ◌∙◌}
 use Rattle.std.specs.Prelude.{⊤, ◌&&◌}
+use Rattle.afs_law.proofs.Following.{none_runs}
+use Rattle.afs_law.proofs.Passing.{late_kept}
 
 -- ---- lines that leave the act that runs at a client
 
@@ -259,10 +261,6 @@ AskedIn s c past = Asked s c.clients c.sent past
 origin_over : (s : Script) (e : Entry) (past : List Entry) (head : Head) (user : List ℕ) (call : FsCall) → Origin s past head user call → Origin s (e ∷ past) head user call
 origin_over s e past head user call x = record { act = x.act; called = inr x.called; own_user = x.own_user; own_call = x.own_call }
 
-late_still : (t a b : Bool) → t ≡ false → b ≡ true → cond t a b ≡ true
-late_still false a b e h = h
-late_still true a b e h = absurd cc
-
 -- a step of another node
 idle_asked : (s : Script) (clients : ℕ → ClientState) (sent more : List Message) (past : List Entry) (e : Entry) → Asked s clients sent past → ((P : Message → Type 0) → Each P sent → Each P e.sent → Each P more) → ((k : Key) (x : List ℕ × FsCall) → call_under k sent ≡ Some x → call_under k more ≡ Some x)
     → all_lines is_idle e.lines ≡ true → Each IsUncalled e.sent → Asked s clients more (e ∷ past)
@@ -274,7 +272,7 @@ idle_asked s clients sent more past e A over under idle none = record {
   last = λ j act r. under (last_key j (clients j)) ((clients j).user, call_of (clients j) act) (A.last j act r);
   origins = over (IfCall (Origin s (e ∷ past))) (each_map _ _ (if_call (Origin s past) (Origin s (e ∷ past)) (origin_over s e past)) sent A.origins) (each_map IsUncalled (IfCall (Origin s (e ∷ past))) (uncalled_any (Origin s (e ∷ past))) e.sent none);
   asked = λ j act r. inr ((idle_leaves s j e.lines (lines_of past) idle).begins, A.asked j act r);
-  late = λ j act r. late_still (has_begun (Client j) e.lines) _ _ (idle_leaves s j e.lines (lines_of past) idle).begins (A.late j act r);
+  late = λ j act r. late_kept (has_begun (Client j) e.lines) _ _ (idle_leaves s j e.lines (lines_of past) idle).begins (A.late j act r);
   seats = A.seats;
 }
 
@@ -294,9 +292,6 @@ same_call x y act g = ap (λ (gs : List Gift). call_by gs (next act)) g
 
 pub next_key : (n : ℕ) (clients : ℕ → ClientState) (st : Step ClientState) → Asks n (who_at (clients n)) st → IsNext n clients (last_key n st.state)
 next_key n clients st a = record { node = refl; epoch = a.epoch; number = a.last }
-
-pub none_runs : (o : Option Going) (act : Going) → o ≡ None → o ≡ Some act → ⊥
-none_runs o act e f = let no : None ≡ Some act = sym e ∙ f in absurd cc
 
 -- the call that it waits for is the one under its key
 last_one : (c : Cell) (past : List Entry) (s : Script) (n : ℕ) (st : Step ClientState) → Known c past → AskedIn s c past → st.state.user ≡ (c.clients n).user → Rests n (who_at (c.clients n)) (c.clients n).gifts st ⊎ (Asks n (who_at (c.clients n)) st ⊎ Stops n (who_at (c.clients n)) st) → (act : Going) → st.state.running ≡ Some act
@@ -326,15 +321,11 @@ last_asked c past s n st A who (inr (inl a)) act run =
     inl (refl, subst (Sends (last_key n st.state) (user_at s n) (call_of st.state act)) (sym a.sent) sends)
 last_asked c past s n st A who (inr (inr z)) act run = absurd (none_runs st.state.running act z.act run)
 
-late_by : (t a b : Bool) → a ≡ false → b ≡ true → cond t (not a) b ≡ true
-late_by true a b x y = rw x refl
-late_by false a b x y = y
-
 pub last_late : (c : Cell) (past : List Entry) (s : Script) (n : ℕ) (st : Step ClientState) → Known c past → AskedIn s c past → Rests n (who_at (c.clients n)) (c.clients n).gifts st ⊎ (Asks n (who_at (c.clients n)) st ⊎ Stops n (who_at (c.clients n)) st) → (act : Going) → st.state.running ≡ Some act
     → is_new_to_act (Client n) (last_key n st.state) (of_client n st ∷ past) ≡ true
 last_late c past s n st K A (inl r) act run = elim r.act [
   | inl none ↦ absurd (none_runs st.state.running act none run)
-  | inr same ↦ late_still (has_begun (Client n) st.lines) _ _ same.1.1 (subst (λ (k : Key). is_new_to_act (Client n) k past ≡ true) (sym (same_key_at n (c.clients n) st.state r.epoch r.last)) (A.late n act (sym same.0 ∙ run)))
+  | inr same ↦ late_kept (has_begun (Client n) st.lines) _ _ same.1.1 (subst (λ (k : Key). is_new_to_act (Client n) k past ≡ true) (sym (same_key_at n (c.clients n) st.state r.epoch r.last)) (A.late n act (sym same.0 ∙ run)))
 ]
 last_late c past s n st K A (inr (inl a)) act run =
     let no : has_sent (last_key n st.state) (sent_of past) ≡ false = subst (λ (ms : List Message). has_sent (last_key n st.state) ms ≡ false) (sym K.hears.told) (unsent K.keys.callees c.clients n (last_key n st.state) c.sent (next_key n c.clients st a) K.keys.calls).0 in
@@ -379,7 +370,7 @@ client_asked s c past n st K A a =
           (λ other act r. inr ((other_leaves s n j st.lines (lines_of past) a.of other).begins, A.asked j act r));
       late = λ j. at_put n j (λ (x : ClientState). (act : Going) → x.running ≡ Some act → is_new_to_act (Client j) (last_key j x) (e ∷ past) ≡ true) st.state c.clients
           (λ same. subst (λ (i : ℕ). (act : Going) → st.state.running ≡ Some act → is_new_to_act (Client i) (last_key i st.state) (e ∷ past) ≡ true) same (last_late c past s n st K A a.goes))
-          (λ other act r. late_still (has_begun (Client j) st.lines) _ _ (other_leaves s n j st.lines (lines_of past) a.of other).begins (A.late j act r));
+          (λ other act r. late_kept (has_begun (Client j) st.lines) _ _ (other_leaves s n j st.lines (lines_of past) a.of other).begins (A.late j act r));
       seats = λ j. at_put n j (λ (x : ClientState). AreSeated (Client j) x.seats) st.state c.clients (λ same. subst (λ (i : ℕ). AreSeated (Client i) st.state.seats) same (a.seats (A.seats n))) (λ other. A.seats j);
     }
 

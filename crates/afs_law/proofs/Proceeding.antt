@@ -1,44 +1,38 @@
 -- What a client's step must tell of its cache and its reads, so that what holds of them passes over it.
+use Rattle.afs_law.proofs.Lone.{has_under, pair_behind}
+use Rattle.afs_law.proofs.Following.{none_runs, more_not}
 use Rattle.afs_history.specs.declared.lines.Line.{Line}
 use Rattle.afs_history.specs.declared.lines.Line.TheVariants as lines
 use Rattle.afs_history.specs.declared.scripts.Script.{Script}
 use Rattle.afs_law.proofs.Acting.{Acts, Asks, IsTheCall, is_of, last_key, who_at}
 use Rattle.afs_law.proofs.Arriving.{Based, IsFetched, around, told_sent}
-use Rattle.afs_law.proofs.Backing.{all_lines}
-use Rattle.afs_law.proofs.Basics.{ByClient, Each, IfCall, OfCall, UpTo, both, by_client}
+use Rattle.afs_law.proofs.Basics.{ByClient, Each, IfCall, OfCall, by_client}
 use Rattle.afs_law.proofs.Edits.{index_in}
-use Rattle.afs_law.proofs.Facts.{IsChangingUnder, IsOne, IsWhole, Reached, Seen}
-use Rattle.afs_law.proofs.Following.{Follows, more_not}
-use Rattle.afs_law.proofs.Holding.{IsAround}
+use Rattle.afs_law.proofs.Words.{IsChangingUnder, IsOne, IsWhole, Reached, Seen}
 use Rattle.afs_law.proofs.Ideals.{AreBlank, blank_by, of_blank}
-use Rattle.afs_law.proofs.KeysOnce.{IsKnown}
-use Rattle.afs_law.proofs.Lone.{pair_behind}
 use Rattle.afs_law.proofs.Looking.{IsShown, ReadsUpTo}
-use Rattle.afs_law.proofs.Minding.{HasDone, IsMoved, IsSound, IsStill, IsTurn, reached_own, stands_moved, stands_new, stands_still, stands_stored, under_sent, waits_moved, waits_still}
-use Rattle.afs_law.proofs.Origins.{next_key, none_runs, of_client, same_key_at, the_calls, unsent}
-use Rattle.afs_law.proofs.Trusting.{Stands, Trusts, Waits, since_rest}
+use Rattle.afs_law.proofs.Minding.{HasDone, IsMoved, IsSound, IsStill, IsTurn, reached_own, stands_moved, stands_new, stands_still, stands_stored, waits_moved, waits_still}
+use Rattle.afs_law.proofs.Origins.{next_key, of_client, same_key_at, the_calls, unsent}
+use Rattle.afs_law.proofs.Trusting.{Stands, Trusts, since_rest}
 use Rattle.afs_law.specs.ClientParts.{is_silent}
 use Rattle.afs_law.specs.Grants.{IsWithdrawn, has_fetched}
-use Rattle.afs_law.specs.Ideal.{IsLast, Reach, call_under, change_key, last_version, reach, reach_over}
-use Rattle.afs_law.specs.Legal.{HasChange}
+use Rattle.afs_law.specs.Ideal.{IsLast, Reach, change_key, last_version, reach, reach_over}
 use Rattle.afs_law.specs.Parts.{EachLine}
-use Rattle.afs_law.specs.Past.{Sends, called_key, given_message, has_begun, has_sent, lines_of, onto, sent_of}
+use Rattle.afs_law.specs.Past.{Sends, given_message, has_begun, has_sent, lines_of, sent_of}
 use Rattle.afs_num.specs.declared.calls.FsCall.{FsCall}
 use Rattle.afs_num.specs.declared.histories.Actor.TheVariants as actors
 use Rattle.afs_num.specs.declared.messages.Carried.{Carried}
 use Rattle.afs_num.specs.declared.messages.Message.{Message}
 use Rattle.afs_num.specs.declared.types.Fid.{Fid}
-use Rattle.afs_num.specs.declared.types.Head.{Head}
 use Rattle.afs_num.specs.declared.types.Key.{Key}
 use Rattle.afs_num.specs.declared.types.Node.{Node}
 use Rattle.afs_num.specs.declared.types.Node.TheVariants.{Client}
-use Rattle.afs_rows.specs.ClientRow.{call_by, call_of, find_cached}
+use Rattle.afs_rows.specs.ClientRow.{call_by, find_cached}
 use Rattle.afs_rows.specs.Going.{ClientState, Going, next}
 use Rattle.afs_rows.specs.Runs.{Cell, Entry}
-use Rattle.afs_rows.specs.ServerRow.{key_of}
 use Rattle.afs_rows.specs.States.{CacheEntry, Gift}
 use Rattle.afs_rows.specs.Steps.{Step}
-use Rattle.std.proofs.Common.{◌≡◌, ◌≤◌, ◌<◌, ℕ, ◌⊎◌, inl, inr, Bool, true, false, cond, List, [], ◌∷◌, ◌++◌, Option, Some, None, refl, sym, ap, subst, ◌∙◌, arith}
+use Rattle.std.proofs.Common.{◌≡◌, ◌<◌, ℕ, ◌⊎◌, inl, inr, Bool, true, false, List, [], ◌∷◌, ◌++◌, Option, Some, None, refl, sym, ap, subst, ◌∙◌}
 
 -- ---- an entry behind the step
 
@@ -129,7 +123,7 @@ asked_moved s c past n st B z =
     record {
       unsent = λ act r. none;
       unchanged = λ act r has. let u : IsChangingUnder (last_key n st.state) (sent_of past) = B.lones.1.0 (last_key n st.state) has in
-          (let yes : has_sent (last_key n st.state) (sent_of past) ≡ true = under_sent (last_key n st.state) (sent_of past) (u.user, u.call) u.one in let no_ : false ≡ true = sym none ∙ yes in absurd cc);
+          (let yes : has_sent (last_key n st.state) (sent_of past) ≡ true = has_under (last_key n st.state) (sent_of past) (u.user, u.call) u.one in let no_ : false ≡ true = sym none ∙ yes in absurd cc);
     }
 
 idle_moved : (n : ℕ) (y : ClientState) (past : List Entry) → y.running ≡ None → IsMoved n y past

@@ -1,4 +1,5 @@
 -- Each step of a client tells what is asked of it of its cache and its reads.
+use Rattle.afs_law.proofs.Following.{none_runs, more_not, none_read}
 use Rattle.afs_history.specs.declared.acts.Act.{Act}
 use Rattle.afs_history.specs.declared.lines.Line.{Line}
 use Rattle.afs_history.specs.declared.lines.Line.TheVariants as lines
@@ -6,34 +7,31 @@ use Rattle.afs_history.specs.declared.scripts.Script.{Script}
 use Rattle.afs_ideal.specs.Operations.{is_number, the_user, volume_changed}
 use Rattle.afs_law.proofs.Acting.{last_key}
 use Rattle.afs_law.proofs.Apart.{found_filter}
-use Rattle.afs_law.proofs.Arriving.{Arrives, index_is, Based, IsFetched, around, arrives, brings_of, by_of, fetched, told_sent, zero_told}
+use Rattle.afs_law.proofs.Arriving.{Arrives, index_is, Based, around, arrives, brings_of, by_of, fetched, told_sent, zero_told}
 use Rattle.afs_law.proofs.Ascending.{Ascend}
 use Rattle.afs_law.proofs.Basics.{both, each_at, found-cached-fid, found-refreshed, same_fid-refl, same_fid-true, same_node-refl, some_of, yes_no}
 use Rattle.afs_law.proofs.Bringing.{AllBrought, AllTrusted, IsBrought, IsShowing, IsTaken, bulk_result, entry_result, rights_result}
 use Rattle.afs_law.proofs.Edits.{index_in}
 use Rattle.afs_ideal.specs.Replies.{change_reply}
-use Rattle.afs_law.proofs.Facts.{AreApart, is_passing, InScope, IsBody, IsKeptBody, IsWhole, Leaves, Seen}
-use Rattle.afs_law.proofs.Fetching.{AreSights, Brings, IsBy, IsSight, been_over, has_over}
+use Rattle.afs_law.proofs.Words.{AreApart, is_passing, InScope, IsBody, IsKeptBody, IsWhole, Leaves}
+use Rattle.afs_law.proofs.Fetching.{AreSights, Brings, IsSight, been_over, has_over}
 use Rattle.afs_law.proofs.Firm.{IsFirm}
-use Rattle.afs_law.proofs.Following.{more_not}
 use Rattle.afs_law.proofs.Ideals.{AreBlank}
 use Rattle.afs_law.proofs.Kept.{mapped, not_true}
 use Rattle.afs_law.proofs.Looking.{HasNoZero, ReadsUpTo, both_up, made_still, seen_up}
 use Rattle.afs_law.proofs.Minding.{HasDone}
 use Rattle.afs_law.proofs.Ops.{changes_is, stored_fid}
-use Rattle.afs_law.proofs.Origins.{none_runs, of_client}
-use Rattle.afs_law.proofs.Proceeding.{IsFreshed, IsOld, IsSame, Kind, Result, idle_done}
-use Rattle.afs_law.proofs.Recording.{IsAgreed}
+use Rattle.afs_law.proofs.Proceeding.{Kind, Result, idle_done}
 use Rattle.afs_law.proofs.Resolving.{done_apart, done_reading, done_refused, done_scope}
 use Rattle.afs_law.proofs.Storing.{IsStore, done_of, status_in, store_of}
-use Rattle.afs_law.proofs.Taking.{AreUnread, FrontOld, IsFront, IsLeft, dropped_blank, dropped_unread, dropped_zero, drops_blank, drops_silent, drops_unread, drops_zero, moved_result, quiet_result, unread_fetched, unread_shown, unread_up, walks_result}
-use Rattle.afs_law.proofs.Telling.{Tells, TellsNo, made_well}
-use Rattle.afs_law.proofs.Trusting.{Stands, Trusts, Waits}
+use Rattle.afs_law.proofs.Taking.{AreUnread, IsFront, dropped_blank, dropped_unread, dropped_zero, drops_blank, drops_silent, drops_unread, drops_zero, moved_result, quiet_result, unread_shown, unread_up, walks_result}
+use Rattle.afs_law.proofs.Telling.{TellsNo, made_well}
+use Rattle.afs_law.proofs.Trusting.{Trusts}
 use Rattle.afs_law.specs.Breaks.{IsNamedIn}
 use Rattle.afs_law.specs.ClientParts.{is_silent}
-use Rattle.afs_law.specs.Grants.{IsWithdrawn, has_fetched, is_promised}
-use Rattle.afs_law.specs.Ideal.{HasBeen, HasVersion, IsLast, Reach, is_zero_code, last_version, reach, reach_over}
-use Rattle.afs_law.specs.Past.{HasCode, code_told, has_begun, lines_of, onto, sent_of}
+use Rattle.afs_law.specs.Grants.{has_fetched, is_promised}
+use Rattle.afs_law.specs.Ideal.{HasBeen, HasVersion, IsLast, is_zero_code, last_version, reach, reach_over}
+use Rattle.afs_law.specs.Past.{code_told, has_begun, lines_of, sent_of}
 use Rattle.afs_model.specs.Calls as pairs
 use Rattle.afs_model.specs.Calls.{Admitted, admitted}
 use Rattle.afs_num.specs.Fids.{same_fid}
@@ -51,7 +49,6 @@ use Rattle.afs_num.specs.declared.histories.Body.TheVariants as bodies
 use Rattle.afs_num.specs.declared.histories.ReadBody.{ReadBody}
 use Rattle.afs_num.specs.declared.histories.ReadBody.TheVariants as seen
 use Rattle.afs_num.specs.declared.histories.ReadSource.TheVariants.{Fetched}
-use Rattle.afs_num.specs.declared.histories.ReadStatus.{ReadStatus}
 use Rattle.afs_num.specs.declared.messages.Call.TheVariants as ask
 use Rattle.afs_num.specs.declared.messages.Carried.{Carried}
 use Rattle.afs_num.specs.declared.messages.Carried.TheVariants as carried
@@ -63,7 +60,7 @@ use Rattle.afs_num.specs.declared.types.Fid.{Fid}
 use Rattle.afs_num.specs.declared.types.Head.{Head}
 use Rattle.afs_num.specs.declared.types.Node.{Node}
 use Rattle.afs_num.specs.declared.types.Node.TheVariants.{Client}
-use Rattle.afs_rows.specs.ClientRow.{admits_call, answers_step, awaits, booted, is_reading, look_at, looked, put_entries, put_entry, read_lines, refuses, status_look, takes_plain, walks_on, with_statuses, begin_row, begins_by, behind_batch, body_told, breaks, call_by, call_of, calls_again, client_row, counts, dead_code, done, drop_line, dropped, dropped_after, ended, entries_told, entry_told, find_cached, gift_of, given, given_up_in, gives_by, hears, ignores, in_order, is_awaited, is_below, is_busy_code, is_named, is_spent, is_trusted, left_after, left_in, most_busy, names_call, reborn, refreshed, replies_step, runs_carried, status_told, takes, takes_bulk, takes_data, takes_entries, takes_entry, takes_given, takes_list, takes_set, takes_shown, takes_status, takes_stored, timeout_line, timeout_row, trusted_in, untrusted_in, whole, without_fids, without_server, zero_code}
+use Rattle.afs_rows.specs.ClientRow.{admits_call, answers_step, awaits, booted, is_reading, look_at, looked, put_entries, put_entry, read_lines, refuses, status_look, takes_plain, walks_on, with_statuses, begin_row, begins_by, behind_batch, body_told, breaks, call_of, calls_again, client_row, counts, dead_code, drop_line, dropped, dropped_after, ended, entries_told, entry_told, find_cached, gift_of, given, given_up_in, gives_by, hears, ignores, in_order, is_awaited, is_below, is_named, is_spent, is_trusted, left_after, left_in, most_busy, names_call, reborn, refreshed, replies_step, runs_carried, status_told, takes, takes_bulk, takes_data, takes_given, takes_list, takes_set, takes_shown, takes_stored, timeout_line, timeout_row, trusted_in, untrusted_in, whole, without_fids, without_server, zero_code}
 use Rattle.afs_rows.specs.Going.{ClientState, Going, Need, began, gives_back, next, with_read}
 use Rattle.afs_rows.specs.Runs.{Cell, Entry, message_at}
 use Rattle.afs_rows.specs.Scopes.{is_in_scope}
@@ -71,9 +68,8 @@ use Rattle.afs_records.specs.Durable.{time_in}
 use Rattle.afs_rows.specs.ServerRow.{carried_by, promise_ticks, result, stored_by}
 use Rattle.afs_rows.specs.States.{CacheEntry, Gift}
 use Rattle.afs_rows.specs.Steps.{Step}
-use Rattle.std.proofs.Common.{◌≡◌, ◌≤◌, ◌<◌, ◌+◌, ℕ, ◌⊎◌, inl, inr, Bool, true, false, cond, filter, not, eq-eqb, eqb-true, nat_eq, ltb-false, ltb-true, lt-ltb, ℤ, List, [], ◌∷◌, ◌++◌, map, Option, Some, None, pos, refl, sym, ap, subst, ◌∙◌, le_of_eq, arith}
+use Rattle.std.proofs.Common.{◌≡◌, ◌≤◌, ◌<◌, ◌+◌, ℕ, inl, inr, Bool, true, false, cond, not, eq-eqb, eqb-true, nat_eq, ltb-true, lt-ltb, ℤ, List, [], ◌∷◌, ◌++◌, map, Option, Some, None, pos, refl, sym, ap, subst, ◌∙◌, arith}
 use Rattle.std.specs.List.{list_any}
-use Rattle.std.specs.Option.{option_map}
 use Rattle.std.specs.Prelude.{⊤, ◌&&◌, ◌||◌, nat_lt}
 
 -- ---- what is given
@@ -112,9 +108,6 @@ either_parts false b e = (refl, e)
 
 zero_code_not : (code : Code) → Some code.0 ≡ Some (pos 0) → is_zero_code code ≡ false → ⊥
 zero_code_not code e none = let is : code.0 ≡ pos 0 = some_of code.0 (pos 0) e in let yes : is_number code.0 0 ≡ true = ap (λ (i : ℤ). is_number i 0) is in let no_ : false ≡ true = sym none ∙ yes in absurd cc
-
-not_zero : (code : Code) (rest : Bool) → (is_number code.0 0 || rest) ≡ false → is_zero_code code ≡ false
-not_zero code rest h = (either_parts (is_number code.0 0) rest h).0
 
 refused_tells : (s : Script) (c : Cell) (past : List Entry) (n : ℕ) (act : Going) (m : Message) (code : Code) → (a : Arrives s c past n act m) → m.carried ≡ carried.Refusal code → is_zero_code code ≡ false → TellsNo m (a.tells.ran.at ∷ a.tells.ran.older)
 refused_tells s c past n act m code a is none = elim a.tells.says [
@@ -189,10 +182,6 @@ plain_result s c past n place act m r call E a file same =
       done' = λ lasts S. inr (done_scope n x act f e.server past a.runs p.1 (done_of s c past n act m r a file));
       low = λ lasts. zero_low n f past st.lines e.index (dropped_blank (Client n) es end refl) (unread_up (Client n) f e.index (dropped (Client n) es end) (dropped_unread (Client n) es end refl)) (made_none s c past n act f e E a.runs p.0 p.1) ((E.1.entries f e p.0).low lasts);
     })
-
--- promises that are given back
-given_reading : (call : FsCall) (fids : List Fid) (cs : List AfsCallBack) → call ≡ calls.GiveUpCallBacks fids cs → volume_changed call ≡ None
-given_reading call fids cs e = ap volume_changed e
 
 more_result : (s : Script) (c : Cell) (past : List Entry) (n place : ℕ) (act : Going) (more : List Gift) → Env s c past n → (c.clients n).running ≡ Some act → volume_changed (call_of (c.clients n) act) ≡ None → Result s n (c.clients n) c.clock past (gives_by (Client n) (c.clients n) (given place) act more)
 more_result s c past n place act [] E r reading =
@@ -308,10 +297,6 @@ or_later false b e = e
 not_false : (b : Bool) → not b ≡ false → b ≡ true
 not_false true e = refl
 not_false false e = absurd cc
-
-reading_none : (o : Option ℕ) → is_reading o ≡ true → o ≡ None
-reading_none None e = refl
-reading_none (Some id) e = absurd cc
 
 spoiled_off : (a b : Bool) → b ≡ true → (a && b) ≡ false → a ≡ false
 spoiled_off true b e h = let no_ : true ≡ false = sym e ∙ h in absurd cc
@@ -464,7 +449,7 @@ abbrev pub IsHeard : Script → Cell → List Entry → ℕ → ℕ → Head →
 IsHeard s c past n place head x = (message_at c.sent place ≡ Some (record { head = head; carried = x })) × (head.to ≡ Client n)
 
 spent_reads : (x : ClientState) (act : Going) → is_spent x act ≡ true → volume_changed (call_of x act) ≡ None
-spent_reads x act h = reading_none (volume_changed (call_of x act)) (both x.spoiled (is_reading (volume_changed (call_of x act))) h).1
+spent_reads x act h = none_read (volume_changed (call_of x act)) (both x.spoiled (is_reading (volume_changed (call_of x act))) h).1
 
 unspent : (x : ClientState) (act : Going) → is_spent x act ≡ false → IsUnspent x act
 unspent x act h reading = spoiled_off x.spoiled (is_reading (volume_changed (call_of x act))) (ap is_reading reading) h

@@ -5,32 +5,29 @@ use Rattle.afs_history.specs.declared.scripts.Script.{Script}
 use Rattle.afs_ideal.specs.Tables.{Table}
 use Rattle.afs_ideal.specs.Volumes.{Volume, counted, edited_all, versions_by}
 use Rattle.afs_law.proofs.Acting.{begins_acts, given_acts, is_of, waits_acts}
-use Rattle.afs_law.proofs.Ascending.{Ascend, AscendIn, HeldAscend, ascend_first, ascend_kept}
+use Rattle.afs_law.proofs.Ascending.{Ascend, HeldAscend, ascend_first, ascend_kept}
 use Rattle.afs_law.proofs.Backing.{all_lines}
-use Rattle.afs_law.proofs.Basics.{IfCall, each_at}
 use Rattle.afs_law.proofs.Changing.{HeldCuts, IsPlaced, change_ideal, cut_placed, cuts_first, cuts_kept, none_first}
 use Rattle.afs_law.proofs.Choosing.{AreFrom, Works, disk_works, is_from, risen_from, risen_lines, serves_works, starts_works, times_works, wakes_works}
-use Rattle.afs_law.proofs.Cutting.{CutsIn}
-use Rattle.afs_law.proofs.Edits.{Grow, SoundIn, edits_told, on_top, sound_same}
-use Rattle.afs_law.proofs.Facts.{IsFine}
+use Rattle.afs_law.proofs.Edits.{Grow, SoundIn, edits_told, sound_same}
+use Rattle.afs_law.proofs.Words.{IsFine}
 use Rattle.afs_law.proofs.Housed.{IsPlaced as IsPlaced', placed}
-use Rattle.afs_law.proofs.Ideals.{AreBlank, Changes, Held, VolumesIn, blank_by, blank_last, blow_blank, changes_all, cut_by, from_blank, of_blank, own_from, saved_at}
+use Rattle.afs_law.proofs.Ideals.{AreBlank, Changes, Held, VolumesIn, blank_by, blank_last, blow_blank, changes_all, cut_by, from_blank, of_blank, own_from}
 use Rattle.afs_law.proofs.KeysOnce.{IsKnown, any_told, by_key}
-use Rattle.afs_law.proofs.Moving.{Behind, EachMove, IsKept, each_moved}
+use Rattle.afs_law.proofs.Moving.{EachMove, IsKept, each_moved}
 use Rattle.afs_law.proofs.Saving.{first_on}
 use Rattle.afs_law.specs.Ideal.{is_at, set_up, volume_after}
 use Rattle.afs_law.specs.Legal.{EndsBoot, IdealChange}
 use Rattle.afs_law.specs.Past.{lines_of, onto}
 use Rattle.afs_num.specs.declared.histories.Actor.TheVariants as actors
 use Rattle.afs_num.specs.declared.histories.Version.{Version}
-use Rattle.afs_num.specs.declared.messages.Received.TheVariants.{Whole}
 use Rattle.afs_num.specs.declared.types.Key.{Key}
-use Rattle.afs_num.specs.declared.types.Node.TheVariants.{Client, Server}
+use Rattle.afs_num.specs.declared.types.Node.TheVariants.{Server}
 use Rattle.afs_records.specs.Durable.{Stored}
 use Rattle.afs_rows.specs.ClientRow.{server_at}
-use Rattle.afs_rows.specs.Runs.{Cell, Entry, Fall, Input, Moved, at_rest, begun_by_disk, in_boot, locations, server_stays, blow_line, moved, start}
+use Rattle.afs_rows.specs.Runs.{Cell, Entry, Fall, Input, Moved, at_rest, begun_by_disk, in_boot, locations, server_stays, moved, start}
 use Rattle.afs_rows.specs.ServerRow.{Begun, Change, key_of, made, versioned}
-use Rattle.std.proofs.Common.{suc, ◌≡◌, ℕ, ◌⊎◌, inl, inr, Bool, true, false, cond, eq-eqb, eqb, length, List, [], ◌∷◌, ◌++◌, Option, Some, None, refl, sym, ap, subst, ◌∙◌}
+use Rattle.std.proofs.Common.{◌≡◌, ℕ, ◌⊎◌, inl, inr, Bool, true, cond, eq-eqb, length, List, [], ◌∷◌, ◌++◌, Option, Some, None, refl, sym, ap, subst, ◌∙◌}
 use Rattle.std.specs.Prelude.{⊤}
 
 -- ---- an entry
@@ -167,11 +164,6 @@ recorded_kept s c past x h =
 
 pub recorded_first : (s : Script) → Recorded s (start s) (set_up s ∷ [])
 recorded_first s = let k : HeldAscend s (start s) (set_up s ∷ []) = ascend_first s in record { cuts = cuts_first s; ascends = k; all = ((inr refl, agreed s (start s) (set_up s ∷ []) k.0.1 k.1), tt) }
-
--- what holds of a moment
-pub agreed_at : (s : Script) (newer : List Entry) (e : Entry) (older : List Entry) → AreRecorded s (newer ++ (e ∷ older)) → IsAgreed s (e ∷ older)
-agreed_at s [] e older h = h.0.1
-agreed_at s (y ∷ newer) e older h = agreed_at s newer e older h.1
 
 pub told_at : (s : Script) (newer : List Entry) (e d : Entry) (older : List Entry) → AreRecorded s (newer ++ (e ∷ (d ∷ older))) → AreBlank e.lines ⊎ IsSaved s (d ∷ older) e
 told_at s [] e d older h = elim h.0.0 [

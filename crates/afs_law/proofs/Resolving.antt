@@ -1,4 +1,6 @@
 -- A call that its client waits for no longer changes nothing of an object any more: it reads, was answered, was refused, or was given up.
+use Rattle.afs_law.proofs.Ideals.{at_home, AreBlank, one_place}
+use Rattle.afs_law.proofs.Loading.{onto_both}
 use Rattle.afs_history.specs.declared.lines.Line.{Line}
 use Rattle.afs_history.specs.declared.lines.Line.TheVariants as lines
 use Rattle.afs_history.specs.declared.scripts.Script.{Script}
@@ -8,26 +10,22 @@ use Rattle.afs_law.proofs.Addressed.{AsksOf}
 use Rattle.afs_law.proofs.Arriving.{Arrives, Based, around, is_its_call, lines_more}
 use Rattle.afs_law.proofs.Backing.{stopped_onto}
 use Rattle.afs_law.proofs.Basics.{some_of, up_to_same}
-use Rattle.afs_law.proofs.Facts.{InScope}
-use Rattle.afs_law.proofs.Holding.{IsAround}
+use Rattle.afs_law.proofs.Words.{InScope, scope_is}
 use Rattle.afs_law.proofs.Housed.{IsPlaced, placed}
-use Rattle.afs_law.proofs.Ideals.{AreBlank, one_place, onto_front}
 use Rattle.afs_law.proofs.Lasting.{stopped_or}
 use Rattle.afs_law.proofs.Later.{HasRunSince, later_key}
 use Rattle.afs_law.proofs.Minding.{HasDone, blank_change}
 use Rattle.afs_law.proofs.Origins.{under_more}
 use Rattle.afs_law.proofs.Recording.{AreRecorded, IsSaved, told_at}
-use Rattle.afs_law.proofs.Remaining.{accepted}
 use Rattle.afs_law.proofs.Saving.{later_not}
-use Rattle.afs_law.proofs.Skipping.{scope_is}
 use Rattle.afs_law.proofs.Storing.{under_over}
-use Rattle.afs_law.proofs.Telling.{Tells, TellsNo}
-use Rattle.afs_law.proofs.Trusting.{HasRunKey, IsDone, IsKeyed, MayHave, Stands, since_rest}
+use Rattle.afs_law.proofs.Telling.{TellsNo}
+use Rattle.afs_law.proofs.Trusting.{IsKeyed, Stands, since_rest}
 use Rattle.afs_law.specs.Breaks.{HasStopped}
 use Rattle.afs_law.specs.Grants.{IsWithdrawn}
 use Rattle.afs_law.specs.Ideal.{call_under, is_at}
-use Rattle.afs_law.specs.Legal.{HasChange, IsLater}
-use Rattle.afs_law.specs.Past.{IsCall, Ran, answered_key, called_key, given_message, is_called, lines_of, lines_on, onto, sent_of, server_boot}
+use Rattle.afs_law.specs.Legal.{HasChange}
+use Rattle.afs_law.specs.Past.{Ran, answered_key, called_key, given_message, lines_of, lines_on, onto, sent_of, server_boot}
 use Rattle.afs_num.specs.declared.calls.FsCall.{FsCall}
 use Rattle.afs_num.specs.declared.calls.FsCall.TheVariants as calls
 use Rattle.afs_num.specs.declared.histories.Actor.TheVariants as actors
@@ -43,7 +41,7 @@ use Rattle.afs_rows.specs.Runs.{Cell, Entry, locations}
 use Rattle.afs_rows.specs.Scopes.{is_volume}
 use Rattle.afs_rows.specs.ServerRow.{versioned}
 use Rattle.afs_rows.specs.States.{CacheEntry}
-use Rattle.std.proofs.Common.{◌≡◌, ◌<◌, ℕ, ◌⊎◌, inl, inr, Bool, true, false, eq-eqb, eqb-true, nat_eq, List, [], ◌∷◌, ◌++◌, Option, Some, None, refl, sym, ap, subst, ◌∙◌}
+use Rattle.std.proofs.Common.{◌≡◌, ℕ, ◌⊎◌, inl, inr, Bool, true, false, eq-eqb, eqb-true, List, [], ◌∷◌, ◌++◌, Option, Some, None, refl, sym, ap, subst, ◌∙◌}
 
 -- ---- the scope of a call
 
@@ -92,7 +90,7 @@ versions_none k (v ∷ vs) ls o b h = versions_none k vs ls (lines.Version v ∷
 
 change_saved : (k : Key) (q : Node) (l : Key) (count : ℕ) (front : List Line) (vs : List Version) (rest o : List Line) → AreBlank front → AreBlank rest → HasChange k (onto o (front ++ (lines.Change q l count ∷ versioned vs rest))) → (l ≡ k) ⊎ HasChange k o
 change_saved k q l count front vs rest o b d h =
-    elim (same_or k l q count (onto o front) (versions_none k vs rest (lines.Change q l count ∷ onto o front) d (subst (HasChange k) (onto_front o front (lines.Change q l count ∷ versioned vs rest)) h))) [
+    elim (same_or k l q count (onto o front) (versions_none k vs rest (lines.Change q l count ∷ onto o front) d (subst (HasChange k) (onto_both o front (lines.Change q l count ∷ versioned vs rest)) h))) [
       | inl e ↦ inl e
       | inr e ↦ inr (blank_change k front o b e)
     ]
@@ -157,7 +155,7 @@ since_refused s c past n act m B a going b =
     (under_over k b.later (b.told ∷ below) (I.user, I.call) (under_more k (sent_of below) b.told.sent (I.user, I.call) (subst (λ (l : Key). call_under l (sent_of below) ≡ Some (I.user, I.call)) b.key I.one))) in
     let same : I.call ≡ a.tells.call = ap (λ (p : List ℕ × FsCall). p.1) (some_of (I.user, I.call) ((c.clients n).user, call_of (c.clients n) act) (sym one ∙ (ap (λ (l : Key). call_under l (sent_of past)) a.key ∙ (around s c past n B).under act a.runs))) ∙ sym a.call in
     let asks : AsksOf a.tells.call I.id = subst (λ (q : FsCall). AsksOf q I.id) same (asks_volume I.call I.id I.of_volume) in
-    let here : Server z.server ≡ m.head.from = known_home s I.id (Server z.server) (accepted s I.id (Server z.server) (onto [] z.front ++ lines_of below) I.home) (placed I.id s.volumes) ∙ sym (a.homes I.id asks) in
+    let here : Server z.server ≡ m.head.from = known_home s I.id (Server z.server) (at_home s I.id (Server z.server) (onto [] z.front ++ lines_of below) I.home) (placed I.id s.volumes) ∙ sym (a.homes I.id asks) in
     let key : called_key ran.message.head ≡ z.key = ran.key ∙ sym b.key in
     let r : HasRunSince (Server z.server) z.key below = record {
       newer = b.between;

@@ -1,5 +1,6 @@
 -- Of each object that a client keeps: its calls that may change the object's volume, and for which it doesn't wait, are no later than the call
 -- by which it fetched that; or they were sent since, and a reply to them too, and none of these was given up. However many servers a cell has.
+use Rattle.afs_law.proofs.Following.{none_runs, Follows, begins_follow, falls_follow, given_follow, rises_follow, waits_follow}
 use Rattle.afs_history.specs.declared.lines.Line.{Line}
 use Rattle.afs_history.specs.declared.lines.Line.TheVariants as lines
 use Rattle.afs_history.specs.declared.scripts.Script.{Script}
@@ -7,7 +8,7 @@ use Rattle.afs_ideal.specs.Operations.{volume_changed}
 use Rattle.afs_law.proofs.Acting.{Acts, Asks, IsTheCall, begins_acts, falls_acts, given_acts, last_key, rises_acts, waits_acts, who_at}
 use Rattle.afs_law.proofs.Addressed.{HomesIn, IsHome, homes_first, homes_kept}
 use Rattle.afs_law.proofs.Apart.{found_filter}
-use Rattle.afs_law.proofs.Asking.{not_front}
+use Rattle.afs_law.proofs.Sent.{not_front}
 use Rattle.afs_law.proofs.Passing.{calls_both}
 use Rattle.afs_law.proofs.Backing.{all_lines}
 use Rattle.afs_law.proofs.Basics.{Below, Each, IfCall, IfReply, UpTo, at_put, both, client_number, each_at, found-cached-fid, each_map, each_more, if_call, same_fid-true, some_of, up_to_by}
@@ -15,16 +16,15 @@ use Rattle.afs_law.proofs.Calling.{IsUncalled, begins_tame, uncalled_any, waits_
 use Rattle.afs_law.proofs.Caused.{IsOfCallee}
 use Rattle.afs_law.proofs.Choosing.{disk_works, one_from, risen_from, risen_lines, serves_works, starts_works, times_works, wakes_works}
 use Rattle.afs_law.proofs.Due.{its_key, told_due, waiting_for}
-use Rattle.afs_law.proofs.Facts.{AreApart, IsOne}
-use Rattle.afs_law.proofs.Following.{Follows, begins_follow, falls_follow, given_follow, rises_follow, waits_follow}
+use Rattle.afs_law.proofs.Words.{AreApart, IsOne}
 use Rattle.afs_law.proofs.Firm.{IsFirm}
 use Rattle.afs_law.proofs.Gifts.{Given}
 use Rattle.afs_law.proofs.Hearing.{HearsIn, IsHad, IsNoted, IsRan, client_given, kept_on}
-use Rattle.afs_law.proofs.Kept.{Keeps, KeptIn, begins_keep, given_keep, heard_now, kept_first, kept_kept, same_entries, waits_keep}
+use Rattle.afs_law.proofs.Kept.{Keeps, KeptIn, begins_keep, given_keep, heard_now, kept_first, kept_kept, same_entries, waits_keep, drops_fetched}
 use Rattle.afs_law.proofs.KeysOnce.{IsKnown, any_told, by_key}
 use Rattle.afs_law.proofs.Knowing.{Known, served_uncalled, started_uncalled, timed_uncalled, woken_uncalled}
 use Rattle.afs_law.proofs.Moving.{Behind, EachMove, IsKept, each_moved}
-use Rattle.afs_law.proofs.Origins.{AskedIn, Leaves, any_cut, any_message, blow_idle, idle_leaves, idle_works, is_idle, next_key, none_runs, of_client, other_leaves, same_key_at, the_calls, unsent}
+use Rattle.afs_law.proofs.Origins.{AskedIn, Leaves, any_cut, any_message, blow_idle, idle_leaves, idle_works, is_idle, next_key, of_client, other_leaves, same_key_at, the_calls, unsent}
 use Rattle.afs_law.proofs.Queued.{IsIn, in_at, in_front}
 use Rattle.afs_law.proofs.Timing.{GivenTimed, IsUntimed, Timed, Times, begun_times, none_times, row_times, timed_first, timed_kept, told_times}
 use Rattle.afs_law.proofs.Trying.{WaitsIn, waits_first, waits_kept}
@@ -51,7 +51,7 @@ use Rattle.afs_num.specs.declared.types.Key.{Key}
 use Rattle.afs_num.specs.declared.types.Node.{Node}
 use Rattle.afs_num.specs.declared.types.Node.TheVariants.{Client, Server}
 use Rattle.afs_rows.specs.Callbacks.{put}
-use Rattle.afs_rows.specs.ClientRow.{admits_call, awaits, begin_row, breaks, call_of, client_row, counts, drop_line, find_cached, gives_up, hears, ignores, is_awaited, left_in, reborn, runs_carried, server_at, timeout_row, tries_again, whole}
+use Rattle.afs_rows.specs.ClientRow.{admits_call, awaits, begin_row, breaks, call_of, client_row, counts, find_cached, gives_up, hears, ignores, is_awaited, left_in, reborn, runs_carried, server_at, timeout_row, tries_again, whole}
 use Rattle.afs_rows.specs.Going.{ClientState, Going}
 use Rattle.afs_history.specs.declared.acts.Act.{Act}
 use Rattle.afs_num.specs.declared.histories.Actor.TheVariants as actors
@@ -60,7 +60,7 @@ use Rattle.afs_rows.specs.ServerRow.{key_of}
 use Rattle.afs_rows.specs.ServerSteps.{back_timeout_row, server_row, start_row, wake_row}
 use Rattle.afs_rows.specs.States.{CacheEntry}
 use Rattle.afs_rows.specs.Steps.{Step}
-use Rattle.std.proofs.Common.{append-nil, suc, ◌≡◌, ◌+◌, ℕ, ◌⊎◌, inl, inr, Bool, true, false, cond, map, not, nat_eq, eq-eqb, eqb-true, List, [], ◌∷◌, ◌++◌, Option, Some, None, refl, sym, ap, subst, ◌∙◌}
+use Rattle.std.proofs.Common.{append-nil, suc, ◌≡◌, ◌+◌, ℕ, ◌⊎◌, inl, inr, Bool, true, false, cond, not, nat_eq, eq-eqb, eqb-true, List, [], ◌∷◌, ◌++◌, Option, Some, None, refl, sym, ap, subst, ◌∙◌}
 use Rattle.std.specs.Prelude.{⊤, if◌then◌else◌, nat_lt}
 
 -- ---- what is said of each call
@@ -291,7 +291,7 @@ own_keeping s n c st sent past b a fo k ends times fetch nexts was f e found =
     let x' : Entry = of_client n st in
     let asked : Asks n (who_at c) st → has_sent (last_key n st.state) (sent_of past) ≡ false = λ z. subst (λ (ms : List Message). has_sent (last_key n st.state) ms ≡ false) (sym b.told) (nexts z) in
     let new : (m : Message) → Each (IfCall (IsPassed n st.state f m (sent ++ st.sent) (x' ∷ past))) st.sent = λ m.
-        each_map (IfCall (IsTheCall n st.state)) (IfCall (IsPassed n st.state f m (sent ++ st.sent) (x' ∷ past))) (if_call (IsTheCall n st.state) (IsPassed n st.state f m (sent ++ st.sent) (x' ∷ past)) (new_passed n st.state f m (sent ++ st.sent) (x' ∷ past))) st.sent (the_calls n c st a.goes) in
+    each_map (IfCall (IsTheCall n st.state)) (IfCall (IsPassed n st.state f m (sent ++ st.sent) (x' ∷ past))) (if_call (IsTheCall n st.state) (IsPassed n st.state f m (sent ++ st.sent) (x' ∷ past)) (new_passed n st.state f m (sent ++ st.sent) (x' ∷ past))) st.sent (the_calls n c st a.goes) in
     elim (k.each f e found) [
       | inl x ↦
           (let h : Keeping s n c sent past f = was f x.was x.found in
@@ -366,15 +366,11 @@ awaits_fate : (n : ℕ) (c : ClientState) (clock place : ℕ) (head : Head) (x :
 awaits_fate n c clock place head x None r = inl (stays_here c, λ f. refl)
 awaits_fate n c clock place head x (Some act) r = awaited_fate (is_awaited c act head) n c clock place act head x refl r
 
-drops_unfetched : (n : ℕ) (f : Fid) (fs : List Fid) → has_fetched (Client n) f (map (drop_line (Client n)) fs) ≡ false
-drops_unfetched n f [] = refl
-drops_unfetched n f (g ∷ fs) = drops_unfetched n f fs
-
 abbrev Waits : ℕ → ClientState → Step ClientState → Type 0
 Waits n c st = Stays c st.state × ((f : Fid) → has_fetched (Client n) f st.lines ≡ false)
 
 breaks_wait : (n : ℕ) (c : ClientState) (place : ℕ) (head : Head) (call : FsCall) → Waits n c (breaks (Client n) c place head call)
-breaks_wait n c place head (calls.CallBack fs callbacks) = (record { running = refl; epoch = refl; last = refl }, λ f. drops_unfetched n f fs)
+breaks_wait n c place head (calls.CallBack fs callbacks) = (record { running = refl; epoch = refl; last = refl }, λ f. drops_fetched n f fs)
 breaks_wait n c place head calls.InitCallBackState = (record { running = refl; epoch = refl; last = refl }, λ f. refl)
 breaks_wait n c place head calls.Probe = (record { running = refl; epoch = refl; last = refl }, λ f. refl)
 breaks_wait n c place head call = (record { running = refl; epoch = refl; last = refl }, λ f. refl)

@@ -1,37 +1,35 @@
 -- What a reply to a client's own store tells: the version that the store made, of the entry that told it.
 use Rattle.afs_history.specs.declared.lines.Line.{Line}
 use Rattle.afs_history.specs.declared.scripts.Script.{Script}
-use Rattle.afs_ideal.specs.Operations.{Caller, Result, changes, op, the_user, volume_called, volume_changed}
-use Rattle.afs_ideal.specs.Replies.{change_reply, status_at, status_of, vnode_at, vnode_or_none}
+use Rattle.afs_ideal.specs.Operations.{Caller, changes, op, the_user, volume_called, volume_changed}
+use Rattle.afs_ideal.specs.Replies.{change_reply, status_at, vnode_or_none}
 use Rattle.afs_ideal.specs.Tables.{get}
-use Rattle.afs_ideal.specs.Volumes.{Edit, Vnode, Volume, amended, body_of, counted, edited_all, fid_of, if_unique, version_at, vnode_of}
+use Rattle.afs_ideal.specs.Volumes.{Edit, Vnode, Volume, amended, body_of, counted, edited_all, if_unique, version_at}
 use Rattle.afs_law.proofs.Acting.{last_key}
 use Rattle.afs_law.proofs.Arriving.{Arrives, Based, around, not_refused}
 use Rattle.afs_law.proofs.Basics.{some_of}
 use Rattle.afs_law.proofs.Edits.{Sound, SoundIn, fid_at, there}
-use Rattle.afs_law.proofs.Facts.{Leaves}
-use Rattle.afs_law.proofs.Fetching.{been_now, been_over, has_over}
+use Rattle.afs_law.proofs.Words.{Leaves}
+use Rattle.afs_law.proofs.Fetching.{been_now}
 use Rattle.afs_law.proofs.Holding.{change_of}
 use Rattle.afs_law.proofs.Ideals.{AreBlank, blank_key, no_more}
 use Rattle.afs_law.proofs.Latest.{has_onto}
 use Rattle.afs_law.proofs.Ops.{Storing, amend_of, change_same, storing, stored_fid, stored_vnode}
 use Rattle.afs_law.proofs.Origins.{under_more}
 use Rattle.afs_law.proofs.Recording.{AreRecorded, IsAgreed, IsSaved, below_agreed, told_at}
-use Rattle.afs_law.proofs.Reasons.{IsMaking, IsRead}
+use Rattle.afs_law.proofs.Reasons.{IsRead}
 use Rattle.afs_law.proofs.Saving.{leaves}
-use Rattle.afs_law.proofs.Serving.{last_has}
-use Rattle.afs_law.proofs.Telling.{HasMade, Tells, TellsMade}
-use Rattle.afs_law.specs.Ideal.{HasBeen, HasVersion, IsLast, TellsIn, TellsOf, call_under, change_key, first_key, last_version, shown_status, volume_after}
-use Rattle.afs_law.specs.Legal.{HasChange, IdealChange}
-use Rattle.afs_law.specs.Past.{answered_key, lines_of, onto, sent_of}
+use Rattle.afs_law.proofs.Finding.{last_has}
+use Rattle.afs_law.proofs.Telling.{Tells, TellsMade}
+use Rattle.afs_law.specs.Ideal.{HasBeen, IsLast, TellsIn, TellsOf, call_under, change_key, last_version, shown_status, volume_after}
+use Rattle.afs_law.specs.Legal.{HasChange}
+use Rattle.afs_law.specs.Past.{answered_key, lines_of, sent_of}
 use Rattle.afs_num.specs.declared.calls.AfsFetchStatus.{AfsFetchStatus}
 use Rattle.afs_num.specs.declared.calls.FsCall.{FsCall}
 use Rattle.afs_num.specs.declared.calls.FsCall.TheVariants as calls
 use Rattle.afs_num.specs.declared.calls.FsReply.{FsReply}
 use Rattle.afs_num.specs.declared.calls.FsReply.TheVariants as replies
-use Rattle.afs_num.specs.declared.histories.Body.{Body}
 use Rattle.afs_num.specs.declared.histories.ReadBody.TheVariants as seen
-use Rattle.afs_num.specs.declared.histories.ReadStatus.{ReadStatus}
 use Rattle.afs_num.specs.declared.histories.Version.{Version}
 use Rattle.afs_num.specs.declared.messages.Carried.{Carried}
 use Rattle.afs_num.specs.declared.messages.Carried.TheVariants as carried
@@ -43,8 +41,8 @@ use Rattle.afs_records.specs.Durable.{time_in}
 use Rattle.afs_rows.specs.ClientRow.{call_of, status_told}
 use Rattle.afs_rows.specs.Going.{Going}
 use Rattle.afs_rows.specs.Runs.{Cell, Entry}
-use Rattle.afs_rows.specs.ServerRow.{Change, Reading, carried_by, promise_ticks, result, stored_by, versioned}
-use Rattle.std.proofs.Common.{◌≡◌, ◌+◌, ℕ, ◌⊎◌, inl, inr, Bool, true, false, cond, eq-eqb, nat_eq, List, [], ◌∷◌, ◌++◌, Option, Some, None, refl, sym, ap, subst, ◌∙◌}
+use Rattle.afs_rows.specs.ServerRow.{Change, Reading, carried_by, promise_ticks, result, stored_by}
+use Rattle.std.proofs.Common.{◌≡◌, ◌+◌, ℕ, ◌⊎◌, inl, inr, Bool, cond, eq-eqb, List, [], ◌∷◌, ◌++◌, Option, Some, None, refl, sym, ap, subst, ◌∙◌}
 use Rattle.std.specs.Option.{option_map}
 
 -- ---- where a change was told

@@ -1,5 +1,7 @@
 -- What was acknowledged survives, however many servers a cell has: each server keeps its ideal volumes, and so does what a step that was
 -- interrupted may have left; the versions that were made, or later ones, are in these.
+use Rattle.afs_law.proofs.Ideals.{held_at, VolumesIn}
+use Rattle.afs_law.proofs.Loading.{onto_both}
 use Rattle.afs_history.specs.declared.acts.Written.{Written}
 use Rattle.afs_history.specs.declared.lines.Line.{Line}
 use Rattle.afs_history.specs.declared.lines.Line.TheVariants as lines
@@ -8,18 +10,17 @@ use Rattle.afs_ideal.specs.Operations.{Caller, changes, op, the_user, volume_cal
 use Rattle.afs_ideal.specs.Tables.{get}
 use Rattle.afs_ideal.specs.Told.{fid_at}
 use Rattle.afs_ideal.specs.Volumes.{Amend, Edit, Kind, Vnode, Volume, a_directory, a_file, a_link, amended, amends_at, body_by, version_at, versions_by}
-use Rattle.afs_law.proofs.Asking.{called_one, each_front}
+use Rattle.afs_law.proofs.Sent.{called_one, each_front}
 use Rattle.afs_law.proofs.Basics.{Each, IfCall, some_of}
 use Rattle.afs_law.proofs.Ascending.{run_versions}
 use Rattle.afs_law.proofs.Assembled.{run_legal}
 use Rattle.afs_law.proofs.Edits.{SoundIn, none_has}
-use Rattle.afs_law.proofs.Facts.{IsOne}
+use Rattle.afs_law.proofs.Words.{IsOne}
 use Rattle.afs_law.proofs.Housed.{IsPlaced, placed}
-use Rattle.afs_law.proofs.Ideals.{VolumesIn}
 use Rattle.afs_law.proofs.Origins.{KnownAsked}
-use Rattle.afs_law.proofs.Remaining.{accepts, survives, volumes_at}
+use Rattle.afs_law.proofs.Remaining.{accepts, survives}
 use Rattle.afs_law.proofs.Latest.{has_more, has_onto}
-use Rattle.afs_law.proofs.Law.{first_passed, onto_more}
+use Rattle.afs_law.proofs.SettingUp.{first_passed}
 use Rattle.afs_law.proofs.Made.{MadeBy, acknowledged_by, good_in}
 use Rattle.afs_law.proofs.Ops.{Storing, amend_of, stored_kind, storing}
 use Rattle.afs_law.specs.Grants.{change_below}
@@ -83,7 +84,7 @@ home_by s past v sound none told (inr away) = absurd (none_has v.fid v.index v.b
 version_kept : (s : Script) (h : List Entry) (end : Cell) (v : Version) → RunsTo h s end → HasVersion v.fid v.index v.body (lines_of (past_of (set_up s ∷ []) h)) → IsHeldStill s v end.hosts (past_of (set_up s ∷ []) h)
 version_kept s h end v r told =
     let past : List Entry = past_of (set_up s ∷ []) h in
-    let V : VolumesIn s end past = (volumes_at s h end r).1 in
+    let V : VolumesIn s end past = (held_at s h end r).1 in
     let here : IsAtHome s v.fid.volume = home_by s past v (V.sound v.fid.volume) (V.none v.fid.volume) told (placed v.fid.volume s.volumes) in
     let home : Accepts s v.fid.volume (Server here.server) (lines_of past) = accepts s v.fid.volume (Server here.server) (lines_of past) here.at in
     let k = run_versions s h end r here.server v home told in
@@ -261,7 +262,7 @@ run_survives s history before after e first rest c code act end cell r split lin
     let own : List Line = onto [] first in
     let m : MadeBy s c act past own = acknowledged_by s history before after e first rest c code act legal split line runs is zero in
     let k : Key = m.made.key in
-    let a : KnownAsked s end (past_of (set_up s ∷ []) history) = (volumes_at s history end r).0 in
+    let a : KnownAsked s end (past_of (set_up s ∷ []) history) = (held_at s history end r).0 in
     let ones : Each (IfCall (IsOne end.sent)) (sent_of past) =
     sent_front (IfCall (IsOne end.sent)) past (e ∷ after) (subst (λ (es : List Entry). Each (IfCall (IsOne end.sent)) (sent_of es)) (ap (past_of (set_up s ∷ [])) split ∙ past_both (set_up s ∷ []) before (e ∷ after)) (subst (Each (IfCall (IsOne end.sent))) (sym a.0.hears.told) a.1.ones)) in
     let all : past_of (set_up s ∷ []) history ≡ past_of past (e ∷ after) = ap (past_of (set_up s ∷ [])) split ∙ past_both (set_up s ∷ []) before (e ∷ after) in
@@ -282,7 +283,7 @@ run_survives s history before after e first rest c code act end cell r split lin
           (called_one m.client.0 k m.made.user m.made.call end.sent past (m.made.node ∙ m.client.1) m.made.called ones) (stored_call m.made.call f.0 (bytes_in contents) (m.asks ∙ f.1)) f.1;
       survive = λ i. survives s history end i r;
       versions = λ v has. version_kept s history end v r (subst (λ (es : List Entry). HasVersion v.fid v.index v.body (lines_of es)) (sym all) (has_behind v.fid v.index v.body (e ∷ past) after
-          (subst (λ (ls : List Line). HasVersion v.fid v.index v.body (onto (lines_of past) ls)) (sym line) (subst (HasVersion v.fid v.index v.body) (sym (onto_more (lines_of past) first (lines.Answer c code ∷ rest))) (has_onto v.fid v.index v.body (lines.Answer c code ∷ rest) (onto (lines_of past) first) (subst (HasVersion v.fid v.index v.body) (sym here) (made_told k v (own ++ lines_of past) has)))))));
+          (subst (λ (ls : List Line). HasVersion v.fid v.index v.body (onto (lines_of past) ls)) (sym line) (subst (HasVersion v.fid v.index v.body) (sym (onto_both (lines_of past) first (lines.Answer c code ∷ rest))) (has_onto v.fid v.index v.body (lines.Answer c code ∷ rest) (onto (lines_of past) first) (subst (HasVersion v.fid v.index v.body) (sym here) (made_told k v (own ++ lines_of past) has)))))));
     }
   where
     found_lines : (s : Script) (k : Key) (sent : List Message) (ls more : List Line) → IsFound s k sent ls → IsFound s k sent (onto ls more)

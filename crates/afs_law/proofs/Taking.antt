@@ -1,52 +1,48 @@
 -- What the rows of a client tell of its cache and its reads: the steps that read nothing, and those that read on from the cache.
+use Rattle.afs_law.proofs.Following.{none_runs, more_not}
 use Rattle.afs_history.specs.declared.lines.Line.{Line}
 use Rattle.afs_history.specs.declared.lines.Line.TheVariants as lines
 use Rattle.afs_history.specs.declared.scripts.Script.{Script}
-use Rattle.afs_ideal.specs.Operations.{volume_changed}
 use Rattle.afs_law.proofs.Acting.{last_key}
 use Rattle.afs_law.proofs.Arriving.{IsFetched}
 use Rattle.afs_law.proofs.Backing.{all_lines}
 use Rattle.afs_law.proofs.Basics.{both, some_of}
 use Rattle.afs_law.proofs.Edits.{index_in}
-use Rattle.afs_law.proofs.Facts.{IsWhole, Seen}
-use Rattle.afs_law.proofs.Following.{more_not}
+use Rattle.afs_law.proofs.Words.{Seen}
 use Rattle.afs_law.proofs.Ideals.{AreBlank, blank_last}
 use Rattle.afs_law.proofs.Kept.{Spares}
 use Rattle.afs_law.proofs.Lasting.{withdrawn_onto}
-use Rattle.afs_law.proofs.Looking.{AllReady, AreLooks, HasNoZero, IsShown, ReadsUpTo, Ready, blank_both, both_up, looks_good, looks_up, made_still, reach_blank, seen_up, walked_looks}
+use Rattle.afs_law.proofs.Looking.{AllReady, AreLooks, HasNoZero, IsShown, ReadsUpTo, Ready, both_up, looks_good, looks_up, made_still, reach_blank, seen_up, walked_looks, begun_by}
 use Rattle.afs_law.proofs.Minding.{HasDone}
-use Rattle.afs_law.proofs.Origins.{none_runs, of_client}
-use Rattle.afs_law.proofs.Proceeding.{IsNew, IsOld, IsSame, Kind, Result}
+use Rattle.afs_law.proofs.Origins.{of_client}
+use Rattle.afs_law.proofs.Proceeding.{IsSame, Result}
 use Rattle.afs_law.proofs.Recording.{IsAgreed}
-use Rattle.afs_law.proofs.Trusting.{Holding, Rests, Stands, Trusts, Waits, key_of_rest, since_rest}
+use Rattle.afs_law.proofs.Trusting.{Rests, Stands, Trusts, since_rest}
 use Rattle.afs_law.proofs.Walking.{walked_found}
 use Rattle.afs_law.specs.ClientParts.{IsFetchedEntry, is_silent}
-use Rattle.afs_law.specs.Grants.{IsDropped, IsWithdrawn, fetch_reply, has_fetched, is_promised, read_reply, since}
-use Rattle.afs_law.specs.Ideal.{HasVersion, IsLast, is_at, Reach, clock_of, is_zero_code, last_version, reach, reach_over}
+use Rattle.afs_law.specs.Grants.{IsDropped, IsWithdrawn, fetch_reply, has_fetched, is_promised, since}
+use Rattle.afs_law.specs.Ideal.{is_at, Reach, clock_of, last_version, reach, reach_over}
 use Rattle.afs_law.specs.Parts.{EachLine}
 use Rattle.afs_law.specs.Past.{given_message, has_begun, lines_of, onto, sent_of}
 use Rattle.afs_num.specs.Fids.{same_fid}
 use Rattle.afs_num.specs.Nodes.{same_node}
 use Rattle.afs_num.specs.declared.histories.Actor.{Actor}
 use Rattle.afs_num.specs.declared.histories.Actor.TheVariants as actors
-use Rattle.afs_num.specs.declared.histories.Body.{Body}
-use Rattle.afs_num.specs.declared.histories.ReadBody.{ReadBody}
-use Rattle.afs_num.specs.declared.histories.ReadSource.{ReadSource}
 use Rattle.afs_num.specs.declared.histories.ReadSource.TheVariants.{Cached, Fetched}
 use Rattle.afs_num.specs.declared.histories.Version.{Version}
 use Rattle.afs_num.specs.declared.messages.Message.{Message}
-use Rattle.afs_num.specs.declared.types.Code.{Code}
 use Rattle.afs_num.specs.declared.types.Fid.{Fid}
 use Rattle.afs_num.specs.declared.types.Node.{Node}
 use Rattle.afs_num.specs.declared.types.Node.TheVariants.{Client}
-use Rattle.afs_rows.specs.ClientRow.{Look, Walked, asking, call_of, calls_step, drop_line, dropped, find_cached, goes_by, look_at, looked, most_reads, walked, walks_on}
+use Rattle.afs_rows.specs.ClientRow.{Look, Walked, drop_line, dropped, find_cached, goes_by, looked, most_reads, walked, walks_on}
 use Rattle.afs_rows.specs.Going.{ClientState, Going, Need, answers, next}
 use Rattle.afs_rows.specs.Runs.{Entry}
 use Rattle.afs_rows.specs.States.{CacheEntry}
 use Rattle.afs_rows.specs.Steps.{Step}
-use Rattle.std.proofs.Common.{◌≡◌, ◌≤◌, ◌<◌, ◌+◌, ℕ, ◌⊎◌, inl, inr, Bool, true, false, cond, List, [], ◌∷◌, ◌++◌, map, Option, Some, None, pos, refl, sym, ap, subst, ◌∙◌, arith, le_of_eq}
+use Rattle.std.proofs.Common.{◌≡◌, ◌≤◌, ◌<◌, ◌+◌, ℕ, ◌⊎◌, inl, inr, Bool, true, false, cond, List, [], ◌∷◌, ◌++◌, map, Some, pos, refl, sym, ap, subst, ◌∙◌, arith, le_of_eq}
 use Rattle.std.specs.Option.{option_map}
 use Rattle.std.specs.Prelude.{⊤, ◌&&◌}
+use Rattle.afs_law.proofs.Loading.{held_or}
 
 -- ---- lines that read nothing
 
@@ -140,18 +136,10 @@ moved_result s n x clock past st u other zero left = record {
 
 -- ---- lines in front of what is read on
 
-either_false : (t b : Bool) → cond t true b ≡ false → (t ≡ false) × (b ≡ false)
-either_false true b e = absurd cc
-either_false false b e = (refl, e)
-
-front_by : (t a b : Bool) → cond t true a ≡ true → (a ≡ true → b ≡ true) → cond t true b ≡ true
-front_by true a b h w = refl
-front_by false a b h w = w h
-
 fetched_onto : (c : Node) (f : Fid) (ls o : List Line) → has_fetched c f ls ≡ false → has_fetched c f (onto o ls) ≡ has_fetched c f o
 fetched_onto c f [] o h = refl
 fetched_onto c f (lines.Read m g index Fetched body ∷ ls) o h =
-    let p = either_false (is_promised body && (same_node m c && same_fid g f)) (has_fetched c f ls) h in
+    let p = begun_by (is_promised body && (same_node m c && same_fid g f)) (has_fetched c f ls) h in
     fetched_onto c f ls (lines.Read m g index Fetched body ∷ o) p.1 ∙ ap (λ (t : Bool). cond t true (has_fetched c f o)) p.0
 fetched_onto c f (lines.Read m g index Cached body ∷ ls) o h = fetched_onto c f ls (lines.Read m g index Cached body ∷ o) h
 fetched_onto c f (l ∷ ls) o h = fetched_onto c f ls (l ∷ o) h
@@ -159,14 +147,14 @@ fetched_onto c f (l ∷ ls) o h = fetched_onto c f ls (l ∷ o) h
 fetched_both : (c : Node) (f : Fid) (a b : List Line) → has_fetched c f a ≡ false → has_fetched c f (a ++ b) ≡ has_fetched c f b
 fetched_both c f [] b h = refl
 fetched_both c f (lines.Read m g index Fetched body ∷ a) b h =
-    let p = either_false (is_promised body && (same_node m c && same_fid g f)) (has_fetched c f a) h in
+    let p = begun_by (is_promised body && (same_node m c && same_fid g f)) (has_fetched c f a) h in
     ap (λ (t : Bool). cond t true (has_fetched c f (a ++ b))) p.0 ∙ fetched_both c f a b p.1
 fetched_both c f (lines.Read m g index Cached body ∷ a) b h = fetched_both c f a b h
 fetched_both c f (l ∷ a) b h = fetched_both c f a b h
 
 fetched_front : (c : Node) (f : Fid) (a b : List Line) → has_fetched c f a ≡ true → has_fetched c f (a ++ b) ≡ true
 fetched_front c f [] b h = absurd cc
-fetched_front c f (lines.Read m g index Fetched body ∷ a) b h = front_by (is_promised body && (same_node m c && same_fid g f)) (has_fetched c f a) (has_fetched c f (a ++ b)) h (fetched_front c f a b)
+fetched_front c f (lines.Read m g index Fetched body ∷ a) b h = held_or (is_promised body && (same_node m c && same_fid g f)) (has_fetched c f a) (has_fetched c f (a ++ b)) h (fetched_front c f a b)
 fetched_front c f (lines.Read m g index Cached body ∷ a) b h = fetched_front c f a b h
 fetched_front c f (l ∷ a) b h = fetched_front c f a b h
 

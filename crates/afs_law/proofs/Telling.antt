@@ -5,13 +5,13 @@ use Rattle.afs_history.specs.declared.scripts.Script.{Script}
 use Rattle.afs_ideal.specs.Operations.{Caller, Found, Result, changes, the_user, volume_changed}
 use Rattle.afs_ideal.specs.Replies.{change_reply}
 use Rattle.afs_ideal.specs.Volumes.{Volume}
-use Rattle.afs_law.proofs.Basics.{Above, Each, IfCall, LastSeat, OfCall, at_put, each_at, each_map, each_more, kept_last}
+use Rattle.afs_law.proofs.Basics.{Above, Each, IfCall, LastSeat, OfCall, at_put, each_at, each_map, each_more, kept_last, runs_admitted}
 use Rattle.afs_law.proofs.Acting.{begins_acts, given_acts, waits_acts}
 use Rattle.afs_law.proofs.Choosing.{granted_from, is_from, risen_lines}
-use Rattle.afs_law.proofs.Cutting.{comes_first, now_up}
-use Rattle.afs_law.proofs.Facts.{IsOne}
+use Rattle.afs_law.proofs.Cutting.{comes_first, now_up, blow_stopped, same_cut}
+use Rattle.afs_law.proofs.Words.{IsOne}
 use Rattle.afs_law.proofs.Firm.{IsSentBy}
-use Rattle.afs_law.proofs.Hearing.{ran_later}
+use Rattle.afs_law.proofs.Hearing.{ran_later, no_server}
 use Rattle.afs_law.proofs.Housed.{HomesIn, IsHome, home_held}
 use Rattle.afs_law.proofs.Hosting.{HasHead, does_given, served_head}
 use Rattle.afs_law.proofs.Ideals.{AreBlank, Held, IsSent, blank_by, from_blank, of_this}
@@ -22,8 +22,7 @@ use Rattle.afs_law.proofs.Passing.{no_change}
 use Rattle.afs_law.proofs.Promised.{are_ideal, is_file, reading_code}
 use Rattle.afs_law.proofs.Reasons.{AreAmong, IsFile, IsMaking, IsNo, IsRead, IsReading, Ran as RanFor, Runs, Why, answer_of, answers_after, answers_in, answers_same, held_by, read_to, why}
 use Rattle.afs_law.proofs.Replying.{AreTold, Leaves, Makes, MakesCut, Replied, Replies, Spares, disk_replies, serves_replies, starts_replies, times_replies, wakes_replies}
-use Rattle.afs_law.proofs.Serving.{IsAmong}
-use Rattle.afs_law.proofs.Standing.{runs_admitted}
+use Rattle.afs_law.proofs.Finding.{IsAmong}
 use Rattle.afs_law.specs.Breaks.{HasStopped}
 use Rattle.afs_law.specs.Ideal.{change_in, change_key, set_up, volume_after}
 use Rattle.afs_law.specs.Legal.{HasChange, IsChanging, IsKey, IsResult, IsTold as IsToldOf, answer_at, code_given}
@@ -126,7 +125,7 @@ IsTold past m = (i j : ℕ) → m.head.from ≡ Server i → m.head.to ≡ Clien
 
 -- ---- an entry more
 
-key_more : (k : Key) (o : Option Key) (X : Type 0) → X → IsKey k o X
+pub key_more : (k : Key) (o : Option Key) (X : Type 0) → X → IsKey k o X
 key_more k None X h = h
 key_more k (Some l) X h = inr h
 
@@ -480,10 +479,6 @@ place_later i x m e past p = record { newer = e ∷ p.newer; at = p.at; older = 
 cut_later : (i : ℕ) (x : ServerState) (m : Message) (e : Entry) (past : List Entry) → CutHeld i x m past → CutHeld i x m (e ∷ past)
 cut_later i x m e past h = record { place = place_later i x m e past h.place; stopped = h.stopped }
 
-blow_stopped : (i place : ℕ) (t : Bool) → HasStopped (Server i) (lines.Given place ∷ blow_line i t ∷ [])
-blow_stopped i place true = inl refl
-blow_stopped i place false = inl refl
-
 cut_here : (s : Script) (c : Cell) (past : List Entry) (i place : ℕ) (m : Message) (t : Bool) (e : Entry) → Held s c past → (c.hosts i).down ≡ None → message_at c.sent place ≡ Some m → e.actor ≡ actors.Node (Server i) → e.lines ≡ lines.Given place ∷ blow_line i t ∷ [] → CutHeld i (c.hosts i).state m (e ∷ past)
 cut_here s c past i place m t e h up at actor ls = record {
   place = record {
@@ -532,9 +527,6 @@ host_told hosts sent more past e i x h w r cut = record {
 
 all_later : (e : Entry) (past : List Entry) (sent : List Message) → Each (IsTold past) sent → Each (IsTold (e ∷ past)) sent
 all_later e past sent h = each_map (IsTold past) (IsTold (e ∷ past)) (tells_later e past) sent h
-
-no_server : (n i : ℕ) → Client n ≡ Server i → ⊥
-no_server n i e = absurd cc
 
 client_told : (n : ℕ) (past : List Entry) (m : Message) → m.head.from ≡ Client n → IsTold past m
 client_told n past m own i j from to told = absurd (no_server n i (sym own ∙ from))
@@ -601,9 +593,6 @@ stays_told s c past i after fall now l h down none =
     let f : Begun = begun_by_disk (Server i) (c.hosts i).state after fall in
     let e : Entry = (server_stays c i f l now).entry in
     host_told c.hosts c.sent c.sent past e i (record { state = f.state; down = Some now; armed = unarmed }) h.1 (all_later e past c.sent h.1.sends) (disk_told s c past e i after fall (l ∷ []) h down refl) (λ m clock d. absurd (none m clock d))
-
-same_cut : (m k : Message) (a b : ℕ) → Some (in_step m a) ≡ Some (in_step k b) → m ≡ k
-same_cut m k a b e = cc
 
 pub told_moves : (s : Script) → EachMove (Telling s) (Behind ToldIn)
 told_moves s = record {

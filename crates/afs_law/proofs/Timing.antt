@@ -1,4 +1,5 @@
 -- A client times out the call for which it waits, and no call for which it waits was timed out thrice, however many servers a cell has.
+use Rattle.afs_law.proofs.Following.{none_runs}
 use Rattle.afs_history.specs.declared.acts.Act.{Act}
 use Rattle.afs_history.specs.declared.lines.Line.{Line}
 use Rattle.afs_history.specs.declared.lines.Line.TheVariants as lines
@@ -9,9 +10,9 @@ use Rattle.afs_law.proofs.Basics.{UpTo, at_put, same_node-refl, up_to_same}
 use Rattle.afs_law.proofs.Choosing.{disk_works, one_from, risen_from, risen_lines, serves_works, starts_works, times_works, wakes_works}
 use Rattle.afs_law.proofs.Hearing.{client_given}
 use Rattle.afs_law.proofs.KeysOnce.{IsKnown, any_told, by_key}
-use Rattle.afs_law.proofs.Law.{first_passed}
+use Rattle.afs_law.proofs.SettingUp.{first_passed}
 use Rattle.afs_law.proofs.Moving.{Behind, EachMove, IsKept, each_moved}
-use Rattle.afs_law.proofs.Origins.{any_cut, any_message, blow_idle, idle_leaves, idle_works, is_idle, none_runs, of_client, other_leaves}
+use Rattle.afs_law.proofs.Origins.{any_cut, any_message, blow_idle, idle_leaves, idle_works, is_idle, of_client, other_leaves}
 use Rattle.afs_law.proofs.Queued.{GivenQueued, later_pair, queued_first, queued_kept}
 use Rattle.afs_law.specs.Breaks.{HasTimeout}
 use Rattle.afs_law.specs.Ideal.{set_up}
@@ -27,8 +28,7 @@ use Rattle.afs_num.specs.declared.types.Code.{Code}
 use Rattle.afs_num.specs.declared.types.Node.{Node}
 use Rattle.afs_num.specs.declared.types.Node.TheVariants.{Client, Server}
 use Rattle.afs_rows.specs.Callbacks.{put}
-use Rattle.afs_rows.specs.ClientRow.{Walked, begin_row, begins_by, client_row, dead_code, dropped, gift_of, given_up_in, gives_by, gives_up, goes_by, in_order, most_reads, timeout_line, timeout_row, tries_again, trusted_in, untrusted_in, walked}
-use Rattle.afs_rows.specs.ClientRow.{call_of}
+use Rattle.afs_rows.specs.ClientRow.{Walked, begin_row, begins_by, client_row, dead_code, dropped, gift_of, given_up_in, gives_by, gives_up, goes_by, in_order, most_reads, timeout_line, timeout_row, tries_again, trusted_in, untrusted_in, walked, call_of}
 use Rattle.afs_rows.specs.Going.{ClientState, Going, Need, began, gives_back, answers, next}
 use Rattle.afs_rows.specs.Runs.{Cell, Entry, at_rest, begun_by_disk, blow_line, in_boot, in_step, message_at, server_falls, server_moves, server_rises, server_set, server_stays, start, ticked, voided}
 use Rattle.afs_rows.specs.ServerSteps.{back_timeout_row, server_row, wake_row}

@@ -17,10 +17,10 @@ use Rattle.afs_num.specs.declared.types.Fid.{Fid}
 use Rattle.afs_num.specs.declared.types.Node.{Node}
 use Rattle.afs_num.specs.declared.types.Node.TheVariants.{Client}
 use Rattle.afs_rows.specs.ClientRow.{body_seen, find_cached, shown_by}
-use Rattle.afs_rows.specs.Going.{ClientState, Going, Need, reads, reads_status}
+use Rattle.afs_rows.specs.Going.{ClientState, Need, reads, reads_status}
 use Rattle.afs_rows.specs.Runs.{Entry}
 use Rattle.afs_rows.specs.States.{CacheEntry}
-use Rattle.std.proofs.Common.{◌≡◌, ◌<◌, ℕ, List, [], Option, Some, None, refl, sym, ap, subst, ◌∙◌}
+use Rattle.std.proofs.Common.{◌≡◌, ◌<◌, ℕ, List, [], Some, None, refl, sym, ap, subst, ◌∙◌}
 
 -- what can be shown of a read but for the reply that was used is all, where nothing was fetched
 cached_good : (s : Script) (c : Node) (f : Fid) (index : ℕ) (body : ReadBody) (past : List Entry) → ShownRead s c f index Cached body past [] → GoodRead s c f index Cached body past []

@@ -1,47 +1,30 @@
 -- What holds of what a client keeps: whole, resting on a promise, no older than what the client saw; and while it may be shown the newest,
 -- unless the promise was withdrawn, or the client's own change, for the reply to which it waits, has overtaken it.
 use Rattle.afs_history.specs.declared.lines.Line.{Line}
-use Rattle.afs_history.specs.declared.lines.Line.TheVariants as lines
 use Rattle.afs_history.specs.declared.scripts.Script.{Script}
-use Rattle.afs_ideal.specs.Operations.{the_user, volume_called, volume_changed}
-use Rattle.afs_ideal.specs.Volumes.{Volume, versions_by}
+use Rattle.afs_ideal.specs.Operations.{volume_changed}
 use Rattle.afs_law.proofs.Acting.{last_key}
-use Rattle.afs_law.proofs.Ascending.{Ascend}
-use Rattle.afs_law.proofs.Basics.{same_key-refl, same_key-true, same_node-refl, same_node-true, some_of}
-use Rattle.afs_law.proofs.Edits.{Grow, Sound, SoundIn, index_in, on_top, touches}
-use Rattle.afs_law.proofs.Facts.{InScope, IsChangingUnder, IsWhole, Reached, Seen}
-use Rattle.afs_law.proofs.Ideals.{AreBlank}
-use Rattle.afs_law.proofs.Lasting.{HasRunAt, HasTouched, OwnChange, by_onto, own_later, saved_by, stop_withdraws, stopped_of, stopped_or, stops_withdraw, touch, touch_home, touch_volume, touch_withdraws, withdrawn_onto}
-use Rattle.afs_law.proofs.Later.{HasRunSince, later_key}
-use Rattle.afs_law.proofs.Latest.{has_onto}
-use Rattle.afs_law.proofs.Ops.{changes_is, in_scope}
-use Rattle.afs_law.proofs.Passing.{grant_over, no_change, whole_over}
-use Rattle.afs_law.proofs.Recording.{AreRecorded, IsAgreed, IsSaved}
-use Rattle.afs_law.proofs.Saving.{any_change, later_not, scope_of}
-use Rattle.afs_law.proofs.Serving.{last_has}
-use Rattle.afs_law.proofs.Telling.{change_later}
+use Rattle.afs_law.proofs.Edits.{index_in}
+use Rattle.afs_law.proofs.Words.{InScope, IsWhole, Reached, Seen}
+use Rattle.afs_law.proofs.Lasting.{HasRunAt}
+use Rattle.afs_law.proofs.Later.{HasRunSince}
 use Rattle.afs_law.specs.Breaks.{HasStopped}
 use Rattle.afs_law.specs.ClientParts.{lines_since_fetch}
-use Rattle.afs_law.specs.Grants.{GrantOf, IsDropped, IsWithdrawn, fetch_reply, has_fetched, since, until}
-use Rattle.afs_law.specs.Ideal.{HasVersion, IsLast, Reach, change_in, change_key, first_key, is_at, last_version, reach, call_under, volume_after}
-use Rattle.afs_law.specs.Legal.{HasChange, HasChangeBy, IsKey, IsLater, IsNew}
-use Rattle.afs_law.specs.Past.{Called, answered_key, called_key, given_message, is_called, is_of_act, lines_of, lines_on, onto, same_key, sent_of}
-use Rattle.afs_num.specs.Nodes.{same_node}
+use Rattle.afs_law.specs.Grants.{GrantOf, IsDropped, IsWithdrawn, fetch_reply, since, until}
+use Rattle.afs_law.specs.Ideal.{IsLast, change_key, is_at, last_version, reach}
+use Rattle.afs_law.specs.Legal.{HasChange, IsLater}
+use Rattle.afs_law.specs.Past.{Called, called_key, given_message, is_called, lines_of, lines_on, onto, sent_of}
 use Rattle.afs_num.specs.declared.calls.FsCall.{FsCall}
-use Rattle.afs_num.specs.declared.histories.Actor.TheVariants as actors
-use Rattle.afs_num.specs.declared.histories.Body.{Body}
-use Rattle.afs_num.specs.declared.histories.Version.{Version}
 use Rattle.afs_num.specs.declared.messages.Message.{Message}
 use Rattle.afs_num.specs.declared.types.Fid.{Fid}
 use Rattle.afs_num.specs.declared.types.Key.{Key}
 use Rattle.afs_num.specs.declared.types.Node.{Node}
-use Rattle.afs_num.specs.declared.types.Node.TheVariants.{Client, Server}
+use Rattle.afs_num.specs.declared.types.Node.TheVariants.{Client}
 use Rattle.afs_rows.specs.ClientRow.{call_of, find_cached}
 use Rattle.afs_rows.specs.Going.{ClientState, Going}
 use Rattle.afs_rows.specs.Runs.{Entry}
 use Rattle.afs_rows.specs.States.{CacheEntry}
-use Rattle.std.proofs.Common.{◌≡◌, ◌≤◌, ◌<◌, ℕ, ◌⊎◌, inl, inr, Bool, true, false, cond, List, [], ◌∷◌, ◌++◌, Option, Some, None, refl, sym, ap, subst, ◌∙◌, arith}
-use Rattle.std.specs.Option.{option_map}
+use Rattle.std.proofs.Common.{◌≡◌, ◌≤◌, ◌<◌, ℕ, ◌⊎◌, true, List, [], ◌∷◌, ◌++◌, Option, Some, None}
 use Rattle.std.specs.Prelude.{⊤}
 
 -- ---- where a key's change was told, and where its call was given

@@ -3,9 +3,9 @@
 use Rattle.afs_history.specs.declared.scripts.Script.{Script}
 use Rattle.afs_ideal.specs.Operations.{volume_changed}
 use Rattle.afs_law.proofs.Addressed.{AsksOf, IsHome}
-use Rattle.afs_law.proofs.Basics.{Above, Below, ByClient, Each, IfCall, IfReply, OfCall, UpTo, above_up, below_up_to, each_at, same_fid-true, same_key-refl, some_of, up_to_same}
+use Rattle.afs_law.proofs.Basics.{Above, Below, ByClient, Each, IfCall, IfReply, OfCall, UpTo, above_up, below_up_to, each_at, runs_admitted, same_fid-true, same_key-refl, some_of, up_to_same}
 use Rattle.afs_law.proofs.Caused.{IsOfCallee, code_in, of_callee}
-use Rattle.afs_law.proofs.Facts.{up_boot}
+use Rattle.afs_law.proofs.Words.{up_boot}
 use Rattle.afs_law.proofs.Heard.{HasHeard, IsHeardBy, boot_known}
 use Rattle.afs_law.proofs.Hearing.{HearsIn, IsHad, IsRan, reply_ran}
 use Rattle.afs_law.proofs.Ideals.{of_this}
@@ -16,7 +16,6 @@ use Rattle.afs_law.proofs.Passing.{sent_either}
 use Rattle.afs_law.proofs.Queued.{AreQueued, HadStates, IsFileCall, IsIn, IsOwnCall, each_in, had_state, in_at, in_front, in_over, queued_before, queued_older}
 use Rattle.afs_law.proofs.Recent.{sent_before}
 use Rattle.afs_law.proofs.Settled.{GivenSettled, IsOver, IsPassed, IsPast, Settled, before_fetch, given_in, settled_first, settled_kept}
-use Rattle.afs_law.proofs.Standing.{runs_admitted}
 use Rattle.afs_law.specs.Breaks.{HasTimeout}
 use Rattle.afs_law.specs.Grants.{fetch_reply, has_fetched}
 use Rattle.afs_law.specs.Ideal.{set_up}
@@ -210,11 +209,16 @@ run_untrusted s h end r i j place head user call id at from to some runs not_ f 
     let G : GivenSettled s end past = settled_at s h end r in
     let vol : f.volume ≡ id = scope_volume call f id some scope in
     let x : IsCase s end past i j head user call f = case_of s end past i j place head user call id f e G at from to some vol found in
-    let above : Above (call_seat head.from (end.hosts i).state.seats) head.epoch head.number = (runs_admitted (end.hosts i).state.lasting.boot (end.hosts i).state.seats head runs).1 in
-    (x.reply, (x.by, elim (x.passed from (some ∙ ap (λ (n : ℕ). Some n) (sym vol)) not_) [
-      | inl p ↦ older_boot s end past i j head x.reply G (reply_in s end past i j head user call f G x) x.code x.from x.to from above (up_past j head x.reply past p)
-      | inr o ↦ over_boot s end past i j head user call f G from to above x o
-    ]))
+    let above : Above (call_seat head.from (end.hosts i).state.seats) head.epoch head.number = (runs_admitted (end.hosts i).state.lasting.boot (end.hosts i).state.seats head runs).1 in (
+      x.reply,
+      (
+        x.by,
+        elim (x.passed from (some ∙ ap (λ (n : ℕ). Some n) (sym vol)) not_) [
+          | inl p ↦ older_boot s end past i j head x.reply G (reply_in s end past i j head user call f G x) x.code x.from x.to from above (up_past j head x.reply past p)
+          | inr o ↦ over_boot s end past i j head user call f G from to above x o
+        ],
+      ),
+    )
 
 -- the call that its client gave up was sent before the one that its server ran, and to a boot that was then begun
 dead_boot : (s : Script) (end : Cell) (past : List Entry) (i j : ℕ) (head : Head) (user : List ℕ) (call : FsCall) (f : Fid) → GivenSettled s end past → head.from ≡ Client j → head.to ≡ Server i → (x : IsCase s end past i j head user call f) → Below head.epoch head.number x.reply.head.epoch x.reply.head.number → head.boot ≤ x.reply.head.boot
@@ -246,7 +250,7 @@ run_dead s h end r i j place head user call id at from to some dead runs f e vol
     let x : IsCase s end past i j head user call f = case_of s end past i j place head user call id f e G at from to some vol found in
     let a = runs_admitted (end.hosts i).state.lasting.boot (end.hosts i).state.seats head runs in
     let not_ : IsAwaited (end.clients j) head → ⊥ = λ w.
-        (G.0.timed.1 j).alive w.act w.runs (Server i) (subst (λ (k : ℕ). HasTimeout (Client j) (Server i) k (end.clients j).last 3 (lines_of past)) w.epoch (subst (λ (k : ℕ). HasTimeout (Client j) (Server i) head.epoch k 3 (lines_of past)) w.number dead)) in
+    (G.0.timed.1 j).alive w.act w.runs (Server i) (subst (λ (k : ℕ). HasTimeout (Client j) (Server i) k (end.clients j).last 3 (lines_of past)) w.epoch (subst (λ (k : ℕ). HasTimeout (Client j) (Server i) head.epoch k 3 (lines_of past)) w.number dead)) in
     elim (x.passed from (some ∙ ap (λ (n : ℕ). Some n) (sym vol)) not_) [
       | inl p ↦ elim p [
         | inl below ↦

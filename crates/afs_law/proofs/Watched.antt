@@ -2,41 +2,38 @@
 use Rattle.afs_history.specs.declared.lines.Line.{Line}
 use Rattle.afs_history.specs.declared.lines.Line.TheVariants as lines
 use Rattle.afs_history.specs.declared.scripts.Script.{Script}
-use Rattle.afs_law.proofs.Acting.{Acts, begins_acts, falls_acts, given_acts, is_of, rises_acts, waits_acts, who_at}
+use Rattle.afs_law.proofs.Acting.{Acts, begins_acts, falls_acts, given_acts, rises_acts, waits_acts, who_at}
 use Rattle.afs_law.proofs.Arriving.{Based, around, based_first, based_kept}
 use Rattle.afs_law.proofs.Backing.{all_lines}
 use Rattle.afs_law.proofs.Basics.{at_put, both}
 use Rattle.afs_law.proofs.Beside.{beside_idle, beside_other}
 use Rattle.afs_law.proofs.Choosing.{disk_works, one_from, risen_from, risen_lines, serves_works, starts_works, times_works, wakes_works}
 use Rattle.afs_law.proofs.Edits.{index_in}
-use Rattle.afs_law.proofs.Facts.{Reached}
-use Rattle.afs_law.proofs.Holding.{IsBeside, trusts_beside}
+use Rattle.afs_law.proofs.Holding.{trusts_beside}
 use Rattle.afs_law.proofs.Ideals.{AreBlank}
 use Rattle.afs_law.proofs.KeysOnce.{IsKnown, any_told, by_key}
-use Rattle.afs_law.proofs.Law.{reached_first}
+use Rattle.afs_law.proofs.SettingUp.{reached_first}
 use Rattle.afs_law.proofs.Looking.{IsShown}
 use Rattle.afs_law.proofs.Moving.{EachMove, IsKept, each_moved}
 use Rattle.afs_law.proofs.Origins.{any_cut, any_message, blow_idle, idle_works, is_idle, of_client}
 use Rattle.afs_law.proofs.Proceeding.{Result, trusts_own}
 use Rattle.afs_law.proofs.Receiving.{begin_result, fall_result, message_result, rise_result, wait_result}
-use Rattle.afs_law.proofs.Recording.{IsAgreed, IsSaved, agreed, recorded_kept, told_now}
+use Rattle.afs_law.proofs.Recording.{IsAgreed, IsSaved, recorded_kept, told_now}
 use Rattle.afs_law.proofs.Trusting.{Trusts}
-use Rattle.afs_law.specs.Ideal.{last_version, reach, set_up}
+use Rattle.afs_law.specs.Ideal.{last_version, set_up}
 use Rattle.afs_law.specs.Parts.{EachLine}
 use Rattle.afs_law.specs.Past.{lines_of}
 use Rattle.afs_num.specs.declared.histories.Actor.{Actor}
 use Rattle.afs_num.specs.declared.histories.Actor.TheVariants as actors
 use Rattle.afs_num.specs.declared.messages.Received.TheVariants.{Whole}
-use Rattle.afs_num.specs.declared.types.Fid.{Fid}
 use Rattle.afs_num.specs.declared.types.Node.{Node}
 use Rattle.afs_num.specs.declared.types.Node.TheVariants.{Client, Server}
 use Rattle.afs_rows.specs.Callbacks.{put}
-use Rattle.afs_rows.specs.ClientRow.{begin_row, client_row, reborn, timeout_row}
 use Rattle.afs_rows.specs.Going.{ClientState}
 use Rattle.afs_rows.specs.Runs.{Cell, Entry, Input, Moved, at_rest, begun_by_disk, blow_line, in_boot, in_step, moved, server_falls, server_moves, server_rises, server_set, server_stays, start, ticked, voided}
 use Rattle.afs_rows.specs.ServerSteps.{back_timeout_row, server_row, wake_row}
 use Rattle.afs_rows.specs.Steps.{Step}
-use Rattle.std.proofs.Common.{suc, ◌+◌, ◌≡◌, ◌≤◌, ℕ, ◌⊎◌, inl, inr, Bool, true, false, List, [], ◌∷◌, Option, Some, None, refl, sym, ap, subst, ◌∙◌, arith}
+use Rattle.std.proofs.Common.{suc, ◌+◌, ◌≡◌, ◌≤◌, ℕ, ◌⊎◌, true, List, [], ◌∷◌, refl, subst, arith}
 
 -- ---- what is kept, and what is asked of a step
 
@@ -85,8 +82,8 @@ client_good : (s : Script) (c : Cell) (past : List Entry) (n : ℕ) (st : Step C
     → AllTrust s (put n st.state c.clients) c.clock (of_client n st ∷ past) × EachLine (IsShown s) (actors.Node (Client n)) past [] st.lines
 client_good s c past n st W a R A = (
   (λ j. at_put n j (λ (x : ClientState). Trusts s j x c.clock (of_client n st ∷ past)) st.state c.clients
-  (λ same. subst (λ (i : ℕ). Trusts s i st.state c.clock (of_client n st ∷ past)) same (trusts_own s c past n st W.0 (W.1 n) a R))
-  (λ other. trusts_beside s j (c.clients j) c.clock c.clock past (of_client n st) (omega arith) (beside_other s n j past (of_client n st) A (λ e. other (client_number n j e)) a.of other (W.1 j).reached) (around s c past j W.0) (W.1 j))),
+      (λ same. subst (λ (i : ℕ). Trusts s i st.state c.clock (of_client n st ∷ past)) same (trusts_own s c past n st W.0 (W.1 n) a R))
+      (λ other. trusts_beside s j (c.clients j) c.clock c.clock past (of_client n st) (omega arith) (beside_other s n j past (of_client n st) A (λ e. other (client_number n j e)) a.of other (W.1 j).reached) (around s c past j W.0) (W.1 j))),
   R.shown,
 )
 
@@ -129,8 +126,11 @@ pub shown_now : (s : Script) (c : Cell) (past : List Entry) (x : Input) → Watc
 shown_now s c past x W = (good_now s c past x W).1
 
 pub watched_first : (s : Script) → Watched s (start s) (set_up s ∷ [])
-watched_first s = (based_first s, λ j. record {
-  entries = λ f e found. absurd cc;
-  waits = λ act r. absurd cc;
-  reached = λ f. reached_first (Client j) f (index_in (last_version f (lines_of (set_up s ∷ [])))) s;
-})
+watched_first s = (
+  based_first s,
+  λ j. record {
+    entries = λ f e found. absurd cc;
+    waits = λ act r. absurd cc;
+    reached = λ f. reached_first (Client j) f (index_in (last_version f (lines_of (set_up s ∷ [])))) s;
+  },
+)

@@ -1,4 +1,5 @@
 -- Histories that are wrong for one reason each: a run, altered in one entry, of which just one condition isn't met.
+use Rattle.afs_law.proofs.Ideals.{at_home}
 use Rattle.afs_law.proofs.Backing.{all_lines, is_oweless, no_owe}
 use Rattle.afs_num.specs.declared.types.Key.{Key}
 use Rattle.afs_num.specs.declared.types.Head.{Head}
@@ -15,7 +16,6 @@ use Rattle.afs_ideal.specs.SetUp.{laid_at, led}
 use Rattle.afs_ideal.specs.VnodeImage.{image}
 use Rattle.afs_law.proofs.Basics.{some_of}
 use Rattle.afs_law.proofs.Heard.{ran_heard}
-use Rattle.afs_law.proofs.Remaining.{accepted}
 use Rattle.afs_law.specs.Grants.{GrantOf, until}
 use Rattle.afs_num.specs.declared.histories.Actor.{Actor}
 use Rattle.afs_num.specs.declared.types.Node.{Node}
@@ -579,7 +579,7 @@ unfolding moved begin_row client_row server_row back_timeout_row wake_row start_
 granted_by_another_server h =
     let g = h.1.1.0.0.0.1.0.1 in
     let two : g.grant.server ≡ Server 2 = granter _ _ _ _ _ g.grant ∙ ap (λ (m : Message). m.head.from) (sym (some_of _ _ g.by)) in
-    elim (accepted (script 1) file.volume g.grant.server (until _ _ _ _ _ g.grant) g.home) [ inl x ↦ let e : Server 1 ≡ Server 2 = x.1.1 ∙ two in absurd cc | inr x ↦ x ]
+    elim (at_home (script 1) file.volume g.grant.server (until _ _ _ _ _ g.grant) g.home) [ inl x ↦ let e : Server 1 ≡ Server 2 = x.1.1 ∙ two in absurd cc | inr x ↦ x ]
 
 -- ---- rights are read by an act that needs them, of a reply to its call
 

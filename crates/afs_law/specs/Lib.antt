@@ -4,7 +4,6 @@ pub mod Grants
 pub mod Breaks
 pub mod Legal
 pub mod Cells
-pub mod OneServer
 pub mod Once
 pub mod Laws
 pub mod Parts

@@ -9,7 +9,6 @@ use Rattle.afs_law.specs.Parts.{AllLines, EachEntry, EachSent, LineRule}
 use Rattle.afs_law.specs.Past.{HasCode, Ran, answered_key, code_told, lines_of}
 use Rattle.afs_model.specs.FsRows.{call_number, reply_number}
 use Rattle.afs_num.specs.declared.calls.FsCall.{FsCall}
-use Rattle.afs_num.specs.declared.histories.Actor.TheVariants as actors
 use Rattle.afs_num.specs.declared.histories.Version.{Version}
 use Rattle.afs_num.specs.declared.messages.Call.TheVariants as ask
 use Rattle.afs_num.specs.declared.messages.Carried.{Carried}
@@ -20,7 +19,7 @@ use Rattle.afs_num.specs.declared.types.Fid.{Fid}
 use Rattle.afs_num.specs.declared.types.Node.TheVariants.{Client, Server}
 use Rattle.afs_history.specs.declared.lines.Line.TheVariants as lines
 use Rattle.afs_history.specs.declared.scripts.Script.{Script}
-use Rattle.afs_rows.specs.Runs.{Cell, Entry, Fall, Host, RunsTo, begun_by_disk}
+use Rattle.afs_rows.specs.Runs.{Cell, Entry, Fall, RunsTo, begun_by_disk}
 use Rattle.afs_rows.specs.States.{volume_in}
 use Rattle.std.specs.Prelude.{◌≡◌, ◌<◌, ℕ, ℤ, List, [], ◌∷◌, ◌++◌, Some, true, ⊤}
 
