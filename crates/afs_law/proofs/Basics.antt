@@ -1,3 +1,4 @@
+-- Small laws: fids, nodes and keys; pairs of epoch and number; seats; what is found; lists of messages.
 use Rattle.afs_num.specs.declared.histories.ReadStatus.{ReadStatus}
 use Rattle.afs_num.specs.declared.histories.Body.{Body}
 use Rattle.afs_rows.specs.Callbacks.{put}

@@ -1,3 +1,4 @@
+-- How the facts pass over an entry.
 use Rattle.afs_num.specs.declared.histories.ReadSource.TheVariants.{Fetched}
 use Rattle.afs_num.specs.Fids.{same_fid}
 use Rattle.afs_law.specs.Breaks.{HasTimeout}

@@ -1,3 +1,4 @@
+-- An act that reads from its client's cache.
 use Rattle.afs_law.proofs.Backing.{front_onto}
 use Rattle.afs_law.proofs.Apart.{apart_used, used_found}
 use Rattle.afs_law.proofs.Basics.{some_of, same_fid-true, found-cached-fid}
