@@ -1,7 +1,7 @@
 #!/bin/sh
 # Tries wrong rows against the law over volumes: each tests/wrong_law/NAME.edit changes one
-# definition of the rows (crates afs_rows and afs_breaks) or one lemma, and the walk of crate afs_law has to break at the lemma
-# of that case. Run it when the rows, what is legal or the walk has changed. It takes half a minute a row, so it is no part of
+# definition of the rows (crates afs_rows and afs_breaks) or one lemma, and the proof of crate afs_law has to break at the lemmas
+# of that case. Run it when the rows, what is legal or the proof has changed. It takes half a minute a row, so it is no part of
 # the gate. With NAMEs it tries these alone. All is done in a copy: the repository stays as it is.
 #
 # An edit tells in its lines '# ' what is wrong, and then has
@@ -10,9 +10,9 @@
 #   old: TEXT                     stands there once
 #   new: TEXT                     comes instead; a second one is a further line. More pairs of old and new may follow
 #   breaks: FILE LEMMA            a lemma of crates/afs_law/proofs/FILE.antt that is refused, the first that of the case
-# Of what the walk for the law (proofs/Law) stands on, just these lemmas have to be refused, not counting what stands on
+# Of what the law (proofs/Assembled) stands on, just these lemmas have to be refused, not counting what stands on
 # them, and the law must not be proved. 'breaks: nothing' says that the law holds all the same, for the reason that the edit
-# tells. Worked runs may break as well, and the walks over all servers and for other laws; they are told behind the lemmas.
+# tells. Worked runs may break as well, and the walks for other laws; they are told behind the lemmas.
 set -eu
 
 cd "$(dirname "$0")/.."
@@ -68,7 +68,7 @@ done
 rm -rf "$work"/crates/afs_rows/proofs/*
 : > "$work/crates/afs_rows/proofs/Lib.antt"
 model=$work/crates/afs_law
-stands_on Law | sort -u > "$work/walk"
+stands_on Assembled | sort -u > "$work/walk"
 
 # Proves the crate in the copy. What was refused is told in two files, sorted and without what only stands on it: in
 # refused the lemmas of the walk, one 'FILE LEMMA' a line, and whole lines on other files than proofs; in others the rest.

@@ -1,4 +1,5 @@
 -- A client's file call is to the server that its script gives to the volume of which it asks, however many servers a cell has.
+use Rattle.afs_law.proofs.Following.{none_runs, AreOfServers, Follows, begins_follow, falls_follow, given_follow, rises_follow, waits_follow}
 use Rattle.afs_history.specs.declared.acts.Act.{Act}
 use Rattle.afs_history.specs.declared.acts.Act.TheVariants as acts
 use Rattle.afs_history.specs.declared.acts.Operand.{Operand}
@@ -10,13 +11,12 @@ use Rattle.afs_law.proofs.Acting.{Acts, IsTheCall, begins_acts, falls_acts, give
 use Rattle.afs_law.proofs.Basics.{Each, IfCall, at_put, each_at, each_map, each_more, if_call, some_of}
 use Rattle.afs_law.proofs.Calling.{IsUncalled, uncalled_any}
 use Rattle.afs_law.proofs.Firm.{IsFirm}
-use Rattle.afs_law.proofs.Following.{AreOfServers, Follows, begins_follow, falls_follow, given_follow, rises_follow, waits_follow}
 use Rattle.afs_law.proofs.Gifts.{Given, given_first, given_kept}
 use Rattle.afs_law.proofs.KeysOnce.{IsKnown, any_told, by_key}
 use Rattle.afs_law.proofs.Knowing.{served_uncalled, started_uncalled, timed_uncalled, woken_uncalled}
 use Rattle.afs_law.proofs.Moving.{Behind, EachMove, IsKept, each_moved}
 use Rattle.afs_law.proofs.Nexts.{asks_change}
-use Rattle.afs_law.proofs.Origins.{none_runs, the_calls}
+use Rattle.afs_law.proofs.Origins.{the_calls}
 use Rattle.afs_law.specs.Ideal.{set_up}
 use Rattle.afs_num.specs.declared.calls.FsCall.{FsCall}
 use Rattle.afs_num.specs.declared.calls.FsCall.TheVariants as calls

@@ -1,13 +1,13 @@
 -- Caches in which a fid has one entry.
-use Rattle.std.proofs.Common.{◌≡◌, ℕ, zero, suc, Bool, true, false, cond, List, [], ◌∷◌, Option, Some, None, filter, map, take, refl, sym, ap, subst, ◌∙◌, not}
+use Rattle.std.proofs.Common.{◌≡◌, ℕ, zero, suc, Bool, true, false, cond, List, [], ◌∷◌, Option, Some, None, filter, map, take, refl, sym, ap, subst, ◌∙◌, not, inl, inr}
 use Rattle.std.specs.Option.{option_map}
-use Rattle.std.specs.Prelude.{◌&&◌, ⊤}
+use Rattle.std.specs.Prelude.{◌&&◌, ⊤, ◌⊎◌}
 use Rattle.afs_num.specs.Fids.{same_fid}
 use Rattle.afs_num.specs.declared.types.Fid.{Fid}
 use Rattle.afs_num.specs.declared.histories.Body.{Body}
 use Rattle.afs_num.specs.declared.histories.ReadStatus.{ReadStatus}
-use Rattle.afs_law.proofs.Basics.{same_fid-true, found-refreshed}
-use Rattle.afs_law.proofs.Facts.{AreApart}
+use Rattle.afs_law.proofs.Basics.{same_fid-true, found-refreshed, found-first}
+use Rattle.afs_law.proofs.Words.{AreApart}
 use Rattle.afs_rows.specs.ClientRow.{find_cached, used_first, is_trusted, refreshed, joined, put_entry}
 use Rattle.afs_rows.specs.States.{CacheEntry}
 
@@ -116,3 +116,14 @@ found_out_by false false p f x u rest old t b nay none ih e = ih e
 pub found_out : (p : CacheEntry → Bool) (f : Fid) (cache : List CacheEntry) (u : CacheEntry) → AreApart cache → find_cached f cache ≡ Some u → p u ≡ false → find_cached f (filter p cache) ≡ None
 found_out p f [] u a e nay = absurd cc
 found_out p f (x ∷ cache) u a e nay = found_out_by (same_fid x.fid f) (p x) p f x u (filter p cache) cache refl refl nay (none_filter p x.fid cache a.0) (λ z. found_out p f cache u a.1 z nay) e
+
+-- what a cache holds where such an entry was put
+pub put_found : (k : ℕ) (g : Fid) (u : CacheEntry) (cache : List CacheEntry) (v : CacheEntry) → find_cached g (put_entry k u cache) ≡ Some v → ((u.fid ≡ g) × (joined u cache ≡ v)) ⊎ ((u.fid ≡ g → ⊥) × (find_cached g cache ≡ Some v))
+put_found k g u cache v e = found-first g (joined u cache) cache v (found_take k g (used_first (joined u cache) cache) v e)
+
+-- what is found where an entry was used was found before
+pub used_found : (g : Fid) (u : CacheEntry) (cache : List CacheEntry) (v : CacheEntry) → find_cached u.fid cache ≡ Some u → find_cached g (used_first u cache) ≡ Some v → find_cached g cache ≡ Some v
+used_found g u cache v at found = elim (found-first g u cache v found) [
+  | inl q ↦ subst (λ (x : Fid). find_cached x cache ≡ Some v) q.0 (subst (λ (x : CacheEntry). find_cached u.fid cache ≡ Some x) q.1 at)
+  | inr q ↦ q.1
+]

@@ -1,4 +1,7 @@
 -- The versions of an object ascend, and its server holds the last one, however many servers a cell has.
+use Rattle.afs_law.proofs.Walking.{onto_last}
+use Rattle.afs_law.proofs.Ideals.{at_home, AreBlank, Held, IsCalled, VolumesIn, blank_by, blank_last, blow_blank, cut_by, cut_call, from_blank, held_kept, is_blank, of_blank, own_from, saved_at, volumes_first, volumes_moves}
+use Rattle.afs_law.proofs.Loading.{onto_both}
 use Rattle.afs_history.specs.declared.lines.Line.{Line}
 use Rattle.afs_history.specs.declared.lines.Line.TheVariants as lines
 use Rattle.afs_history.specs.declared.scripts.Script.{Script}
@@ -10,20 +13,18 @@ use Rattle.afs_law.proofs.Basics.{IfCall, at_put, both, each_at}
 use Rattle.afs_law.proofs.Booting.{disk_front}
 use Rattle.afs_law.proofs.Choosing.{Works, disk_works, is_from, risen_from, risen_lines, serves_works, starts_works, times_works, wakes_works}
 use Rattle.afs_law.proofs.Edits.{Ones, Sound, SoundIn, Tops, edits_told, fid_at, index_in, last_of, on_top, ones, sound_same, tops}
-use Rattle.afs_law.proofs.Ideals.{AreBlank, Held, IsCalled, VolumesIn, blank_by, blank_last, blow_blank, cut_by, cut_call, from_blank, held_kept, is_blank, of_blank, onto_front, own_from, saved_at, volumes_first, volumes_moves}
 use Rattle.afs_law.proofs.KeysOnce.{IsKnown, any_told, by_key}
-use Rattle.afs_law.proofs.Facts.{IsOne}
-use Rattle.afs_law.proofs.Law.{FirstFacts, first_facts, onto_last}
+use Rattle.afs_law.proofs.Words.{IsOne}
+use Rattle.afs_law.proofs.SettingUp.{FirstFacts, first_facts}
 use Rattle.afs_law.proofs.Moving.{Behind, EachMove, IsKept as IsKeptBy, each_moved, run_keeps}
 use Rattle.afs_law.proofs.Origins.{asked_first}
-use Rattle.afs_law.proofs.Remaining.{accepted}
 use Rattle.afs_law.proofs.Saving.{onto_versioned, versions_by_next}
 use Rattle.afs_law.proofs.Latest.{has_onto, holding_by, later_by}
 use Rattle.afs_law.specs.Ideal.{HasVersion, first_lines, is_at, last_version, set_up, versions_in, volume_after}
-use Rattle.afs_law.specs.Laws.{IsKept}
+use Rattle.afs_law.specs.Laws.{IsKept, told_by_restart}
 use Rattle.afs_law.specs.Once.{past_of}
 use Rattle.afs_law.specs.Past.{lines_of, onto}
-use Rattle.afs_law.specs.ServerParts.{VersionsAreKept, told_by_restart}
+use Rattle.afs_law.specs.ServerParts.{VersionsAreKept}
 use Rattle.afs_num.specs.declared.histories.Body.{Body}
 use Rattle.afs_num.specs.declared.histories.Version.{Version}
 use Rattle.afs_num.specs.declared.messages.Received.TheVariants.{Whole}
@@ -81,7 +82,7 @@ works_ascend s c past i b ls h (inr S) =
     let behind : AreBlank S.rest = blank_by (is_from (Server i)) (from_blank (Server i)) S.rest S.behind in
     let l : Line = lines.Change (Server i) (key_of S.head) (length vs) in
     let base : List Line = l ∷ onto (lines_of past) S.front in
-    let on : onto (lines_of past) ls ≡ onto (on_top vs base) S.rest = ap (onto (lines_of past)) S.split ∙ (onto_front (lines_of past) S.front (l ∷ versioned vs S.rest) ∙ onto_versioned vs S.rest base) in
+    let on : onto (lines_of past) ls ≡ onto (on_top vs base) S.rest = ap (onto (lines_of past)) S.split ∙ (onto_both (lines_of past) S.front (l ∷ versioned vs S.rest) ∙ onto_versioned vs S.rest base) in
     let at : volume_after ch.id past ≡ Some v = (saved_at s c.hosts c.sent past i b ls h.0.1 h.0.0.0.hears.told S).at in
     let old : Sound ch.id v base = sound_same ch.id (Some v) (lines_of past) base (λ n u. blank_last (fid_at ch.id n u) S.front (lines_of past) before) (subst (λ (o : Option Volume). SoundIn ch.id o (lines_of past)) at (h.0.1.sound ch.id)) in
     let a : Ascend (onto (lines_of past) S.front) = blank_ascend S.front (lines_of past) before h.1 in
@@ -161,5 +162,5 @@ pub run_versions : VersionsAreKept
 run_versions s h end r i v home told =
     let past : List Entry = past_of (set_up s ∷ []) h in
     let k : HeldAscend s end past = ascend_at s h end r in
-    let at : is_at v.fid.volume (Server i) s.volumes = accepted s v.fid.volume i (lines_of past) home in
+    let at : is_at v.fid.volume (Server i) s.volumes = at_home s v.fid.volume (Server i) (lines_of past) home in
     (kept_in s end past i v k.0.1 k.1 at told, λ fall down. kept_behind s end past i v fall k down at told)

@@ -1,17 +1,20 @@
--- The parts of a legal history, put together: a run of any number of servers is legal where its reads and its answers are good.
+-- The parts of a legal history, put together: every run is legal, however many servers a cell has.
 use Rattle.afs_history.specs.declared.lines.Line.{Line}
 use Rattle.afs_history.specs.declared.lines.Line.TheVariants as lines
 use Rattle.afs_history.specs.declared.scripts.Script.{Script}
 use Rattle.afs_law.proofs.Changing.{run_ideal}
+use Rattle.afs_law.proofs.Codes.{run_codes}
 use Rattle.afs_law.proofs.Entering.{run_entered}
 use Rattle.afs_law.proofs.Gifts.{run_gifts}
 use Rattle.afs_law.proofs.Lone.{run_alone}
 use Rattle.afs_law.proofs.Owed.{run_breaks, run_waits}
 use Rattle.afs_law.proofs.Placing.{run_placed}
 use Rattle.afs_law.proofs.Promised.{run_grants}
+use Rattle.afs_law.proofs.Readings.{run_reads}
 use Rattle.afs_law.proofs.Sending.{run_own}
 use Rattle.afs_law.specs.ClientParts.{IsAlone, IsFair}
 use Rattle.afs_law.specs.Ideal.{set_up}
+use Rattle.afs_law.specs.Laws.{RunsAreLegal}
 use Rattle.afs_law.specs.Legal.{AreGood, AreGoodSent, GoodReply, IsEntryOf, IsGood, IsInPlace, LegalAfter, WereRun}
 use Rattle.afs_law.specs.Parts.{EachEntry, EachLine, EachSent, IsIdeal, IsOwn, LineRule}
 use Rattle.afs_law.specs.ServerParts.{GoodReadsAreLegal, IsBreakGood, IsCodeGood, IsGrantGood, IsReadGood}
@@ -70,3 +73,6 @@ legal_from s past (e ∷ es) p g i a b r c o f w n = (
 pub run_by_reads : GoodReadsAreLegal
 run_by_reads s h end r reads codes =
     legal_from s (set_up s ∷ []) h (run_placed s h end r) (run_grants s h end r) (run_ideal s h end r) (run_alone s h end r) (run_breaks s h end r) reads codes (run_own s h end r) (run_gifts s h end r) (run_waits s h end r) (run_entered s h end r)
+
+pub run_legal : RunsAreLegal
+run_legal s h end cell r = run_by_reads s h end r (run_reads s h end cell r) (run_codes s h end cell r)

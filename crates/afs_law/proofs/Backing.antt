@@ -88,7 +88,7 @@ pub drop_onto : (s c : Node) (w : Option Fid) (ls o : List Line) → HasDrop s c
 drop_onto s c w [] o h = h
 drop_onto s c w (l ∷ ls) o h = drop_onto s c w ls (l ∷ o) (drop_more s c w l o h)
 
-timeout_more : (s c : Node) (e n k : ℕ) (l : Line) (o : List Line) → HasTimeout s c e n k o → HasTimeout s c e n k (l ∷ o)
+pub timeout_more : (s c : Node) (e n k : ℕ) (l : Line) (o : List Line) → HasTimeout s c e n k o → HasTimeout s c e n k (l ∷ o)
 timeout_more s c e n k (lines.Timeout q d i j t) o h = inr h
 timeout_more s c e n k l o h = h
 
@@ -173,10 +173,10 @@ pub change_back : (k : Key) (ls o : List Line) → all_lines is_unchanging ls �
 change_back k [] o h x = x
 change_back k (l ∷ ls) o h x = let q = both (is_unchanging l) (all_lines is_unchanging ls) h in change_before k l o q.0 (change_back k ls (l ∷ o) q.1 x)
 
-head_same : (x y : Line) (a b : List Line) → x ∷ a ≡ y ∷ b → x ≡ y
+pub head_same : (x y : Line) (a b : List Line) → x ∷ a ≡ y ∷ b → x ≡ y
 head_same x y a b e = cc
 
-tail_same : (x y : Line) (a b : List Line) → x ∷ a ≡ y ∷ b → a ≡ b
+pub tail_same : (x y : Line) (a b : List Line) → x ∷ a ≡ y ∷ b → a ≡ b
 tail_same x y a b e = cc
 
 owe_not : (l : Line) (s c : Node) (what : Option Fid) (n : ℕ) → is_oweless l ≡ true → l ≡ lines.Owe s c what n → ⊥
@@ -190,10 +190,10 @@ no_owe (l ∷ ls) (x ∷ before) after s c what n h e = no_owe ls before after s
 
 -- ---- breaks that were owed
 
-entry_same : (x y : Entry) (a b : List Entry) → x ∷ a ≡ y ∷ b → x ≡ y
+pub entry_same : (x y : Entry) (a b : List Entry) → x ∷ a ≡ y ∷ b → x ≡ y
 entry_same x y a b e = cc
 
-entries_same : (x y : Entry) (a b : List Entry) → x ∷ a ≡ y ∷ b → a ≡ b
+pub entries_same : (x y : Entry) (a b : List Entry) → x ∷ a ≡ y ∷ b → a ≡ b
 entries_same x y a b e = cc
 
 pub owes_over : (s : Node) (Q R : Owes) (e : Entry) (past : List Entry) → ((before after : List Line) (c : Node) (what : Option Fid) (n : ℕ) → e.lines ≡ before ++ lines.Owe s c what n ∷ after → R [] e past before after c what n)

@@ -1,3 +1,4 @@
+-- Small laws: fids, nodes and keys; pairs of epoch and number; seats; what is found; lists of messages.
 use Rattle.afs_num.specs.declared.histories.ReadStatus.{ReadStatus}
 use Rattle.afs_num.specs.declared.histories.Body.{Body}
 use Rattle.afs_rows.specs.Callbacks.{put}
@@ -5,10 +6,10 @@ use Rattle.afs_rows.specs.ClientRow.{find_cached, used_first, is_trusted, refres
 use Rattle.afs_law.specs.Ideal.{raised}
 use Rattle.afs_law.specs.Past.{same_key}
 use Rattle.afs_rows.specs.Runs.{message_at}
-use Rattle.afs_rows.specs.States.{CacheEntry}
+use Rattle.afs_rows.specs.States.{CacheEntry, Seat}
 use Rattle.afs_model.proofs.Keyed.{IsExact, found_own, at_last}
-use Rattle.afs_model.specs.Calls.{CallSeat, Admitted, runs, kept, older, pair_below, caller_of, call_seat, call_seated, repeated, paired}
-use Rattle.std.proofs.Common.{◌≡◌, ℕ, zero, suc, ◌+◌, ◌<◌, ◌≤◌, ◌⊎◌, inl, inr, Bool, true, false, cond, eqb, ltb, not, List, [], ◌∷◌, ◌++◌, map, Option, Some, None, refl, sym, ap, subst, ◌∙◌, arith, eq-eqb, eqb-true, ltb-true, ltb-false}
+use Rattle.afs_model.specs.Calls.{CallSeat, Admitted, runs, kept, older, pair_below, caller_of, call_seat, call_seated, repeated, paired, admitted}
+use Rattle.std.proofs.Common.{◌≡◌, ℕ, zero, suc, ◌+◌, ◌<◌, ◌≤◌, ◌⊎◌, inl, inr, Bool, true, false, cond, eqb, ltb, not, List, [], ◌∷◌, ◌++◌, map, Option, Some, None, refl, sym, ap, subst, ◌∙◌, arith, eq-eqb, eqb-true, ltb-true, ltb-false, nat_eq}
 use Rattle.std.specs.Prelude.{filter, ◌&&◌, ⊤}
 use Rattle.std.specs.Option.{option_map}
 use Rattle.std.proofs.Math.Nat.{max-le, eq-or-lt_of_le}
@@ -24,8 +25,7 @@ use Rattle.afs_num.specs.declared.messages.Carried.{Carried}
 use Rattle.afs_num.specs.declared.messages.Message.{Message}
 use Rattle.afs_num.specs.declared.messages.Carried.TheVariants as carried
 use Rattle.afs_num.specs.declared.messages.Call.TheVariants as ask
-
--- Small laws: fids, nodes and keys; pairs of epoch and number; seats; what is found; lists of messages.
+use Rattle.afs_model.specs.Calls as pairs
 
 -- ---- fids, nodes, keys
 
@@ -47,16 +47,6 @@ same_fid-true a b e =
 
 pub same_fid-refl : (a : Fid) → same_fid a a ≡ true
 same_fid-refl a = rw (eq-eqb a.volume a.volume refl, eq-eqb a.vnode a.vnode refl, eq-eqb a.unique a.unique refl) refl
-
-apart_by : (f g : Fid) (t : Bool) → same_fid g f ≡ t → same_fid f g ≡ false → t ≡ false
-apart_by f g false e ne = refl
-apart_by f g true e ne =
-    let one : g ≡ f = same_fid-true g f e in
-    let yes : same_fid f g ≡ true = ap (λ (x : Fid). same_fid x g) (sym one) ∙ same_fid-refl g in
-    absurd cc
-
-pub apart-found : (x f g : Fid) → same_fid f g ≡ false → same_fid x g ≡ true → same_fid x f ≡ false
-apart-found x f g ne e = ap (λ (y : Fid). same_fid y f) (same_fid-true x g e) ∙ apart_by f g (same_fid g f) refl ne
 
 pub apart : (f g : Fid) → same_fid f g ≡ false → f ≡ g → ⊥
 apart f g ne e = let yes : same_fid f g ≡ true = ap (λ (x : Fid). same_fid x g) e ∙ same_fid-refl g in absurd cc
@@ -165,10 +155,6 @@ below_more e n d m b k (inl x) (inr y) = let q : d ≡ b = y.0 in inl (omega ari
 below_more e n d m b k (inr x) (inl y) = let q : e ≡ d = x.0 in inl (omega arith)
 below_more e n d m b k (inr x) (inr y) = let q : n < m = x.1 in let r : m ≤ k = y.1 in inr (x.0 ∙ y.0, omega arith)
 
-pub below_next : (e n d m : ℕ) → UpTo e n d m → Below e n d (m + 1)
-below_next e n d m (inl x) = inl x
-below_next e n d m (inr x) = let q : n ≤ m = x.1 in inr (x.0, omega arith)
-
 pub up_to_by : (e n d m : ℕ) → UpTo e n d m → Below e n d m ⊎ ((e ≡ d) × (n ≡ m))
 up_to_by e n d m (inl x) = inl (inl x)
 up_to_by e n d m (inr x) = elim (eq-or-lt_of_le x.1) [ inl q ↦ inr (x.0, q) | inr l ↦ inl (inr (x.0, l)) ]
@@ -255,13 +241,6 @@ put_by false P x y a b = b refl
 pub at_put : {A : Type 0} (c j : ℕ) (P : A → Type 0) (x : A) (h : ℕ → A) → (c ≡ j → P x) → ((c ≡ j → ⊥) → P (h j)) → P (put c x h j)
 at_put c j P x h a b = put_by (eqb c j) P x (h j) (λ t. a (eqb-true c j t)) (λ t. b (λ e. let y = eq-eqb c j e in absurd cc))
 
-puts_by : {A B : Type 0} (t : Bool) (P : A → B → Type 0) (x y : A) (u v : B) → (t ≡ true → P x u) → (t ≡ false → P y v) → P (cond t x y) (cond t u v)
-puts_by true P x y u v a b = a refl
-puts_by false P x y u v a b = b refl
-
-pub at_puts : {A B : Type 0} (c j : ℕ) (P : A → B → Type 0) (x : A) (u : B) (h : ℕ → A) (g : ℕ → B) → (c ≡ j → P x u) → ((c ≡ j → ⊥) → P (h j) (g j)) → P (put c x h j) (put c u g j)
-at_puts c j P x u h g a b = puts_by (eqb c j) P x (h j) u (g j) (λ t. a (eqb-true c j t)) (λ t. b (λ e. let y = eq-eqb c j e in absurd cc))
-
 -- ---- files
 
 found_cached_by : (b : Bool) (f : Fid) (u : CacheEntry) (us : List CacheEntry) (v : CacheEntry) → (find_cached f us ≡ Some v → same_fid v.fid f ≡ true) → same_fid u.fid f ≡ b → cond b (Some u) (find_cached f us) ≡ Some v → same_fid v.fid f ≡ true
@@ -293,14 +272,6 @@ first_by false g n es v t e = let ne = apart n.fid g t in inr (ne, sym (found-le
 -- the entry that was used is found, or another that was there
 pub found-first : (g : Fid) (n : CacheEntry) (es : List CacheEntry) (v : CacheEntry) → find_cached g (used_first n es) ≡ Some v → ((n.fid ≡ g) × (n ≡ v)) ⊎ ((n.fid ≡ g → ⊥) × (find_cached g es ≡ Some v))
 found-first g n es v e = first_by (same_fid n.fid g) g n es v refl e
-
-none_by : (t : Bool) (g : Fid) (n : CacheEntry) (es : List CacheEntry) → same_fid n.fid g ≡ t → find_cached n.fid es ≡ Some n → find_cached g es ≡ None → cond t (Some n) (find_cached g (without n.fid es)) ≡ None
-none_by true g n es t at e = let yes : find_cached g es ≡ Some n = ap (λ (x : Fid). find_cached x es) (sym (same_fid-true n.fid g t)) ∙ at in absurd cc
-none_by false g n es t at e = found-left n.fid g es (apart n.fid g t) ∙ e
-
--- what was not there is not there where another was used
-pub none-first : (g : Fid) (n : CacheEntry) (es : List CacheEntry) → find_cached n.fid es ≡ Some n → find_cached g es ≡ None → find_cached g (used_first n es) ≡ None
-none-first g n es at e = none_by (same_fid n.fid g) g n es refl at e
 
 refreshed_fid_by : (c : Bool) (i : ℕ) (t : ReadStatus) (b : Option Body → Option Body) (v : CacheEntry) → (cond c (record v { index = i; status = t; body = b v.body }) v).fid ≡ v.fid
 refreshed_fid_by true i t b v = refl
@@ -349,9 +320,6 @@ IfCall P m = OfCall (ByClient P) m.head m.carried
 abbrev pub IfReply : (Message → Type 0) → Message → Type 0
 IfReply P m = OfReply (OfClient m.head.to (P m)) m.carried
 
-abbrev pub IfNotice : (Message → Type 0) → Message → Type 0
-IfNotice P m = OfNotice (OfClient m.head.to (P m)) m.carried
-
 -- the calls of servers, and the replies to them
 abbrev pub ByServer : (Head → List ℕ → FsCall → Type 0) → Head → List ℕ → FsCall → Type 0
 ByServer P head user call = OfServer head.from (P head user call)
@@ -373,12 +341,6 @@ of_server (Client n) X Y w h = tt
 of_server (Server n) X Y w h = w h
 of_server (Admin n) X Y w h = tt
 of_server Loc X Y w h = tt
-
-pub client_any : (n : Node) (X : Type 0) → X → OfClient n X
-client_any (Client n) X h = h
-client_any (Server n) X h = tt
-client_any (Admin n) X h = tt
-client_any Loc X h = tt
 
 pub server_any : (n : Node) (X : Type 0) → X → OfServer n X
 server_any (Client n) X h = tt
@@ -442,9 +404,6 @@ of_notice P Q w (carried.Refusal code) h = tt
 of_notice P Q w (carried.Reply reply) h = tt
 of_notice P Q w carried.Notice h = w h
 
-pub if_notice : (P Q : Message → Type 0) → ((m : Message) → P m → Q m) → (m : Message) → IfNotice P m → IfNotice Q m
-if_notice P Q w m h = of_notice (OfClient m.head.to (P m)) (OfClient m.head.to (Q m)) (of_client m.head.to (P m) (Q m) (w m)) m.carried h
-
 -- further messages change no place
 pub at_more : (a b : List Message) (p : ℕ) (m : Message) → message_at a p ≡ Some m → message_at (a ++ b) p ≡ Some m
 at_more [] b p m e = absurd cc
@@ -460,3 +419,13 @@ raised_up_to false i base k a b = b
 
 pub some_of : {A : Type 0} (x y : A) → Some x ≡ Some y → x ≡ y
 some_of x y e = cc
+
+-- ---- what a server runs
+
+-- what a server runs is to its boot, and above its caller's seat
+admitted_by : (t : Bool) (boot : ℕ) (seats : List Seat) (head : Head) → nat_eq head.boot boot ≡ t → cond t (paired head.epoch head.number (call_seat head.from seats)) (pairs.wrong_boot boot) ≡ pairs.runs → (head.boot ≡ boot) × Above (call_seat head.from seats) head.epoch head.number
+admitted_by true boot seats head t e = (eqb-true head.boot boot t, runs_above head.epoch head.number (call_seat head.from seats) e)
+admitted_by false boot seats head t e = absurd cc
+
+pub runs_admitted : (boot : ℕ) (seats : List Seat) (head : Head) → admitted boot seats head ≡ pairs.runs → (head.boot ≡ boot) × Above (call_seat head.from seats) head.epoch head.number
+runs_admitted boot seats head e = admitted_by (nat_eq head.boot boot) boot seats head refl e

@@ -1,7 +1,7 @@
 -- Which boot each server is in, by the lines, however many a cell has.
 use Rattle.afs_law.proofs.Backing.{all_lines}
 use Rattle.afs_law.proofs.Basics.{at_put, both, node_apart, same_node-refl}
-use Rattle.afs_law.proofs.Facts.{up_boot}
+use Rattle.afs_law.proofs.Words.{up_boot}
 use Rattle.afs_law.specs.Legal.{AreRising}
 use Rattle.afs_law.specs.Past.{last_boot, lines_of, onto, risen, server_boot}
 use Rattle.afs_breaks.specs.declared.types.OwedBreak.{OwedBreak}
@@ -25,6 +25,7 @@ use Rattle.afs_rows.specs.States.{BackCall, Backs, Held, ServerState}
 use Rattle.afs_model.specs.Calls.{call_seat}
 use Rattle.std.proofs.Common.{◌≡◌, ℕ, ◌+◌, ◌≤◌, ◌<◌, ◌⊎◌, inl, inr, arith, Bool, true, false, cond, List, [], ◌∷◌, ◌++◌, map, Option, Some, None, refl, sym, ap, subst, ◌∙◌}
 use Rattle.std.specs.Prelude.{⊤, ◌&&◌, length, not, nat_lt}
+use Rattle.afs_law.proofs.Loading.{onto_both}
 
 -- ---- lines that stop no server, and begin none
 
@@ -79,10 +80,6 @@ all_rise (l ∷ ls) o h = let q = both (is_standing l) (all_lines is_standing ls
 rise_both : (a b o : List Line) → AreRising o a → AreRising (onto o a) b → AreRising o (a ++ b)
 rise_both [] b o h k = k
 rise_both (l ∷ a) b o h k = (h.0, rise_both a b (l ∷ o) h.1 k)
-
-onto_both : (o a b : List Line) → onto o (a ++ b) ≡ onto (onto o a) b
-onto_both o [] b = refl
-onto_both o (l ∷ a) b = onto_both (l ∷ o) a b
 
 pub standing_both : (a b : List Line) → all_lines is_standing a ≡ true → all_lines is_standing b ≡ true → all_lines is_standing (a ++ b) ≡ true
 standing_both [] b h k = k

@@ -3,49 +3,43 @@ use Rattle.afs_breaks.specs.declared.types.Promise.{Promise}
 use Rattle.afs_breaks.specs.Promises.{owes_from}
 use Rattle.afs_history.specs.declared.lines.Line.{Line}
 use Rattle.afs_history.specs.declared.lines.Line.TheVariants as lines
-use Rattle.afs_history.specs.declared.scripts.Script.{Script}
 use Rattle.afs_ideal.specs.Operations.{Found}
 use Rattle.afs_ideal.specs.Replies.{change_reply}
 use Rattle.afs_law.proofs.Backing.{Plain, all_lines, before_own, change_back, granted_over, is_oweless, is_still, is_still_to, is_unchanging, is_up, no_owe, plain_waits, promised_given, promised_over, rising_back}
-use Rattle.afs_law.proofs.Basics.{Above, Each, IfDone, LastSeat, OfCall, OfReply, OfServer, at_seat, below_not, by_server, each_at, kept_last, node_apart, own_seat, same_node-refl, same_node-true, some_of, up_to_same}
+use Rattle.afs_law.proofs.Basics.{Above, Each, IfDone, OfCall, OfReply, at_seat, below_not, node_apart, own_seat, runs_admitted, same_node-refl, some_of, up_to_same}
 use Rattle.afs_law.proofs.Edits.{on_top}
-use Rattle.afs_law.proofs.Deciding.{durable_above, held_waits, not_held}
-use Rattle.afs_law.proofs.Loading.{NewReply, all_granted, all_hits, all_left, all_new, all_promised, all_waited, change_loaded, gone_granted, gone_promised, gone_to_clients, granted_all, granted_to_client, hits_other, key_held, known_backed, left_granted, left_promised, none_loaded, number_front, number_second, numbers_rise, onto_granted, own_waited, owes_rising, owes_to_clients, owes_unchanging, quits_backed, resent, retries_backed, rise_loaded, run_loaded, settles_backed, still_backed}
-use Rattle.afs_law.proofs.Owing.{AllOf, AllWaitedBy, BackedIn, DoneIn, IsClient, IsDone, IsGranted, IsNumberIn, Promised, Rising, ToClients, WaitedBy, HeldWaits}
+use Rattle.afs_law.proofs.Waiting.{held_waits, not_held}
+use Rattle.afs_law.proofs.Loading.{NewReply, all_granted, all_hits, all_left, all_new, all_promised, all_waited, change_loaded, gone_granted, gone_promised, gone_to_clients, granted_all, granted_to_client, hits_other, key_held, known_backed, left_granted, left_promised, none_loaded, number_front, number_second, numbers_rise, onto_granted, own_waited, owes_rising, owes_to_clients, owes_unchanging, quits_backed, resent, retries_backed, run_loaded, settles_backed, still_backed}
+use Rattle.afs_law.proofs.Owing.{AllOf, AllWaitedBy, BackedIn, IsClient, IsGranted, IsNumberIn, Promised, Rising, WaitedBy, HeldWaits}
 use Rattle.afs_law.proofs.Passing.{no_change}
-use Rattle.afs_law.proofs.Promising.{Owed, hits, risen_as, risen_is, saves_turn, saves_turn_is, shows_turn, shows_turn_is, staying, with_promises, without_promises}
-use Rattle.afs_law.proofs.Reasons.{IsMaking, IsRead, IsReading, Ran, Reason, Runs, Why, gives_up_as, held_by}
+use Rattle.afs_law.proofs.Promising.{Owed, hits, saves_turn, saves_turn_is, shows_turn, shows_turn_is, staying, with_promises, without_promises}
+use Rattle.afs_law.proofs.Reasons.{IsRead, Ran, Runs, Why, gives_up_as, held_by}
 use Rattle.afs_law.proofs.Saving.{carried_reply, on_changed, onto_versioned, versioned_front, versions_lines}
-use Rattle.afs_law.proofs.Seating.{AreSeated, IsReplyOf}
-use Rattle.afs_law.proofs.Serving.{above_more, and_true, comes}
-use Rattle.afs_law.proofs.Standing.{runs_admitted}
-use Rattle.afs_law.proofs.Turning.{IsServing, TurnSends, break_good, expired_backed, loaded, put_call, reply_key}
+use Rattle.afs_law.proofs.Seating.{IsReplyOf}
+use Rattle.afs_law.proofs.Finding.{above_more, and_true, comes}
+use Rattle.afs_law.proofs.Turning.{IsServing, TurnSends, break_good, loaded, put_call, reply_key}
 use Rattle.afs_law.specs.Breaks.{AllOwes, drops_of, fids_given_up, has_answer, is_in, is_to_come, last_number, lines_at, returned_by, returned_in}
-use Rattle.afs_law.specs.Legal.{AreGoodSent, HasChange, IsBy, IsNew}
-use Rattle.afs_law.specs.Past.{IsCallUnder, IsToCome, called_key, given_message, lines_of, onto, sent_of, server_boot}
+use Rattle.afs_law.specs.Legal.{HasChange, IsNew}
+use Rattle.afs_law.specs.Past.{IsCallUnder, IsToCome, given_message, lines_of, onto, sent_of, server_boot}
 use Rattle.afs_model.specs.Calls as pairs
 use Rattle.afs_model.specs.Calls.{admitted, call_seat, call_seated}
 use Rattle.afs_num.specs.Nodes.{same_node}
-use Rattle.afs_num.specs.declared.calls.FsCall.{FsCall}
-use Rattle.afs_num.specs.declared.histories.Actor.{Actor}
 use Rattle.afs_num.specs.declared.histories.Actor.TheVariants as actors
 use Rattle.afs_num.specs.declared.histories.Version.{Version}
-use Rattle.afs_num.specs.declared.messages.Call.TheVariants as ask
 use Rattle.afs_num.specs.declared.messages.Carried.{Carried}
 use Rattle.afs_num.specs.declared.messages.Carried.TheVariants as carried
 use Rattle.afs_num.specs.declared.messages.Message.{Message}
 use Rattle.afs_num.specs.declared.messages.Reply.TheVariants as tell
-use Rattle.afs_num.specs.declared.types.Fid.{Fid}
 use Rattle.afs_num.specs.declared.types.Head.{Head}
 use Rattle.afs_num.specs.declared.types.Key.{Key}
 use Rattle.afs_num.specs.declared.types.Node.{Node}
 use Rattle.afs_num.specs.declared.types.Node.TheVariants.{Client}
 use Rattle.afs_records.specs.Durable.{time_in}
-use Rattle.afs_rows.specs.Callbacks.{Started, Turn, alls, asked_again, break_message, expired, given_out, held_after, held_under, if_to, is_back_awaited, is_ready, is_reply_to, is_seat_of, key_answered, no_turn, numbers, owe_line, pumped, put_at, quits, renews, renews_by, repeats_by, retries, risen_turn, settle_line, settles, settles_by, starts, starts_by, still_owed, turn_for}
-use Rattle.afs_rows.specs.Runs.{Entry, Fall}
+use Rattle.afs_rows.specs.Callbacks.{Started, Turn, alls, asked_again, break_message, expired, given_out, held_after, held_under, if_to, is_back_awaited, is_ready, is_seat_of, key_answered, no_turn, numbers, pumped, put_at, quits, renews, renews_by, repeats_by, retries, settles, settles_by, starts, starts_by, turn_for}
+use Rattle.afs_rows.specs.Runs.{Entry}
 use Rattle.afs_rows.specs.ServerRow.{Change, boot_told, Decision, Reading, carried_by, change_reply_to, does, drops, granted, granted_in, key_of, made, promise_ticks, promised_in, read_reply_to, refusal, refuses, repeats, replied, result, saves, seat_for, shows, stored_by, tells_boot, versioned}
 use Rattle.afs_rows.specs.States.{BackCall, Backs, Held, Seat, ServerState}
-use Rattle.std.proofs.Common.{◌≡◌, ℕ, ℤ, ◌+◌, ◌≤◌, ◌⊎◌, inl, inr, Bool, true, false, cond, eq-eqb, eqb-true, nat_eq, pos, List, [], ◌∷◌, ◌++◌, map, length, Option, Some, None, refl, sym, ap, subst, ◌∙◌}
+use Rattle.std.proofs.Common.{◌≡◌, ℕ, ℤ, ◌+◌, ◌≤◌, inl, inr, Bool, true, false, cond, eq-eqb, List, [], ◌∷◌, ◌++◌, length, Option, Some, None, refl, sym, ap, subst, ◌∙◌}
 use Rattle.std.proofs.Math.Nat.{le_refl}
 use Rattle.std.specs.Prelude.{◌&&◌, not}
 
@@ -196,10 +190,6 @@ on_number me (v ∷ vs) o = on_number me vs (lines.Version v ∷ o)
 on_rising : (me : Node) (vs : List Version) (o : List Line) → Rising me o → Rising me (on_top vs o)
 on_rising me [] o h = h
 on_rising me (v ∷ vs) o h = on_rising me vs (lines.Version v ∷ o) h
-
-on_given : (vs : List Version) (ls : List Line) (sent : List Message) → given_message (versioned vs ls) sent ≡ given_message ls sent
-on_given [] ls sent = refl
-on_given (v ∷ vs) ls sent = on_given vs ls sent
 
 abbrev pub saves_lines : Node → ServerState → ℕ → ℕ → Message → Change → List Line → List Line
 saves_lines me x clock place m ch tail = lines.Given place ∷ lines.Change me (key_of m.head) (length (made ch)) ∷ versioned (made ch) (granted me m.head.from (clock + promise_ticks) (granted_in ch) tail)

@@ -6,14 +6,14 @@ use Rattle.afs_law.proofs.Addressed.{IsServer, callee_server}
 use Rattle.afs_law.proofs.Basics.{ByClient, Each, IfCall, IfReply, OfCall, OfClient, OfReply, by_client, each_at, some_of}
 use Rattle.afs_law.proofs.KeysOnce.{IsKnown}
 use Rattle.afs_law.specs.Laws.{RepliesAreCaused}
-use Rattle.afs_law.proofs.Facts.{IsOne}
+use Rattle.afs_law.proofs.Words.{IsOne}
 use Rattle.afs_law.proofs.Firm.{IsFirm}
 use Rattle.afs_law.proofs.Moving.{run_keeps}
 use Rattle.afs_law.proofs.Nexts.{asks_is}
 use Rattle.afs_law.proofs.Origins.{KnownAsked}
 use Rattle.afs_law.proofs.Telling.{IsTold, Tells}
 use Rattle.afs_law.proofs.Truthful.{Truthful, truthful_first, truthful_kept}
-use Rattle.afs_law.proofs.Users.{given_each, older_each}
+use Rattle.afs_law.proofs.Sent.{given_each, older_each}
 use Rattle.afs_law.specs.Ideal.{call_under, set_up, user_of}
 use Rattle.afs_law.specs.Legal.{Cause, as_asked}
 use Rattle.afs_law.specs.Once.{past_of}
@@ -41,13 +41,13 @@ ran_one past j m ran user call is to sent ones told =
     let one : IsOne sent ran.message.head user call = by_client j ran.message.head.from (IsOne sent ran.message.head user call) from (subst (λ (x : Carried). OfCall (ByClient (IsOne sent)) ran.message.head x) is its) in
     subst (λ (k : Key). call_under k sent ≡ Some (user, call)) ran.key one
 
-is_reply : (head : Head) (x : Carried) → HasCode x → IsFirm head x → IsReply (record { head = head; carried = x })
+pub is_reply : (head : Head) (x : Carried) → HasCode x → IsFirm head x → IsReply (record { head = head; carried = x })
 is_reply head (carried.Refusal code) is firm = (firm.0, tt)
 is_reply head (carried.Reply reply) is firm = (firm, tt)
 is_reply head (carried.Call user call) is firm = absurd is
 is_reply head carried.Notice is firm = absurd is
 
-key_is : (j : ℕ) (head : Head) (e n : ℕ) → head.to ≡ Client j → head.epoch ≡ e → head.number ≡ n → answered_key head ≡ record { node = Client j; epoch = e; number = n }
+pub key_is : (j : ℕ) (head : Head) (e n : ℕ) → head.to ≡ Client j → head.epoch ≡ e → head.number ≡ n → answered_key head ≡ record { node = Client j; epoch = e; number = n }
 key_is j head e n to epoch number =
     ap (λ (q : Node). record { node = q; epoch = head.epoch; number = head.number }) to
     ∙ (ap (λ (x : ℕ). record { node = Client j; epoch = x; number = head.number }) epoch ∙ ap (λ (x : ℕ). record { node = Client j; epoch = e; number = x }) number)
@@ -79,7 +79,7 @@ caused_in s c past i j place m act h at code from to runs epoch number =
 
 -- ---- who sends it
 
-code_in : (j : ℕ) (to : Node) (X : Type 0) (x : Carried) → HasCode x → to ≡ Client j → OfReply (OfClient to X) x → X
+pub code_in : (j : ℕ) (to : Node) (X : Type 0) (x : Carried) → HasCode x → to ≡ Client j → OfReply (OfClient to X) x → X
 code_in j to X (carried.Refusal code) is e h = by_client j to X e h
 code_in j to X (carried.Reply reply) is e h = by_client j to X e h
 code_in j to X (carried.Call user call) is e h = absurd is

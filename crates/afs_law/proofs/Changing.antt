@@ -6,18 +6,17 @@ use Rattle.afs_ideal.specs.Operations.{volume_called}
 use Rattle.afs_ideal.specs.Tables.{Table}
 use Rattle.afs_law.proofs.Acting.{begins_acts, given_acts, is_of, waits_acts}
 use Rattle.afs_law.proofs.Backing.{all_lines}
-use Rattle.afs_law.proofs.Basics.{Above, IfCall, both, each_at}
+use Rattle.afs_law.proofs.Basics.{Above, IfCall, both, each_at, runs_admitted}
 use Rattle.afs_law.proofs.Choosing.{Saves, Works, disk_works, is_from, risen_from, risen_lines, serves_works, starts_works, times_works, wakes_works}
 use Rattle.afs_law.proofs.Cutting.{CutOf, CutsIn, HearsCuts, comes_first, cuts_moves, now_up}
 use Rattle.afs_law.proofs.Edits.{on_top}
-use Rattle.afs_law.proofs.Facts.{IsOne, Origin}
+use Rattle.afs_law.proofs.Words.{IsOne, Origin}
 use Rattle.afs_law.proofs.Ideals.{AreBlank, CutIs, Held, IsCalled, IsSent, Saved, blank_by, blank_key, blow_blank, cut_by, found_volume, from_blank, held_kept, is_blank, no_more, of_blank, of_this, own_from, saved_at, volumes_first}
 use Rattle.afs_law.proofs.KeysOnce.{HasRun, IsKnown, any_told, by_key, new_key, not_run, of_change, server_number}
-use Rattle.afs_law.proofs.Law.{any_home}
+use Rattle.afs_law.proofs.SettingUp.{any_home}
 use Rattle.afs_law.proofs.Moving.{Behind, EachMove, IsKept, each_moved}
 use Rattle.afs_law.proofs.Origins.{asked_first}
 use Rattle.afs_law.proofs.Saving.{first_on, later_by}
-use Rattle.afs_law.proofs.Standing.{runs_admitted}
 use Rattle.afs_law.specs.Breaks.{HasStopped}
 use Rattle.afs_law.specs.Ideal.{change_key, set_up, user_of}
 use Rattle.afs_law.specs.Legal.{EndsBoot, HasChangeBy, IdealChange, IsNew, as_asked, versions_first}
@@ -58,7 +57,7 @@ version_lines : (s : Script) (who : Actor) (past : List Entry) (own : List Line)
 version_lines s who past own [] ls h = h
 version_lines s who past own (v ∷ vs) ls h = (tt, version_lines s who past (lines.Version v ∷ own) vs ls h)
 
-blank_onto : (o ls : List Line) → AreBlank o → AreBlank ls → AreBlank (onto o ls)
+pub blank_onto : (o ls : List Line) → AreBlank o → AreBlank ls → AreBlank (onto o ls)
 blank_onto o [] h k = h
 blank_onto o (l ∷ ls) h k = let q = both (is_blank l) _ k in blank_onto (l ∷ o) ls (rw (q.0, h) refl) q.1
 
@@ -78,7 +77,7 @@ by_over : (s : Node) (k : Key) (own o : List Line) → AreBlank own → HasChang
 by_over s k [] o h x = x
 by_over s k (l ∷ own) o h x = let q = both (is_blank l) _ h in by_over s k own o q.1 (by_line s k l (own ++ o) q.0 x)
 
-none_first : (ls : List Line) → AreBlank ls → versions_first ls ≡ []
+pub none_first : (ls : List Line) → AreBlank ls → versions_first ls ≡ []
 none_first [] h = refl
 none_first (lines.Version v ∷ ls) h = absurd cc
 none_first (l ∷ ls) h = refl
@@ -95,19 +94,19 @@ plain_call call id e = refl
 -- ---- where a change stands
 
 -- the entry was given this message, and the change stands behind that
-record IsServed (c : Cell) (i : ℕ) (m : Message) (front : List Line) : Type 0 where
-  place : ℕ
-  front' : front ≡ lines.Given place ∷ []
-  at : message_at c.sent place ≡ Some m
-  up : (c.hosts i).down ≡ None
+pub record IsServed (c : Cell) (i : ℕ) (m : Message) (front : List Line) : Type 0 where
+  pub place : ℕ
+  pub front' : front ≡ lines.Given place ∷ []
+  pub at : message_at c.sent place ≡ Some m
+  pub up : (c.hosts i).down ≡ None
 
 -- or the change stands first, in a restart behind the step that was interrupted
-record IsBegun (c : Cell) (past : List Entry) (i : ℕ) (m : Message) (front rest : List Line) : Type 0 where
-  front' : front ≡ []
-  boots : EndsBoot (Server i) rest
-  cut : CutOf i (c.hosts i).state m past
+pub record IsBegun (c : Cell) (past : List Entry) (i : ℕ) (m : Message) (front rest : List Line) : Type 0 where
+  pub front' : front ≡ []
+  pub boots : EndsBoot (Server i) rest
+  pub cut : CutOf i (c.hosts i).state m past
 
-abbrev IsPlaced : Cell → List Entry → ℕ → Message → List Line → List Line → Type 0
+abbrev pub IsPlaced : Cell → List Entry → ℕ → Message → List Line → List Line → Type 0
 IsPlaced c past i m front rest = IsSent c.sent m × (IsServed c i m front ⊎ IsBegun c past i m front rest)
 
 -- the call is the one under its key
@@ -138,7 +137,7 @@ not_stopped : (c : Cell) (past : List Entry) (i : ℕ) (m : Message) (front rest
 not_stopped c past i m front rest (inl x) z = subst (λ (f : List Line). HasStopped (Server i) (onto [] f)) x.front' z
 not_stopped c past i m front rest (inr x) z = subst (λ (f : List Line). HasStopped (Server i) (onto [] f)) x.front' z
 
-change_ideal : (s : Script) (c : Cell) (past : List Entry) (i : ℕ) (b : Table Stored) (ls : List Line) → Held s c past → (S : Saves (IsPlaced c past i) (Server i) (c.hosts i).state b ls)
+pub change_ideal : (s : Script) (c : Cell) (past : List Entry) (i : ℕ) (b : Table Stored) (ls : List Line) → Held s c past → (S : Saves (IsPlaced c past i) (Server i) (c.hosts i).state b ls)
     → IdealChange s (Server i) (key_of S.head) (length (made S.change)) past (onto [] S.front) (versioned (made S.change) S.rest)
 unfolding placed_called
 change_ideal s c past i b ls h S =
@@ -236,7 +235,7 @@ acts_ideal : (s : Script) (c : Cell) (past : List Entry) (n : ℕ) (who : Actor)
 acts_ideal s c past n who ls h = all_blank s who past [] ls (blank_by (is_of n) (of_blank n) ls h)
 
 -- the message of an interrupted step, where its change comes first
-cut_placed : (s : Script) (c : Cell) (past : List Entry) (i : ℕ) (rest : List Line) → HeldCuts s c past → EndsBoot (Server i) rest → CutIs (λ m. IsPlaced c past i m [] rest) (c.hosts i).down
+pub cut_placed : (s : Script) (c : Cell) (past : List Entry) (i : ℕ) (rest : List Line) → HeldCuts s c past → EndsBoot (Server i) rest → CutIs (λ m. IsPlaced c past i m [] rest) (c.hosts i).down
 cut_placed s c past i rest h ends m clock e = (h.0.1.cut i m clock e, inr (record { front' = refl; boots = ends; cut = h.1 i m clock e }))
 
 stays_ideal : (s : Script) (c : Cell) (past : List Entry) (i : ℕ) (after : Bool) (fall : Fall) (l : Line) → HeldCuts s c past → (c.hosts i).down ≡ Some fall → is_from (Server i) l ≡ true → EndsBoot (Server i) (l ∷ []) → EachLine (IsIdeal s) (actors.Node (Server i)) past [] ((begun_by_disk (Server i) (c.hosts i).state after fall).before (l ∷ []))

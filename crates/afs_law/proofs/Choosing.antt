@@ -178,7 +178,7 @@ quits_from : (me n : Node) (os : List OwedBreak) → AreFrom me (map (quit_line 
 quits_from me n [] = refl
 quits_from me n (o ∷ os) = one_from me _ (quits_from me n os)
 
-granted_from : (me client : Node) (expiry : ℕ) (fs : List Found) (ls : List Line) → AreFrom me ls → AreFrom me (granted me client expiry fs ls)
+pub granted_from : (me client : Node) (expiry : ℕ) (fs : List Found) (ls : List Line) → AreFrom me ls → AreFrom me (granted me client expiry fs ls)
 granted_from me client expiry [] ls h = h
 granted_from me client expiry (f ∷ fs) ls h = one_from me _ (granted_from me client expiry fs ls h)
 
@@ -281,8 +281,6 @@ times_works P me x clock n c = inl (record { left = same_left _; lines = either_
 pub wakes_works : (P : Message → List Line → List Line → Type 0) (me : Node) (x : ServerState) (clock : ℕ) → Works P me x (wake_row me x clock).state.lasting.volumes (wake_row me x clock).lines
 unfolding wake_row
 wakes_works P me x clock = inl (record { left = same_left _; lines = refl })
-
--- what a restart begins with, before these lines
 
 after_works : (P : Message → List Line → List Line → Type 0) (me : Node) (x : ServerState) (clock : ℕ) (m : Message) (d : Decision) (ls : List Line) → P m [] ls → IfSaves (Chosen me x m) d → AreFrom me ls → Works P me x (begun_after me x clock d).state.lasting.volumes ((begun_after me x clock d).before ls)
 after_works P me x clock m (saves head ch) ls p c h = inr (record { message = m; head = head; change = ch; clock = clock; chosen = c; front = []; rest = ls; split = refl; before = refl; behind = h; left = same_left _; given = p })

@@ -4,22 +4,22 @@ use Rattle.afs_history.specs.declared.lines.Line.TheVariants as lines
 use Rattle.afs_history.specs.declared.scripts.Script.{Script}
 use Rattle.afs_ideal.specs.Operations.{Result, changes}
 use Rattle.afs_law.proofs.Addressed.{IsHome, IsServer}
-use Rattle.afs_law.proofs.Asking.{called_one, each_front}
+use Rattle.afs_law.proofs.Sent.{called_one, each_front, given_each}
 use Rattle.afs_law.proofs.Basics.{Each, IfCall, IfReply, some_of}
 use Rattle.afs_law.proofs.Caused.{IsOfCallee, of_callee, ran_one}
 use Rattle.afs_law.proofs.Changing.{run_each}
 use Rattle.afs_law.proofs.Due.{run_due}
-use Rattle.afs_law.proofs.Facts.{IsOne}
+use Rattle.afs_law.proofs.Words.{IsOne}
 use Rattle.afs_law.proofs.Ideals.{of_this}
 use Rattle.afs_law.proofs.KeysOnce.{IsKnown}
 use Rattle.afs_law.proofs.Origins.{KnownAsked}
 use Rattle.afs_law.proofs.Placing.{run_placed}
-use Rattle.afs_law.proofs.Telling.{IsTold, Tells}
+use Rattle.afs_law.proofs.Telling.{IsTold, Tells, key_more}
 use Rattle.afs_law.proofs.Truthful.{Truthful, truthful_first, truthful_kept}
-use Rattle.afs_law.proofs.Users.{given_each}
-use Rattle.afs_law.specs.ClientParts.{AnswersAreGood, IsDue, IsDueCode, IsGivenAtOnce, IsOfCell, IsReplied}
+use Rattle.afs_law.specs.ClientParts.{AnswersAreGood, IsDue, IsDueCode, IsGivenAtOnce, IsReplied}
+use Rattle.afs_law.specs.Cells.{IsOfCell}
 use Rattle.afs_law.specs.Ideal.{change_in, set_up, user_of}
-use Rattle.afs_law.specs.Legal.{GoodCode, HasChange, HasNothing, IsCaused, IsInPlace, IsKey, IsOfClient, IsResult, IsTold as IsToldOf, answer_at, as_asked}
+use Rattle.afs_law.specs.Legal.{GoodCode, HasChange, HasNothing, IsCaused, IsInPlace, IsOfClient, IsResult, IsTold as IsToldOf, answer_at, as_asked}
 use Rattle.afs_law.specs.Parts.{EachEntry, EachLine}
 use Rattle.afs_law.specs.Past.{CalledSince, Sends, answered_key, called_key, lines_of, sent_of}
 use Rattle.afs_law.specs.ServerParts.{IsCodeGood, IsKind}
@@ -36,27 +36,27 @@ use Rattle.afs_num.specs.declared.types.Node.TheVariants.{Admin, Client, Loc, Se
 use Rattle.afs_rows.specs.Going.{ClientState, Going}
 use Rattle.afs_rows.specs.Runs.{Cell, Entry, start}
 use Rattle.afs_rows.specs.ServerRow.{key_of}
-use Rattle.std.proofs.Common.{◌≡◌, ℕ, ℤ, inl, inr, List, [], ◌∷◌, ◌++◌, Option, Some, None, sym, ap, subst, ◌∙◌}
+use Rattle.std.proofs.Common.{◌≡◌, ℕ, ℤ, inl, inr, List, [], ◌∷◌, ◌++◌, Option, Some, sym, ap, subst, ◌∙◌}
 
 -- ---- a reply to a client's call is of a server
 
-each_both : (P Q : Message → Type 0) (ms : List Message) → Each P ms → Each Q ms → Each (λ m. P m × Q m) ms
+pub each_both : (P Q : Message → Type 0) (ms : List Message) → Each P ms → Each Q ms → Each (λ m. P m × Q m) ms
 each_both P Q [] h k = tt
 each_both P Q (m ∷ ms) h k = ((h.0, k.0), each_both P Q ms h.1 k.1)
 
 -- a message that carries this call under this key, of which T holds
-record HasSent (T : Message → Type 0) (k : Key) (user : List ℕ) (call : FsCall) : Type 0 where
-  message : Message
-  key : called_key message.head ≡ k
-  carries : message.carried ≡ carried.Call user (ask.File call)
-  holds : T message
+pub record HasSent (T : Message → Type 0) (k : Key) (user : List ℕ) (call : FsCall) : Type 0 where
+  pub message : Message
+  pub key : called_key message.head ≡ k
+  pub carries : message.carried ≡ carried.Call user (ask.File call)
+  pub holds : T message
 
 sent_call : (T : Message → Type 0) (k : Key) (user : List ℕ) (call : FsCall) (ms : List Message) → Sends k user call ms → Each T ms → HasSent T k user call
 sent_call T k user call [] x h = absurd x
 sent_call T k user call (m ∷ ms) (inl x) h = record { message = m; key = x.0; carries = x.1; holds = h.0 }
 sent_call T k user call (m ∷ ms) (inr x) h = sent_call T k user call ms x h.1
 
-since_call : (T : Message → Type 0) (k : Key) (user : List ℕ) (call : FsCall) (past : List Entry) → CalledSince k user call past → Each T (sent_of past) → HasSent T k user call
+pub since_call : (T : Message → Type 0) (k : Key) (user : List ℕ) (call : FsCall) (past : List Entry) → CalledSince k user call past → Each T (sent_of past) → HasSent T k user call
 since_call T k user call [] x h = absurd x
 since_call T k user call (e ∷ past) (inl x) h = sent_call T k user call e.sent x.1 (each_front T (sent_of past) e.sent h).1
 since_call T k user call (e ∷ past) (inr x) h = since_call T k user call past x.1 (each_front T (sent_of past) e.sent h).0
@@ -73,13 +73,9 @@ callee_server s callees clients j k user call past node called known homes =
 
 -- ---- the cause
 
-key_front : (k : Key) (o : Option Key) (X : Type 0) → X → IsKey k o X
-key_front k None X h = h
-key_front k (Some l) X h = inr h
-
 change_front : (k : Key) (own o : List Line) → HasChange k o → HasChange k (own ++ o)
 change_front k [] o h = h
-change_front k (l ∷ own) o h = key_front k (change_in l) (HasChange k (own ++ o)) (change_front k own o h)
+change_front k (l ∷ own) o h = key_more k (change_in l) (HasChange k (own ++ o)) (change_front k own o h)
 
 told_front : (k : Key) (r : Option Result) (own o : List Line) → IsToldOf k r o → IsToldOf k r (own ++ o)
 told_front k (Some (changes es shown)) own o h = change_front k own o h

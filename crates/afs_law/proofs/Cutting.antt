@@ -2,12 +2,11 @@
 -- have run; since then it did nothing but begin restarts in which its disk failed at once.
 use Rattle.afs_history.specs.declared.lines.Line.{Line}
 use Rattle.afs_history.specs.declared.lines.Line.TheVariants as lines
-use Rattle.afs_law.proofs.Basics.{Above, above_up, at_put}
-use Rattle.afs_law.proofs.Facts.{MayRun, up_boot}
+use Rattle.afs_law.proofs.Basics.{Above, above_up, at_put, runs_admitted}
+use Rattle.afs_law.proofs.Words.{MayRun, up_boot}
 use Rattle.afs_law.proofs.Hearing.{HearsIn}
 use Rattle.afs_law.proofs.Moving.{Behind, EachMove}
 use Rattle.afs_law.proofs.Passing.{to_come}
-use Rattle.afs_law.proofs.Standing.{runs_admitted}
 use Rattle.afs_law.specs.Breaks.{HasStopped}
 use Rattle.afs_law.specs.Legal.{AreFailed}
 use Rattle.afs_law.specs.Past.{IsToCome, called_key, given_message, lines_of, sent_of, server_boot}
@@ -82,11 +81,11 @@ no_clock i e = absurd cc
 none_some : (d : Option Fall) (f : Fall) → d ≡ None → d ≡ Some f → ⊥
 none_some d f a b = let z : None ≡ Some f = sym a ∙ b in absurd cc
 
-blow_stopped : (i place : ℕ) (t : Bool) → HasStopped (Server i) (lines.Given place ∷ blow_line i t ∷ [])
+pub blow_stopped : (i place : ℕ) (t : Bool) → HasStopped (Server i) (lines.Given place ∷ blow_line i t ∷ [])
 blow_stopped i place true = inl refl
 blow_stopped i place false = inl refl
 
-same_cut : (m k : Message) (a b : ℕ) → Some (in_step m a) ≡ Some (in_step k b) → m ≡ k
+pub same_cut : (m k : Message) (a b : ℕ) → Some (in_step m a) ≡ Some (in_step k b) → m ≡ k
 same_cut m k a b e = cc
 
 -- where it is cut short

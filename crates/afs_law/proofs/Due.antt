@@ -5,12 +5,12 @@ use Rattle.afs_history.specs.declared.lines.Line.TheVariants as lines
 use Rattle.afs_history.specs.declared.scripts.Script.{Script}
 use Rattle.afs_ideal.specs.Operations.{volume_changed}
 use Rattle.afs_law.proofs.Acting.{last_key, read_all, walked_reads}
-use Rattle.afs_law.proofs.Asking.{call_is}
+use Rattle.afs_law.proofs.Sent.{call_is}
 use Rattle.afs_law.proofs.Backing.{all_lines}
 use Rattle.afs_law.proofs.Basics.{a_key, at_put, both, each_at, same_node-refl, some_of}
 use Rattle.afs_law.proofs.Changing.{run_each}
 use Rattle.afs_law.proofs.Choosing.{disk_works, one_from, risen_from, risen_lines, serves_works, starts_works, times_works, wakes_works}
-use Rattle.afs_law.proofs.Facts.{IsOpen, is_passing}
+use Rattle.afs_law.proofs.Words.{IsOpen, is_passing}
 use Rattle.afs_law.proofs.Firm.{IsFirm}
 use Rattle.afs_law.proofs.Following.{AreOpen}
 use Rattle.afs_law.proofs.Moving.{Behind, EachMove, IsKept, each_moved}
@@ -19,8 +19,9 @@ use Rattle.afs_law.proofs.Origins.{AskedIn, any_cut, any_message, blow_idle, idl
 use Rattle.afs_law.proofs.Ours.{AreNear, AreOurs, IsOurs, Ours, begins_our, given_our, near_all, none_trusted, trusted_ours', waits_our}
 use Rattle.afs_law.proofs.Passing.{sent_either}
 use Rattle.afs_law.proofs.Trying.{GivenWaits, Waits, waits_first, waits_kept}
-use Rattle.afs_law.specs.Breaks.{HasTimeout}
-use Rattle.afs_law.specs.ClientParts.{AnswersAreDue, IsDue, IsDueCode, IsOfCell, IsUsed}
+use Rattle.afs_law.specs.Breaks.{HasTimeout, IsNamedIn}
+use Rattle.afs_law.specs.Cells.{IsOfCell}
+use Rattle.afs_law.specs.ClientParts.{AnswersAreDue, IsDue, IsDueCode, IsReadBy, IsUse, IsUsed}
 use Rattle.afs_law.specs.Grants.{is_promised}
 use Rattle.afs_law.specs.Ideal.{set_up, user_of}
 use Rattle.afs_law.specs.Legal.{EndsAct, HasUsed, IsAtOnce, has_read}
@@ -76,7 +77,7 @@ idle_due s who past own (lines.Answer n code ∷ ls) h = absurd cc
 idle_due s who past own (l ∷ ls) h = (tt, idle_due s who past (l ∷ own) ls (both (is_idle l) (all_lines is_idle ls) h).1)
 
 -- those of a client
-abbrev Due : Script → ℕ → List Entry → List Line → List Line → Type 0
+abbrev pub Due : Script → ℕ → List Entry → List Line → List Line → Type 0
 Due s n past own ls = EachLine (IsDue s) (actors.Node (Client n)) past own ls
 
 abbrev Runs : Script → ℕ → List Entry → List Line → Going → Type 0
@@ -198,6 +199,9 @@ read_steady n m past = record { reads' = λ own f index source body k. (k.0, sen
 now_used : (s : Script) (n place : ℕ) (c : ClientState) (act : Going) (m : Message) (past : List Entry) (own : List Line) → IsTold s n place c act m past → code_told m.carried ≡ Some (pos 0) → IsGiven n m past own → HasUsed s (Client n) past own
 now_used s n place c act m past own q zero_told k = record { reply = m; by = k.0; is_reply = q.reply; told = zero_told; to = q.to; before = k.1; call = call_of c act; called = q.called }
 
+now_use : (s : Script) (n place : ℕ) (c : ClientState) (act : Going) (m : Message) (past : List Entry) (own : List Line) (f : Fid) → IsReadBy f (call_of c act) → IsTold s n place c act m past → code_told m.carried ≡ Some (pos 0) → IsGiven n m past own → IsUse s (Client n) f past own
+now_use s n place c act m past own f of q zero_told k = record { used = record { reply = m; by = k.0; is_reply = q.reply; told = zero_told; to = q.to; before = k.1; call = call_of c act; called = q.called }; of = of }
+
 read_enough : (s : Script) (n place : ℕ) (c : ClientState) (act : Going) (m : Message) (past : List Entry) → IsTold s n place c act m past → code_told m.carried ≡ Some (pos 0) → IsEnough s n past (IsRead n m past)
 read_enough s n place c act m past q zero_told o k = inr (now_used s n place c act m past o q zero_told k.0, k.1)
 
@@ -213,31 +217,42 @@ ends_due : (s : Script) (n place : ℕ) (c : ClientState) (act : Going) (m : Mes
 ends_due s n place c act m past es code q told w =
     (tt, drops_due s n past (IsGiven n m past) (given_steady n m past) es (lines.Given place ∷ []) (lines.Answer (Client n) code ∷ []) act (q.at, refl) q.runs (λ o k r. (by_reply s n place c act m past code q told w o k r, tt)))
 
-use_by : (s : Script) (c : Node) (f : Fid) (past : List Entry) (own : List Line) (t : Bool) → t ≡ true → HasUsed s c past own → IsUsed s t c f Fetched past own
+use_by : (s : Script) (c : Node) (f : Fid) (past : List Entry) (own : List Line) (t : Bool) → t ≡ true → IsUse s c f past own → IsUsed s t c f Fetched past own
 use_by s c f past own true e h = λ z. h
 use_by s c f past own false e h = absurd cc
 
 has_now : (n : ℕ) (m : Message) (past : List Entry) (place : ℕ) (f : Fid) (index : ℕ) (source : ReadSource) (body : ReadBody) → message_at (sent_of past) place ≡ Some m → IsRead n m past (lines.Read (Client n) f index source body ∷ lines.Given place ∷ [])
 has_now n m past place f index source body at = ((at, refl), ap (λ (t : Bool). cond t true false) (same_node-refl (Client n)))
 
-entry_due : (s : Script) (n clock place : ℕ) (c : ClientState) (act : Going) (m : Message) (past : List Entry) (e : CacheEntry) (body : ReadBody) → is_promised body ≡ true → IsTold s n place c act m past → code_told m.carried ≡ Some (pos 0) → Due s n past [] (takes_entry (Client n) c clock place act e body).lines
-entry_due s n clock place c act m past e body p q zero_told =
+entry_due : (s : Script) (n clock place : ℕ) (c : ClientState) (act : Going) (m : Message) (past : List Entry) (e : CacheEntry) (body : ReadBody) → is_promised body ≡ true → IsReadBy e.fid (call_of c act) → IsTold s n place c act m past → code_told m.carried ≡ Some (pos 0) → Due s n past [] (takes_entry (Client n) c clock place act e body).lines
+entry_due s n clock place c act m past e body p of q zero_told =
     either_due s n past (is_trusted clock e) _ _
     (walks_due s n past (IsRead n m past) (read_steady n m past) (read_enough s n place c act m past q zero_told) c clock (read_lines (Client n) place (look_at Fetched e body)) (with_read e.fid body act) (put_entry c.capacity e c.cache)
     (λ ls w. (
       tt,
       (
-        use_by s (Client n) e.fid past (lines.Given place ∷ []) (is_promised body) p (now_used s n place c act m past (lines.Given place ∷ []) q zero_told (q.at, refl)),
+        use_by s (Client n) e.fid past (lines.Given place ∷ []) (is_promised body) p (now_use s n place c act m past (lines.Given place ∷ []) e.fid of q zero_told (q.at, refl)),
         w (lines.Read (Client n) e.fid e.index Fetched body ∷ lines.Given place ∷ []) (has_now n m past place e.fid e.index Fetched body q.at) (read_runs s n (lines_of past) e.fid e.index Fetched body act q.runs),
       ),
     ))) (tt, tt)
 
+-- the call reads all of these
+abbrev AreReadBy : FsCall → List CacheEntry → Type 0
+AreReadBy call [] = ⊤
+AreReadBy call (e ∷ es) = IsReadBy e.fid call × AreReadBy call es
+
+told_by_bulk : (server : Node) (sync : AfsVolSync) (all fs : List Fid) (ss : List AfsFetchStatus) (cs : List AfsCallBack) → ((f : Fid) → IsNamedIn f fs → IsNamedIn f all) → AreReadBy (calls.BulkStatus all) (entries_told server sync fs ss cs)
+told_by_bulk server sync all [] ss cs w = tt
+told_by_bulk server sync all (f ∷ fs) [] cs w = tt
+told_by_bulk server sync all (f ∷ fs) (s ∷ ss) [] w = tt
+told_by_bulk server sync all (f ∷ fs) (s ∷ ss) (c ∷ cs) w = (w f (inl refl), told_by_bulk server sync all fs ss cs (λ g x. w g (inr x)))
+
 -- several statuses
-statuses_due : (s : Script) (n place : ℕ) (c : ClientState) (act : Going) (m : Message) (past : List Entry) (es : List CacheEntry) (own ls : List Line) (g : Going) → IsTold s n place c act m past → code_told m.carried ≡ Some (pos 0) → IsRead n m past own → Runs s n past own g → Rest s n past (IsRead n m past) (with_statuses es g) ls → Due s n past own (looked (Client n) (map status_look es) ls)
-statuses_due s n place c act m past [] own ls g q zero_told k r w = w own k r
-statuses_due s n place c act m past (e ∷ es) own ls g q zero_told k r w = (
-  (λ z. now_used s n place c act m past own q zero_told k.0),
-  statuses_due s n place c act m past es (lines.Read (Client n) e.fid e.index Fetched (seen.Status e.status) ∷ own) ls (with_read e.fid (seen.Status e.status) g) q zero_told ((read_steady n m past).reads' own e.fid e.index Fetched (seen.Status e.status) k) (read_runs s n (own ++ lines_of past) e.fid e.index Fetched (seen.Status e.status) g r) w,
+statuses_due : (s : Script) (n place : ℕ) (c : ClientState) (act : Going) (m : Message) (past : List Entry) (es : List CacheEntry) (own ls : List Line) (g : Going) → AreReadBy (call_of c act) es → IsTold s n place c act m past → code_told m.carried ≡ Some (pos 0) → IsRead n m past own → Runs s n past own g → Rest s n past (IsRead n m past) (with_statuses es g) ls → Due s n past own (looked (Client n) (map status_look es) ls)
+statuses_due s n place c act m past [] own ls g of q zero_told k r w = w own k r
+statuses_due s n place c act m past (e ∷ es) own ls g of q zero_told k r w = (
+  (λ z. now_use s n place c act m past own e.fid of.0 q zero_told k.0),
+  statuses_due s n place c act m past es (lines.Read (Client n) e.fid e.index Fetched (seen.Status e.status) ∷ own) ls (with_read e.fid (seen.Status e.status) g) of.1 q zero_told ((read_steady n m past).reads' own e.fid e.index Fetched (seen.Status e.status) k) (read_runs s n (own ++ lines_of past) e.fid e.index Fetched (seen.Status e.status) g r) w,
 )
 
 no_walk : (k clock : ℕ) (act : Going) (cache : List CacheEntry) (fids : List Fid) → next act ≡ reads_statuses fids → walked k clock act cache ≡ stays act cache
@@ -250,16 +265,16 @@ none_due s n clock place c act past cache fids e =
     subst (λ (w : Walked). Due s n past [] (goes_by (Client n) c (given place) w (next w.act)).lines) (sym (no_walk (most_reads act) clock act cache fids e))
     (subst (λ (need : Need). Due s n past [] (goes_by (Client n) c (given place) (stays act cache) need).lines) (sym e) (tt, tt))
 
-entries_due : (s : Script) (n clock place : ℕ) (c : ClientState) (act : Going) (m : Message) (past : List Entry) (es : List CacheEntry) (fids : List Fid) → next act ≡ reads_statuses fids → IsTold s n place c act m past → code_told m.carried ≡ Some (pos 0) → Due s n past [] (takes_entries (Client n) c clock place act es).lines
-entries_due s n clock place c act m past [] fids need q zero_told = none_due s n clock place c act past (put_entries c.capacity [] c.cache) fids need
-entries_due s n clock place c act m past (e ∷ es) fids need q zero_told =
+entries_due : (s : Script) (n clock place : ℕ) (c : ClientState) (act : Going) (m : Message) (past : List Entry) (es : List CacheEntry) (fids : List Fid) → next act ≡ reads_statuses fids → AreReadBy (call_of c act) es → IsTold s n place c act m past → code_told m.carried ≡ Some (pos 0) → Due s n past [] (takes_entries (Client n) c clock place act es).lines
+entries_due s n clock place c act m past [] fids need of q zero_told = none_due s n clock place c act past (put_entries c.capacity [] c.cache) fids need
+entries_due s n clock place c act m past (e ∷ es) fids need of q zero_told =
     either_due s n past (list_any (λ e. not (is_trusted clock e)) (e ∷ es)) _ _ (tt, tt)
     (walks_due s n past (IsRead n m past) (read_steady n m past) (read_enough s n place c act m past q zero_told) c clock (λ ls. given place (looked (Client n) (map status_look (e ∷ es)) ls)) (with_statuses (e ∷ es) act) (put_entries c.capacity (e ∷ es) c.cache)
     (λ ls w. (
       tt,
       (
-        (λ z. now_used s n place c act m past (lines.Given place ∷ []) q zero_told (q.at, refl)),
-        statuses_due s n place c act m past es (lines.Read (Client n) e.fid e.index Fetched (seen.Status e.status) ∷ lines.Given place ∷ []) ls (with_read e.fid (seen.Status e.status) act) q zero_told (has_now n m past place e.fid e.index Fetched (seen.Status e.status) q.at) (read_runs s n (lines_of past) e.fid e.index Fetched (seen.Status e.status) act q.runs) w,
+        (λ z. now_use s n place c act m past (lines.Given place ∷ []) e.fid of.0 q zero_told (q.at, refl)),
+        statuses_due s n place c act m past es (lines.Read (Client n) e.fid e.index Fetched (seen.Status e.status) ∷ lines.Given place ∷ []) ls (with_read e.fid (seen.Status e.status) act) of.1 q zero_told (has_now n m past place e.fid e.index Fetched (seen.Status e.status) q.at) (read_runs s n (lines_of past) e.fid e.index Fetched (seen.Status e.status) act q.runs) w,
       ),
     )))
 
@@ -318,11 +333,11 @@ plain_due : (s : Script) (n place : ℕ) (c : ClientState) (act : Going) (m : Me
 plain_due s n place c act m past call q z w = ends_due s n place c act m past (dropped_after call c.cache) zero_code q z w
 
 data_due : (s : Script) (n clock place : ℕ) (c : ClientState) (act : Going) (m : Message) (past : List Entry) (contents : List ℕ) (status : AfsFetchStatus) (callback : AfsCallBack) (sync : AfsVolSync) (call : FsCall) → call_of c act ≡ call → IsAnswered c act m (replies.FetchData contents status callback sync) → IsTold s n place c act m past → code_told m.carried ≡ Some (pos 0) → Due s n past [] (takes_data (Client n) c clock place act contents status callback sync call).lines
-data_due s n clock place c act m past contents status callback sync (calls.FetchData f position wanted) same a q z = entry_due s n clock place c act m past (entry_told c.callee f status callback sync (Some (body_told status.file_type contents))) (seen.Contents (body_told status.file_type contents)) refl q z
+data_due s n clock place c act m past contents status callback sync (calls.FetchData f position wanted) same a q z = entry_due s n clock place c act m past (entry_told c.callee f status callback sync (Some (body_told status.file_type contents))) (seen.Contents (body_told status.file_type contents)) refl (subst (IsReadBy f) (sym same) refl) q z
 data_due s n clock place c act m past contents status callback sync call same a q z = plain_due s n place c act m past call q z (other_end c act m (replies.FetchData contents status callback sync) call a same refl)
 
 shown_due : (s : Script) (n clock place : ℕ) (c : ClientState) (act : Going) (m : Message) (past : List Entry) (status : AfsFetchStatus) (callback : AfsCallBack) (sync : AfsVolSync) (call : FsCall) → call_of c act ≡ call → IsAnswered c act m (replies.FetchStatus status callback sync) → IsTold s n place c act m past → code_told m.carried ≡ Some (pos 0) → Due s n past [] (takes_shown (Client n) c clock place act status callback sync call).lines
-shown_due s n clock place c act m past status callback sync (calls.FetchStatus f) same a q z = entry_due s n clock place c act m past (entry_told c.callee f status callback sync None) (seen.Status (status_told status)) refl q z
+shown_due s n clock place c act m past status callback sync (calls.FetchStatus f) same a q z = entry_due s n clock place c act m past (entry_told c.callee f status callback sync None) (seen.Status (status_told status)) refl (subst (IsReadBy f) (sym same) refl) q z
 shown_due s n clock place c act m past status callback sync call same a q z = plain_due s n place c act m past call q z (other_end c act m (replies.FetchStatus status callback sync) call a same refl)
 
 list_due : (s : Script) (n clock place : ℕ) (c : ClientState) (act : Going) (m : Message) (past : List Entry) (text : List ℕ) (status : AfsFetchStatus) (sync : AfsVolSync) (call : FsCall) → call_of c act ≡ call → IsAnswered c act m (replies.FetchAcl text status sync) → IsTold s n place c act m past → code_told m.carried ≡ Some (pos 0) → Due s n past [] (takes_list (Client n) c clock place act text status sync call).lines
@@ -355,7 +370,7 @@ set_due s n clock place c act m past status (calls.StoreStatus f set) q z w = st
 set_due s n clock place c act m past status call q z w = plain_due s n place c act m past call q z w
 
 bulk_due : (s : Script) (n clock place : ℕ) (c : ClientState) (act : Going) (m : Message) (past : List Entry) (statuses : List AfsFetchStatus) (callbacks : List AfsCallBack) (sync : AfsVolSync) (call : FsCall) → call_of c act ≡ call → IsAnswered c act m (replies.BulkStatus statuses callbacks sync) → IsTold s n place c act m past → code_told m.carried ≡ Some (pos 0) → Due s n past [] (takes_bulk (Client n) c clock place act statuses callbacks sync call).lines
-bulk_due s n clock place c act m past statuses callbacks sync (calls.BulkStatus fids) same a q z = entries_due s n clock place c act m past (entries_told c.callee sync fids statuses callbacks) fids (statuses_needed c.gifts (next act) fids (asks_change act) same) q z
+bulk_due s n clock place c act m past statuses callbacks sync (calls.BulkStatus fids) same a q z = entries_due s n clock place c act m past (entries_told c.callee sync fids statuses callbacks) fids (statuses_needed c.gifts (next act) fids (asks_change act) same) (subst (λ (call : FsCall). AreReadBy call (entries_told c.callee sync fids statuses callbacks)) (sym same) (told_by_bulk c.callee sync fids fids statuses callbacks (λ f x. x))) q z
 bulk_due s n clock place c act m past statuses callbacks sync call same a q z = plain_due s n place c act m past call q z (other_end c act m (replies.BulkStatus statuses callbacks sync) call a same refl)
 
 more_due : (s : Script) (n place : ℕ) (c : ClientState) (act : Going) (m : Message) (past : List Entry) (more : List Gift) → IsTold s n place c act m past → code_told m.carried ≡ Some (pos 0) → IsEnd c act m.carried zero_code → Due s n past [] (gives_by (Client n) c (given place) act more).lines
@@ -379,15 +394,15 @@ takes_due s n clock place c act m past call reply same a q z = plain_due s n pla
 
 -- ---- what counts for the act that runs
 
-record IsWaiting (s : Script) (n place : ℕ) (c : ClientState) (head : Head) (x : Carried) (past : List Entry) : Type 0 where
-  asked' : (act : Going) → c.running ≡ Some act → CalledSince (last_key n c) (user_at s n) (call_of c act) past
-  acts : running s (Client n) (lines_of past) ≡ c.running
-  at : message_at (sent_of past) place ≡ Some (record { head = head; carried = x })
-  to : head.to ≡ Client n
-  firm : IsFirm head x
-  open' : AreOpen c
+pub record IsWaiting (s : Script) (n place : ℕ) (c : ClientState) (head : Head) (x : Carried) (past : List Entry) : Type 0 where
+  pub asked' : (act : Going) → c.running ≡ Some act → CalledSince (last_key n c) (user_at s n) (call_of c act) past
+  pub acts : running s (Client n) (lines_of past) ≡ c.running
+  pub at : message_at (sent_of past) place ≡ Some (record { head = head; carried = x })
+  pub to : head.to ≡ Client n
+  pub firm : IsFirm head x
+  pub open' : AreOpen c
 
-its_key : (n : ℕ) (c : ClientState) (act : Going) (head : Head) → head.to ≡ Client n → is_awaited c act head ≡ true → last_key n c ≡ answered_key head
+pub its_key : (n : ℕ) (c : ClientState) (act : Going) (head : Head) → head.to ≡ Client n → is_awaited c act head ≡ true → last_key n c ≡ answered_key head
 its_key n c act head to e =
     let p = both (same_node head.from c.callee) _ e in
     let q = both (nat_eq head.epoch c.epoch) _ p.1 in
@@ -445,7 +460,7 @@ hears_due : (s : Script) (n clock place : ℕ) (c : ClientState) (head : Head) (
 hears_due s n clock place c head (carried.Call user call) past w = admits_due s n place c head (carried.Call user call) (admitted c.epoch c.seats head) past
 hears_due s n clock place c head x past w = awaits_due s n clock place c head x past c.running w refl
 
-told_due : (s : Script) (n clock place : ℕ) (c : ClientState) (m : Message) (past : List Entry) → IsWaiting s n place c m.head m.carried past → Due s n past [] (client_row (Client n) c clock place (Whole m)).lines
+pub told_due : (s : Script) (n clock place : ℕ) (c : ClientState) (m : Message) (past : List Entry) → IsWaiting s n place c m.head m.carried past → Due s n past [] (client_row (Client n) c clock place (Whole m)).lines
 unfolding client_row
 told_due s n clock place c m past w = either_due s n past (same_node m.head.to (Client n)) _ _ (hears_due s n clock place c m.head m.carried past w) (tt, tt)
 
@@ -559,7 +574,7 @@ due_kept s c past x h = (waits_kept s c past x h.0, each_moved (DueFacts s) (Beh
 abbrev DueStep : Script → Cell → List Entry → Moved → Type 0
 DueStep s c past m = EachLine (IsDue s) m.entry.actor past [] m.entry.lines
 
-waiting_for : (s : Script) (c : Cell) (past : List Entry) (n place : ℕ) (m : Message) → GivenWaits s c past → message_at c.sent place ≡ Some m → m.head.to ≡ Client n → IsWaiting s n place (c.clients n) m.head m.carried past
+pub waiting_for : (s : Script) (c : Cell) (past : List Entry) (n place : ℕ) (m : Message) → GivenWaits s c past → message_at c.sent place ≡ Some m → m.head.to ≡ Client n → IsWaiting s n place (c.clients n) m.head m.carried past
 waiting_for s c past n place m h at to = record {
   asked' = λ act r. h.0.0.0.0.1.asked n act r;
   acts = h.0.0.0.0.1.acts n;

@@ -221,23 +221,6 @@ counted_sound id v ls h = record { agree = h.agree; new = h.new }
 
 -- ---- what versions that grow do to the last ones
 
-abbrev pub Rises : List Line → List Line → Type 0
-Rises old new = (f : Fid) → index_in (last_version f old) ≤ index_in (last_version f new)
-
-rises_by : (t : Bool) (w : Version) (f : Fid) (o : Option Version) → same_fid w.fid f ≡ t → (w.fid ≡ f → index_in o ≤ w.index) → index_in o ≤ index_in (cond t (Some w) o)
-rises_by true w f o t h = h (same_fid-true w.fid f t)
-rises_by false w f o t h = omega arith
-
-rises_one : (w : Version) (ls : List Line) (f : Fid) → index_in (last_version w.fid ls) ≤ w.index → index_in (last_version f ls) ≤ index_in (last_version f (lines.Version w ∷ ls))
-rises_one w ls f le = rises_by (same_fid w.fid f) w f (last_version f ls) refl (λ e. subst (λ (g : Fid). index_in (last_version g ls) ≤ w.index) e le)
-
-pub rises : (id : ℕ) (vs : List Version) (ls : List Line) → Grow id vs ls → Rises ls (on_top vs ls)
-rises id [] ls g f = omega arith
-rises id (v ∷ vs) ls g f =
-    let a : index_in (last_version f ls) ≤ index_in (last_version f (lines.Version v ∷ ls)) = rises_one v ls f g.0.1 in
-    let b : index_in (last_version f (lines.Version v ∷ ls)) ≤ index_in (last_version f (on_top vs (lines.Version v ∷ ls))) = rises id vs (lines.Version v ∷ ls) g.1 f in
-    omega arith
-
 -- the last version of a fid has its highest index
 abbrev pub Tops : List Line → Type 0
 Tops ls = (f : Fid) (i : ℕ) (b : Body) → HasVersion f i b ls → i ≤ index_in (last_version f ls)

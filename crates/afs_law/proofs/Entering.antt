@@ -3,7 +3,7 @@ use Rattle.afs_history.specs.declared.scripts.Script.{Script}
 use Rattle.afs_law.proofs.Basics.{Each, IfReply}
 use Rattle.afs_law.proofs.Changing.{run_each}
 use Rattle.afs_law.proofs.Hearing.{HearsIn, IsRan, first_hears, moved_hears, reply_ran}
-use Rattle.afs_law.proofs.Law.{AreEntries, last_each}
+use Rattle.afs_law.proofs.SettingUp.{AreEntries, last_each}
 use Rattle.afs_law.proofs.Members.{run_entries}
 use Rattle.afs_law.proofs.Moving.{EachMove, each_moved}
 use Rattle.afs_law.specs.Ideal.{set_up}

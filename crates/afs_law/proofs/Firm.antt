@@ -2,7 +2,7 @@
 use Rattle.afs_history.specs.declared.lines.Line.{Line}
 use Rattle.afs_ideal.specs.Operations.{Caller, Result, changes, no_operation, op, reads, refused, shows_acl, shows_body, shows_status, shows_statuses, shows_volume, the_user, volume_called}
 use Rattle.afs_ideal.specs.Tables.{Table, get}
-use Rattle.afs_law.proofs.Facts.{is_passing}
+use Rattle.afs_law.proofs.Words.{is_passing}
 use Rattle.afs_law.proofs.Ops.{op_code}
 use Rattle.afs_law.specs.Legal.{GoodGift, HasOwnHalf}
 use Rattle.afs_model.specs.Calls as pairs

@@ -1,6 +1,6 @@
 -- What set-up puts on a server's disk is what the server begins with.
 use Rattle.std.proofs.Common.{◌≡◌, ℕ, ◌+◌, ◌<◌, ◌≤◌, Bool, true, false, cond, List, [], ◌∷◌, ◌++◌, length, Option, Some, None, nat_eq, nat_lt, refl, sym, ap, subst, ◌∙◌, arith, append_assoc}
-use Rattle.std.specs.Prelude.{◌&&◌, filter, is_some, map, not, ⊤, Ok, Err}
+use Rattle.std.specs.Prelude.{◌&&◌, is_some, map, not, ⊤, Ok, Err}
 use Rattle.std.specs.Prelude as outcome
 use Rattle.std.proofs.lemmas.Bool.Decides.{nat_tests}
 use Rattle.afs_num.specs.declared.records.StoredVolume.{StoredVolume}

@@ -5,7 +5,7 @@ use Rattle.afs_history.specs.declared.lines.Line.{Line}
 use Rattle.afs_history.specs.declared.lines.Line.TheVariants as lines
 use Rattle.afs_ideal.specs.Operations.{is_number, volume_changed}
 use Rattle.afs_law.proofs.Basics.{both, same_node-refl, same_node-true, some_of}
-use Rattle.afs_law.proofs.Facts.{IsOpen, fids_of_gifts, is_passing}
+use Rattle.afs_law.proofs.Words.{IsOpen, fids_of_gifts, is_passing}
 use Rattle.afs_law.proofs.Firm.{IsFirm}
 use Rattle.afs_law.proofs.Giving.{ordered_dropped}
 use Rattle.afs_law.proofs.Passing.{all_dropped_onto, dropped_rest}
@@ -92,7 +92,7 @@ pub record Follows (j : ℕ) (c : ClientState) (s : Step ClientState) : Type 0 w
 
 -- ---- ways of a step
 
-none_runs : (o : Option Going) (act : Going) → o ≡ None → o ≡ Some act → ⊥
+pub none_runs : (o : Option Going) (act : Going) → o ≡ None → o ≡ Some act → ⊥
 none_runs o act e f = let no : None ≡ Some act = sym e ∙ f in absurd cc
 
 no_gifts : (j : ℕ) (gs : List Gift) (ls : List Line) → gs ≡ [] → AreDropped (Client j) (fids_of_gifts gs) ls
@@ -256,7 +256,7 @@ busy_follows false u j c a b e k = k
 refuses_follows : (j : ℕ) (c : ClientState) (place : ℕ) (act : Going) (code : Code) → is_passing code.0 ≡ false → Follows j c (refuses (Client j) c place act code)
 refuses_follows j c place act code firm = busy_follows (is_busy_code code) (nat_lt c.busy most_busy) j c _ _ (firm_busy (is_number code.0 0) (is_busy_code code) firm) (ends_follows j c _ refl refl)
 
-none_read : (o : Option ℕ) → is_reading o ≡ true → o ≡ None
+pub none_read : (o : Option ℕ) → is_reading o ≡ true → o ≡ None
 none_read None e = refl
 none_read (Some id) e = absurd cc
 
@@ -304,7 +304,7 @@ named_first : (t b : Bool) → t ≡ true → cond t true b ≡ true
 named_first true b e = refl
 named_first false b e = absurd cc
 
-named_later : (t b : Bool) → b ≡ true → cond t true b ≡ true
+pub named_later : (t b : Bool) → b ≡ true → cond t true b ≡ true
 named_later true b e = refl
 named_later false b e = e
 

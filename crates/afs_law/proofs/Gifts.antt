@@ -6,7 +6,7 @@ use Rattle.afs_law.proofs.Backing.{all_lines}
 use Rattle.afs_law.proofs.Basics.{ByClient, Each, IfCall, OfCall, at_put, by_client, each_at, each_map, each_more}
 use Rattle.afs_law.proofs.Changing.{run_each}
 use Rattle.afs_law.proofs.Choosing.{disk_works, one_from, risen_from, risen_lines, serves_works, starts_works, times_works, wakes_works}
-use Rattle.afs_law.proofs.Facts.{fids_of_gifts}
+use Rattle.afs_law.proofs.Words.{fids_of_gifts}
 use Rattle.afs_law.proofs.Firm.{IsFirm, IsSentBy}
 use Rattle.afs_law.proofs.Following.{Follows, IsSpared, begins_follow, falls_follow, given_follow, rises_follow, waits_follow}
 use Rattle.afs_law.proofs.KeysOnce.{IsKnown, any_told, by_key}

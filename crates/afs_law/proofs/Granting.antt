@@ -7,7 +7,7 @@ use Rattle.afs_ideal.specs.Tables.{AscendsFrom, get}
 use Rattle.afs_ideal.specs.Volumes.{Kind, a_directory, a_file, a_link, Amend, Edit, Vnode, Volume, amended, amends, amends_at, counted, edited, edited_all, fresh, makes, makes_at, version_at, versions_by, vnode_of, ascending}
 use Rattle.afs_law.proofs.Basics.{some_of}
 use Rattle.afs_law.proofs.Edits.{Sound, fid_at, get-set, on_top, there}
-use Rattle.afs_law.proofs.Serving.{IsAmong}
+use Rattle.afs_law.proofs.Finding.{IsAmong}
 use Rattle.afs_law.specs.Ideal.{last_version, volume_after}
 use Rattle.afs_law.specs.Legal.{IsNewIn, IsPromisedBy}
 use Rattle.afs_history.specs.declared.lines.Line.{Line}

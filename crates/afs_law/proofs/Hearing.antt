@@ -7,12 +7,11 @@ use Rattle.afs_history.specs.declared.acts.Act.{Act}
 use Rattle.afs_history.specs.declared.lines.Line.{Line}
 use Rattle.afs_history.specs.declared.lines.Line.TheVariants as lines
 use Rattle.afs_law.proofs.Backing.{all_lines, is_unchanging}
-use Rattle.afs_law.proofs.Basics.{Above, Each, IfCall, IfReply, OfCall, OfClient, OfNotice, OfReply, ByClient, above_up, at_put, at_seat, below_not, below_up_to, by_client, each_at, each_map, each_more, if_call, if_reply, not_above, of_notice, own_seat, same_node-refl, up_to_same}
+use Rattle.afs_law.proofs.Basics.{Above, ByClient, Each, IfCall, IfReply, OfCall, OfClient, OfNotice, OfReply, above_up, at_put, at_seat, below_not, below_up_to, by_client, each_at, each_map, each_more, if_call, if_reply, not_above, of_notice, own_seat, runs_admitted, same_node-refl, up_to_same}
 use Rattle.afs_law.proofs.Calling.{mild_standing, AreReplies, IsAnswer, IsCallOf, IsLastOf, Tame, answer_over, begins_tame, caller_at, falls_tame, given_tame, placed, rises_tame, uncalled_any, waits_tame}
-use Rattle.afs_law.proofs.Facts.{up_boot, MayRun}
+use Rattle.afs_law.proofs.Words.{up_boot, MayRun}
 use Rattle.afs_law.proofs.Hosting.{Begins, HasHead, HostStep, IsCutBy, IsDue, IsSound, Memory, decides_due, disk_begins, does_given, memory_of, served_head, serves_step, starts_step, times_step, wakes_step}
-use Rattle.afs_law.proofs.Law.{AreVersions, all_versions, given_first}
-use Rattle.afs_law.proofs.Standing.{runs_admitted}
+use Rattle.afs_law.proofs.SettingUp.{AreVersions, all_versions, given_first}
 use Rattle.afs_law.specs.Ideal.{first_lines, set_up}
 use Rattle.afs_law.specs.Once.{past_of}
 use Rattle.afs_law.specs.Past.{lines_of, server_boot, IsToCome, HasCode, IsCall, IsCallUnder, IsUnheard, Ran, called_key, given_message, sent_of}
@@ -41,13 +40,11 @@ use Rattle.afs_rows.specs.States.{BackCall, Seat, ServerState}
 use Rattle.afs_rows.specs.Steps.{Step}
 use Rattle.std.proofs.Common.{zero, suc, ◌≡◌, ℕ, ◌+◌, ◌≤◌, ◌<◌, inl, inr, arith, eq-eqb, Bool, true, false, cond, List, [], ◌∷◌, ◌++◌, Option, Some, None, refl, sym, ap, subst, ◌∙◌}
 use Rattle.std.specs.Prelude.{⊤}
+use Rattle.afs_law.proofs.KeysOnce.{server_number}
 
 -- ---- boot numbers that were told, and replies that were made
 
-server_is : (i j : ℕ) → Server i ≡ Server j → i ≡ j
-server_is i j e = cc
-
-no_server : (n i : ℕ) → Client n ≡ Server i → ⊥
+pub no_server : (n i : ℕ) → Client n ≡ Server i → ⊥
 no_server n i e = absurd cc
 
 -- that server has begun this boot
@@ -66,7 +63,7 @@ had_over hosts i h g q b w j e = at_put i j (λ (x : Host). b ≤ x.state.lastin
     (λ same. let was : b ≤ (hosts i).state.lasting.boot = w i (e ∙ ap Server (sym same)) in let more : (hosts i).state.lasting.boot ≤ h.state.lasting.boot = g in omega arith) (λ other. w j e)
 
 own_had : (hosts : ℕ → Host) (i : ℕ) (h : Host) (b : ℕ) → b ≤ h.state.lasting.boot → (q : Node) → q ≡ Server i → IsHad (put i h hosts) q b
-own_had hosts i h b l q e j f = at_put i j (λ (x : Host). b ≤ x.state.lasting.boot) h hosts (λ same. l) (λ other. absurd (other (server_is i j (sym e ∙ f))))
+own_had hosts i h b l q e j f = at_put i j (λ (x : Host). b ≤ x.state.lasting.boot) h hosts (λ same. l) (λ other. absurd (other (server_number i j (sym e ∙ f))))
 
 abbrev pub ran_later : (e : Entry) (past : List Entry) (h : Head) → Ran h past → Ran h (e ∷ past)
 ran_later e past h r = record { newer = e ∷ r.newer; at = r.at; older = r.older; split = ap (λ (x : List Entry). e ∷ x) r.split; message = r.message; given = r.given; is_call = r.is_call; key = r.key; opcode = r.opcode; boot = r.boot; up = r.up; callee = r.callee; node = r.node; first = r.first }
@@ -196,7 +193,7 @@ host_hears clients hosts sent more past e i h H grows told over new sound held c
       first = λ j. at_put i j (λ (x : Host). 1 ≤ x.state.lasting.boot) h hosts (λ same. let was : 1 ≤ (hosts i).state.lasting.boot = H.first i in let g : (hosts i).state.lasting.boot ≤ h.state.lasting.boot = grows in omega arith) (λ other. H.first j);
       unheard = λ j. at_put i j (λ (x : Host). AreUnheardAt j x.down x.state.seats x.state.lasting.boot (e ∷ past)) h hosts
           (λ same. subst (λ (q : ℕ). AreUnheardAt q h.down h.state.seats h.state.lasting.boot (e ∷ past)) same heard)
-          (λ other. unheard_on j (hosts j).down (hosts j).state.seats (hosts j).state.lasting.boot e past (λ k b. not_under (Server i) (Server j) k b (given_message e.lines (sent_of past)) given (λ z. other (server_is i j z))) (H.unheard j));
+          (λ other. unheard_on j (hosts j).down (hosts j).state.seats (hosts j).state.lasting.boot e past (λ k b. not_under (Server i) (Server j) k b (given_message e.lines (sent_of past)) given (λ z. other (server_number i j z))) (H.unheard j));
       sound = λ j. at_put i j (λ (x : Host). IsSound (IsRan (e ∷ past)) (IsNoted then) (memory_of x.state)) h hosts (λ same. sound)
           (λ other. sound_to (IsRan past) (IsRan (e ∷ past)) (IsNoted hosts) (IsNoted then) w u (memory_of (hosts j).state) (H.sound j));
       held = λ j. at_put i j (λ (x : Host). Each (IsAnswer (IsRan (e ∷ past)) (IsNoted then)) (replies_of x.state.backs.held)) h hosts (λ same. held)
@@ -416,9 +413,6 @@ serves_hears c past i place armed m H up to at =
       H.unheard i j k b is (may_back (c.hosts i).down x.lasting.boot s.state.lasting.boot (call_seat k.node x.seats) (call_seat k.node s.state.seats) k b up same (served_grows (IsRan (e ∷ past)) (IsNoted (put i h c.hosts)) i x c.clock place m due k.node k.epoch k.number) may),
     ))
     (step_boots c.hosts i h e past (serves_standing (Server i) x c.clock place m) (sym up) same H.boots)
-
-blow_given : (i place : ℕ) (t : Bool) (sent : List Message) → given_message (lines.Given place ∷ blow_line i t ∷ []) sent ≡ message_at sent place
-blow_given i place t sent = refl
 
 cut_hears : (c : Cell) (past : List Entry) (i place : ℕ) (m : Message) (b : Blow) → HearsIn c past → (c.hosts i).down ≡ None → m.head.to ≡ Server i → message_at c.sent place ≡ Some m → After past (server_falls c i (lines.Given place ∷ blow_line i b.stops ∷ []) (in_step m c.clock))
 cut_hears c past i place m b H up to at =

@@ -3,7 +3,7 @@ use Rattle.afs_history.specs.declared.scripts.Script.{Script}
 use Rattle.afs_history.specs.declared.scripts.VolumeLine.{VolumeLine}
 use Rattle.afs_ideal.specs.Volumes.{Volume}
 use Rattle.afs_law.proofs.Basics.{Each, IfCall}
-use Rattle.afs_law.proofs.Ideals.{Held}
+use Rattle.afs_law.proofs.Ideals.{Held, VolumesIn}
 use Rattle.afs_law.proofs.Reasons.{IsAsked, held_by}
 use Rattle.afs_law.specs.Ideal.{is_at, volume_after}
 use Rattle.afs_num.specs.declared.calls.FsCall.{FsCall}
@@ -24,7 +24,7 @@ HomesIn s c = Each (IfCall (IsHome s)) c.sent
 
 -- ---- where a volume is
 
-abbrev IsPlaced : ℕ → List VolumeLine → List Location → Type 0
+abbrev pub IsPlaced : ℕ → List VolumeLine → List Location → Type 0
 IsPlaced id vs table = is_at id (Server (server_at table id)) vs ⊎ ((q : Node) → is_at id q vs → ⊥)
 
 found_at : (t : Bool) (id : ℕ) (v : VolumeLine) (vs : List VolumeLine) (table : List Location) → nat_eq v.id id ≡ t → counts_later v.id vs ≡ false → IsPlaced id vs table
@@ -44,22 +44,27 @@ placed_by true id v vs e (inr away) = inr (λ q z. elim z [
 ])
 placed_by false id v vs e h = found_at (nat_eq v.id id) id v vs (locations_in vs) refl e h
 
-placed : (id : ℕ) (vs : List VolumeLine) → IsPlaced id vs (locations_in vs)
+pub placed : (id : ℕ) (vs : List VolumeLine) → IsPlaced id vs (locations_in vs)
 placed id [] = inr (λ q z. z)
 placed id (v ∷ vs) = placed_by (counts_later v.id vs) id v vs refl (placed id vs)
 
-server_number : (i j : ℕ) → Server i ≡ Server j → i ≡ j
-server_number i j e = cc
-
 -- a volume that is nowhere isn't held
-not_held : (s : Script) (c : Cell) (past : List Entry) (i id : ℕ) (o : Option Volume) → Held s c past → ((q : Node) → is_at id q s.volumes → ⊥) → held_by (c.hosts i).state id ≡ o → held_by (c.hosts i).state id ≡ volume_after id past
-not_held s c past i id None h away e = e ∙ sym (h.1.none id (λ k. away (Server k)))
-not_held s c past i id (Some v) h away e = absurd (away (Server i) (h.1.home i id v e))
+not_held : (s : Script) (c : Cell) (past : List Entry) (i id : ℕ) (o : Option Volume) → VolumesIn s c past → ((q : Node) → is_at id q s.volumes → ⊥) → held_by (c.hosts i).state id ≡ o → held_by (c.hosts i).state id ≡ volume_after id past
+not_held s c past i id None V away e = e ∙ sym (V.none id (λ k. away (Server k)))
+not_held s c past i id (Some v) V away e = absurd (away (Server i) (V.home i id v e))
+
+-- a server holds just the ideal volume of each that is no other's
+only_by : (s : Script) (c : Cell) (past : List Entry) (i id : ℕ) → VolumesIn s c past → IsPlaced id s.volumes (locations s) → ((q : Node) → is_at id q s.volumes → q ≡ Server i) → held_by (c.hosts i).state id ≡ volume_after id past
+only_by s c past i id V (inl x) only = V.ideal i id (subst (λ (q : Node). is_at id q s.volumes) (only (Server (server_at (locations s) id)) x) x)
+only_by s c past i id V (inr away) only = not_held s c past i id (held_by (c.hosts i).state id) V away refl
+
+pub only_held : (s : Script) (c : Cell) (past : List Entry) (i id : ℕ) → VolumesIn s c past → ((q : Node) → is_at id q s.volumes → q ≡ Server i) → held_by (c.hosts i).state id ≡ volume_after id past
+only_held s c past i id V only = only_by s c past i id V (placed id s.volumes) only
 
 -- the server that the table has holds just the ideal volume
 home_same : (s : Script) (c : Cell) (past : List Entry) (i id : ℕ) → Held s c past → IsPlaced id s.volumes (locations s) → Server i ≡ Server (server_at (locations s) id) → held_by (c.hosts i).state id ≡ volume_after id past
 home_same s c past i id h (inl x) to = h.1.ideal i id (subst (λ (q : Node). is_at id q s.volumes) (sym to) x)
-home_same s c past i id h (inr away) to = not_held s c past i id (held_by (c.hosts i).state id) h away refl
+home_same s c past i id h (inr away) to = not_held s c past i id (held_by (c.hosts i).state id) h.1 away refl
 
 pub home_held : (s : Script) (c : Cell) (past : List Entry) (i id : ℕ) → Held s c past → Server i ≡ Server (server_at (locations s) id) → held_by (c.hosts i).state id ≡ volume_after id past
 home_held s c past i id h to = home_same s c past i id h (placed id s.volumes) to

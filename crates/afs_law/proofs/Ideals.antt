@@ -13,10 +13,10 @@ use Rattle.afs_law.proofs.Backing.{all_lines}
 use Rattle.afs_law.proofs.Basics.{ByClient, IfCall, OfCall, at_more, at_put, both, by_client, each_at, same_node-refl}
 use Rattle.afs_law.proofs.Choosing.{AreLeft, IfCut, Saves, Works, disk_works, is_from, risen_from, risen_lines, serves_works, starts_works, times_works, wakes_works}
 use Rattle.afs_law.proofs.Edits.{Grow, Sound, SoundIn, Told, agrees_of, counted_sound, edits_told, fid_at, get-set, not_touched, on_top, sound_same, untouched}
-use Rattle.afs_law.proofs.Facts.{AreFine, IsOne}
+use Rattle.afs_law.proofs.Words.{AreFine, IsOne}
 use Rattle.afs_law.proofs.Keeping.{first_in, volume_put}
-use Rattle.afs_law.proofs.KeysOnce.{IsKnown, any_told, by_key}
-use Rattle.afs_law.proofs.Law.{FirstFacts, any_home, first_facts, found_there, ideal_first}
+use Rattle.afs_law.proofs.KeysOnce.{IsKnown, any_told, by_key, server_number}
+use Rattle.afs_law.proofs.SettingUp.{FirstFacts, any_home, first_facts, found_there, ideal_first}
 use Rattle.afs_law.proofs.Moving.{Behind, EachMove, IsKept, each_moved, run_keeps}
 use Rattle.afs_law.proofs.Naming.{fine_after}
 use Rattle.afs_law.proofs.Origins.{KnownAsked, asked_first, asked_kept, of_client}
@@ -50,6 +50,8 @@ use Rattle.afs_rows.specs.Steps.{Step}
 use Rattle.std.proofs.Common.{◌≡◌, ℕ, ◌⊎◌, inl, inr, Bool, true, false, cond, eqb, eqb-true, eq-eqb, nat_eq, length, List, [], ◌∷◌, ◌++◌, Option, Some, None, refl, sym, ap, subst, ◌∙◌}
 use Rattle.std.specs.Option.{option_map}
 use Rattle.std.specs.Prelude.{is_some}
+use Rattle.afs_law.proofs.Loading.{onto_both}
+use Rattle.afs_law.proofs.Cutting.{same_cut}
 
 -- ---- lines that tell no change and no version
 
@@ -172,9 +174,6 @@ quiet_volumes s hosts sent more past e i h V g none blank left cut =
 
 -- ---- a volume is at one server
 
-server_number : (i j : ℕ) → Server i ≡ Server j → i ≡ j
-server_number i j e = cc
-
 some_by : (t : Bool) (V : Volume) (o : Option Volume) → is_some o ≡ true → is_some (cond t (Some V) o) ≡ true
 some_by true V o h = refl
 some_by false V o h = h
@@ -219,23 +218,19 @@ found_either : (t : Bool) (id other : ℕ) (V u : Volume) (o : Option Volume) (P
 found_either true id other V u o P t a b e = a (eqb-true id other t)
 found_either false id other V u o P t a b e = b e
 
-pub onto_front : (o a b : List Line) → onto o (a ++ b) ≡ onto (onto o a) b
-onto_front o [] b = refl
-onto_front o (l ∷ a) b = onto_front (l ∷ o) a b
-
 -- what an entry with a change makes of the ideal volumes and of the lines
 pub record Changes (id : ℕ) (V : Volume) (past : List Entry) (e : Entry) : Type 0 where
   pub after : (other : ℕ) → volume_after other (e ∷ past) ≡ cond (eqb id other) (Some V) (volume_after other past)
   pub sound : (other : ℕ) → SoundIn other (volume_after other past) (lines_of past) → SoundIn other (volume_after other (e ∷ past)) (lines_of (e ∷ past))
 
-changes_all : (past : List Entry) (e : Entry) (me : Node) (k : Key) (user : List ℕ) (call : FsCall) (id : ℕ) (v : Volume) (es : List Edit) (shown : ℕ) (front rest : List Line) → e.volumes ≡ [] → e.lines ≡ front ++ (lines.Change me k (length (versions_by id es v)) ∷ versioned (versions_by id es v) rest) → AreBlank front → AreBlank rest
+pub changes_all : (past : List Entry) (e : Entry) (me : Node) (k : Key) (user : List ℕ) (call : FsCall) (id : ℕ) (v : Volume) (es : List Edit) (shown : ℕ) (front rest : List Line) → e.volumes ≡ [] → e.lines ≡ front ++ (lines.Change me k (length (versions_by id es v)) ∷ versioned (versions_by id es v) rest) → AreBlank front → AreBlank rest
     → call_under k (sent_of past) ≡ Some (user, call) → volume_called call ≡ Some id → volume_after id past ≡ Some v → op id (the_user user) call v ≡ changes es shown → SoundIn id (volume_after id past) (lines_of past) → Changes id (counted (edited_all id es v)) past e
 changes_all past e me k user call id v es shown front rest none split before behind one of at res sound =
     let vs : List Version = versions_by id es v in
     let V : Volume = counted (edited_all id es v) in
     let l : Line = lines.Change me k (length vs) in
     let base : List Line = l ∷ onto (lines_of past) front in
-    let on : lines_of (e ∷ past) ≡ onto (on_top vs base) rest = ap (onto (lines_of past)) split ∙ (onto_front (lines_of past) front (l ∷ versioned vs rest) ∙ onto_versioned vs rest base) in
+    let on : lines_of (e ∷ past) ≡ onto (on_top vs base) rest = ap (onto (lines_of past)) split ∙ (onto_both (lines_of past) front (l ∷ versioned vs rest) ∙ onto_versioned vs rest base) in
     let last : (f : Fid) → last_version f base ≡ last_version f (lines_of past) = λ f. blank_last f front (lines_of past) before in
     let same : (f : Fid) → last_version f (lines_of (e ∷ past)) ≡ last_version f (on_top vs base) = λ f. ap (last_version f) on ∙ blank_last f rest (on_top vs base) behind in
     let old : Sound id v base = sound_same id (Some v) (lines_of past) base (λ n u. last (fid_at id n u)) (subst (λ (o : Option Volume). SoundIn id o (lines_of past)) at sound) in
@@ -322,9 +317,6 @@ cut_by P d at_rest e w = tt
 cut_by P d (in_step m clock) e w = w m clock e
 cut_by P d in_boot e w = tt
 
-cut_same : (m k : Message) (a b : ℕ) → Some (in_step m a) ≡ Some (in_step k b) → m ≡ k
-cut_same m k a b e = cc
-
 pub own_from : (i : ℕ) → same_node (Server i) (Server i) ≡ true
 own_from i = same_node-refl (Server i)
 
@@ -368,7 +360,7 @@ volumes_moves s = record {
   fallen = λ c past n h. acts_volumes s c past n _ h.1 (falls_acts n (c.clients n));
   risen = λ c past n h. acts_volumes s c past n _ h.1 (rises_acts n (c.clients n));
   served = λ c past i place m armed h up at to. done_volumes s c past i armed (server_row (Server i) (c.hosts i).state c.clock place (Whole m)) h (serves_works (IsCalled c.sent) (Server i) (c.hosts i).state c.clock place m (λ rest. each_at (IfCall (IsOne c.sent)) c.sent place m at h.0.1.ones));
-  cut = λ c past i place m t h up at to. falls_volumes s c past i (Some (in_step m c.clock)) unarmed _ h (blow_blank i place t) (λ k clock e. (place, subst (λ (y : Message). message_at c.sent place ≡ Some y) (cut_same m k c.clock clock e) at));
+  cut = λ c past i place m t h up at to. falls_volumes s c past i (Some (in_step m c.clock)) unarmed _ h (blow_blank i place t) (λ k clock e. (place, subst (λ (y : Message). message_at c.sent place ≡ Some y) (same_cut m k c.clock clock e) at));
   stopped = λ c past i h up. falls_volumes s c past i (Some at_rest) unarmed _ h refl (λ m clock e. absurd cc);
   stop_set = λ c past i calls pick armed h up. falls_volumes s c past i (c.hosts i).down armed _ h refl (h.1.cut i);
   fail_set = λ c past i call armed h up. falls_volumes s c past i (c.hosts i).down armed _ h refl (h.1.cut i);
@@ -460,7 +452,7 @@ held_at s h end r = run_keeps (Held s) (held_kept s) r.inputs (start s) (set_up 
 run_told : (s : Script) (h : List Entry) (end : Cell) → RunsTo h s end → VolumesIn s end (past_of (set_up s ∷ []) h)
 run_told s h end r = (held_at s h end r).1
 
-at_home : (s : Script) (id : ℕ) (q : Node) (ls : List Line) → Accepts s id q ls → is_at id q s.volumes
+pub at_home : (s : Script) (id : ℕ) (q : Node) (ls : List Line) → Accepts s id q ls → is_at id q s.volumes
 at_home s id q [] h = h
 at_home s id q (l ∷ ls) h = at_home s id q ls h
 

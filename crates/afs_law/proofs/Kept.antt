@@ -5,13 +5,12 @@ use Rattle.afs_history.specs.declared.lines.Line.TheVariants as lines
 use Rattle.afs_history.specs.declared.scripts.Script.{Script}
 use Rattle.afs_ideal.specs.Operations.{volume_changed}
 use Rattle.afs_law.proofs.Acting.{Acts, begins_acts, falls_acts, given_acts, rises_acts, waits_acts, who_at}
-use Rattle.afs_law.proofs.Answering.{put_found}
-use Rattle.afs_law.proofs.Apart.{apart_filter, apart_put, apart_refreshed, found_filter, found_out}
+use Rattle.afs_law.proofs.Apart.{apart_filter, apart_put, apart_refreshed, found_filter, found_out, put_found}
 use Rattle.afs_law.proofs.Backing.{all_lines}
 use Rattle.afs_law.proofs.Basics.{at_put, both, each_at, found-cached-fid, found-refreshed, same_fid-refl, same_fid-true, same_node-refl, same_node-true, some_of}
 use Rattle.afs_law.proofs.Choosing.{disk_works, one_from, risen_from, risen_lines, serves_works, starts_works, times_works, wakes_works}
 use Rattle.afs_law.proofs.Due.{AreCached, walked_cached}
-use Rattle.afs_law.proofs.Facts.{AreApart}
+use Rattle.afs_law.proofs.Words.{AreApart}
 use Rattle.afs_law.proofs.Firm.{IsFirm}
 use Rattle.afs_law.proofs.Following.{dropped_named, in_named}
 use Rattle.afs_law.proofs.Gifts.{Given, given_first, given_kept}
@@ -68,15 +67,15 @@ use Rattle.std.specs.Prelude.{⊤, ◌&&◌, nat_lt}
 
 -- ---- lines that drop and fetch nothing of an object
 
-abbrev Spares : Node → ℕ → Fid → List Line → Type 0
+abbrev pub Spares : Node → ℕ → Fid → List Line → Type 0
 Spares q n f ls = (o : List Line) → IsDropped q (Client n) f (onto o ls) → IsDropped q (Client n) f o
 
 -- the end of a step
-record IsTail (n : ℕ) (ls : List Line) : Type 0 where
-  fetched : (f : Fid) → has_fetched (Client n) f ls ≡ false
-  spares : (q : Node) (f : Fid) → Spares q n f ls
+pub record IsTail (n : ℕ) (ls : List Line) : Type 0 where
+  pub fetched : (f : Fid) → has_fetched (Client n) f ls ≡ false
+  pub spares : (q : Node) (f : Fid) → Spares q n f ls
 
-no_tail : (n : ℕ) → IsTail n []
+pub no_tail : (n : ℕ) → IsTail n []
 no_tail n = record { fetched = λ f. refl; spares = λ q f o x. x }
 
 answer_tail : (n : ℕ) (code : Code) → IsTail n (lines.Answer (Client n) code ∷ [])
@@ -96,15 +95,15 @@ looks_tail n (l ∷ looks) ls h t =
     }
 
 -- none of these entries is of the object
-abbrev AreElse : Fid → List CacheEntry → Type 0
+abbrev pub AreElse : Fid → List CacheEntry → Type 0
 AreElse f [] = ⊤
 AreElse f (e ∷ es) = (e.fid ≡ f → ⊥) × AreElse f es
 
-dropped_fetched : (n : ℕ) (f : Fid) (es : List CacheEntry) (ls : List Line) → has_fetched (Client n) f (dropped (Client n) es ls) ≡ has_fetched (Client n) f ls
+pub dropped_fetched : (n : ℕ) (f : Fid) (es : List CacheEntry) (ls : List Line) → has_fetched (Client n) f (dropped (Client n) es ls) ≡ has_fetched (Client n) f ls
 dropped_fetched n f [] ls = refl
 dropped_fetched n f (e ∷ es) ls = dropped_fetched n f es ls
 
-dropped_spares : (q : Node) (n : ℕ) (f : Fid) (es : List CacheEntry) (ls : List Line) → AreElse f es → Spares q n f ls → Spares q n f (dropped (Client n) es ls)
+pub dropped_spares : (q : Node) (n : ℕ) (f : Fid) (es : List CacheEntry) (ls : List Line) → AreElse f es → Spares q n f ls → Spares q n f (dropped (Client n) es ls)
 dropped_spares q n f [] ls h w o x = w o x
 dropped_spares q n f (e ∷ es) ls h w o x = elim (dropped_spares q n f es ls h.1 w (lines.Drop (Client n) e.fid ∷ o) x) [
   | inl y ↦ absurd (h.0 y.1)
@@ -115,49 +114,49 @@ else_by : (t : Bool) (f : Fid) (e : CacheEntry) (o : Option CacheEntry) → same
 else_by true f e o q z = absurd cc
 else_by false f e o q z = ((λ same. let no_ : false ≡ true = sym q ∙ (ap (λ (g : Fid). same_fid g f) same ∙ same_fid-refl f) in absurd cc), z)
 
-else_none : (f : Fid) (es : List CacheEntry) → find_cached f es ≡ None → AreElse f es
+pub else_none : (f : Fid) (es : List CacheEntry) → find_cached f es ≡ None → AreElse f es
 else_none f [] e = tt
 else_none f (x ∷ es) e = let p = else_by (same_fid x.fid f) f x (find_cached f es) refl e in (p.0, else_none f es p.1)
 
 -- ---- an entry behind a step
 
 -- it was there, and nothing of it was dropped or fetched
-record IsOldEntry (n : ℕ) (cache : List CacheEntry) (ls : List Line) (f : Fid) (e : CacheEntry) : Type 0 where
-  was : CacheEntry
-  found : find_cached f cache ≡ Some was
-  server : was.server ≡ e.server
-  fetched : has_fetched (Client n) f ls ≡ false
-  spares : Spares e.server n f ls
+pub record IsOldEntry (n : ℕ) (cache : List CacheEntry) (ls : List Line) (f : Fid) (e : CacheEntry) : Type 0 where
+  pub was : CacheEntry
+  pub found : find_cached f cache ≡ Some was
+  pub server : was.server ≡ e.server
+  pub fetched : has_fetched (Client n) f ls ≡ false
+  pub spares : Spares e.server n f ls
 
 -- or it was fetched
-record IsNewEntry (n : ℕ) (past : List Entry) (ls : List Line) (f : Fid) (e : CacheEntry) : Type 0 where
-  fetched : has_fetched (Client n) f ls ≡ true
-  reply : Message
-  given : given_message ls (sent_of past) ≡ Some reply
-  is_reply : IsReply reply
-  told : code_told reply.carried ≡ Some (pos 0)
-  to : reply.head.to ≡ Client n
-  from : reply.head.from ≡ e.server
-  kept : IsDropped e.server (Client n) f (onto [] ls) → ⊥
+pub record IsNewEntry (n : ℕ) (past : List Entry) (ls : List Line) (f : Fid) (e : CacheEntry) : Type 0 where
+  pub fetched : has_fetched (Client n) f ls ≡ true
+  pub reply : Message
+  pub given : given_message ls (sent_of past) ≡ Some reply
+  pub is_reply : IsReply reply
+  pub told : code_told reply.carried ≡ Some (pos 0)
+  pub to : reply.head.to ≡ Client n
+  pub from : reply.head.from ≡ e.server
+  pub kept : IsDropped e.server (Client n) f (onto [] ls) → ⊥
 
-abbrev Entries : ℕ → List CacheEntry → List Entry → List Line → List CacheEntry → Type 0
+abbrev pub Entries : ℕ → List CacheEntry → List Entry → List Line → List CacheEntry → Type 0
 Entries n cache past ls after = (f : Fid) (e : CacheEntry) → find_cached f after ≡ Some e → IsOldEntry n cache ls f e ⊎ IsNewEntry n past ls f e
 
 -- and each object has one
-record Keeps (n : ℕ) (cache : List CacheEntry) (past : List Entry) (s : Step ClientState) : Type 0 where
-  apart : AreApart s.state.cache
-  each : Entries n cache past s.lines s.state.cache
+pub record Keeps (n : ℕ) (cache : List CacheEntry) (past : List Entry) (s : Step ClientState) : Type 0 where
+  pub apart : AreApart s.state.cache
+  pub each : Entries n cache past s.lines s.state.cache
 
 either_keeps : (t : Bool) (n : ℕ) (cache : List CacheEntry) (past : List Entry) (a b : Step ClientState) → Keeps n cache past a → Keeps n cache past b → Keeps n cache past (cond t a b)
 either_keeps true n cache past a b h k = h
 either_keeps false n cache past a b h k = k
 
 -- the same cache
-same_entries : (n : ℕ) (cache : List CacheEntry) (past : List Entry) (ls : List Line) → IsTail n ls → Entries n cache past ls cache
+pub same_entries : (n : ℕ) (cache : List CacheEntry) (past : List Entry) (ls : List Line) → IsTail n ls → Entries n cache past ls cache
 same_entries n cache past ls t f e found = inl (record { was = e; found = found; server = refl; fetched = t.fetched f; spares = t.spares e.server f })
 
 -- some are left out, and dropped
-not_true : (b : Bool) → not b ≡ true → b ≡ false
+pub not_true : (b : Bool) → not b ≡ true → b ≡ false
 not_true true e = absurd cc
 not_true false e = refl
 
@@ -216,7 +215,7 @@ refreshed_by false e x h = refl
 refreshed_server : (clock : ℕ) (g : Fid) (index : ℕ) (status : ReadStatus) (made : Option Body → Option Body) (e : CacheEntry) → (refreshed clock g index status made e).server ≡ e.server
 refreshed_server clock g index status made e = refreshed_by (same_fid e.fid g && is_trusted clock e) e _ refl
 
-mapped : (o : Option CacheEntry) (r : CacheEntry → CacheEntry) (e : CacheEntry) → option_map r o ≡ Some e → (u : CacheEntry) × ((o ≡ Some u) × (r u ≡ e))
+pub mapped : (o : Option CacheEntry) (r : CacheEntry → CacheEntry) (e : CacheEntry) → option_map r o ≡ Some e → (u : CacheEntry) × ((o ≡ Some u) × (r u ≡ e))
 mapped None r e q = absurd cc
 mapped (Some u) r e q = (u, (refl, some_of (r u) e q))
 
@@ -229,15 +228,15 @@ stored_keeps n place clock c past g index status made apart = record {
 }
 
 -- what was fetched
-fetched_on : (p a b c : Bool) → p ≡ true → a ≡ true → b ≡ true → cond (p && (a && b)) true c ≡ true
+pub fetched_on : (p a b c : Bool) → p ≡ true → a ≡ true → b ≡ true → cond (p && (a && b)) true c ≡ true
 fetched_on p a b c e f g = rw (e, f, g) refl
 
-fetched_off : (p a b c : Bool) → b ≡ false → cond (p && (a && b)) true c ≡ c
+pub fetched_off : (p a b c : Bool) → b ≡ false → cond (p && (a && b)) true c ≡ c
 fetched_off true true b c e = rw e refl
 fetched_off true false b c e = refl
 fetched_off false a b c e = refl
 
-other_fid : (g f : Fid) (t : Bool) → same_fid g f ≡ t → (g ≡ f → ⊥) → same_fid g f ≡ false
+pub other_fid : (g f : Fid) (t : Bool) → same_fid g f ≡ t → (g ≡ f → ⊥) → same_fid g f ≡ false
 other_fid g f true e ne = absurd (ne (same_fid-true g f e))
 other_fid g f false e ne = e
 
@@ -267,7 +266,7 @@ entry_keeps n clock place c m past act u body p server apart q =
     (again_keeps n place c c past act apart refl)
 
 -- several statuses
-abbrev IsAmong : Fid → List CacheEntry → Type 0
+abbrev pub IsAmong : Fid → List CacheEntry → Type 0
 IsAmong f [] = ⊥
 IsAmong f (e ∷ es) = (e.fid ≡ f) ⊎ IsAmong f es
 
@@ -285,20 +284,20 @@ puts_found capacity q f (x ∷ es) cache e h found = elim (puts_found capacity q
   ]
 ]
 
-or_true : (b c : Bool) → c ≡ true → cond b true c ≡ true
+pub or_true : (b c : Bool) → c ≡ true → cond b true c ≡ true
 or_true true c e = refl
 or_true false c e = e
 
-all_fetched : (n : ℕ) (f : Fid) (es : List CacheEntry) (ls : List Line) → IsAmong f es → has_fetched (Client n) f (looked (Client n) (map status_look es) ls) ≡ true
+pub all_fetched : (n : ℕ) (f : Fid) (es : List CacheEntry) (ls : List Line) → IsAmong f es → has_fetched (Client n) f (looked (Client n) (map status_look es) ls) ≡ true
 all_fetched n f [] ls h = absurd h
 all_fetched n f (e ∷ es) ls (inl x) = fetched_on true (same_node (Client n) (Client n)) (same_fid e.fid f) (has_fetched (Client n) f (looked (Client n) (map status_look es) ls)) refl (same_node-refl (Client n)) (ap (λ (g : Fid). same_fid g f) x ∙ same_fid-refl f)
 all_fetched n f (e ∷ es) ls (inr x) = or_true (true && (same_node (Client n) (Client n) && same_fid e.fid f)) (has_fetched (Client n) f (looked (Client n) (map status_look es) ls)) (all_fetched n f es ls x)
 
-none_fetched : (n : ℕ) (f : Fid) (es : List CacheEntry) (ls : List Line) → AreElse f es → has_fetched (Client n) f (looked (Client n) (map status_look es) ls) ≡ has_fetched (Client n) f ls
+pub none_fetched : (n : ℕ) (f : Fid) (es : List CacheEntry) (ls : List Line) → AreElse f es → has_fetched (Client n) f (looked (Client n) (map status_look es) ls) ≡ has_fetched (Client n) f ls
 none_fetched n f [] ls h = refl
 none_fetched n f (e ∷ es) ls h = fetched_off true (same_node (Client n) (Client n)) (same_fid e.fid f) (has_fetched (Client n) f (looked (Client n) (map status_look es) ls)) (other_fid e.fid f (same_fid e.fid f) refl h.0) ∙ none_fetched n f es ls h.1
 
-looks_spare : (q : Node) (n : ℕ) (f : Fid) (looks : List Look) (ls : List Line) → Spares q n f ls → Spares q n f (looked (Client n) looks ls)
+pub looks_spare : (q : Node) (n : ℕ) (f : Fid) (looks : List Look) (ls : List Line) → Spares q n f ls → Spares q n f (looked (Client n) looks ls)
 looks_spare q n f [] ls w o x = w o x
 looks_spare q n f (l ∷ looks) ls w o x = looks_spare q n f looks ls w (lines.Read (Client n) l.fid l.index l.source l.body ∷ o) x
 
@@ -388,10 +387,10 @@ takes_keeps n clock place c m past act call (replies.BulkStatus statuses callbac
 takes_keeps n clock place c m past act call replies.GiveUpCallBacks apart q = given_keeps n place c past act call apart
 takes_keeps n clock place c m past act call reply apart q = plain_keeps n place c past call zero_code apart
 
-record IsHeard (n place : ℕ) (head : Head) (x : Carried) (past : List Entry) : Type 0 where
-  at : message_at (sent_of past) place ≡ Some (record { head = head; carried = x })
-  to : head.to ≡ Client n
-  firm : IsFirm head x
+pub record IsHeard (n place : ℕ) (head : Head) (x : Carried) (past : List Entry) : Type 0 where
+  pub at : message_at (sent_of past) place ≡ Some (record { head = head; carried = x })
+  pub to : head.to ≡ Client n
+  pub firm : IsFirm head x
 
 counts_keeps : (n clock place : ℕ) (c : ClientState) (act : Going) (head : Head) (x : Carried) (past : List Entry) → AreApart c.cache → IsHeard n place head x past → is_awaited c act head ≡ true → Keeps n c.cache past (counts (Client n) c clock place act head x)
 counts_keeps n clock place c act head (carried.Call user call) past apart w e = told_keeps n place c c past [] apart refl
@@ -421,10 +420,10 @@ spared (inl a) w = absurd (w a)
 spared (inr b) w = b
 
 -- a break drops what it names, and leaves the others
-unnamed : (f : Fid) (fs : List Fid) (e : CacheEntry) → same_fid e.fid f ≡ true → is_named e.fid fs ≡ false → IsNamedIn f fs → ⊥
+pub unnamed : (f : Fid) (fs : List Fid) (e : CacheEntry) → same_fid e.fid f ≡ true → is_named e.fid fs ≡ false → IsNamedIn f fs → ⊥
 unnamed f fs e same none x = let yes : is_named e.fid fs ≡ true = in_named e.fid f fs (ap (λ (g : Fid). same_fid f g) (same_fid-true e.fid f same) ∙ same_fid-refl f) x in let no_ : false ≡ true = sym none ∙ yes in absurd cc
 
-drops_fetched : (n : ℕ) (f : Fid) (fs : List Fid) → has_fetched (Client n) f (map (drop_line (Client n)) fs) ≡ false
+pub drops_fetched : (n : ℕ) (f : Fid) (fs : List Fid) → has_fetched (Client n) f (map (drop_line (Client n)) fs) ≡ false
 drops_fetched n f [] = refl
 drops_fetched n f (g ∷ fs) = drops_fetched n f fs
 
@@ -468,7 +467,7 @@ hears_keeps n clock place c head x past apart w = awaits_keeps n clock place c h
 
 -- ---- its steps
 
-given_keep : (n clock place : ℕ) (c : ClientState) (m : Message) (past : List Entry) → AreApart c.cache → IsHeard n place m.head m.carried past → Keeps n c.cache past (client_row (Client n) c clock place (Whole m))
+pub given_keep : (n clock place : ℕ) (c : ClientState) (m : Message) (past : List Entry) → AreApart c.cache → IsHeard n place m.head m.carried past → Keeps n c.cache past (client_row (Client n) c clock place (Whole m))
 unfolding client_row
 given_keep n clock place c m past apart w = either_keeps (same_node m.head.to (Client n)) n c.cache past _ _ (hears_keeps n clock place c m.head m.carried past apart w) (told_keeps n place c c past [] apart refl)
 
@@ -486,7 +485,7 @@ first_keeps : (n clock : ℕ) (y : ClientState) (act : Act) (g : Going) (need : 
 first_keeps n clock y act g gives_back past apart = first_gives n clock y act g past (in_order (map gift_of (trusted_in clock y.cache))) apart
 first_keeps n clock y act g need past apart = walks_keeps n y clock y.cache y.cache past (λ ls. lines.Begin (Client n) act ∷ ls) g (λ ls t. then_begun n act y.cache past ls y.cache (same_old n y.cache ls t)) apart
 
-begins_keep : (n clock : ℕ) (c : ClientState) (act : Act) (past : List Entry) → AreApart c.cache → Keeps n c.cache past (begin_row (Client n) c clock act)
+pub begins_keep : (n clock : ℕ) (c : ClientState) (act : Act) (past : List Entry) → AreApart c.cache → Keeps n c.cache past (begin_row (Client n) c clock act)
 unfolding begin_row
 begins_keep n clock c act past apart = first_keeps n clock (record c { busy = 0 }) act (began c.table act) (next (began c.table act)) past apart
 
@@ -498,7 +497,7 @@ dead_apart : (cache : List CacheEntry) (o : Option ℕ) → AreApart cache → A
 dead_apart cache None apart = apart
 dead_apart cache (Some id) apart = apart_filter (λ x. not (nat_eq x.fid.volume id)) cache apart
 
-waits_keep : (n : ℕ) (c : ClientState) (act : Going) (past : List Entry) → AreApart c.cache → Keeps n c.cache past (timeout_row (Client n) c act)
+pub waits_keep : (n : ℕ) (c : ClientState) (act : Going) (past : List Entry) → AreApart c.cache → Keeps n c.cache past (timeout_row (Client n) c act)
 waits_keep n c act past apart =
     let o : Option ℕ = volume_changed (call_of c act) in
     either_keeps (nat_lt c.tries 2) n c.cache past _ _
@@ -559,7 +558,7 @@ client_kept s c past n st h a k j =
 idle_kept : (s : Script) (c : Cell) (past : List Entry) (x : Entry) → KeptIn c past → all_lines is_idle x.lines ≡ true → Rested c.clients (x ∷ past)
 idle_kept s c past x h idle j = ((h j).0, λ f e found. stays_kept j f e e x past refl ((idle_leaves s j x.lines (lines_of past) idle).fetched f) (λ o d. (idle_leaves s j x.lines o idle).dropped e.server f d) ((h j).1 f e found))
 
-heard_now : (s : Script) (c : Cell) (past : List Entry) (n place : ℕ) (m : Message) → Given s c past → message_at c.sent place ≡ Some m → m.head.to ≡ Client n → IsHeard n place m.head m.carried past
+pub heard_now : (s : Script) (c : Cell) (past : List Entry) (n place : ℕ) (m : Message) → Given s c past → message_at c.sent place ≡ Some m → m.head.to ≡ Client n → IsHeard n place m.head m.carried past
 heard_now s c past n place m h at to = record { at = ap (λ (ms : List Message). message_at ms place) h.0.0.0.0.hears.told ∙ at; to = to; firm = each_at (λ m. IsFirm m.head m.carried) c.sent place m at h.0.1 }
 
 kept_moves : (s : Script) → EachMove (GivenKept s) (Behind KeptIn)

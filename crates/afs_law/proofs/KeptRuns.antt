@@ -1,5 +1,6 @@
 -- Worked runs of what survives: a close that was answered, and then one that the disk stopped in; a mode that was set. And disks that
 -- lost what they were answered for.
+use Rattle.afs_law.proofs.Ideals.{at_home}
 use Rattle.afs_history.specs.declared.acts.Act.{Act}
 use Rattle.afs_history.specs.declared.acts.Act.TheVariants as acts
 use Rattle.afs_history.specs.declared.acts.Operand.TheVariants as operands
@@ -11,12 +12,14 @@ use Rattle.afs_ideal.specs.SetUp.{laid_at, led}
 use Rattle.afs_ideal.specs.Tables.{Table, get, set}
 use Rattle.afs_ideal.specs.VnodeImage.{image}
 use Rattle.afs_ideal.specs.Volumes.{Vnode, Volume}
-use Rattle.afs_law.proofs.Surviving.{run_survives, survives}
-use Rattle.afs_law.proofs.Worked.{apart_numbers, file, home, script}
+use Rattle.afs_law.proofs.Remaining.{survives}
+use Rattle.afs_law.proofs.Surviving.{run_survives}
+use Rattle.afs_law.proofs.Worked.{apart_numbers, file, home, of_cell, script}
 use Rattle.afs_law.specs.Ideal.{set_up}
-use Rattle.afs_law.specs.Laws.{AreMadeAndKept, Survives, found_by_restart}
+use Rattle.afs_law.specs.Laws.{AreMadeAndKept, IsNoOthers, Survives, found_by_restart}
 use Rattle.afs_law.specs.Once.{past_of}
-use Rattle.afs_law.specs.OneServer.{IsOneServer}
+use Rattle.afs_law.specs.Past.{lines_of}
+use Rattle.afs_history.specs.declared.lines.Line.{Line}
 use Rattle.afs_model.specs.Messages.{spelled}
 use Rattle.afs_num.specs.Names.{name_ok}
 use Rattle.afs_num.specs.declared.messages.Message.{Message}
@@ -29,7 +32,7 @@ use Rattle.afs_rows.specs.Runs.{Cell, Entry, Fall, Host, Input, Leads, RunsTo, a
 use Rattle.afs_rows.specs.ServerSteps.{back_timeout_row, server_row, start_row, wake_row}
 use Rattle.afs_rows.specs.States.{volume_in}
 use Rattle.afs_xdr.specs.Words.{counted_at, opaque, opaque_at, pad, word, word_at}
-use Rattle.std.proofs.Common.{◌≡◌, ℕ, List, [], ◌∷◌, ◌++◌, Option, Some, None, pos, refl, ap}
+use Rattle.std.proofs.Common.{inl, inr, sym, ◌≡◌, ℕ, List, [], ◌∷◌, ◌++◌, Option, Some, None, pos, refl, ap}
 use Rattle.std.specs.Fmt.{digits}
 use Rattle.std.specs.Option.{option_map}
 use Rattle.std.specs.Prelude.{codes, map}
@@ -52,8 +55,9 @@ run_both : (c : Cell) (xs : List Input) (y : Input) (ys : List Input) → run c 
 run_both c [] y ys = refl
 run_both c (x ∷ xs) y ys = ap (λ (es : List Entry). (moved c x).entry ∷ es) (run_both (moved c x).cell xs y ys)
 
-one_server : IsOneServer (script 1)
-one_server = (refl, (refl, tt))
+-- its volume is at its one server
+no_others : (ls : List Line) → IsNoOthers (script 1) 1 home ls
+no_others ls q x = elim (at_home (script 1) home q ls x) [ inl y ↦ sym y.1.1 | inr y ↦ absurd y ]
 
 abbrev fall_of : Option Fall → Fall
 fall_of None = at_rest
@@ -110,16 +114,16 @@ keeps_two : file_in (volume_in home last_host.state.lasting.volumes) ≡ Some (r
 unfolding moved begin_row client_row server_row back_timeout_row wake_row start_row record_bytes head_form volume_form spelled opaque pad word laid_at led name_ok directory_bytes name_bytes rights_of image acl_text digits entry_text directory_of names_at opaque_at word_at counted_at whole_at count_at name_at spelled_at bytes_below
 keeps_two = refl
 
-has_three : file_in (volume_in home (found_by_restart last_host last_fall).state.lasting.volumes) ≡ Some (record { index = 3; mode = 420; bytes = codes "xyz" })
+has_three : file_in (volume_in home (found_by_restart 1 last_host last_fall).state.lasting.volumes) ≡ Some (record { index = 3; mode = 420; bytes = codes "xyz" })
 unfolding moved begin_row client_row server_row back_timeout_row wake_row start_row record_bytes head_form volume_form spelled opaque pad word laid_at led name_ok directory_bytes name_bytes rights_of image acl_text digits entry_text directory_of names_at opaque_at word_at counted_at whole_at count_at name_at spelled_at bytes_below
 has_three = refl
 
 -- the law of it
-close_is_kept : AreMadeAndKept (Client 1) (began (locations (script 1)) first_close) (past_of (set_up (script 1) ∷ []) before) (lines.Given 2 ∷ []) last_host past
+close_is_kept : AreMadeAndKept (script 1) (Client 1) (began (locations (script 1)) first_close) (past_of (set_up (script 1) ∷ []) before) (lines.Given 2 ∷ []) (end_of (start (script 1)) inputs).hosts past
 unfolding moved begin_row client_row server_row back_timeout_row wake_row start_row record_bytes head_form volume_form spelled opaque pad word laid_at led name_ok directory_bytes name_bytes rights_of image acl_text digits entry_text directory_of names_at opaque_at word_at counted_at whole_at count_at name_at spelled_at bytes_below
 close_is_kept =
     run_survives (script 1) history before (run (end_of (start (script 1)) (answered ++ gives 2 steady ∷ [])) stopped) (moved (end_of (start (script 1)) answered) (gives 2 steady)).entry (lines.Given 2 ∷ []) [] (Client 1) (record { 0 = pos 0 }) (began (locations (script 1)) first_close) (end_of (start (script 1)) inputs)
-    one_server the_run (run_both (start (script 1)) answered (gives 2 steady) stopped) refl refl tt refl
+    (of_cell 1) the_run (run_both (start (script 1)) answered (gives 2 steady) stopped) refl refl tt refl
 
 -- a disk that lost the first close, in what it keeps or in what a restart finds; one that has a step which nobody asked for
 abbrev emptied : Host
@@ -129,13 +133,13 @@ abbrev index_in : Option Seen → ℕ
 index_in None = 0
 index_in (Some x) = x.index
 
-lost : Survives emptied past → ⊥
+lost : Survives (script 1) 1 emptied past → ⊥
 unfolding moved begin_row client_row server_row back_timeout_row wake_row start_row record_bytes head_form volume_form spelled opaque pad word laid_at led name_ok directory_bytes name_bytes rights_of image acl_text digits entry_text directory_of names_at opaque_at word_at counted_at whole_at count_at name_at spelled_at bytes_below
-lost h = apart_numbers 1 2 refl (ap (λ (o : Option Volume). index_in (file_in o)) (h.kept home))
+lost h = apart_numbers 1 2 refl (ap (λ (o : Option Volume). index_in (file_in o)) (h.kept home (no_others (lines_of past))))
 
-lost_in_the_step : Survives emptied past → ⊥
+lost_in_the_step : Survives (script 1) 1 emptied past → ⊥
 unfolding moved begin_row client_row server_row back_timeout_row wake_row start_row record_bytes head_form volume_form spelled opaque pad word laid_at led name_ok directory_bytes name_bytes rights_of image acl_text digits entry_text directory_of names_at opaque_at word_at counted_at whole_at count_at name_at spelled_at bytes_below
-lost_in_the_step h = apart_numbers 2 3 refl (ap (λ (o : Option Volume). index_in (file_in o)) (h.after last_fall refl home))
+lost_in_the_step h = apart_numbers 2 3 refl (ap (λ (o : Option Volume). index_in (file_in o)) (h.after last_fall refl home (no_others (lines_of past))))
 
 abbrev unasked : Message → Message
 unasked m = record m { head = record m.head { number = 3 } }
@@ -144,9 +148,9 @@ abbrev with_unasked : Fall → Fall
 with_unasked (in_step m clock) = in_step (unasked m) clock
 with_unasked fall = fall
 
-kept_from_nobody : Survives (record last_host { down = Some (with_unasked last_fall) }) past → ⊥
+kept_from_nobody : Survives (script 1) 1 (record last_host { down = Some (with_unasked last_fall) }) past → ⊥
 unfolding moved begin_row client_row server_row back_timeout_row wake_row start_row record_bytes head_form volume_form spelled opaque pad word laid_at led name_ok directory_bytes name_bytes rights_of image acl_text digits entry_text directory_of names_at opaque_at word_at counted_at whole_at count_at name_at spelled_at bytes_below
-kept_from_nobody h = apart_numbers 3 2 refl (ap (λ (o : Option Volume). index_in (file_in o)) (h.after (with_unasked last_fall) refl home))
+kept_from_nobody h = apart_numbers 3 2 refl (ap (λ (o : Option Volume). index_in (file_in o)) (h.after (with_unasked last_fall) refl home (no_others (lines_of past))))
 
 -- ---- a mode that was set: the index alone isn't enough
 
@@ -163,8 +167,8 @@ keeps_mode : file_in (volume_in home mode_host.state.lasting.volumes) ≡ Some (
 unfolding moved begin_row client_row server_row back_timeout_row wake_row start_row record_bytes head_form volume_form spelled opaque pad word laid_at led name_ok directory_bytes name_bytes rights_of image acl_text digits entry_text directory_of names_at opaque_at word_at counted_at whole_at count_at name_at spelled_at bytes_below
 keeps_mode = refl
 
-mode_is_kept : Survives mode_host mode_past
-mode_is_kept = survives (script 1) (run (start (script 1)) sets_mode) (end_of (start (script 1)) sets_mode) one_server (record { inputs = sets_mode; leads = led_to (start (script 1)) sets_mode })
+mode_is_kept : Survives (script 1) 1 mode_host mode_past
+mode_is_kept = survives (script 1) (run (start (script 1)) sets_mode) (end_of (start (script 1)) sets_mode) 1 (record { inputs = sets_mode; leads = led_to (start (script 1)) sets_mode })
 
 abbrev old_mode : Option Stored → Table Stored → Table Stored
 old_mode None volumes = volumes
@@ -177,6 +181,6 @@ abbrev mode_in : Option Seen → ℕ
 mode_in None = 0
 mode_in (Some x) = x.mode
 
-lost_mode : Survives without_mode mode_past → ⊥
+lost_mode : Survives (script 1) 1 without_mode mode_past → ⊥
 unfolding moved begin_row client_row server_row back_timeout_row wake_row start_row record_bytes head_form volume_form spelled opaque pad word laid_at led name_ok directory_bytes name_bytes rights_of image acl_text digits entry_text directory_of names_at opaque_at word_at counted_at whole_at count_at name_at spelled_at bytes_below
-lost_mode h = apart_numbers 420 384 refl (ap (λ (o : Option Volume). mode_in (file_in o)) (h.kept home))
+lost_mode h = apart_numbers 420 384 refl (ap (λ (o : Option Volume). mode_in (file_in o)) (h.kept home (no_others (lines_of mode_past))))

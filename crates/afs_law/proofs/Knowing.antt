@@ -3,9 +3,9 @@ use Rattle.afs_history.specs.declared.scripts.Script.{Script}
 use Rattle.afs_law.proofs.Basics.{Each, IfCall, each_at, each_map, if_call, some_of}
 use Rattle.afs_law.proofs.Calling.{IsAnswer, IsUncalled, answer_over, any_call}
 use Rattle.afs_law.proofs.Hearing.{HearsIn, first_hears, moved_hears}
-use Rattle.afs_law.proofs.Hosting.{IsCutBy, IsSound, decides_due, disk_begins, memory_of, serves_step, starts_step, times_step, wakes_step}
+use Rattle.afs_law.proofs.Hosting.{IsDue, IsCutBy, IsSound, decides_due, disk_begins, memory_of, serves_step, starts_step, times_step, wakes_step}
 use Rattle.afs_law.proofs.KeysOnce.{EachChange, HasCut, HasRun, IsCutOf, IsKnown, StandsIn, any_told, by_key, first_stands, moved_keeps, sound_over}
-use Rattle.afs_law.proofs.Law.{first_passed}
+use Rattle.afs_law.proofs.SettingUp.{first_passed}
 use Rattle.afs_law.proofs.Moving.{IsKept}
 use Rattle.afs_law.specs.Ideal.{set_up}
 use Rattle.afs_law.specs.Once.{AreOnce}
@@ -17,7 +17,7 @@ use Rattle.afs_num.specs.declared.types.Node.{Node}
 use Rattle.afs_num.specs.declared.types.Node.TheVariants.{Server}
 use Rattle.afs_rows.specs.Callbacks.{replies_of}
 use Rattle.afs_rows.specs.Runs.{Cell, Entry, Fall, at_rest, begun_by_disk, in_boot, in_step, message_at, start}
-use Rattle.afs_rows.specs.ServerRow.{key_of}
+use Rattle.afs_rows.specs.ServerRow.{decides, key_of}
 use Rattle.afs_rows.specs.ServerSteps.{back_timeout_row, server_row, start_row, wake_row}
 use Rattle.afs_rows.specs.States.{BackCall, ServerState}
 use Rattle.std.proofs.Common.{◌≡◌, ℕ, Bool, List, [], ◌∷◌, Option, Some, None, subst}
@@ -90,3 +90,9 @@ started_uncalled c past i after fall K down =
     let x : ServerState = (c.hosts i).state in
     uncalled _ (starts_step any_told any_told i x c.clock c.count (begun_by_disk (Server i) x after fall)
     (disk_begins any_told any_told (Server i) x after fall (any_sound c past i K) (any_held c past i K) (cut_any (IsKnown K.keys.callees c.clients) x fall (has_cut (IsKnown K.keys.callees c.clients) (c.hosts i).down fall down (K.keys.falls i))) (λ h to. tt))).sent
+
+-- so is what it decides there
+pub cut_due : (c : Cell) (past : List Entry) (i : ℕ) (m : Message) (clock : ℕ) → Known c past → (c.hosts i).down ≡ Some (in_step m clock) → IsDue any_told any_told (Server i) (c.hosts i).state (decides (Server i) (c.hosts i).state clock (Whole m))
+cut_due c past i m clock K down =
+    let x : ServerState = (c.hosts i).state in
+    decides_due any_told any_told (Server i) x clock m (any_sound c past i K).seats (cut_any (IsKnown K.keys.callees c.clients) x (in_step m clock) (has_cut (IsKnown K.keys.callees c.clients) (c.hosts i).down (in_step m clock) down (K.keys.falls i))) (λ to. tt)

@@ -2,7 +2,7 @@
 use Rattle.afs_history.specs.declared.lines.Line.{Line}
 use Rattle.afs_history.specs.declared.lines.Line.TheVariants as lines
 use Rattle.afs_history.specs.declared.scripts.Script.{Script}
-use Rattle.afs_law.proofs.Backing.{stopped_onto}
+use Rattle.afs_law.proofs.Backing.{stopped_onto, entries_same, entry_same}
 use Rattle.afs_law.proofs.Basics.{node_apart, some_of}
 use Rattle.afs_law.specs.Breaks.{HasStopped}
 use Rattle.afs_law.specs.Legal.{AreFailed, IdealChange, IsLater}
@@ -17,7 +17,7 @@ use Rattle.std.proofs.Common.{◌≡◌, ◌<◌, ◌≤◌, ℕ, ◌⊎◌, inl
 
 -- ---- a server that doesn't stop stays in its boot
 
-stopped_in : (s : Node) (ls o : List Line) → HasStopped s ls → HasStopped s (onto o ls)
+pub stopped_in : (s : Node) (ls o : List Line) → HasStopped s ls → HasStopped s (onto o ls)
 stopped_in s [] o h = absurd h
 stopped_in s (lines.Crash n ∷ ls) o (inl e) = stopped_onto s ls (lines.Crash n ∷ o) (inl e)
 stopped_in s (lines.Crash n ∷ ls) o (inr h) = stopped_in s ls (lines.Crash n ∷ o) h
@@ -69,22 +69,16 @@ pub record HasRunSince (server : Node) (k : Key) (past : List Entry) : Type 0 wh
   pub node : at.actor ≡ actors.Node server
   pub going : HasStopped server (lines_on (onto [] at.lines) newer) → ⊥
 
-same_head : (x y : Entry) (a b : List Entry) → x ∷ a ≡ y ∷ b → x ≡ y
-same_head x y a b e = cc
-
-same_rest : (x y : Entry) (a b : List Entry) → x ∷ a ≡ y ∷ b → a ≡ b
-same_rest x y a b e = cc
-
 -- a step that was interrupted stands behind it, or before a start
 cut_apart : (s : Node) (newer : List Entry) (at : Entry) (older later : List Entry) (cut : Entry) (before : List Entry) → newer ++ (at ∷ older) ≡ later ++ (cut ∷ before) → at.actor ≡ actors.Node s → (HasStopped s (lines_on (onto [] at.lines) newer) → ⊥) → HasStopped s cut.lines → AreFailed s later → ⊥
-cut_apart s [] at older [] cut before e node h x f = h (stopped_in s at.lines [] (subst (λ (y : Entry). HasStopped s y.lines) (sym (same_head at cut older before e)) x))
+cut_apart s [] at older [] cut before e node h x f = h (stopped_in s at.lines [] (subst (λ (y : Entry). HasStopped s y.lines) (sym (entry_same at cut older before e)) x))
 cut_apart s [] at older (y ∷ later) cut before e node h x f =
-    let same : at ≡ y = same_head at y older (later ++ (cut ∷ before)) e in
+    let same : at ≡ y = entry_same at y older (later ++ (cut ∷ before)) e in
     let told : at.lines ≡ lines.Fault s ∷ [] = ap (λ (z : Entry). z.lines) same ∙ f.0 (ap (λ (z : Entry). z.actor) (sym same) ∙ node) in
     h (stopped_in s at.lines [] (subst (HasStopped s) (sym told) (inl refl)))
-cut_apart s (y ∷ newer) at older [] cut before e node h x f = h (stopped_in s y.lines (lines_on (onto [] at.lines) newer) (subst (λ (z : Entry). HasStopped s z.lines) (sym (same_head y cut (newer ++ (at ∷ older)) before e)) x))
+cut_apart s (y ∷ newer) at older [] cut before e node h x f = h (stopped_in s y.lines (lines_on (onto [] at.lines) newer) (subst (λ (z : Entry). HasStopped s z.lines) (sym (entry_same y cut (newer ++ (at ∷ older)) before e)) x))
 cut_apart s (y ∷ newer) at older (z ∷ later) cut before e node h x f =
-    cut_apart s newer at older later cut before (same_rest y z (newer ++ (at ∷ older)) (later ++ (cut ∷ before)) e) node (λ w. h (stopped_onto s y.lines (lines_on (onto [] at.lines) newer) w)) x f.1
+    cut_apart s newer at older later cut before (entries_same y z (newer ++ (at ∷ older)) (later ++ (cut ∷ before)) e) node (λ w. h (stopped_onto s y.lines (lines_on (onto [] at.lines) newer) w)) x f.1
 
 pub later_key : (s : Script) (server : Node) (k : Key) (count : ℕ) (past : List Entry) (own next : List Line) → IdealChange s server k count past own next → (r : HasRunSince server k past) → IsLater k (called_key r.message.head)
 later_key s server k count past own next i r = elim i.place [

@@ -3,7 +3,7 @@ use Rattle.afs_history.specs.declared.lines.Line.{Line}
 use Rattle.afs_ideal.specs.Told.{live}
 use Rattle.afs_ideal.specs.Volumes.{Volume, version_at, vnode_of}
 use Rattle.afs_law.proofs.Edits.{Ones, SoundIn, Tops, agrees_of, index_in, last_of, none_has}
-use Rattle.afs_law.proofs.Serving.{last_has}
+use Rattle.afs_law.proofs.Finding.{last_has}
 use Rattle.afs_law.specs.Ideal.{HasVersion, IsThat, last_version, version_in}
 use Rattle.afs_law.specs.Past.{onto}
 use Rattle.afs_num.specs.declared.histories.Body.{Body}

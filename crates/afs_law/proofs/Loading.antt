@@ -16,10 +16,10 @@ use Rattle.afs_num.specs.declared.types.Node.TheVariants.{Client}
 use Rattle.afs_num.specs.declared.calls.FsCall.{FsCall}
 use Rattle.afs_num.specs.declared.messages.Message.{Message}
 use Rattle.afs_ideal.specs.Operations.{Found}
-use Rattle.afs_law.proofs.Backing.{unbroken_back, unbroken_last, owe_over, timeout_onto, Plain, Stepping, all_lines, is_up, is_still, is_oweless, is_unchanging, is_still_to, grant_back_to, settled_onto, stopped_back, front_onto, change_back, no_owe, owes_over, ended_over, calls_same, backed_step, seated_over, plain_step, plain_waits, waits_over, granted_over, owed_over, call_over, backed_plain, promised_over, live_back, numbered_over, zero_back, live_given, before_own, rising_over, rising_back}
+use Rattle.afs_law.proofs.Backing.{unbroken_back, unbroken_last, owe_over, timeout_onto, Plain, Stepping, all_lines, is_up, is_still, is_oweless, is_unchanging, is_still_to, grant_back_to, settled_onto, stopped_back, front_onto, change_back, no_owe, owes_over, ended_over, calls_same, backed_step, seated_over, plain_step, plain_waits, waits_over, granted_over, owed_over, call_over, backed_plain, promised_over, live_back, numbered_over, zero_back, live_given, before_own, rising_over, rising_back, head_same, tail_same}
 use Rattle.afs_law.proofs.Basics.{server_any, both, same_node-true, same_node-refl, same_fid-refl, same_fid-true, Above, Each, IfBack, IfDone, OfReply, each_map, if_back, if_done, some_of}
 use Rattle.afs_law.proofs.Owing.{CarriedOwe, AllOf, all_map, all_both, all_filter, IsGranted, IsIn, IsNumberIn, AccountedBy, WaitedBy, AllWaitedBy, HeldWaits, IsOwed, CallOut, BackIn, DroppedOwe, DoneIn, BackedIn, Promised, IsPromised, promise_to, Numbered, IsClient, Rising, ToClients, is_held}
-use Rattle.afs_law.proofs.Turning.{IsServing, loaded, in_filter, put_call, kept_in}
+use Rattle.afs_law.proofs.Turning.{IsServing, loaded, in_filter, put_call, kept_in, reply_key}
 use Rattle.afs_law.specs.Breaks.{unbroken_grant, HasSettled, HasTimeout, last_grant, expiry_of, AllOwes, CarriesBreak, GoodQuit, live_grant, HasOwe, last_number, lines_at, drops_of, HasStopped, OweAt}
 use Rattle.afs_rows.specs.Callbacks.{is_all, alls, numbers, is_reply_to, key_answered, breaks_call, break_message, owe_line, settle_line, quit_line, settles, quits, retries, still_owed}
 use Rattle.afs_law.specs.Ideal.{clock_of}
@@ -163,26 +163,20 @@ stopped_tail me l ls h x = h x
 owe_clients : (me : Node) (a b : Node) (v w : Option Fid) (n : ℕ) → lines.Owe me a v n ≡ lines.Owe me b w n → a ≡ b
 owe_clients me a b v w n e = cc
 
-lines_head : (x y : Line) (a b : List Line) → x ∷ a ≡ y ∷ b → x ≡ y
-lines_head x y a b e = cc
-
-lines_tail : (x y : Line) (a b : List Line) → x ∷ a ≡ y ∷ b → a ≡ b
-lines_tail x y a b e = cc
-
 once_by : (me : Node) (xs ys base below : List Line) (a b : Node) (v w : Option Fid) (n : ℕ) → xs ++ (lines.Owe me a v n ∷ base) ≡ ys ++ (lines.Owe me b w n ∷ below) → (HasStopped me xs → ⊥) → (HasStopped me ys → ⊥) → Rising me (xs ++ (lines.Owe me a v n ∷ base)) → a ≡ b
-once_by me [] [] base below a b v w n e up down h = owe_clients me a b v w n (lines_head _ _ base below e)
+once_by me [] [] base below a b v w n e up down h = owe_clients me a b v w n (head_same _ _ base below e)
 once_by me [] (y ∷ ys) base below a b v w n e up down h =
-    let rest : base ≡ ys ++ (lines.Owe me b w n ∷ below) = lines_tail (lines.Owe me a v n) y base _ e in
+    let rest : base ≡ ys ++ (lines.Owe me b w n ∷ below) = tail_same (lines.Owe me a v n) y base _ e in
     let r : Rising me (ys ++ (lines.Owe me b w n ∷ below)) = subst (Rising me) rest h.1 in
     let low : n ≤ last_number me (ys ++ (lines.Owe me b w n ∷ below)) = low_by me ys below b w n (stopped_tail me y ys down) r in
     let high : last_number me (ys ++ (lines.Owe me b w n ∷ below)) < n = subst (λ (ls : List Line). last_number me ls < n) rest (h.0 refl) in
     absurd (omega arith)
 once_by me (x ∷ xs) [] base below a b v w n e up down h =
-    let rest : xs ++ (lines.Owe me a v n ∷ base) ≡ below = lines_tail x (lines.Owe me b w n) _ below e in
+    let rest : xs ++ (lines.Owe me a v n ∷ base) ≡ below = tail_same x (lines.Owe me b w n) _ below e in
     let low : n ≤ last_number me (xs ++ (lines.Owe me a v n ∷ base)) = low_by me xs base a v n (stopped_tail me x xs up) (rising_tail me x _ h) in
-    let high : last_number me (xs ++ (lines.Owe me a v n ∷ base)) < n = rising_head me x _ b w n (lines_head x (lines.Owe me b w n) _ below e) h in
+    let high : last_number me (xs ++ (lines.Owe me a v n ∷ base)) < n = rising_head me x _ b w n (head_same x (lines.Owe me b w n) _ below e) h in
     absurd (omega arith)
-once_by me (x ∷ xs) (y ∷ ys) base below a b v w n e up down h = once_by me xs ys base below a b v w n (lines_tail x y _ _ e) (stopped_tail me x xs up) (stopped_tail me y ys down) (rising_tail me x _ h)
+once_by me (x ∷ xs) (y ∷ ys) base below a b v w n e up down h = once_by me xs ys base below a b v w n (tail_same x y _ _ e) (stopped_tail me x xs up) (stopped_tail me y ys down) (rising_tail me x _ h)
 
 owed_once : (me : Node) (a b : Node) (v w : Option Fid) (n : ℕ) (ls : List Line) → OweAt me a v n ls → OweAt me b w n ls → Rising me ls → a ≡ b
 owed_once me a b v w n ls x y h = once_by me x.newer y.newer x.base y.base a b v w n (sym x.split ∙ y.split) x.up y.up (subst (Rising me) x.split h)
@@ -226,7 +220,7 @@ ending : (me : Node) (n : Node) (k : ℕ) (ls : List Line) (xs owed : List Owed)
 ending me n k ls [] owed h e at = absurd cc
 ending me n k ls (x ∷ xs) owed h e at = ending_by me (nat_eq x.number k) n k ls x xs owed _ refl h.0 e at (λ what owe y. (what, (owe, y))) (λ y. let z = ending me n k ls xs owed h.1 y at in (z.0, (z.1.0, more_number (has_break x.number owed) k x (filter (λ (o : Owed). has_break o.number owed) xs) z.1.1)))
 
-held_or : (t a b : Bool) → cond t true a ≡ true → (a ≡ true → b ≡ true) → cond t true b ≡ true
+pub held_or : (t a b : Bool) → cond t true a ≡ true → (a ≡ true → b ≡ true) → cond t true b ≡ true
 held_or true a b e w = refl
 held_or false a b e w = w e
 
@@ -372,13 +366,6 @@ retries_backed me b boot seats cs clock sent e past n c at is h =
     (λ j seat m x y. seated_over me None None b now boot clock clock e past s j m (h.seated j seat m x y)))
 
 -- ---- a call runs: its reply is new
-
-reply_key : (k : Key) (m : Message) → is_reply_to k m ≡ true → key_answered m ≡ k
-reply_key k m t =
-    let a = both (same_node m.head.to k.node) _ t in
-    let b = both _ _ a.1 in
-    ap (λ (n : Node). record { node = n; epoch = m.head.epoch; number = m.head.number }) (same_node-true m.head.to k.node a.0)
-    ∙ (ap (λ (e : ℕ). record { node = k.node; epoch = e; number = m.head.number }) (eqb-true _ _ b.0) ∙ ap (λ (n : ℕ). record { node = k.node; epoch = k.epoch; number = n }) (eqb-true _ _ b.1))
 
 no_key_by : (me : Node) (t : Bool) (k : Key) (h : Held) (hs : List Held) (seats : List Seat) (clock : ℕ) (past : List Entry) → is_reply_to k h.reply ≡ t → HeldWaits me seats clock past h → cond t true (is_held k hs) ≡ true → Above (call_seat k.node seats) k.epoch k.number → (is_held k hs ≡ true → ⊥) → ⊥
 no_key_by me true k h hs seats clock past a w e above more = w.under (subst (λ (z : Key). Above (call_seat z.node seats) z.epoch z.number) (sym (reply_key k h.reply a)) above)
@@ -544,11 +531,11 @@ pub owes_tickless : (me : Node) (os : List Owed) → all_lines is_tickless (map 
 owes_tickless me [] = refl
 owes_tickless me (o ∷ os) = owes_tickless me os
 
-tick_before : (l : Line) (o : List Line) → is_tickless l ≡ true → clock_of (l ∷ o) ≡ clock_of o
+pub tick_before : (l : Line) (o : List Line) → is_tickless l ≡ true → clock_of (l ∷ o) ≡ clock_of o
 tick_before (lines.Tick n) o h = absurd cc
 tick_before l o h = refl
 
-clock_back : (ls o : List Line) → all_lines is_tickless ls ≡ true → clock_of (onto o ls) ≡ clock_of o
+pub clock_back : (ls o : List Line) → all_lines is_tickless ls ≡ true → clock_of (onto o ls) ≡ clock_of o
 clock_back [] o h = refl
 clock_back (l ∷ ls) o h = let q = both (is_tickless l) (all_lines is_tickless ls) h in clock_back ls (l ∷ o) q.1 ∙ tick_before l o q.0
 
@@ -562,24 +549,18 @@ record OweFound (os : List Owed) (c : Node) (what : Option Fid) (n : ℕ) : Type
 owe_same : (me : Node) (o : Owed) (c : Node) (what : Option Fid) (n : ℕ) → owe_line me o ≡ lines.Owe me c what n → (o.client ≡ c) × ((o.what ≡ what) × (o.number ≡ n))
 owe_same me o c what n e = (cc, (cc, cc))
 
-first_same : (x y : Line) (a b : List Line) → x ∷ a ≡ y ∷ b → x ≡ y
-first_same x y a b e = cc
-
-others_same : (x y : Line) (a b : List Line) → x ∷ a ≡ y ∷ b → a ≡ b
-others_same x y a b e = cc
-
 found_in : (me : Node) (os : List Owed) (before after : List Line) (c : Node) (what : Option Fid) (n : ℕ) → map (owe_line me) os ≡ before ++ lines.Owe me c what n ∷ after → OweFound os c what n
 found_in me [] [] after c what n e = absurd cc
 found_in me [] (x ∷ before) after c what n e = absurd cc
-found_in me (o ∷ os) [] after c what n e = let q = owe_same me o c what n (first_same (owe_line me o) _ _ after e) in record { o = o; is_in = inl refl; client = q.0; on = q.1.0; number = q.1.1 }
-found_in me (o ∷ os) (x ∷ before) after c what n e = let f : OweFound os c what n = found_in me os before after c what n (others_same (owe_line me o) x _ _ e) in record { o = f.o; is_in = inr f.is_in; client = f.client; on = f.on; number = f.number }
+found_in me (o ∷ os) [] after c what n e = let q = owe_same me o c what n (head_same (owe_line me o) _ _ after e) in record { o = o; is_in = inl refl; client = q.0; on = q.1.0; number = q.1.1 }
+found_in me (o ∷ os) (x ∷ before) after c what n e = let f : OweFound os c what n = found_in me os before after c what n (tail_same (owe_line me o) x _ _ e) in record { o = f.o; is_in = inr f.is_in; client = f.client; on = f.on; number = f.number }
 
 owes_found : (me : Node) (pre : List Line) (os : List Owed) (before after : List Line) (c : Node) (what : Option Fid) (n : ℕ) → all_lines is_oweless pre ≡ true → pre ++ map (owe_line me) os ≡ before ++ lines.Owe me c what n ∷ after → OweFound os c what n
 owes_found me [] os before after c what n h e = found_in me os before after c what n e
-owes_found me (l ∷ pre) os [] after c what n h e = let a : is_oweless l ≡ false = ap is_oweless (first_same l _ _ after e) in let b = (both (is_oweless l) (all_lines is_oweless pre) h).0 in absurd cc
-owes_found me (l ∷ pre) os (x ∷ before) after c what n h e = owes_found me pre os before after c what n (both (is_oweless l) (all_lines is_oweless pre) h).1 (others_same l x _ _ e)
+owes_found me (l ∷ pre) os [] after c what n h e = let a : is_oweless l ≡ false = ap is_oweless (head_same l _ _ after e) in let b = (both (is_oweless l) (all_lines is_oweless pre) h).0 in absurd cc
+owes_found me (l ∷ pre) os (x ∷ before) after c what n h e = owes_found me pre os before after c what n (both (is_oweless l) (all_lines is_oweless pre) h).1 (tail_same l x _ _ e)
 
-onto_both : (o a b : List Line) → onto o (a ++ b) ≡ onto (onto o a) b
+pub onto_both : (o a b : List Line) → onto o (a ++ b) ≡ onto (onto o a) b
 onto_both o [] b = refl
 onto_both o (l ∷ a) b = onto_both (l ∷ o) a b
 
@@ -853,9 +834,6 @@ left_promised me n k x clock vs ps fs e past front are still h j f y l t =
 
 -- ---- a promise that stays is on none of the breaks
 
-IsUnlike : Promise → Promise → Type 0
-IsUnlike p h = (same_node h.client p.client && same_fid h.fid p.fid) ≡ false
-
 unlike_by : (t : Bool) (n : Node) (vs : List Version) (p h : Promise) → (same_node h.client p.client && same_fid h.fid p.fid) ≡ t → (IsHit n vs p → ⊥) → IsHit n vs h → t ≡ false
 unlike_by true n vs p h e safe hit =
     let q = both (same_node h.client p.client) (same_fid h.fid p.fid) e in
@@ -1023,14 +1001,6 @@ pub record OnAll (expiry : ℕ) (o : Owed) : Type 0 where
 pub on_all : (expiry k m : ℕ) → AllOf (OnAll expiry) (owes_all expiry k m)
 on_all expiry k zero = tt
 on_all expiry k (suc m) = (record { on = refl; expires = refl }, on_all expiry (k + 1) m)
-
--- every client of the cell is owed a break on all
-pub all_owed : (me : Node) (x k m j : ℕ) → k + 1 ≤ j → j ≤ k + m → HasOwe me (Client j) None (map (owe_line me) (owes_all x k m))
-all_owed me x k zero j a b = absurd (omega arith)
-all_owed me x k (suc m) j a b = elim (eq-or-lt_of_le a) [
-  | inl e ↦ inl (refl, (ap Client e, refl))
-  | inr l ↦ inr (all_owed me x (k + 1) m j (omega arith) (omega arith))
-]
 
 not_now : (e boot : ℕ) → e ≤ boot → e ≡ boot + 1 → ⊥
 not_now e boot a b = absurd (omega arith)

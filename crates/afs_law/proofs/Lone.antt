@@ -1,5 +1,6 @@
 -- An act changes things once, however many servers a cell has: of the calls of one act at most one may change something, and that is its
 -- client's last.
+use Rattle.afs_law.proofs.Following.{none_runs, Follows, begins_follow, falls_follow, given_follow, more_not, rises_follow, waits_follow}
 use Rattle.afs_history.specs.declared.lines.Line.{Line}
 use Rattle.afs_history.specs.declared.lines.Line.TheVariants as lines
 use Rattle.afs_history.specs.declared.scripts.Script.{Script}
@@ -9,15 +10,14 @@ use Rattle.afs_law.proofs.Backing.{all_lines}
 use Rattle.afs_law.proofs.Basics.{ByClient, Each, IfCall, UpTo, at_put, both, by_client, client_number, each_at, node_apart, same_key-true, same_node-true, some_of}
 use Rattle.afs_law.proofs.Changing.{HeldCuts, IdealStep, cuts_first, cuts_kept, ideal_moves, run_each}
 use Rattle.afs_law.proofs.Choosing.{disk_works, one_from, risen_from, risen_lines, serves_works, starts_works, times_works, wakes_works}
-use Rattle.afs_law.proofs.Facts.{AreLone, IsChangingUnder}
+use Rattle.afs_law.proofs.Words.{AreLone, IsChangingUnder}
 use Rattle.afs_law.proofs.Firm.{IsFirm, IsSentBy}
-use Rattle.afs_law.proofs.Following.{Follows, begins_follow, falls_follow, given_follow, more_not, rises_follow, waits_follow}
 use Rattle.afs_law.proofs.Gifts.{Given, given_first, given_kept}
 use Rattle.afs_law.proofs.KeysOnce.{IsKnown, any_told, by_key, known_pair}
-use Rattle.afs_law.proofs.Law.{first_passed}
+use Rattle.afs_law.proofs.SettingUp.{first_passed}
 use Rattle.afs_law.proofs.Moving.{Behind, EachMove, IsKept, each_moved}
 use Rattle.afs_law.proofs.Ops.{changes_is}
-use Rattle.afs_law.proofs.Origins.{AskedIn, any_cut, any_message, blow_idle, idle_leaves, idle_works, is_idle, none_runs, of_client, other_leaves, same_key_at, the_calls}
+use Rattle.afs_law.proofs.Origins.{AskedIn, any_cut, any_message, blow_idle, idle_leaves, idle_works, is_idle, of_client, other_leaves, same_key_at, the_calls}
 use Rattle.afs_law.proofs.Passing.{IsAmong, among, changing_back, changing_more, lone_at, lone_first, lone_more, no_change, was_sent}
 use Rattle.afs_law.proofs.Placing.{Placed, PlacedStep, placed_first, placed_kept, placed_moves}
 use Rattle.afs_law.proofs.Saving.{any_change, later_not}
@@ -50,16 +50,17 @@ use Rattle.afs_rows.specs.ServerRow.{is_client, key_of}
 use Rattle.afs_rows.specs.Steps.{Step}
 use Rattle.std.proofs.Common.{suc, ◌≡◌, ℕ, ◌+◌, ◌⊎◌, inl, inr, Bool, true, false, cond, List, [], ◌∷◌, ◌++◌, Option, Some, None, refl, sym, ap, subst, ◌∙◌}
 use Rattle.std.specs.Prelude.{⊤}
+use Rattle.afs_law.proofs.Looking.{begun_by}
 
 -- ---- of the act that runs only the client's last call may change something
 
-abbrev LastOf : (ℕ → ClientState) → List Entry → Type 0
+abbrev pub LastOf : (ℕ → ClientState) → List Entry → Type 0
 LastOf clients past = (j : ℕ) (act : Going) → (clients j).running ≡ Some act → (k : Key) → is_of_act (Client j) k past ≡ true → IsChangingUnder k (sent_of past) → k ≡ last_key j (clients j)
 
-abbrev LonesOf : (ℕ → ClientState) → List Entry → Type 0
+abbrev pub LonesOf : (ℕ → ClientState) → List Entry → Type 0
 LonesOf clients past = LastOf clients past × AreLone (sent_of past) past
 
-abbrev LonesIn : Cell → List Entry → Type 0
+abbrev pub LonesIn : Cell → List Entry → Type 0
 LonesIn c past = LonesOf c.clients past
 
 -- an entry in which this client begins nothing and calls nobody
@@ -152,10 +153,6 @@ read_idle : (t : Bool) (f : Fid) (body : ReadBody) → read_on t f body None ≡
 read_idle true f body = refl
 read_idle false f body = refl
 
-begun_by : (t b : Bool) → cond t true b ≡ false → (t ≡ false) × (b ≡ false)
-begun_by true b h = absurd cc
-begun_by false b h = (refl, h)
-
 stays_idle : (s : Script) (n : Node) (ls o : List Line) → has_begun n ls ≡ false → running s n o ≡ None → running s n (onto o ls) ≡ None
 stays_idle s n [] o h r = r
 stays_idle s n (lines.Begin m act ∷ ls) o h r = let q = begun_by (same_node m n) (has_begun n ls) h in stays_idle s n ls (lines.Begin m act ∷ o) q.1 (idle_by (same_node m n) (Some (began (locations s) act)) (running s n o) q.0 r)
@@ -234,7 +231,7 @@ client_lones s c past n st told A h a f =
 
 -- ---- every step
 
-abbrev GivenLones : Script → Cell → List Entry → Type 0
+abbrev pub GivenLones : Script → Cell → List Entry → Type 0
 GivenLones s c past = Given s c past × LonesIn c past
 
 void_aside : (e : Entry) → e.sent ≡ [] → ((j : ℕ) → has_begun (Client j) e.lines ≡ false) → (j : ℕ) → Aside j e
@@ -267,7 +264,7 @@ lone_moves s = record {
 
 -- ---- what the history alone tells: a key that changed something is that of a changing call, and acts run at clients alone
 
-abbrev AreChanging : List Entry → Type 0
+abbrev pub AreChanging : List Entry → Type 0
 AreChanging past = (k : Key) → HasChange k (lines_of past) → IsChangingUnder k (sent_of past)
 
 ideal_changing : (s : Script) (server : Node) (k : Key) (count : ℕ) (past : List Entry) (own next : List Line) → IdealChange s server k count past own next → IsChangingUnder k (sent_of past)
@@ -292,7 +289,7 @@ changing_over s past e h w k x = elim (changed_in s e.actor past [] e.lines (lin
 ]
 
 -- at every moment
-abbrev AreActs : Script → List Entry → Type 0
+abbrev pub AreActs : Script → List Entry → Type 0
 AreActs s [] = ⊤
 AreActs s (e ∷ past) = ((n : Node) → is_client n ≡ false → running s n (lines_of (e ∷ past)) ≡ None) × AreActs s past
 
@@ -335,7 +332,7 @@ client_named Loc e = absurd cc
 
 -- ---- a change is the first of its act
 
-abbrev Lones : Script → Cell → List Entry → Type 0
+abbrev pub Lones : Script → Cell → List Entry → Type 0
 Lones s c past = ((GivenLones s c past × HeldCuts s c past) × Placed s c past) × (AreChanging past × AreActs s past)
 
 new_one : (k : Key) (o : Option Key) (A : Type 0) → IsNot k o A → A
@@ -347,23 +344,23 @@ behind_by server l [] o h = h
 behind_by server l (lines.Change q m count ∷ own) o h = inr (behind_by server l own o h)
 behind_by server l (x ∷ own) o h = behind_by server l own o h
 
-new_behind : (k : Key) (own o : List Line) → IsNew k (own ++ o) → IsNew k o
+pub new_behind : (k : Key) (own o : List Line) → IsNew k (own ++ o) → IsNew k o
 new_behind k [] o h = h
 new_behind k (l ∷ own) o h = new_behind k own o (new_one k (change_in l) (IsNew k (own ++ o)) h)
 
 -- its call has no later pair than its client's last
-pair_behind : (callees : Key → Node) (clients : ℕ → ClientState) (j : ℕ) (k : Key) (sent : List Message) → k.node ≡ Client j → has_sent k sent ≡ true → Each (IfCall (λ h user call. IsKnown callees clients h.to (key_of h))) sent → UpTo k.epoch k.number (clients j).epoch (clients j).last
+pub pair_behind : (callees : Key → Node) (clients : ℕ → ClientState) (j : ℕ) (k : Key) (sent : List Message) → k.node ≡ Client j → has_sent k sent ≡ true → Each (IfCall (λ h user call. IsKnown callees clients h.to (key_of h))) sent → UpTo k.epoch k.number (clients j).epoch (clients j).last
 pair_behind callees clients j k sent node h all =
     let a : IsAmong k (ByClient (λ h user call. IsKnown callees clients h.to (key_of h))) = among k (λ h user call. IsKnown callees clients h.to (key_of h)) sent h all in
     let key : called_key a.head ≡ k = same_key-true (called_key a.head) k a.key in
     let from : a.head.from ≡ Client j = ap (λ (l : Key). l.node) key ∙ node in
     subst (λ (l : Key). UpTo l.epoch l.number (clients j).epoch (clients j).last) key (known_pair callees clients a.head.to (key_of a.head) j from (by_client j a.head.from (IsKnown callees clients a.head.to (key_of a.head)) from a.fact))
 
-under_sent : (t : Bool) (c o : Option (List ℕ × FsCall)) (x : List ℕ × FsCall) (b : Bool) → cond t c o ≡ Some x → (o ≡ Some x → b ≡ true) → cond t true b ≡ true
+pub under_sent : (t : Bool) (c o : Option (List ℕ × FsCall)) (x : List ℕ × FsCall) (b : Bool) → cond t c o ≡ Some x → (o ≡ Some x → b ≡ true) → cond t true b ≡ true
 under_sent true c o x b e w = refl
 under_sent false c o x b e w = w e
 
-has_under : (k : Key) (sent : List Message) (x : List ℕ × FsCall) → call_under k sent ≡ Some x → has_sent k sent ≡ true
+pub has_under : (k : Key) (sent : List Message) (x : List ℕ × FsCall) → call_under k sent ≡ Some x → has_sent k sent ≡ true
 has_under k [] x e = absurd cc
 has_under k (m ∷ sent) x e = under_sent (is_called k m.head m.carried) (call_in m.carried) (call_under k sent) x (has_sent k sent) e (has_under k sent x)
 
@@ -393,7 +390,7 @@ alone_lines s c past who own [] h w = tt
 alone_lines s c past who own (lines.Change server k count ∷ ls) h w = (first_of_act s c past server k count own ls h w.0.1, alone_lines s c past who (lines.Change server k count ∷ own) ls h w.1)
 alone_lines s c past who own (l ∷ ls) h w = (tt, alone_lines s c past who (l ∷ own) ls h w.1)
 
-lones_kept : (s : Script) → IsKept (Lones s)
+pub lones_kept : (s : Script) → IsKept (Lones s)
 lones_kept s c past x h = (
   (((given_kept s c past x h.0.0.0.0, each_moved (GivenLones s) (Behind LonesIn) (lone_moves s) c past x h.0.0.0), cuts_kept s c past x h.0.0.1), placed_kept s c past x h.0.1),
   (
@@ -406,7 +403,7 @@ since_none : (t : Bool) → cond t false false ≡ true → ⊥
 since_none true h = absurd cc
 since_none false h = absurd cc
 
-lones_first : (s : Script) → Lones s (start s) (set_up s ∷ [])
+pub lones_first : (s : Script) → Lones s (start s) (set_up s ∷ [])
 lones_first s = (
   (((given_first s, (λ j act r. absurd cc, (λ j k l x y c d. absurd (since_none (has_begun (Client j) (set_up s).lines) (both (same_node k.node (Client j)) (is_sent_since (Client j) k (set_up s ∷ [])) x).1), tt))), cuts_first s), placed_first s),
   (

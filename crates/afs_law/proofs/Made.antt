@@ -25,7 +25,7 @@ use Rattle.afs_num.specs.declared.types.Fid.{Fid}
 use Rattle.afs_num.specs.declared.types.Key.{Key}
 use Rattle.afs_num.specs.declared.types.Node.{Node}
 use Rattle.afs_law.proofs.Basics.{some_of}
-use Rattle.afs_law.proofs.Facts.{is_passing}
+use Rattle.afs_law.proofs.Words.{is_passing}
 use Rattle.afs_law.proofs.Nexts.{as_changed}
 use Rattle.afs_law.proofs.Ops.{op_code, op_is, reads_is, shown_reads}
 use Rattle.afs_law.specs.Ideal.{set_up, volume_after}

@@ -2,12 +2,10 @@
 use Rattle.afs_law.proofs.Basics.{at_put}
 use Rattle.afs_law.proofs.Booting.{HaveRisen}
 use Rattle.afs_law.proofs.Hearing.{hears_at}
-use Rattle.afs_law.proofs.Law.{AreEntries, legal}
-use Rattle.afs_law.proofs.Servers.{run_same, seen_in}
+use Rattle.afs_law.proofs.SettingUp.{AreEntries}
 use Rattle.afs_law.specs.Ideal.{set_up}
-use Rattle.afs_law.specs.Legal.{IsOfScript, Legal}
+use Rattle.afs_law.specs.Legal.{IsOfScript}
 use Rattle.afs_law.specs.Once.{past_of}
-use Rattle.afs_law.specs.OneServer.{IsOneServer}
 use Rattle.afs_history.specs.declared.acts.Act.{Act}
 use Rattle.afs_history.specs.declared.lines.Line.{Line}
 use Rattle.afs_history.specs.declared.lines.Line.TheVariants as lines
@@ -170,6 +168,3 @@ run_sound s (x ∷ xs) c past (e ∷ es) end H r h =
 -- of any script
 pub run_entries : (s : Script) (h : List Entry) (end : Cell) → RunsTo h s end → AreEntries s (set_up s ∷ []) h
 run_entries s h end r = run_sound s r.inputs (start s) (set_up s ∷ []) h end (record { clients = refl; servers = refl; away = λ j e. absurd cc }) r.leads (hears_at s h end r).boots.risen
-
-pub runs_legal : (s : Script) (h : List Entry) (end : Cell) → IsOneServer s → RunsTo h s end → Legal h s
-runs_legal s h end is r = legal s h (seen_in end) is (run_same s h end is r) (run_entries s h end r)

@@ -12,7 +12,7 @@ use Rattle.afs_rows.specs.Runs.{Armed, Blow, Cell, Entry, Fall, Input, Leads, Lu
 use Rattle.afs_rows.specs.ServerRow.{device_calls}
 use Rattle.afs_rows.specs.ServerSteps.{back_timeout_row, server_row, wake_row}
 use Rattle.afs_rows.specs.States.{BackCall}
-use Rattle.std.proofs.Common.{zero, suc, ◌≡◌, ℕ, Bool, true, false, cond, List, [], ◌∷◌, ◌++◌, Option, Some, None, refl, sym, subst}
+use Rattle.std.proofs.Common.{zero, suc, ◌≡◌, ℕ, Bool, true, false, cond, List, [], ◌∷◌, Option, Some, None, refl, sym, subst}
 
 -- ---- every kind of step
 
@@ -139,12 +139,3 @@ run_keeps P w [] c past (e ∷ es) end h r = absurd r
 run_keeps P w (x ∷ xs) c past [] end h r = absurd r
 run_keeps P w (x ∷ xs) c past (e ∷ es) end h r =
     subst (λ (y : Entry). P end (past_of (y ∷ past) es)) (sym r.0) (run_keeps P w xs (moved c x).cell ((moved c x).entry ∷ past) es end (w c past x h) r.1)
-
--- and of each of its entries what every step gives
-pub run_gives : (P : Cell → List Entry → Type 0) (G : List Entry → Entry → Type 0) → IsKept P → ((c : Cell) (past : List Entry) (x : Input) → P c past → G past (moved c x).entry) → (xs : List Input) (c : Cell) (past before : List Entry) (e : Entry) (after : List Entry) (end : Cell) → P c past → Leads c xs (before ++ (e ∷ after)) end
-    → G (past_of past before) e
-run_gives P G w g [] c past [] e after end h r = absurd r
-run_gives P G w g [] c past (b ∷ before) e after end h r = absurd r
-run_gives P G w g (x ∷ xs) c past [] e after end h r = subst (G past) (sym r.0) (g c past x h)
-run_gives P G w g (x ∷ xs) c past (b ∷ before) e after end h r =
-    subst (λ (y : Entry). G (past_of (y ∷ past) before) e) (sym r.0) (run_gives P G w g xs (moved c x).cell ((moved c x).entry ∷ past) before e after end (w c past x h) r.1)

@@ -20,9 +20,9 @@ use Rattle.afs_ideal.proofs.Scopes.{Accepted, accepted}
 use Rattle.afs_ideal.proofs.Steps.{room_for}
 use Rattle.afs_ideal.proofs.Tables.{ascends_set, ascends_unset, get_below, free_bound, free_from}
 use Rattle.afs_ideal.specs.Directories.{IsDirectory, FitNames, FitsName, most_names, named, with_name, without_name}
-use Rattle.afs_ideal.specs.Operations.{number_named, Caller, all_rights, Result, op, changes, volume_called, tests, effect, first_failing, limits, edit_fits, is_last_count, last_count, no_amend, name_in, names_in, named_vnode, creates, removes, unlinks, renaming, renames_within, renames_across, renamed, creating, removing, linking, may_link, free_number, name_of, new_file, new_directory, new_link, is_directory, links_of, linked}
+use Rattle.afs_ideal.specs.Operations.{number_named, Caller, all_rights, Result, op, changes, volume_called, tests, effect, limits, edit_fits, is_last_count, last_count, no_amend, name_in, names_in, named_vnode, unlinks, renaming, renames_within, renames_across, renamed, creating, removing, linking, may_link, free_number, name_of, new_file, new_directory, new_link, is_directory, links_of}
 use Rattle.afs_ideal.specs.SetUp.{new_volume, new_root, called, laid_by, laid_in, laid_at, acl_laid, laid, laid_or, filled_by, empty_volume, first_volume, Laid, a_dir, a_link_to, led, parted, at_first, one_at_first, all_at_first, a_file_of, nothing_set, stores_all, new_fid}
-use Rattle.afs_ideal.specs.Tables.{Table, get, set, unset, AscendsFrom, lowest_free}
+use Rattle.afs_ideal.specs.Tables.{Table, get, set, unset, AscendsFrom}
 use Rattle.afs_ideal.specs.VnodeImage.{most_acl, most_contents}
 use Rattle.afs_ideal.specs.Volumes.{Kind, a_file, a_link, a_directory, Vnode, Volume, Edit, Amend, amends, makes, frees, amended, fresh, amends_at, makes_at, frees_at, edited, edited_all, edit_number, counted, vnode_of, with_status, or_old, ascending}
 use Rattle.afs_law.proofs.Basics.{some_of, both}
@@ -30,9 +30,9 @@ use Rattle.afs_law.proofs.Edits.{get-set, get-unset}
 use Rattle.afs_law.proofs.Keeping.{volume_put}
 use Rattle.afs_rows.specs.States.{volume_in}
 use Rattle.afs_records.specs.Durable.{Stored}
-use Rattle.afs_law.proofs.Facts.{IsReadable, IsFine, AreFine}
+use Rattle.afs_law.proofs.Words.{IsReadable, IsFine, AreFine}
 use Rattle.afs_law.proofs.Ops.{AllHold, all_hold}
-use Rattle.afs_law.proofs.Serving.{own_found, own_unique}
+use Rattle.afs_law.proofs.Finding.{own_found, own_unique}
 use Rattle.afs_history.specs.Written.{bytes_in}
 use Rattle.afs_ideal.specs.Operations as ops
 use Rattle.std.specs.Option.{ok_or}
@@ -175,12 +175,6 @@ pair_fits true next n m a x h k = (k, (h, tt))
 pair_fits false next n m a x h k = (h, (k, tt))
 
 -- ---- names
-
-small_free : (k : ℕ) (t : Table Vnode) → k ≤ 3 → length t < 4096 → lowest_free k t < 2 ^ 32
-small_free k t le short = let b : lowest_free k t ≤ k + 2 * length t = free_bound k t in le_trans (omega arith) eight
-  where
-    eight : 8196 ≤ 2 ^ 32
-    eight = omega arith
 
 -- the names of a directory that is there
 dir_by : (n : ℕ) (d : Fid) (v : Volume) (o : Option Vnode) → vnode_of d v ≡ o → is_some o ≡ true → IsFine v → IsDirectory (names_in o) × FitNames (names_in o)

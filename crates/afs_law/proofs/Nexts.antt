@@ -1,12 +1,11 @@
 -- What an act needs behind one more read.
 use Rattle.afs_num.specs.declared.calls.FsCall.{FsCall}
 use Rattle.afs_law.specs.Legal.{as_asked}
-use Rattle.afs_rows.specs.Scopes.{is_in_scope}
 use Rattle.afs_rows.specs.States.{Gift}
 use Rattle.afs_rows.specs.ClientRow.{call_by}
-use Rattle.std.proofs.Common.{◌≡◌, ℕ, Bool, true, false, cond, List, [], ◌∷◌, ◌++◌, Option, Some, None, nat_eq, refl, sym, ap, subst, ◌∙◌, ◌⊎◌, inl, inr}
+use Rattle.std.proofs.Common.{◌≡◌, ℕ, Bool, true, false, cond, List, [], ◌∷◌, ◌++◌, Option, Some, None, nat_eq, refl, sym, ap, subst, ◌∙◌}
 use Rattle.std.specs.Prelude.{◌&&◌, ◌||◌, ⊤, not}
-use Rattle.afs_ideal.specs.Operations.{volume_changed, volume_called}
+use Rattle.afs_ideal.specs.Operations.{volume_changed}
 use Rattle.afs_history.specs.declared.acts.Act.{Act}
 use Rattle.afs_history.specs.declared.acts.Act.TheVariants as acts
 use Rattle.afs_history.specs.declared.acts.Operand.{Operand}
@@ -184,53 +183,11 @@ act_ends g text h (acts.SetAccessList o list) rs = object_ends g text h.first o 
 act_ends g text h (acts.GetAccessList o) rs = object_ends g text h.first o rs _ (λ f rest. rights_by (has_rights f rest) g f _ (got_answers g f text rest))
 act_ends g text h acts.GiveUp rs = tt
 
-fid_asked : (f g : Fid) → calls.FetchAcl f ≡ calls.FetchAcl g → f ≡ g
-fid_asked f g e = cc
-
-rights_asked : (need : Need) (g : Fid) (later : Need) → Ends g need later → call_for need ≡ calls.FetchAcl g → later ≡ answers 0
-rights_asked (reads f) g later h is = absurd cc
-rights_asked (reads_status f) g later h is = absurd cc
-rights_asked (reads_statuses fs) g later h is = absurd cc
-rights_asked (reads_rights f) g later h is = h (fid_asked f g is)
-rights_asked (asks_for call) g later h is = absurd (h (ap volume_changed is))
-rights_asked gives_back g later h is = absurd cc
-rights_asked (answers code) g later h is = absurd cc
-
--- an act that asked for rights is answered with 0 once they are read
-pub rights_done : (a : Going) (g : Fid) (text : List ℕ) → call_for (next a) ≡ calls.FetchAcl g → next (with_read g (seen.AccessList text) a) ≡ answers 0
-rights_done a g text is = rights_asked (next a) g (next (with_read g (seen.AccessList text) a)) (act_ends g text a.homes a.act a.reads) is
-
-need_of_rights : (need : Need) (g : Fid) (later : Need) → Ends g need later → call_for need ≡ calls.FetchAcl g → need ≡ reads_rights g
-need_of_rights (reads f) g later h is = absurd cc
-need_of_rights (reads_status f) g later h is = absurd cc
-need_of_rights (reads_statuses fs) g later h is = absurd cc
-need_of_rights (reads_rights f) g later h is = ap reads_rights (fid_asked f g is)
-need_of_rights (asks_for call) g later h is = absurd (h (ap volume_changed is))
-need_of_rights gives_back g later h is = absurd cc
-need_of_rights (answers code) g later h is = absurd cc
-
--- an act that asks for rights needs them
-pub rights_need : (a : Going) (g : Fid) → call_for (next a) ≡ calls.FetchAcl g → next a ≡ reads_rights g
-rights_need a g is = need_of_rights (next a) g (next (with_read g (seen.AccessList []) a)) (act_ends g [] a.homes a.act a.reads) is
-
 -- ---- the call that an act waits for is what it asks, but for the promises that are given back
-
-pub as_is : (call k : FsCall) → as_asked call ≡ k → (volume_changed call ≡ None) ⊎ (call ≡ k)
-as_is (calls.GiveUpCallBacks fids callbacks) k e = inl refl
-as_is call k e = inr e
-
--- a call on a volume is as its act asks it
-pub served_as : (call : FsCall) (id : ℕ) → volume_called call ≡ Some id → as_asked call ≡ call
-served_as (calls.GiveUpCallBacks fids callbacks) id e = absurd cc
-served_as call id e = refl
 
 pub as_changed : (call : FsCall) → volume_changed (as_asked call) ≡ volume_changed call
 as_changed (calls.GiveUpCallBacks fids callbacks) = refl
 as_changed call = refl
-
-as_scope : (call : FsCall) (f : Fid) → is_in_scope (as_asked call) f ≡ is_in_scope call f
-as_scope (calls.GiveUpCallBacks fids callbacks) f = refl
-as_scope call f = refl
 
 changing_as : (call : FsCall) → (volume_changed call ≡ None → ⊥) → as_asked call ≡ call
 changing_as (calls.GiveUpCallBacks fids callbacks) w = absurd (w refl)
@@ -251,13 +208,3 @@ by_need gifts (answers code) w = refl
 
 pub asks_is : (gifts : List Gift) (act : Going) → as_asked (call_by gifts (next act)) ≡ asked act
 asks_is gifts act = by_need gifts (next act) (asks_change act)
-
-pub asks_changed : (gifts : List Gift) (act : Going) → volume_changed (call_by gifts (next act)) ≡ volume_changed (asked act)
-asks_changed gifts act = sym (as_changed (call_by gifts (next act))) ∙ ap volume_changed (asks_is gifts act)
-
-pub asks_scope : (gifts : List Gift) (act : Going) (f : Fid) → is_in_scope (call_by gifts (next act)) f ≡ is_in_scope (asked act) f
-asks_scope gifts act f = sym (as_scope (call_by gifts (next act)) f) ∙ ap (λ (k : FsCall). is_in_scope k f) (asks_is gifts act)
-
--- and where that is no promise that is given back, just what it asks
-pub asks_just : (gifts : List Gift) (act : Going) (call : FsCall) → as_asked call ≡ call → call_by gifts (next act) ≡ call → asked act ≡ call
-asks_just gifts act call e same = sym (asks_is gifts act) ∙ (ap as_asked same ∙ e)

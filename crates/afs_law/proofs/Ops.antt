@@ -1,12 +1,12 @@
 -- What the single operations are: each law by the calls.
 use Rattle.afs_ideal.proofs.Scopes.{stays_in_scope}
 use Rattle.afs_ideal.specs.AccessLists.{acl_at}
-use Rattle.afs_ideal.specs.Operations.{acl_read, Caller, Found, Shown, shows_body, shows_status, shows_acl, shows_statuses, shows_volume, reads, no_amend, Result, refused, changes, no_operation, by_tests, limited, limits, first_failing, tests, effect, read_by, one_more, statuses, op, volume_called, volume_changed, kind_is, is_kind, kinds_agree, vnode_in}
+use Rattle.afs_ideal.specs.Operations.{acl_read, Caller, Found, Shown, shows_body, shows_status, shows_acl, shows_volume, reads, no_amend, Result, refused, changes, no_operation, by_tests, limited, limits, first_failing, tests, effect, read_by, op, volume_called, volume_changed, kind_is, is_kind, kinds_agree, vnode_in}
 use Rattle.afs_ideal.specs.Tables.{get}
 use Rattle.afs_ideal.specs.Volumes.{Kind, a_file, a_directory, a_link, Vnode, Volume, Edit, amends, Amend, vnode_of, if_unique, versions_by, edited_all, amends_at, amended}
 use Rattle.afs_law.proofs.Basics.{both, some_of}
 use Rattle.afs_law.proofs.Edits.{get-set, Grow, touches, touched_volume}
-use Rattle.afs_law.proofs.Facts.{InScope, is_passing}
+use Rattle.afs_law.proofs.Words.{InScope, is_passing}
 use Rattle.afs_history.specs.declared.lines.Line.{Line}
 use Rattle.afs_rows.specs.Scopes.{is_volume}
 use Rattle.std.proofs.Common.{◌≤◌, ◌≡◌, ℕ, ◌+◌, ◌⊎◌, inl, Bool, true, false, cond, nat_eq, List, [], ◌∷◌, ◌++◌, Option, Some, None, ℤ, pos, refl, sym, ap, subst, ◌∙◌, eq-eqb, eqb-true}
@@ -166,9 +166,6 @@ tests_codes caller call v = tt
 abbrev pub IsNone : ℤ → Type 0
 IsNone code = is_passing code ≡ false
 
-refused_same : (a b : ℕ) → refused a ≡ refused b → a ≡ b
-refused_same a b e = cc
-
 -- what is refused has such a code
 abbrev pub IsNoZero : Result → Type 0
 IsNoZero (refused code) = is_passing (pos code) ≡ false
@@ -187,22 +184,6 @@ limited_code id v (changes es n) z = tested_code (limits id es v) (first_failing
 read_code : (show : Found → Shown) (f : Fid) (o : Option Vnode) → IsNoZero (read_by show f o)
 read_code show f None = refl
 read_code show f (Some x) = tt
-
-more_code : (f : Fid) (o : Option ℕ) (u : Option Vnode) (r : Result) → ((n : ℕ) → o ≡ Some n → is_passing (pos n) ≡ false) → IsNoZero r → IsNoZero (one_more f o u r)
-more_code f (Some n) u r h z = h n refl
-more_code f None None r h z = refl
-more_code f None (Some x) (refused code) h z = z
-more_code f None (Some x) (reads (shows_statuses xs)) h z = tt
-more_code f None (Some x) (reads (shows_body g)) h z = tt
-more_code f None (Some x) (reads (shows_status g)) h z = tt
-more_code f None (Some x) (reads (shows_acl g)) h z = tt
-more_code f None (Some x) (reads shows_volume) h z = tt
-more_code f None (Some x) (changes es n) h z = tt
-more_code f None (Some x) no_operation h z = tt
-
-statuses_code : (caller : Caller) (v : Volume) (fids : List Fid) → IsNoZero (statuses caller v fids)
-statuses_code caller v [] = tt
-statuses_code caller v (f ∷ fs) = more_code f (first_failing (tests caller (calls.FetchStatus f) v)) (vnode_of f v) (statuses caller v fs) (λ n e. failing (tests caller (calls.FetchStatus f) v) n (tests_codes caller (calls.FetchStatus f) v) e) (statuses_code caller v fs)
 
 effect_code : (caller : Caller) (call : FsCall) (v : Volume) (id : ℕ) → volume_called call ≡ Some id → IsNoZero (effect caller call v)
 effect_code caller (calls.FetchData g p w) v id of = read_code shows_body g (vnode_of g v)
@@ -248,7 +229,7 @@ pub record Storing (f : Fid) (a : Amend) (v : Volume) (es : List Edit) (n : ℕ)
   pub edits : es ≡ amends f.vnode a ∷ []
   pub shows : n ≡ f.vnode
 
-change_same : (es fs : List Edit) (a b : ℕ) → changes es a ≡ changes fs b → (es ≡ fs) × (a ≡ b)
+pub change_same : (es fs : List Edit) (a b : ℕ) → changes es a ≡ changes fs b → (es ≡ fs) × (a ≡ b)
 change_same es fs a b e = (cc, cc)
 
 limits_passed : (o : Option ℕ) (es fs : List Edit) (a b : ℕ) → by_tests o (changes es a) ≡ changes fs b → (es ≡ fs) × (a ≡ b)

@@ -4,20 +4,21 @@ use Rattle.afs_history.specs.declared.lines.Line.{Line}
 use Rattle.afs_history.specs.declared.lines.Line.TheVariants as lines
 use Rattle.afs_history.specs.declared.scripts.Script.{Script}
 use Rattle.afs_law.proofs.Acting.{Acts, Asks, IsTheCall, Rests, Stops, begins_acts, falls_acts, given_acts, is_of, last_key, rises_acts, waits_acts, who_at}
-use Rattle.afs_law.proofs.Asking.{call_is, under_last, unsent_late}
+use Rattle.afs_law.proofs.Sent.{call_is, under_last, unsent_late, late_by}
 use Rattle.afs_law.proofs.Backing.{all_lines}
 use Rattle.afs_law.proofs.Basics.{ByClient, Each, IfCall, OfCall, OfClient, UpTo, at_put, both, by_client, client_number, each_at, each_map, each_more, if_call, node_apart, a_key, next_not, of_client as of_client_node, same_key-refl, same_key-true, same_node-true, some_of}
 use Rattle.afs_law.proofs.Booting.{is_server}
 use Rattle.afs_law.proofs.Calling.{IsUncalled, uncalled_any}
 use Rattle.afs_ideal.specs.Tables.{Table}
 use Rattle.afs_law.proofs.Choosing.{AreFrom, IfCut, Works, is_from, one_from, risen_from, risen_lines, serves_works, starts_works, disk_works, times_works, wakes_works}
-use Rattle.afs_law.proofs.Facts.{IsOne, Origin}
+use Rattle.afs_law.proofs.Words.{IsOne, Origin}
 use Rattle.afs_law.proofs.KeysOnce.{IsKnown, any_told, by_key, known_pair}
 use Rattle.afs_law.proofs.Knowing.{Known, known_first, known_kept, served_uncalled, started_uncalled, timed_uncalled, woken_uncalled}
-use Rattle.afs_law.proofs.Law.{first_passed}
+use Rattle.afs_law.proofs.SettingUp.{first_passed}
 use Rattle.afs_law.proofs.Moving.{Behind, EachMove, IsKept, each_moved, run_keeps}
 use Rattle.afs_law.proofs.Seating.{AreSeated}
 use Rattle.afs_law.specs.Grants.{IsDropped, has_fetched, is_promised}
+use Rattle.afs_law.specs.Breaks.{HasTimeout}
 use Rattle.afs_law.specs.Ideal.{call_in, call_under, set_up, user_of}
 use Rattle.afs_law.specs.Legal.{as_asked}
 use Rattle.afs_law.specs.Once.{past_of}
@@ -48,8 +49,10 @@ use Rattle.afs_rows.specs.ServerRow.{key_of, made, versioned}
 use Rattle.afs_rows.specs.ServerSteps.{back_timeout_row, server_row, start_row, wake_row}
 use Rattle.afs_rows.specs.States.{Gift, ServerState}
 use Rattle.afs_rows.specs.Steps.{Step}
-use Rattle.std.proofs.Common.{◌≡◌, ℕ, ◌+◌, ◌⊎◌, inl, inr, Bool, true, false, cond, not, List, [], ◌∷◌, ◌++◌, Option, Some, None, refl, sym, ap, subst, ◌∙◌}
+use Rattle.std.proofs.Common.{◌≡◌, ℕ, ◌+◌, ◌⊎◌, inl, inr, Bool, true, false, cond, List, [], ◌∷◌, ◌++◌, Option, Some, None, refl, sym, ap, subst, ◌∙◌}
 use Rattle.std.specs.Prelude.{⊤, ◌&&◌}
+use Rattle.afs_law.proofs.Following.{none_runs}
+use Rattle.afs_law.proofs.Passing.{late_kept}
 
 -- ---- lines that leave the act that runs at a client
 
@@ -57,6 +60,7 @@ abbrev pub is_idle : Line → Bool
 is_idle (lines.Begin n act) = false
 is_idle (lines.Read n f index source body) = false
 is_idle (lines.Answer n code) = false
+is_idle (lines.Timeout n callee epoch number count) = is_server n
 is_idle (lines.Crash n) = is_server n
 is_idle (lines.Drop n f) = is_server n
 is_idle (lines.DropAll n q) = is_server n
@@ -74,6 +78,7 @@ pub record Leaves (s : Script) (j : ℕ) (ls o : List Line) : Type 0 where
   pub begins : has_begun (Client j) ls ≡ false
   pub fetched : (f : Fid) → has_fetched (Client j) f ls ≡ false
   pub dropped : (q : Node) (f : Fid) → IsDropped q (Client j) f (onto o ls) → IsDropped q (Client j) f o
+  pub timed : (q : Node) (epoch number count : ℕ) → HasTimeout (Client j) q epoch number count (onto o ls) → HasTimeout (Client j) q epoch number count o
 
 idle_line : (s : Script) (j : ℕ) (l : Line) (o : List Line) → is_idle l ≡ true → running s (Client j) (l ∷ o) ≡ running s (Client j) o
 idle_line s j (lines.Begin n act) o h = absurd cc
@@ -100,15 +105,20 @@ idle_dropped q j f (lines.DropAll n s) o h (inl e) = absurd (no_server n j h e.0
 idle_dropped q j f (lines.DropAll n s) o h (inr x) = x
 idle_dropped q j f l o h x = x
 
+idle_timed : (q : Node) (j epoch number count : ℕ) (l : Line) (o : List Line) → is_idle l ≡ true → HasTimeout (Client j) q epoch number count (l ∷ o) → HasTimeout (Client j) q epoch number count o
+idle_timed q j epoch number count (lines.Timeout n callee d k i) o h (inl x) = absurd (no_server n j h x.0)
+idle_timed q j epoch number count (lines.Timeout n callee d k i) o h (inr x) = x
+idle_timed q j epoch number count l o h x = x
+
 pub idle_leaves : (s : Script) (j : ℕ) (ls o : List Line) → all_lines is_idle ls ≡ true → Leaves s j ls o
-idle_leaves s j [] o h = record { runs = refl; begins = refl; fetched = λ f. refl; dropped = λ q f x. x }
+idle_leaves s j [] o h = record { runs = refl; begins = refl; fetched = λ f. refl; dropped = λ q f x. x; timed = λ q d k i x. x }
 idle_leaves s j (l ∷ ls) o h =
     let q = both (is_idle l) (all_lines is_idle ls) h in
     let r : Leaves s j ls (l ∷ o) = idle_leaves s j ls (l ∷ o) q.1 in
-    record { runs = r.runs ∙ idle_line s j l o q.0; begins = idle_begins j l ls q.0 ∙ r.begins; fetched = λ f. idle_fetched j f l ls q.0 ∙ r.fetched f; dropped = λ s f x. idle_dropped s j f l o q.0 (r.dropped s f x) }
+    record { runs = r.runs ∙ idle_line s j l o q.0; begins = idle_begins j l ls q.0 ∙ r.begins; fetched = λ f. idle_fetched j f l ls q.0 ∙ r.fetched f; dropped = λ s f x. idle_dropped s j f l o q.0 (r.dropped s f x); timed = λ s d k i x. idle_timed s j d k i l o q.0 (r.timed s d k i x) }
 
 -- those of another client
-other_node : (n : Node) (i j : ℕ) → same_node n (Client i) ≡ true → (i ≡ j → ⊥) → same_node n (Client j) ≡ false
+pub other_node : (n : Node) (i j : ℕ) → same_node n (Client i) ≡ true → (i ≡ j → ⊥) → same_node n (Client j) ≡ false
 other_node n i j e ne = ap (λ (q : Node). same_node q (Client j)) (same_node-true n (Client i) e) ∙ node_apart (Client i) (Client j) (λ z. ne (client_number i j z))
 
 other_line : (s : Script) (i j : ℕ) (l : Line) (o : List Line) → is_of i l ≡ true → (i ≡ j → ⊥) → running s (Client j) (l ∷ o) ≡ running s (Client j) o
@@ -140,12 +150,17 @@ other_dropped q i j f (lines.DropAll n s) o h ne (inl e) = absurd (no_other n i 
 other_dropped q i j f (lines.DropAll n s) o h ne (inr x) = x
 other_dropped q i j f l o h ne x = x
 
+other_timed : (q : Node) (i j epoch number count : ℕ) (l : Line) (o : List Line) → is_of i l ≡ true → (i ≡ j → ⊥) → HasTimeout (Client j) q epoch number count (l ∷ o) → HasTimeout (Client j) q epoch number count o
+other_timed q i j epoch number count (lines.Timeout n callee d k m) o h ne (inl x) = absurd (no_other n i j h ne x.0)
+other_timed q i j epoch number count (lines.Timeout n callee d k m) o h ne (inr x) = x
+other_timed q i j epoch number count l o h ne x = x
+
 pub other_leaves : (s : Script) (i j : ℕ) (ls o : List Line) → all_lines (is_of i) ls ≡ true → (i ≡ j → ⊥) → Leaves s j ls o
-other_leaves s i j [] o h ne = record { runs = refl; begins = refl; fetched = λ f. refl; dropped = λ q f x. x }
+other_leaves s i j [] o h ne = record { runs = refl; begins = refl; fetched = λ f. refl; dropped = λ q f x. x; timed = λ q d k m x. x }
 other_leaves s i j (l ∷ ls) o h ne =
     let q = both (is_of i l) (all_lines (is_of i) ls) h in
     let r : Leaves s j ls (l ∷ o) = other_leaves s i j ls (l ∷ o) q.1 ne in
-    record { runs = r.runs ∙ other_line s i j l o q.0 ne; begins = other_begins i j l ls q.0 ne ∙ r.begins; fetched = λ f. other_fetched i j f l ls q.0 ne ∙ r.fetched f; dropped = λ s f x. other_dropped s i j f l o q.0 ne (r.dropped s f x) }
+    record { runs = r.runs ∙ other_line s i j l o q.0 ne; begins = other_begins i j l ls q.0 ne ∙ r.begins; fetched = λ f. other_fetched i j f l ls q.0 ne ∙ r.fetched f; dropped = λ s f x. other_dropped s i j f l o q.0 ne (r.dropped s f x); timed = λ s d k m x. other_timed s i j d k m l o q.0 ne (r.timed s d k m x) }
 
 -- a server's
 from_server : (n : Node) (i : ℕ) → same_node n (Server i) ≡ true → is_server n ≡ true
@@ -155,12 +170,13 @@ from_idle : (i : ℕ) (l : Line) → is_from (Server i) l ≡ true → is_idle l
 from_idle i (lines.Begin n act) h = absurd cc
 from_idle i (lines.Read n f index source body) h = absurd cc
 from_idle i (lines.Answer n code) h = absurd cc
+from_idle i (lines.Timeout n callee epoch number count) h = from_server n i h
 from_idle i (lines.Crash n) h = from_server n i h
 from_idle i (lines.Drop n f) h = absurd cc
 from_idle i (lines.DropAll n q) h = absurd cc
 from_idle i l h = refl
 
-all_idle : (i : ℕ) (ls : List Line) → AreFrom (Server i) ls → all_lines is_idle ls ≡ true
+pub all_idle : (i : ℕ) (ls : List Line) → AreFrom (Server i) ls → all_lines is_idle ls ≡ true
 all_idle i [] h = refl
 all_idle i (l ∷ ls) h = let q = both (is_from (Server i) l) (all_lines (is_from (Server i)) ls) h in rw (from_idle i l q.0, all_idle i ls q.1) refl
 
@@ -245,10 +261,6 @@ AskedIn s c past = Asked s c.clients c.sent past
 origin_over : (s : Script) (e : Entry) (past : List Entry) (head : Head) (user : List ℕ) (call : FsCall) → Origin s past head user call → Origin s (e ∷ past) head user call
 origin_over s e past head user call x = record { act = x.act; called = inr x.called; own_user = x.own_user; own_call = x.own_call }
 
-late_still : (t a b : Bool) → t ≡ false → b ≡ true → cond t a b ≡ true
-late_still false a b e h = h
-late_still true a b e h = absurd cc
-
 -- a step of another node
 idle_asked : (s : Script) (clients : ℕ → ClientState) (sent more : List Message) (past : List Entry) (e : Entry) → Asked s clients sent past → ((P : Message → Type 0) → Each P sent → Each P e.sent → Each P more) → ((k : Key) (x : List ℕ × FsCall) → call_under k sent ≡ Some x → call_under k more ≡ Some x)
     → all_lines is_idle e.lines ≡ true → Each IsUncalled e.sent → Asked s clients more (e ∷ past)
@@ -260,7 +272,7 @@ idle_asked s clients sent more past e A over under idle none = record {
   last = λ j act r. under (last_key j (clients j)) ((clients j).user, call_of (clients j) act) (A.last j act r);
   origins = over (IfCall (Origin s (e ∷ past))) (each_map _ _ (if_call (Origin s past) (Origin s (e ∷ past)) (origin_over s e past)) sent A.origins) (each_map IsUncalled (IfCall (Origin s (e ∷ past))) (uncalled_any (Origin s (e ∷ past))) e.sent none);
   asked = λ j act r. inr ((idle_leaves s j e.lines (lines_of past) idle).begins, A.asked j act r);
-  late = λ j act r. late_still (has_begun (Client j) e.lines) _ _ (idle_leaves s j e.lines (lines_of past) idle).begins (A.late j act r);
+  late = λ j act r. late_kept (has_begun (Client j) e.lines) _ _ (idle_leaves s j e.lines (lines_of past) idle).begins (A.late j act r);
   seats = A.seats;
 }
 
@@ -280,9 +292,6 @@ same_call x y act g = ap (λ (gs : List Gift). call_by gs (next act)) g
 
 pub next_key : (n : ℕ) (clients : ℕ → ClientState) (st : Step ClientState) → Asks n (who_at (clients n)) st → IsNext n clients (last_key n st.state)
 next_key n clients st a = record { node = refl; epoch = a.epoch; number = a.last }
-
-pub none_runs : (o : Option Going) (act : Going) → o ≡ None → o ≡ Some act → ⊥
-none_runs o act e f = let no : None ≡ Some act = sym e ∙ f in absurd cc
 
 -- the call that it waits for is the one under its key
 last_one : (c : Cell) (past : List Entry) (s : Script) (n : ℕ) (st : Step ClientState) → Known c past → AskedIn s c past → st.state.user ≡ (c.clients n).user → Rests n (who_at (c.clients n)) (c.clients n).gifts st ⊎ (Asks n (who_at (c.clients n)) st ⊎ Stops n (who_at (c.clients n)) st) → (act : Going) → st.state.running ≡ Some act
@@ -312,15 +321,11 @@ last_asked c past s n st A who (inr (inl a)) act run =
     inl (refl, subst (Sends (last_key n st.state) (user_at s n) (call_of st.state act)) (sym a.sent) sends)
 last_asked c past s n st A who (inr (inr z)) act run = absurd (none_runs st.state.running act z.act run)
 
-late_by : (t a b : Bool) → a ≡ false → b ≡ true → cond t (not a) b ≡ true
-late_by true a b x y = rw x refl
-late_by false a b x y = y
-
 pub last_late : (c : Cell) (past : List Entry) (s : Script) (n : ℕ) (st : Step ClientState) → Known c past → AskedIn s c past → Rests n (who_at (c.clients n)) (c.clients n).gifts st ⊎ (Asks n (who_at (c.clients n)) st ⊎ Stops n (who_at (c.clients n)) st) → (act : Going) → st.state.running ≡ Some act
     → is_new_to_act (Client n) (last_key n st.state) (of_client n st ∷ past) ≡ true
 last_late c past s n st K A (inl r) act run = elim r.act [
   | inl none ↦ absurd (none_runs st.state.running act none run)
-  | inr same ↦ late_still (has_begun (Client n) st.lines) _ _ same.1.1 (subst (λ (k : Key). is_new_to_act (Client n) k past ≡ true) (sym (same_key_at n (c.clients n) st.state r.epoch r.last)) (A.late n act (sym same.0 ∙ run)))
+  | inr same ↦ late_kept (has_begun (Client n) st.lines) _ _ same.1.1 (subst (λ (k : Key). is_new_to_act (Client n) k past ≡ true) (sym (same_key_at n (c.clients n) st.state r.epoch r.last)) (A.late n act (sym same.0 ∙ run)))
 ]
 last_late c past s n st K A (inr (inl a)) act run =
     let no : has_sent (last_key n st.state) (sent_of past) ≡ false = subst (λ (ms : List Message). has_sent (last_key n st.state) ms ≡ false) (sym K.hears.told) (unsent K.keys.callees c.clients n (last_key n st.state) c.sent (next_key n c.clients st a) K.keys.calls).0 in
@@ -365,7 +370,7 @@ client_asked s c past n st K A a =
           (λ other act r. inr ((other_leaves s n j st.lines (lines_of past) a.of other).begins, A.asked j act r));
       late = λ j. at_put n j (λ (x : ClientState). (act : Going) → x.running ≡ Some act → is_new_to_act (Client j) (last_key j x) (e ∷ past) ≡ true) st.state c.clients
           (λ same. subst (λ (i : ℕ). (act : Going) → st.state.running ≡ Some act → is_new_to_act (Client i) (last_key i st.state) (e ∷ past) ≡ true) same (last_late c past s n st K A a.goes))
-          (λ other act r. late_still (has_begun (Client j) st.lines) _ _ (other_leaves s n j st.lines (lines_of past) a.of other).begins (A.late j act r));
+          (λ other act r. late_kept (has_begun (Client j) st.lines) _ _ (other_leaves s n j st.lines (lines_of past) a.of other).begins (A.late j act r));
       seats = λ j. at_put n j (λ (x : ClientState). AreSeated (Client j) x.seats) st.state c.clients (λ same. subst (λ (i : ℕ). AreSeated (Client i) st.state.seats) same (a.seats (A.seats n))) (λ other. A.seats j);
     }
 

@@ -2,36 +2,31 @@
 use Rattle.afs_breaks.specs.declared.types.Promise.{Promise}
 use Rattle.afs_history.specs.declared.lines.Line.{Line}
 use Rattle.afs_history.specs.declared.lines.Line.TheVariants as lines
-use Rattle.afs_history.specs.declared.scripts.Script.{Script}
-use Rattle.afs_law.proofs.Acting.{is_of}
-use Rattle.afs_law.proofs.Backing.{Plain, Stepping, all_lines, backed_plain, backed_step, before_own, calls_same, call_over, is_up, owed_over, owes_over, seated_over, waits_over}
-use Rattle.afs_law.proofs.Basics.{ByServer, Each, IfBack, IfDone, OfCall, OfReply, OfServer, both, each_map, each_more, if_done, node_apart, same_node-refl, same_node-true, server_any}
+use Rattle.afs_law.proofs.Backing.{Stepping, all_lines, backed_step, before_own, calls_same, call_over, is_up, owed_over, seated_over, waits_over, head_same, tail_same}
+use Rattle.afs_law.proofs.Basics.{ByServer, Each, IfBack, IfDone, OfCall, OfServer, both, each_map, each_more, if_done, node_apart, same_node-refl, same_node-true, server_any}
 use Rattle.afs_law.proofs.Breaking.{IsMessage, break_is}
 use Rattle.afs_law.proofs.Choosing.{is_from}
-use Rattle.afs_law.proofs.Owing.{AllOf, AllWaitedBy, BackIn, BackedIn, DoneIn, HeldWaits, IsClient, IsGranted, IsOwed, Numbered, Promised, Rising, SeatedIn, WaitedBy, all_both, all_filter, all_map}
+use Rattle.afs_law.proofs.Owing.{AllOf, BackIn, BackedIn, DoneIn, HeldWaits, IsClient, IsGranted, Numbered, Promised, Rising, all_both, all_filter, all_map}
 use Rattle.afs_law.proofs.Promising.{Owed}
 use Rattle.afs_law.proofs.Ticking.{IsCalm}
-use Rattle.afs_law.proofs.Turning.{held_all}
+use Rattle.afs_law.proofs.Turning.{held_all, no_back, of_reply_any}
 use Rattle.afs_law.specs.Breaks.{has_answer, is_entry_of, is_on, last_number, lines_at, live_grant, returned_by, returned_in, runs_now, unbroken_grant}
 use Rattle.afs_law.specs.Legal.{HasChange}
 use Rattle.afs_law.specs.Past.{called_key, given_message, lines_of, onto, sent_of}
 use Rattle.afs_num.specs.Fids.{same_fid}
 use Rattle.afs_num.specs.Nodes.{same_node}
-use Rattle.afs_num.specs.declared.calls.FsCall.{FsCall}
-use Rattle.afs_num.specs.declared.histories.Actor.TheVariants as actors
 use Rattle.afs_num.specs.declared.messages.Call.TheVariants as ask
 use Rattle.afs_num.specs.declared.messages.Carried.{Carried}
 use Rattle.afs_num.specs.declared.messages.Carried.TheVariants as carried
 use Rattle.afs_num.specs.declared.messages.Message.{Message}
 use Rattle.afs_num.specs.declared.types.Fid.{Fid}
 use Rattle.afs_num.specs.declared.types.Head.{Head}
-use Rattle.afs_num.specs.declared.types.Key.{Key}
 use Rattle.afs_num.specs.declared.types.Node.{Node}
-use Rattle.afs_num.specs.declared.types.Node.TheVariants.{Client, Server}
-use Rattle.afs_rows.specs.Callbacks.{Started, Turn, break_message, held_after, given_out, is_ready, key_answered, pumped, replies_of, starts, starts_by, started_call}
+use Rattle.afs_num.specs.declared.types.Node.TheVariants.{Server}
+use Rattle.afs_rows.specs.Callbacks.{Started, Turn, is_ready, key_answered, pumped, replies_of, starts, starts_by, started_call}
 use Rattle.afs_rows.specs.Runs.{Entry, Fall}
 use Rattle.afs_rows.specs.States.{BackCall, Backs, Held, Seat}
-use Rattle.std.proofs.Common.{◌≡◌, ℕ, ◌<◌, ◌≤◌, ◌⊎◌, inl, inr, Bool, true, false, cond, filter, List, [], ◌∷◌, ◌++◌, Option, Some, None, refl, sym, ap, subst, ◌∙◌}
+use Rattle.std.proofs.Common.{◌≡◌, ℕ, ◌≤◌, inl, Bool, true, false, cond, filter, List, [], ◌∷◌, ◌++◌, Option, Some, None, refl, sym, ap, subst, ◌∙◌}
 use Rattle.std.proofs.Math.Nat.{le_refl}
 use Rattle.std.specs.Prelude.{⊤, not, ◌&&◌}
 
@@ -130,20 +125,14 @@ rising_apart : (me : Node) (ls o : List Line) → AreApart me ls → Rising me o
 rising_apart me [] o h r = r
 rising_apart me (l ∷ ls) o h r = let q = both (is_apart me l) (all_lines (is_apart me) ls) h in rising_apart me ls (l ∷ o) q.1 (rising_line me l o q.0 r)
 
-first_line : (x y : Line) (a b : List Line) → x ∷ a ≡ y ∷ b → x ≡ y
-first_line x y a b e = cc
-
-next_lines : (x y : Line) (a b : List Line) → x ∷ a ≡ y ∷ b → a ≡ b
-next_lines x y a b e = cc
-
 owe_line_not : (me : Node) (l : Line) (c : Node) (what : Option Fid) (n : ℕ) → is_apart me l ≡ true → l ≡ lines.Owe me c what n → ⊥
 owe_line_not me l c what n h e = not_me me me (ap (is_apart me) (sym e) ∙ h) refl
 
 no_own_owe : (me : Node) (ls before after : List Line) (c : Node) (what : Option Fid) (n : ℕ) → AreApart me ls → ls ≡ before ++ lines.Owe me c what n ∷ after → ⊥
 no_own_owe me [] [] after c what n h e = absurd cc
 no_own_owe me [] (x ∷ before) after c what n h e = absurd cc
-no_own_owe me (l ∷ ls) [] after c what n h e = owe_line_not me l c what n (both (is_apart me l) (all_lines (is_apart me) ls) h).0 (first_line l _ ls after e)
-no_own_owe me (l ∷ ls) (x ∷ before) after c what n h e = no_own_owe me ls before after c what n (both (is_apart me l) (all_lines (is_apart me) ls) h).1 (next_lines l x ls _ e)
+no_own_owe me (l ∷ ls) [] after c what n h e = owe_line_not me l c what n (both (is_apart me l) (all_lines (is_apart me) ls) h).0 (head_same l _ ls after e)
+no_own_owe me (l ∷ ls) (x ∷ before) after c what n h e = no_own_owe me ls before after c what n (both (is_apart me l) (all_lines (is_apart me) ls) h).1 (tail_same l x ls _ e)
 
 -- ---- over an entry of another server
 
@@ -205,25 +194,13 @@ apart_backed me other d b boot seats cs clock sent ms e past ne h by keys own B 
 
 -- ---- what a server sends
 
-reply_calls : (P : Head → List ℕ → FsCall → Type 0) (head : Head) (c : Carried) → (OfReply ⊥ c → ⊥) → OfCall P head c
-reply_calls P head (carried.Call user call) is = absurd (is tt)
-reply_calls P head (carried.Refusal code) is = tt
-reply_calls P head (carried.Reply reply) is = tt
-reply_calls P head carried.Notice is = tt
-
-of_any : (P : Type 0) (c : Carried) → P → OfReply P c
-of_any P (carried.Call user call) x = tt
-of_any P (carried.Refusal code) x = x
-of_any P (carried.Reply reply) x = x
-of_any P carried.Notice x = tt
-
 held_own : (me : Node) (seats : List Seat) (clock : ℕ) (past : List Entry) (hs : List Held) → AllOf (HeldWaits me seats clock past) hs → Each (IsMessage me) (replies_of hs)
 held_own me seats clock past [] w = tt
 held_own me seats clock past (h ∷ hs) w = (
   record {
     from = w.0.from;
-    calls = reply_calls (λ head user call. IsClient head.to) h.reply.head h.reply.carried w.0.is_reply;
-    replies = of_any (OfServer h.reply.head.to ⊥) h.reply.carried (subst (λ (n : Node). OfServer n ⊥) (sym w.0.to) tt);
+    calls = no_back (λ head user call. IsClient head.to) h.reply.head h.reply.carried w.0.is_reply;
+    replies = of_reply_any (OfServer h.reply.head.to ⊥) h.reply.carried (subst (λ (n : Node). OfServer n ⊥) (sym w.0.to) tt);
   },
   held_own me seats clock past hs w.1,
 )

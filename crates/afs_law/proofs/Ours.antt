@@ -8,7 +8,7 @@ use Rattle.afs_ideal.specs.Operations.{volume_changed}
 use Rattle.afs_law.proofs.Basics.{same_node-refl, some_of}
 use Rattle.afs_law.proofs.Following.{IsNoGift}
 use Rattle.afs_law.proofs.Walking.{walked_keeps}
-use Rattle.afs_law.specs.ClientParts.{AreInCell, IsOfCell}
+use Rattle.afs_law.specs.Cells.{AreInCell, IsOfCell}
 use Rattle.afs_model.specs.Calls as pairs
 use Rattle.afs_model.specs.Calls.{Admitted, admitted}
 use Rattle.afs_num.specs.Fids.{same_fid}

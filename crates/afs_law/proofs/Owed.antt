@@ -1,4 +1,5 @@
 -- The breaks of each server of a run are good, and its replies wait for them, however many servers a cell has.
+use Rattle.afs_law.proofs.Loading.{clock_back, IsHit, alls_good, all_hits, down_later, filtered, has_owe, hits_hit, is_tickless, numbers_good, quits_good, rise_loaded, settles_good, touched_hit, two_all, owes_tickless, onto_both}
 use Rattle.afs_breaks.specs.declared.types.Promise.{Promise}
 use Rattle.afs_breaks.specs.Promises.{owes_from}
 use Rattle.afs_history.specs.declared.lines.Line.{Line}
@@ -8,29 +9,27 @@ use Rattle.afs_ideal.specs.Operations.{Found}
 use Rattle.afs_ideal.specs.Tables.{Table}
 use Rattle.afs_law.proofs.Acting.{Acts, begins_acts, falls_acts, given_acts, is_of, rises_acts, waits_acts, who_at, Who, IsTheCall}
 use Rattle.afs_law.proofs.Backing.{Plain, all_lines, backed_fall, backed_plain, change_back, is_oweless, is_still, is_unchanging, plain_step, seated_over, before_own, live_back, live_given, no_owe, rising_back, zero_back}
-use Rattle.afs_law.proofs.Basics.{Above, Below, ByServer, Each, IfBack, IfCall, IfDone, IfReply, LastSeat, OfCall, OfClient, OfReply, OfServer, at_put, both, by_client, by_server, each_at, each_map, each_more, node_apart, same_node-refl, of_call}
+use Rattle.afs_law.proofs.Basics.{Above, Below, ByServer, Each, IfBack, IfCall, IfDone, IfReply, LastSeat, OfCall, OfClient, OfReply, OfServer, at_put, both, by_client, by_server, each_at, each_map, each_more, node_apart, of_call, runs_admitted, same_node-refl}
 use Rattle.afs_law.proofs.Booting.{HasFront, all_same, disk_front, serves_standing, times_standing, owes_standing}
 use Rattle.afs_law.proofs.Breaking.{Facing, IsKept, IsMessage, Loads, Runtime, answered_loads, does_loads, none_loads, noticed_loads, of_server, repeated_lines, timed_loads, saves_lines}
 use Rattle.afs_law.proofs.Changing.{run_each}
 use Rattle.afs_law.proofs.Choosing.{Works, disk_works, is_from, risen_from, risen_lines, serves_works, starts_works, times_works, wakes_works, IfCut}
 use Rattle.afs_law.proofs.Cutting.{comes_first, now_up}
-use Rattle.afs_law.proofs.Deciding.{durable_above}
+use Rattle.afs_law.proofs.Waiting.{durable_above}
 use Rattle.afs_law.proofs.Edits.{on_top}
 use Rattle.afs_law.proofs.Ideals.{of_this, own_from}
-use Rattle.afs_law.proofs.KeysOnce.{HasRun, IsKnown, any_told, by_key, new_key, not_run, HasCut, IsCutOf}
-use Rattle.afs_law.proofs.Loading.{IsHit, alls_good, all_hits, down_later, filtered, has_owe, hits_hit, is_tickless, numbers_good, quits_good, rise_loaded, settles_good, touched_hit, two_all, owes_tickless}
+use Rattle.afs_law.proofs.KeysOnce.{HasRun, IsKnown, any_told, by_key, new_key, not_run, HasCut, IsCutOf, server_number}
 use Rattle.afs_law.proofs.Moving.{Behind, EachMove, IsKept as IsKeptBy, each_moved}
 use Rattle.afs_law.proofs.Origins.{of_client}
 use Rattle.afs_law.proofs.Others.{KeepsKey, apart_backed, is_apart, other_calm, pumped_own}
 use Rattle.afs_law.proofs.Owing.{AllOf, BackIn, BackedIn, DoneIn, HeldWaits, IsClient, IsDone, IsGranted, SeatedIn, all_map, Numbered}
-use Rattle.afs_law.proofs.Promised.{is_file, was_given, over_stopped}
+use Rattle.afs_law.proofs.Promised.{is_file, was_given, over_stopped, blow_still}
 use Rattle.afs_law.proofs.Promising.{Owed, hits, risen_as, risen_is, saves_turn, saves_turn_is}
 use Rattle.afs_law.proofs.Reasons.{IsFile, Runs, Why, why_hears}
 use Rattle.afs_law.proofs.Saving.{first_on, on_changed, onto_versioned, granted_others, granted_stopped, on_others}
 use Rattle.afs_law.proofs.Seating.{IsReplyOf, SitsIn, sits_moves}
 use Rattle.afs_law.proofs.Speaking.{Tells, begun_speaks, kept_at, of_plain, old_seated, speaks_tells, told_leaves, waits_speaks, Speaks}
-use Rattle.afs_law.proofs.Standing.{runs_admitted}
-use Rattle.afs_law.proofs.Ticking.{HeldTicks, ticks_first, ticks_kept, tickless_clock, works_lines, AnyCall, works_stand}
+use Rattle.afs_law.proofs.Ticking.{HeldTicks, ticks_first, ticks_kept, works_lines, AnyCall, works_stand, lines_told}
 use Rattle.afs_law.proofs.Turning.{Pumps, expired_backed, pumps}
 use Rattle.afs_law.specs.Breaks.{HasOwe, HasStopped, last_number, live_grant, lines_at}
 use Rattle.afs_law.specs.Ideal.{clock_of, set_up, first_lines}
@@ -66,10 +65,10 @@ use Rattle.afs_rows.specs.ServerSteps.{back_timeout_row, server_row, start_row, 
 use Rattle.afs_rows.specs.States.{BackCall, Backs, Gift, Held, Seat, ServerState}
 use Rattle.afs_rows.specs.Steps.{Step}
 use Rattle.afs_law.proofs.Calling.{IsAnswer}
-use Rattle.afs_law.proofs.Facts.{IsOne, up_boot}
+use Rattle.afs_law.proofs.Words.{IsOne, up_boot}
 use Rattle.afs_law.proofs.Firm.{IsSentBy}
-use Rattle.afs_law.proofs.Hearing.{HearsIn}
-use Rattle.afs_law.proofs.Law.{AreVersions, all_versions, first_oweless, first_still, lines_none}
+use Rattle.afs_law.proofs.Hearing.{HearsIn, no_server}
+use Rattle.afs_law.proofs.SettingUp.{AreVersions, all_versions, first_oweless, first_still, lines_none}
 use Rattle.std.proofs.Common.{suc, ◌≡◌, ℕ, ◌+◌, ◌<◌, ◌≤◌, ◌⊎◌, inl, inr, Bool, true, false, cond, nat_eq, nat_lt, List, [], ◌∷◌, ◌++◌, map, length, Option, Some, None, refl, sym, ap, subst, ◌∙◌, arith, append-nil, le_of_eq, ltb-true, eqb-true}
 use Rattle.std.proofs.Math.Nat.{le_refl}
 use Rattle.std.proofs.lemmas.List.{append_assoc}
@@ -152,25 +151,16 @@ replies_good : (past : List Entry) (ms : List Message) → AreGoodSent past ms �
 replies_good past [] h = tt
 replies_good past (m ∷ ms) h = (h.0.reply, replies_good past ms h.1)
 
-not_client : (n i : ℕ) → Client n ≡ Server i → ⊥
-not_client n i e = absurd cc
-
-server_is : (i j : ℕ) → Server i ≡ Server j → i ≡ j
-server_is i j e = cc
-
 -- a client sends no server's replies
 client_good : (n : ℕ) (past : List Entry) (ms : List Message) → Each (λ m. m.head.from ≡ Client n) ms → EachSent GoodReply past ms
 client_good n past [] h = tt
-client_good n past (m ∷ ms) h = ((λ is nought i from. absurd (not_client n i (sym h.0 ∙ from))), client_good n past ms h.1)
+client_good n past (m ∷ ms) h = ((λ is nought i from. absurd (no_server n i (sym h.0 ∙ from))), client_good n past ms h.1)
 
 -- ---- a client's step
 
-of_file : (P : Head → List ℕ → FsCall → Type 0) (m : Message) → IfCall P m → IsFile m
-of_file P m h = is_file P m h
-
 acts_file : (n : ℕ) (x : Who) (gs : List Gift) (st : Step ClientState) → Acts n x gs st → Each IsFile st.sent
 acts_file n x gs st a = elim a.goes [
-  | inl r ↦ each_map (IfCall (IsTheCall n st.state)) IsFile (of_file (IsTheCall n st.state)) st.sent r.sent
+  | inl r ↦ each_map (IfCall (IsTheCall n st.state)) IsFile (is_file (IsTheCall n st.state)) st.sent r.sent
   | inr q ↦ elim q [ inl k ↦ subst (Each IsFile) (sym k.sent) (tt, tt) | inr k ↦ subst (Each IsFile) (sym k.sent) tt ]
 ]
 
@@ -247,17 +237,13 @@ all_unchanging : (me : Node) (ls : List Line) → all_lines (is_from me) ls ≡ 
 all_unchanging me [] h = refl
 all_unchanging me (l ∷ ls) h = let q = both (is_from me l) (all_lines (is_from me) ls) h in rw (from_unchanging me l q.0, all_unchanging me ls q.1) refl
 
-onto_parts : (o a b : List Line) → onto o (a ++ b) ≡ onto (onto o a) b
-onto_parts o [] b = refl
-onto_parts o (l ∷ a) b = onto_parts (l ∷ o) a b
-
 works_key : (c : Cell) (callees : Key → Node) (i : ℕ) (x : ServerState) (b : Table Stored) (ls o : List Line) (k : Key) → Works (KnownIn c callees) (Server i) x b ls → (callees k ≡ Server i → ⊥) → HasChange k (onto o ls) → HasChange k o
 works_key c callees i x b ls o k (inl w) ne z = change_back k ls o (all_unchanging (Server i) ls w.lines) z
 works_key c callees i x b ls o k (inr S) ne z =
     let vs : List Version = made S.change in
     let l : Line = lines.Change (Server i) (key_of S.head) (length vs) in
     let base : List Line = l ∷ onto o S.front in
-    let on : onto o ls ≡ onto (on_top vs base) S.rest = ap (onto o) S.split ∙ (onto_parts o S.front (l ∷ versioned vs S.rest) ∙ onto_versioned vs S.rest base) in
+    let on : onto o ls ≡ onto (on_top vs base) S.rest = ap (onto o) S.split ∙ (onto_both o S.front (l ∷ versioned vs S.rest) ∙ onto_versioned vs S.rest base) in
     let known : IsKnown callees c.clients S.message.head.to (key_of S.message.head) = of_this (λ h user call. IsKnown callees c.clients h.to (key_of h)) S.chosen.client S.message.head S.message.carried S.chosen.user S.chosen.call S.chosen.from S.chosen.carries S.given in
     elim (on_changed k vs base (change_back k S.rest (on_top vs base) (all_unchanging (Server i) S.rest S.behind) (subst (HasChange k) on z))) [
       | inl same ↦ absurd (ne (ap callees (sym same ∙ ap key_of S.chosen.head') ∙ (sym known.called ∙ S.chosen.to)))
@@ -268,7 +254,7 @@ held_keys : (s : Script) (c : Cell) (past : List Entry) (callees : Key → Node)
     → ((k : Key) → (callees k ≡ Server i → ⊥) → HasChange k (onto (lines_of past) ls) → HasChange k (lines_of past)) → (sent : List Message) → AllOf (KeepsKey (of_server (Server i) ls sent) past) hs
 held_keys s c past callees i j seats clock [] ls ne w k key sent = tt
 held_keys s c past callees i j seats clock (h ∷ hs) ls ne w k key sent = (
-  λ z. key (key_answered h.reply) (λ e. ne (server_is i j (sym e ∙ (sym (reply_of _ h.reply.head.to h.reply.carried w.0.client w.0.is_reply w.0.to k.0).called ∙ w.0.from)))) z,
+  λ z. key (key_answered h.reply) (λ e. ne (server_number i j (sym e ∙ (sym (reply_of _ h.reply.head.to h.reply.carried w.0.client w.0.is_reply w.0.to k.0).called ∙ w.0.from)))) z,
   held_keys s c past callees i j seats clock hs ls ne w.1 k.1 key sent,
 )
 
@@ -282,8 +268,8 @@ host_all s c past i h ls ms B w own mine j =
     (λ other.
     let x : Host = c.hosts j in
     let old : BackedAt j x c.clients c.clock c.sent past = B.backed.all j in
-    apart_backed (Server j) (Server i) x.down x.state.backs x.state.lasting.boot x.state.seats (λ k. call_seat (Server j) (c.clients k).seats) c.clock c.sent ms e past (λ q. other (server_is i j q)) (works_lines (KnownIn c callees) (Server i) (c.hosts i).state h.state.lasting.volumes ls (is_apart (Server j)) (other_calm i j other) w)
-    (node_apart (Server i) (Server j) (λ q. other (server_is i j q)))
+    apart_backed (Server j) (Server i) x.down x.state.backs x.state.lasting.boot x.state.seats (λ k. call_seat (Server j) (c.clients k).seats) c.clock c.sent ms e past (λ q. other (server_number i j q)) (works_lines (KnownIn c callees) (Server i) (c.hosts i).state h.state.lasting.volumes ls (is_apart (Server j)) (other_calm i j other) w)
+    (node_apart (Server i) (Server j) (λ q. other (server_number i j q)))
     (λ up. held_keys s c past callees i j x.state.seats c.clock x.state.backs.held ls other (old.waiting up)
     (each_map (IsAnswer (by_key (IsKnown callees c.clients)) any_told) (IfReply (λ r. IsKnown callees c.clients r.head.from (answered_key r.head))) (λ m a. a.1.0) (replies_of x.state.backs.held) (B.held.0.0.0.keys.held j))
     (λ k ne. works_key c callees i (c.hosts i).state h.state.lasting.volumes ls (lines_of past) k w ne) ms) own old)
@@ -475,12 +461,8 @@ disk_found me x true (in_step m time) cs clock sent past h = after_found me x ti
 disk_found me x false in_boot cs clock sent past h = h
 disk_found me x true in_boot cs clock sent past h = down_later me (Some in_boot) x.backs x.lasting.boot x.seats x.lasting.kept cs clock sent past in_boot (λ z. absurd cc) h
 
-versions_all : (q : Line → Bool) → ((v : Version) → q (lines.Version v) ≡ true) → (vs : List Version) (ls : List Line) → all_lines q ls ≡ true → all_lines q (versioned vs ls) ≡ true
-versions_all q w [] ls h = h
-versions_all q w (v ∷ vs) ls h = rw (w v, versions_all q w vs ls h) refl
-
 begun_lines : (q : Line → Bool) → ((s : Node) (k : Key) (n : ℕ) → q (lines.Change s k n) ≡ true) → ((v : Version) → q (lines.Version v) ≡ true) → (me : Node) (x : ServerState) (time : ℕ) (d : Decision) (ls : List Line) → all_lines q ls ≡ true → all_lines q ((begun_after me x time d).before ls) ≡ true
-begun_lines q u w me x time (saves head ch) ls h = rw (u me (key_of head) (length (made ch)), versions_all q w (made ch) ls h) refl
+begun_lines q u w me x time (saves head ch) ls h = rw (u me (key_of head) (length (made ch)), lines_told q w (made ch) ls h) refl
 begun_lines q u w me x time drops ls h = h
 begun_lines q u w me x time (tells_boot head) ls h = h
 begun_lines q u w me x time (repeats reply) ls h = h
@@ -550,10 +532,10 @@ started_step s c past i after fall B down =
     let are : ls ≡ pre ++ t.lines = k.before (l ∷ t.lines) ∙ sym (append_assoc front (l ∷ []) t.lines) in
     let stand : server_boot (Server i) (onto (lines_of past) ls) ≡ Some boot =
     ap (λ (ys : List Line). server_boot (Server i) (onto (lines_of past) ys)) (k.before (l ∷ t.lines))
-    ∙ (ap (server_boot (Server i)) (onto_parts (lines_of past) front (l ∷ t.lines))
+    ∙ (ap (server_boot (Server i)) (onto_both (lines_of past) front (l ∷ t.lines))
     ∙ ((all_same i t.lines (l ∷ onto (lines_of past) front) (owes_standing (Server i) t.backs.lists.owed)).boot
     ∙ rises_by (same_node (Server i) (Server i)) (server_boot (Server i) (onto (lines_of past) front)) boot (same_node-refl (Server i)) ((all_same i front (lines_of past) k.standing).boot ∙ down_none c past i fall B.held.0.0.0.hears down))) in
-    let time : clock_of (onto (lines_of past) ls) ≡ c.clock = tickless_clock ls (lines_of past) (disk_lines is_tickless (λ n key z. refl) (λ v. refl) (Server i) x after fall (l ∷ t.lines) (owes_tickless (Server i) t.backs.lists.owed)) ∙ B.held.1 in
+    let time : clock_of (onto (lines_of past) ls) ≡ c.clock = clock_back ls (lines_of past) (disk_lines is_tickless (λ n key z. refl) (λ v. refl) (Server i) x after fall (l ∷ t.lines) (owes_tickless (Server i) t.backs.lists.owed)) ∙ B.held.1 in
     let loads : Loads (Server i) boot f.state.lasting.kept cs c.clock c.sent (e ∷ past) t = record {
       backed = rise_loaded (Server i) c.count (Some fall) f.state.backs f.state.lasting.boot f.state.seats f.state.lasting.kept cs c.clock c.sent e past pre (λ z. absurd cc) found B.held.1 are (pres is_oweless (λ n key z. refl) (λ v. refl) refl) (pres is_tickless (λ n key z. refl) (λ v. refl) refl) (pres is_still (λ n key z. refl) (λ v. refl) refl) (disk_given (Server i) x after fall (l ∷ t.lines) (sent_of past) ∙ owes_given (Server i) t.backs.lists.owed (sent_of past));
       sends = record { good = tt; calls = tt; dones = tt };
@@ -808,10 +790,6 @@ blow_free i place false = refl
 blow_oweless : (i place : ℕ) (t : Bool) → all_lines is_oweless (lines.Given place ∷ blow_line i t ∷ []) ≡ true
 blow_oweless i place true = refl
 blow_oweless i place false = refl
-
-blow_still : (i place : ℕ) (t : Bool) → all_lines is_still (lines.Given place ∷ blow_line i t ∷ []) ≡ true
-blow_still i place true = refl
-blow_still i place false = refl
 
 blow_stopped : (i place : ℕ) (t : Bool) (o : List Line) → HasStopped (Server i) (onto o (lines.Given place ∷ blow_line i t ∷ []))
 blow_stopped i place true o = inl refl

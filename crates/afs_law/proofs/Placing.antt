@@ -6,9 +6,9 @@ use Rattle.afs_history.specs.declared.scripts.Script.{Script}
 use Rattle.afs_ideal.specs.Operations.{Found}
 use Rattle.afs_law.proofs.Acting.{begins_acts, falls_acts, given_acts, rises_acts, waits_acts}
 use Rattle.afs_law.proofs.Backing.{all_lines}
-use Rattle.afs_law.proofs.Basics.{both, same_node-refl, same_node-true}
+use Rattle.afs_law.proofs.Basics.{both, same_node-true}
 use Rattle.afs_law.proofs.Changing.{run_each}
-use Rattle.afs_law.proofs.Choosing.{risen_lines}
+use Rattle.afs_law.proofs.Choosing.{risen_lines, one_from}
 use Rattle.afs_law.proofs.KeysOnce.{IsKnown, any_told, by_key}
 use Rattle.afs_law.proofs.Moving.{Behind, EachMove, IsKept, each_moved}
 use Rattle.afs_law.proofs.Origins.{KnownAsked, asked_first, asked_kept}
@@ -38,6 +38,7 @@ use Rattle.afs_rows.specs.States.{BackCall, Backs, Held, ServerState}
 use Rattle.std.proofs.Common.{zero, suc, ◌≡◌, ℕ, ◌+◌, ◌≤◌, ◌<◌, ◌⊎◌, inl, inr, arith, Bool, true, false, cond, List, [], ◌∷◌, map, length, Option, Some, None, refl, sym, ap, subst, ◌∙◌}
 use Rattle.std.proofs.Math.Nat.{eq-or-lt_of_le}
 use Rattle.std.specs.Prelude.{◌&&◌, nat_lt}
+use Rattle.afs_law.proofs.Ideals.{own_from}
 
 -- ---- lines of a server that may stand anywhere in its entry
 
@@ -91,24 +92,21 @@ calm_tail : (me n : Node) (ls : List Line) → AreCalm me ls → (has_given ls �
 calm_tail me n [] h = (refl, refl)
 calm_tail me n (l ∷ ls) h = let q = both (is_calm me l) (all_lines (is_calm me) ls) h in let r = calm_tail me n ls q.1 in (calm_given me l ls q.0 ∙ r.0, calm_begun me n l ls q.0 ∙ r.1)
 
-one_calm : (me : Node) (rest : Bool) → rest ≡ true → (same_node me me && rest) ≡ true
-one_calm me rest h = rw (same_node-refl me, h) refl
-
 owes_calm : (me : Node) (os : List OwedBreak) → AreCalm me (map (owe_line me) os)
 owes_calm me [] = refl
-owes_calm me (o ∷ os) = one_calm me _ (owes_calm me os)
+owes_calm me (o ∷ os) = one_from me _ (owes_calm me os)
 
 settles_calm : (me n : Node) (os : List OwedBreak) → AreCalm me (map (settle_line me n) os)
 settles_calm me n [] = refl
-settles_calm me n (o ∷ os) = one_calm me _ (settles_calm me n os)
+settles_calm me n (o ∷ os) = one_from me _ (settles_calm me n os)
 
 quits_calm : (me n : Node) (os : List OwedBreak) → AreCalm me (map (quit_line me n) os)
 quits_calm me n [] = refl
-quits_calm me n (o ∷ os) = one_calm me _ (quits_calm me n os)
+quits_calm me n (o ∷ os) = one_from me _ (quits_calm me n os)
 
 granted_calm : (me client : Node) (expiry : ℕ) (fs : List Found) (ls : List Line) → AreCalm me ls → AreCalm me (granted me client expiry fs ls)
 granted_calm me client expiry [] ls h = h
-granted_calm me client expiry (f ∷ fs) ls h = one_calm me _ (granted_calm me client expiry fs ls h)
+granted_calm me client expiry (f ∷ fs) ls h = one_from me _ (granted_calm me client expiry fs ls h)
 
 either_calm : (t : Bool) (me : Node) (a b : Turn) → AreCalm me a.lines → AreCalm me b.lines → AreCalm me (cond t a b).lines
 either_calm true me a b h k = h
@@ -249,9 +247,6 @@ blow_each : (s : Script) (i place : ℕ) (past : List Entry) (t : Bool) → InPl
 blow_each s i place past true = (refl, (refl, tt))
 blow_each s i place past false = (refl, (refl, tt))
 
-own_calm : (i : ℕ) → same_node (Server i) (Server i) ≡ true
-own_calm i = same_node-refl (Server i)
-
 pub placed_moves : (s : Script) → EachMove (Placed s) (PlacedStep s)
 placed_moves s = record {
   void = λ c past h. (refl, tt);
@@ -270,8 +265,8 @@ placed_moves s = record {
   woken = λ c past i armed h up. wakes_each s i past (c.hosts i).state c.clock;
   started = λ c past i after fall h down. starts_each s i past (c.hosts i).state c.clock c.count after fall h.1;
   early = λ c past i fall h down. (refl, tt);
-  midway = λ c past i after fall h down. stays_each s c past i after fall (lines.Fault (Server i)) (own_calm i);
-  full = λ c past i after fall h down. stays_each s c past i after fall (lines.Full (Server i)) (own_calm i);
+  midway = λ c past i after fall h down. stays_each s c past i after fall (lines.Fault (Server i)) (own_from i);
+  full = λ c past i after fall h down. stays_each s c past i after fall (lines.Full (Server i)) (own_from i);
 }
 
 pub placed_first : (s : Script) → Placed s (start s) (set_up s ∷ [])

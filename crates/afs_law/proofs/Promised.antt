@@ -3,30 +3,28 @@ use Rattle.afs_breaks.specs.declared.types.OwedBreak.{OwedBreak}
 use Rattle.afs_history.specs.declared.lines.Line.{Line}
 use Rattle.afs_history.specs.declared.lines.Line.TheVariants as lines
 use Rattle.afs_history.specs.declared.scripts.Script.{Script}
-use Rattle.afs_ideal.specs.Operations.{Found, Result, changes, op, the_user}
-use Rattle.afs_ideal.specs.Volumes.{Volume, Vnode, edited_all, version_at, versions_by, vnode_of}
+use Rattle.afs_ideal.specs.Operations.{Found, Result, changes, the_user}
+use Rattle.afs_ideal.specs.Volumes.{Volume, Vnode, version_at, vnode_of}
 use Rattle.afs_law.proofs.Acting.{begins_acts, given_acts, is_of, waits_acts}
 use Rattle.afs_law.proofs.Backing.{all_lines, is_still}
-use Rattle.afs_law.proofs.Basics.{ByClient, IfCall, OfCall, both, each_at}
+use Rattle.afs_law.proofs.Basics.{ByClient, IfCall, OfCall, both, each_at, runs_admitted}
 use Rattle.afs_law.proofs.Choosing.{risen_lines}
 use Rattle.afs_law.proofs.Cutting.{comes_first, now_up}
-use Rattle.afs_law.proofs.Edits.{Sound, SoundIn, edits_told, fid_at, live_index, on_top, sound_same}
-use Rattle.afs_law.proofs.Facts.{IsOne}
+use Rattle.afs_law.proofs.Edits.{Sound, SoundIn, edits_told, live_index, on_top, sound_same}
+use Rattle.afs_law.proofs.Words.{IsOne}
 use Rattle.afs_law.proofs.Granting.{made_last, newly}
 use Rattle.afs_law.proofs.Ideals.{Held}
 use Rattle.afs_law.proofs.Changing.{run_each}
 use Rattle.afs_law.proofs.KeysOnce.{IsKnown, any_told, by_key}
-use Rattle.afs_law.proofs.Loading.{is_tickless}
 use Rattle.afs_law.proofs.Moving.{EachMove, each_moved}
-use Rattle.afs_law.proofs.Reasons.{AreAmong, IsFile, IsMaking, IsReading, IsThere, Ran, Reason, Runs, Why, answer_of, answers_after, answers_in, answers_same, held_by, read_same, read_there, why}
-use Rattle.afs_law.proofs.Serving.{IsAmong}
-use Rattle.afs_law.proofs.Standing.{runs_admitted}
+use Rattle.afs_law.proofs.Reasons.{AreAmong, IsFile, IsMaking, IsReading, IsThere, Runs, Why, answer_of, answers_after, answers_in, answers_same, held_by, read_same, read_there, why}
+use Rattle.afs_law.proofs.Finding.{IsAmong}
 use Rattle.afs_law.proofs.Ticking.{HeldTicks, ticks_first, ticks_kept}
 use Rattle.afs_law.specs.Breaks.{HasStopped}
 use Rattle.afs_law.specs.Ideal.{clock_of, last_version, set_up, volume_after}
 use Rattle.afs_law.specs.Legal.{GoodGrant, IsPromisedBy, RunsHere, answer_at, code_given}
 use Rattle.afs_law.specs.Parts.{EachLine}
-use Rattle.afs_law.specs.Past.{IsCall, IsCallUnder, given_message, lines_of, onto, sent_of}
+use Rattle.afs_law.specs.Past.{IsCall, IsCallUnder, given_message, lines_of, sent_of}
 use Rattle.afs_law.specs.ServerParts.{GrantsAreGood, IsGrantGood}
 use Rattle.afs_num.specs.Nodes.{same_node}
 use Rattle.afs_num.specs.declared.calls.FsCall.{FsCall}
@@ -43,15 +41,14 @@ use Rattle.afs_num.specs.declared.types.Head.{Head}
 use Rattle.afs_num.specs.declared.types.Key.{Key}
 use Rattle.afs_num.specs.declared.types.Node.{Node}
 use Rattle.afs_num.specs.declared.types.Node.TheVariants.{Client, Server}
-use Rattle.afs_records.specs.Durable.{Stored}
 use Rattle.afs_rows.specs.Callbacks.{Turn, expired, held_under, is_back_awaited, is_ready, is_seat_of, key_answered, new_owes, owe_line, quit_line, renews_by, repeats_by, risen_turn, settle_line, settles_by, still_owed, turn_for, turned_by}
 use Rattle.afs_rows.specs.ClientRow.{begin_row, client_row, timeout_row}
-use Rattle.afs_rows.specs.Runs.{Cell, Entry, Fall, Input, Moved, at_rest, begun_by_disk, blow_line, in_boot, in_step, message_at, moved, start}
-use Rattle.afs_rows.specs.ServerRow.{Begun, Change, Decision, Reading, begun_after, decides, does, drops, granted, granted_in, key_of, made, promise_ticks, refuses, repeats, saves, shows, tells_boot, versioned}
+use Rattle.afs_rows.specs.Runs.{Cell, Entry, Fall, Moved, at_rest, begun_by_disk, blow_line, in_boot, in_step, message_at, start}
+use Rattle.afs_rows.specs.ServerRow.{Change, Decision, Reading, begun_after, decides, does, drops, granted, granted_in, key_of, made, promise_ticks, refuses, repeats, saves, shows, tells_boot, versioned}
 use Rattle.afs_rows.specs.ServerSteps.{back_timeout_row, server_row, start_row, wake_row}
 use Rattle.afs_rows.specs.States.{BackCall, Backs, Held as Waiting, ServerState}
 use Rattle.afs_model.specs.Calls.{call_seat}
-use Rattle.std.proofs.Common.{◌≡◌, ℕ, ◌+◌, inl, inr, Bool, true, false, cond, pos, List, [], ◌∷◌, ◌++◌, map, length, nat_lt, Option, Some, None, refl, sym, ap, subst, ◌∙◌}
+use Rattle.std.proofs.Common.{◌≡◌, ℕ, ◌+◌, inl, inr, Bool, true, false, cond, List, [], ◌∷◌, ◌++◌, map, length, nat_lt, Option, Some, None, refl, sym, ap, subst, ◌∙◌}
 use Rattle.std.specs.Option.{option_map}
 use Rattle.std.specs.Prelude.{⊤, ◌&&◌}
 
@@ -139,7 +136,7 @@ disk_still me x true (in_step m clock) ls h = begun_still me x clock (decides me
 disk_still me x false in_boot ls h = h
 disk_still me x true in_boot ls h = h
 
-blow_still : (i place : ℕ) (t : Bool) → all_lines is_still (lines.Given place ∷ blow_line i t ∷ []) ≡ true
+pub blow_still : (i place : ℕ) (t : Bool) → all_lines is_still (lines.Given place ∷ blow_line i t ∷ []) ≡ true
 blow_still i place true = refl
 blow_still i place false = refl
 

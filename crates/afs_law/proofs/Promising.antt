@@ -12,7 +12,7 @@ use Rattle.afs_ideal.specs.Operations.{Found}
 use Rattle.afs_breaks.specs.declared.types.Promise.{Promise}
 use Rattle.afs_breaks.specs.declared.types.OwedBreak.{OwedBreak}
 use Rattle.afs_breaks.specs.Promises as lists
-use Rattle.afs_breaks.specs.Promises.{Lists, is_hit, owes_from, without_promise, without_break, no_lists}
+use Rattle.afs_breaks.specs.Promises.{Lists, is_hit, owes_from, without_promise, without_break}
 use Rattle.afs_rows.specs.Callbacks.{Turn, fids_found, gives_up_all, withdraws_all, new_owes, ends_all, ends_call, put_at, replies_turn, turn_for, owe_line, numbers, alls, risen_turn, owed_to_clients}
 use Rattle.afs_rows.specs.ServerRow.{Change, Reading, saves, shows, made, granted_in, change_reply_to, read_reply_to, promise_ticks}
 use Rattle.afs_rows.specs.States.{Backs, BackCall, ServerState}

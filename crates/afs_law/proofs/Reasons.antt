@@ -1,16 +1,16 @@
 -- Why a server decides as it does on a client's call: by what it holds of its volumes, of however many servers the cell has.
 use Rattle.afs_ideal.specs.Operations.{Caller, Found, Result, Shown, changes, no_operation, op, reads, refused, shows_acl, shows_body, shows_status, shows_statuses, shows_volume, the_user, volume_called}
-use Rattle.afs_ideal.specs.Tables.{Table, get}
+use Rattle.afs_ideal.specs.Tables.{get}
 use Rattle.afs_ideal.specs.Volumes.{Volume, a_directory, vnode_of}
 use Rattle.afs_law.proofs.Basics.{OfCall, same_node-true, some_of}
-use Rattle.afs_law.proofs.Facts.{is_passing}
+use Rattle.afs_law.proofs.Words.{is_passing}
 use Rattle.afs_law.proofs.Ops.{IsFoundAs, IsShown, changes_is, op_code, op_is, reads_is, rights_of_directory}
-use Rattle.afs_law.proofs.Serving.{IsAmong, IsTime}
+use Rattle.afs_law.proofs.Finding.{IsAmong, IsTime}
 use Rattle.afs_law.specs.Breaks.{IsNamedIn, fids_given_up}
 use Rattle.afs_law.specs.Ideal.{volume_after}
 use Rattle.afs_law.specs.Legal.{IsChanging, IsPromisedBy, all_on, answer_at, answer_on, code_given, op_on, statuses_on}
 use Rattle.afs_model.specs.Calls as pairs
-use Rattle.afs_model.specs.Calls.{Admitted, admitted, call_seat}
+use Rattle.afs_model.specs.Calls.{Admitted, admitted}
 use Rattle.afs_num.specs.Nodes.{same_node}
 use Rattle.afs_num.specs.declared.calls.FsCall.{FsCall}
 use Rattle.afs_num.specs.declared.calls.FsCall.TheVariants as calls
@@ -25,9 +25,9 @@ use Rattle.afs_num.specs.declared.types.Node.{Node}
 use Rattle.afs_num.specs.declared.types.Node.TheVariants.{Client}
 use Rattle.afs_records.specs.Durable.{Stored, has_room}
 use Rattle.afs_rows.specs.Runs.{Entry}
-use Rattle.afs_rows.specs.ServerRow.{Change, Decision, Reading, Sight, admits, decided, decides, drops, given_up_read, hears, in_volume, is_client, no_room, no_volume, not_served, reading_in, record_of, refuses, repeats, runs_received, saves, serves_call, several, shows, sight_by, sight_in, sights, statuses_read, tells_boot, time_read, whole, with_volume}
+use Rattle.afs_rows.specs.ServerRow.{Change, Decision, Reading, Sight, admits, decided, decides, drops, given_up_read, hears, in_volume, is_client, no_room, no_volume, not_served, reading_in, record_of, refuses, repeats, saves, serves_call, several, shows, sight_by, sight_in, sights, statuses_read, tells_boot, whole, with_volume}
 use Rattle.afs_shape.specs.Reading.{◌>>=◌}
-use Rattle.afs_rows.specs.States.{Seat, ServerState, durable_of, volume_in}
+use Rattle.afs_rows.specs.States.{ServerState, durable_of, volume_in}
 use Rattle.std.proofs.Common.{◌≡◌, ℕ, ◌⊎◌, inl, inr, Bool, true, false, cond, List, [], ◌∷◌, map, Option, Some, None, ℤ, pos, refl, sym, ap, subst, ◌∙◌}
 use Rattle.std.specs.Option.{option_map}
 use Rattle.std.specs.Prelude as outcome

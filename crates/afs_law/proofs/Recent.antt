@@ -5,7 +5,7 @@ use Rattle.afs_history.specs.declared.lines.Line.{Line}
 use Rattle.afs_history.specs.declared.lines.Line.TheVariants as lines
 use Rattle.afs_history.specs.declared.scripts.Script.{Script}
 use Rattle.afs_law.proofs.Basics.{same_key-refl}
-use Rattle.afs_law.proofs.Passing.{late_over}
+use Rattle.afs_law.proofs.Passing.{late_over, sent_either, sent_left}
 use Rattle.afs_law.specs.Ideal.{set_up}
 use Rattle.afs_law.specs.Laws.{AnswersAreRecent}
 use Rattle.afs_law.specs.Legal.{AreGoodSent, GoodCall, HasOwnKey, LegalAfter}
@@ -24,45 +24,33 @@ use Rattle.afs_rows.specs.Runs.{Entry, message_at}
 
 -- ---- a call that was given was sent
 
-more_by : (t x y : Bool) → cond t true x ≡ true → (x ≡ true → y ≡ true) → cond t true y ≡ true
-more_by true x y h w = refl
-more_by false x y h w = w h
-
-has_more : (k : Key) (a b : List Message) → has_sent k a ≡ true → has_sent k (a ++ b) ≡ true
-has_more k [] b h = absurd cc
-has_more k (m ∷ a) b h = more_by (is_called k m.head m.carried) (has_sent k a) (has_sent k (a ++ b)) h (λ y. has_more k a b y)
-
-sent_before : (k : Key) (newer older : List Entry) → has_sent k (sent_of older) ≡ true → has_sent k (sent_of (newer ++ older)) ≡ true
+pub sent_before : (k : Key) (newer older : List Entry) → has_sent k (sent_of older) ≡ true → has_sent k (sent_of (newer ++ older)) ≡ true
 sent_before k [] older h = h
-sent_before k (e ∷ newer) older h = has_more k (sent_of (newer ++ older)) e.sent (sent_before k newer older h)
+sent_before k (e ∷ newer) older h = sent_left k (sent_of (newer ++ older)) e.sent (sent_before k newer older h)
 
 behind_by : (t a b : Bool) → a ≡ true → cond t (not a) b ≡ true → (t ≡ false) × (b ≡ true)
 behind_by true a b h l = let no_ : true ≡ false = sym l ∙ ap not h in absurd cc
 behind_by false a b h l = (refl, l)
 
-late_within : (n : Node) (k : Key) (newer : List Entry) (at : Entry) (older : List Entry) → has_sent k (sent_of older) ≡ true → is_new_to_act n k (newer ++ (at ∷ older)) ≡ true → AreWithin n (newer ++ at ∷ [])
+pub late_within : (n : Node) (k : Key) (newer : List Entry) (at : Entry) (older : List Entry) → has_sent k (sent_of older) ≡ true → is_new_to_act n k (newer ++ (at ∷ older)) ≡ true → AreWithin n (newer ++ at ∷ [])
 late_within n k [] at older h l = ((behind_by (has_begun n at.lines) (has_sent k (sent_of older)) (is_new_to_act n k older) h l).0, tt)
 late_within n k (e ∷ newer) at older h l =
     let rest : List Entry = newer ++ (at ∷ older) in
-    let x = behind_by (has_begun n e.lines) (has_sent k (sent_of rest)) (is_new_to_act n k rest) (sent_before k newer (at ∷ older) (has_more k (sent_of older) at.sent h)) l in
+    let x = behind_by (has_begun n e.lines) (has_sent k (sent_of rest)) (is_new_to_act n k rest) (sent_before k newer (at ∷ older) (sent_left k (sent_of older) at.sent h)) l in
     (x.0, late_within n k newer at older h x.1)
-
-or_true : (t x : Bool) → x ≡ true → cond t true x ≡ true
-or_true true x h = refl
-or_true false x h = h
 
 sent_at : (k : Key) (sent : List Message) (place : ℕ) (m : Message) → message_at sent place ≡ Some m → is_called k m.head m.carried ≡ true → has_sent k sent ≡ true
 sent_at k [] place m e t = absurd cc
 sent_at k (o ∷ sent) zero m e t = absurd cc
 sent_at k (o ∷ sent) (suc zero) m e t = let one : o ≡ m = cc in subst (λ (x : Bool). cond x true (has_sent k sent) ≡ true) (sym (ap (λ (q : Message). is_called k q.head q.carried) one ∙ t)) refl
-sent_at k (o ∷ sent) (suc (suc place)) m e t = or_true (is_called k o.head o.carried) (has_sent k sent) (sent_at k sent (suc place) m e t)
+sent_at k (o ∷ sent) (suc (suc place)) m e t = sent_either (is_called k o.head o.carried) (has_sent k sent) (sent_at k sent (suc place) m e t)
 
-sent_given : (k : Key) (ls : List Line) (sent : List Message) (m : Message) → given_message ls sent ≡ Some m → is_called k m.head m.carried ≡ true → has_sent k sent ≡ true
+pub sent_given : (k : Key) (ls : List Line) (sent : List Message) (m : Message) → given_message ls sent ≡ Some m → is_called k m.head m.carried ≡ true → has_sent k sent ≡ true
 sent_given k [] sent m e t = absurd cc
 sent_given k (lines.Given place ∷ ls) sent m e t = sent_at k sent place m e t
 sent_given k (l ∷ ls) sent m e t = sent_given k ls sent m e t
 
-ran_within : (n : Node) (reply : Head) (past : List Entry) (user : List ℕ) (call : FsCall) → (r : Ran reply past) → r.message.carried ≡ carried.Call user (ask.File call) → is_new_to_act n (answered_key reply) past ≡ true → AreWithin n (r.newer ++ r.at ∷ [])
+pub ran_within : (n : Node) (reply : Head) (past : List Entry) (user : List ℕ) (call : FsCall) → (r : Ran reply past) → r.message.carried ≡ carried.Call user (ask.File call) → is_new_to_act n (answered_key reply) past ≡ true → AreWithin n (r.newer ++ r.at ∷ [])
 ran_within n reply past user call r carries late =
     let k : Key = answered_key reply in
     let is : is_called k r.message.head r.message.carried ≡ true = ap (is_called k r.message.head) carries ∙ (ap (λ (l : Key). same_key l k) r.key ∙ same_key-refl k) in

@@ -4,17 +4,17 @@ use Rattle.afs_history.specs.declared.lines.Line.TheVariants as lines
 use Rattle.afs_history.specs.declared.scripts.Script.{Script}
 use Rattle.afs_law.proofs.Basics.{at_put}
 use Rattle.afs_law.proofs.Booting.{disk_front}
-use Rattle.afs_law.proofs.Ideals.{Held, VolumesIn, held_kept, volumes_first, volumes_moves}
-use Rattle.afs_law.proofs.Moving.{run_keeps}
-use Rattle.afs_law.proofs.Origins.{asked_first}
+use Rattle.afs_law.proofs.Housed.{only_held}
+use Rattle.afs_law.proofs.Ideals.{Held, VolumesIn, one_place, volumes_moves, held_at, at_home}
 use Rattle.afs_law.specs.Ideal.{Accepts, change_in, change_key, changed_under, first_key, is_at, set_up, volume_after}
 use Rattle.afs_law.specs.Once.{past_of}
 use Rattle.afs_law.specs.Past.{lines_of, sent_of}
-use Rattle.afs_law.specs.ServerParts.{FallsAreKept, told_by_restart}
+use Rattle.afs_law.specs.ServerParts.{FallsAreKept}
+use Rattle.afs_law.specs.Laws.{IsNoOthers, Survives, told_by_restart}
 use Rattle.afs_num.specs.declared.types.Key.{Key}
 use Rattle.afs_num.specs.declared.types.Node.{Node}
 use Rattle.afs_num.specs.declared.types.Node.TheVariants.{Server}
-use Rattle.afs_rows.specs.Runs.{Cell, Entry, Fall, Host, Moved, RunsTo, begun_by_disk, in_boot, server_stays, start, unarmed}
+use Rattle.afs_rows.specs.Runs.{Cell, Entry, Fall, Host, Moved, RunsTo, begun_by_disk, in_boot, server_stays, unarmed}
 use Rattle.afs_rows.specs.ServerRow.{Begun}
 use Rattle.afs_rows.specs.States.{volume_in}
 use Rattle.std.proofs.Common.{◌≡◌, ℕ, true, List, [], ◌∷◌, ◌++◌, Option, Some, refl, ap, ◌∙◌}
@@ -24,24 +24,38 @@ fault_key : (ls : List Line) (n : Node) → change_key (ls ++ lines.Fault n ∷ 
 fault_key [] n = refl
 fault_key (l ∷ ls) n = ap (first_key (change_in l)) (fault_key ls n)
 
-pub accepted : (s : Script) (id i : ℕ) (ls : List Line) → Accepts s id (Server i) ls → is_at id (Server i) s.volumes
-accepted s id i [] h = h
-accepted s id i (l ∷ ls) h = accepted s id i ls h
+pub accepts : (s : Script) (id : ℕ) (q : Node) (ls : List Line) → is_at id q s.volumes → Accepts s id q ls
+accepts s id q [] h = h
+accepts s id q (l ∷ ls) h = accepts s id q ls h
 
-volumes_at : (s : Script) (h : List Entry) (end : Cell) → RunsTo h s end → Held s end (past_of (set_up s ∷ []) h)
-volumes_at s h end r = run_keeps (Held s) (held_kept s) r.inputs (start s) (set_up s ∷ []) h end (asked_first s, volumes_first s) r.leads
+-- no other has it
+abbrev IsAlone : Script → ℕ → ℕ → Type 0
+IsAlone s i id = (q : Node) → is_at id q s.volumes → q ≡ Server i
+
+pub alone : (s : Script) (i id : ℕ) (ls : List Line) → IsNoOthers s i id ls → IsAlone s i id
+alone s i id ls h q at = h q (accepts s id q ls at)
 
 -- its record is found, and the disk fails behind it
-found_ideal : (s : Script) (c : Cell) (past : List Entry) (i : ℕ) (fall : Fall) (id : ℕ) → Held s c past → (c.hosts i).down ≡ Some fall → is_at id (Server i) s.volumes
+found_ideal : (s : Script) (c : Cell) (past : List Entry) (i : ℕ) (fall : Fall) (id : ℕ) → Held s c past → (c.hosts i).down ≡ Some fall → IsAlone s i id
     → volume_in id (begun_by_disk (Server i) (c.hosts i).state true fall).state.lasting.volumes ≡ volume_after id (told_by_restart i (c.hosts i) fall ∷ past)
-found_ideal s c past i fall id h down at =
+found_ideal s c past i fall id h down only =
     let f : Begun = begun_by_disk (Server i) (c.hosts i).state true fall in
     let m : Moved = server_stays c i f (lines.Fault (Server i)) in_boot in
     let V : VolumesIn s m.cell (m.entry ∷ past) = (volumes_moves s).midway c past i true fall h down in
     let x : Host = record { state = f.state; down = Some in_boot; armed = unarmed } in
     let keys : change_key m.entry.lines ≡ change_key (f.before []) = ap change_key ((disk_front (Server i) (c.hosts i).state true fall).before (lines.Fault (Server i) ∷ [])) ∙ fault_key (f.before []) (Server i) in
     at_put i i (λ (y : Host). volume_in id f.state.lasting.volumes ≡ volume_in id y.state.lasting.volumes) x c.hosts (λ same. refl) (λ other. absurd (other refl))
-    ∙ (V.ideal i id at ∙ ap (λ (k : Option Key). changed_under id k (sent_of past) (volume_after id past)) keys)
+    ∙ (only_held s m.cell (m.entry ∷ past) i id V only ∙ ap (λ (k : Option Key). changed_under id k (sent_of past) (volume_after id past)) keys)
 
 pub run_falls : FallsAreKept
-run_falls s h end r i fall down id at = found_ideal s end (past_of (set_up s ∷ []) h) i fall id (volumes_at s h end r) down (accepted s id i (lines_of (past_of (set_up s ∷ []) h)) at)
+run_falls s h end r i fall down id at = found_ideal s end (past_of (set_up s ∷ []) h) i fall id (held_at s h end r) down (λ q there. one_place id q (Server i) s.volumes there (at_home s id (Server i) (lines_of (past_of (set_up s ∷ []) h)) at))
+
+-- what a server holds, and what its interrupted step may have left, of each volume that is no other's
+pub survives : (s : Script) (h : List Entry) (end : Cell) (i : ℕ) → RunsTo h s end → Survives s i (end.hosts i) (past_of (set_up s ∷ []) h)
+survives s h end i r =
+    let past : List Entry = past_of (set_up s ∷ []) h in
+    let H : Held s end past = held_at s h end r in
+    record {
+      kept = λ id no_. only_held s end past i id H.1 (alone s i id (lines_of past) no_);
+      after = λ fall down id no_. found_ideal s end past i fall id H down (alone s i id (lines_of past) no_);
+    }

@@ -1,5 +1,6 @@
 -- While a client waits for a call it reads nothing and is answered nothing; and unless the reply is spoiled it dropped nothing since that
 -- the call names, however many servers a cell has.
+use Rattle.afs_law.proofs.Following.{none_runs, Follows, WaitsOn, begins_follow, falls_follow, given_follow, rises_follow, waits_follow}
 use Rattle.afs_history.specs.declared.lines.Line.{Line}
 use Rattle.afs_history.specs.declared.lines.Line.TheVariants as lines
 use Rattle.afs_history.specs.declared.scripts.Script.{Script}
@@ -8,11 +9,10 @@ use Rattle.afs_law.proofs.Backing.{all_lines}
 use Rattle.afs_law.proofs.Basics.{at_put, client_number, each_at, same_key-refl}
 use Rattle.afs_law.proofs.Choosing.{disk_works, one_from, risen_from, risen_lines, serves_works, starts_works, times_works, wakes_works}
 use Rattle.afs_law.proofs.Firm.{IsFirm}
-use Rattle.afs_law.proofs.Following.{Follows, WaitsOn, begins_follow, falls_follow, given_follow, rises_follow, waits_follow}
 use Rattle.afs_law.proofs.Gifts.{Given, given_first, given_kept}
 use Rattle.afs_law.proofs.KeysOnce.{IsKnown, any_told, by_key}
 use Rattle.afs_law.proofs.Moving.{Behind, EachMove, IsKept, each_moved, run_keeps}
-use Rattle.afs_law.proofs.Origins.{AskedIn, any_cut, any_message, blow_idle, idle_leaves, idle_works, is_idle, next_key, none_runs, of_client, other_leaves, same_key_at, unsent}
+use Rattle.afs_law.proofs.Origins.{AskedIn, any_cut, any_message, blow_idle, idle_leaves, idle_works, is_idle, next_key, of_client, other_leaves, same_key_at, unsent}
 use Rattle.afs_law.proofs.Knowing.{Known}
 use Rattle.afs_law.specs.ClientParts.{IsUnspoiled, WaitsAreSilent, is_silent}
 use Rattle.afs_law.specs.Grants.{IsDropped}
@@ -64,9 +64,6 @@ else_silent : (j : ℕ) (x : ClientState) (e : Entry) (past : List Entry) → Is
 else_silent j x e past w h act r = one_more j x x act e past refl refl refl (λ z. absurd (w.0 z)) (λ z. (z, λ f named o d. w.1 x.callee f o d)) (h act r)
 
 -- ---- a step of a client
-
-has_now : (k l : Key) (ms : List Message) → k ≡ l → has_sent l ms ≡ true → has_sent k ms ≡ true
-has_now k l ms e h = subst (λ (q : Key). has_sent q ms ≡ true) (sym e) h
 
 step_silent : (c : Cell) (past : List Entry) (s : Script) (n : ℕ) (st : Step ClientState) → Known c past → AskedIn s c past → SilentOf c.clients past → Acts n (who_at (c.clients n)) (c.clients n).gifts st → Follows n (c.clients n) st → (act : Going) → st.state.running ≡ Some act → IsUnspoiled n st.state act (of_client n st ∷ past)
 step_silent c past s n st K A h a f act run = elim a.goes [

@@ -4,8 +4,8 @@ use Rattle.afs_history.specs.declared.lines.Line.{Line}
 use Rattle.afs_history.specs.declared.lines.Line.TheVariants as lines
 use Rattle.afs_law.proofs.Acting.{is_of}
 use Rattle.afs_law.proofs.Backing.{Plain, all_lines, drop_onto, is_oweless, is_still, is_unchanging, is_up, owe_over, plain_step, seated_over}
-use Rattle.afs_law.proofs.Basics.{ByServer, Each, IfBack, IfDone, LastSeat, OfCall, OfReply, OfServer, at_seat, both, by_server, each_map, kept_last, of_reply, own_seat, same_node-true, server_any, some_of}
-use Rattle.afs_law.proofs.Owing.{AllOf, BackIn, BackedIn, CallOut, CarriedOwe, DoneIn, DroppedOwe, IsDone, SeatedIn}
+use Rattle.afs_law.proofs.Basics.{ByServer, Each, IfBack, IfDone, LastSeat, OfCall, OfReply, OfServer, at_seat, both, by_server, each_map, kept_last, of_reply, same_node-true, server_any, some_of}
+use Rattle.afs_law.proofs.Owing.{BackIn, BackedIn, CallOut, CarriedOwe, DoneIn, DroppedOwe, IsDone, SeatedIn}
 use Rattle.afs_law.proofs.Promising.{Owed}
 use Rattle.afs_law.proofs.Seating.{AreSeated, IsReplyOf}
 use Rattle.afs_law.specs.Breaks.{CarriesBreak, HasDrop, IsNamedIn, NamesIn, OweAt}
@@ -21,12 +21,10 @@ use Rattle.afs_num.specs.declared.calls.FsCall.TheVariants as calls
 use Rattle.afs_num.specs.declared.calls.FsReply.{FsReply}
 use Rattle.afs_num.specs.declared.calls.FsReply.TheVariants as replies
 use Rattle.afs_num.specs.declared.histories.Actor.TheVariants as actors
-use Rattle.afs_num.specs.declared.histories.Body.{Body}
 use Rattle.afs_num.specs.declared.histories.Body.TheVariants as bodies
 use Rattle.afs_num.specs.declared.histories.ReadBody.{ReadBody}
 use Rattle.afs_num.specs.declared.histories.ReadBody.TheVariants as seen
 use Rattle.afs_num.specs.declared.histories.ReadSource.TheVariants.{Fetched}
-use Rattle.afs_num.specs.declared.histories.ReadStatus.{ReadStatus}
 use Rattle.afs_num.specs.declared.messages.Call.TheVariants as ask
 use Rattle.afs_num.specs.declared.messages.Carried.{Carried}
 use Rattle.afs_num.specs.declared.messages.Carried.TheVariants as carried
@@ -39,16 +37,18 @@ use Rattle.afs_num.specs.declared.types.Head.{Head}
 use Rattle.afs_num.specs.declared.types.Node.{Node}
 use Rattle.afs_num.specs.declared.types.Node.TheVariants.{Client, Server}
 use Rattle.afs_rows.specs.Callbacks.{breaks_call}
-use Rattle.afs_rows.specs.ClientRow.{Walked, admits_call, answers_step, awaits, begin_row, begins_by, behind_batch, body_told, breaks, call_of, calls_again, client_row, counts, done, drop_line, dropped, ends_step, entries_told, entry_told, find_cached, gift_of, given, gives_by, gives_up, goes_by, goes_on, hears, ignores, in_order, is_awaited, is_below, is_busy_code, is_older, is_spent, is_trusted, look_at, looked, most_busy, most_reads, put_entries, put_entry, read_lines, refused_with, refuses, replies_step, status_look, status_told, takes, takes_bulk, takes_data, takes_entries, takes_entry, takes_given, takes_list, takes_plain, takes_rights, takes_set, takes_shown, takes_stored, timeout_row, told_step, tries_again, trusted_in, untrusted_in, walked, walks_on, whole, with_statuses, without_fids, without_server}
+use Rattle.afs_rows.specs.ClientRow.{Walked, admits_call, answers_step, awaits, begin_row, begins_by, behind_batch, body_told, breaks, call_of, calls_again, client_row, counts, done, drop_line, dropped, entries_told, entry_told, find_cached, gift_of, given, gives_by, gives_up, goes_by, goes_on, hears, ignores, in_order, is_awaited, is_below, is_busy_code, is_older, is_spent, is_trusted, look_at, looked, most_busy, most_reads, put_entries, put_entry, read_lines, refused_with, refuses, replies_step, status_look, status_told, takes, takes_bulk, takes_data, takes_entries, takes_entry, takes_given, takes_list, takes_plain, takes_rights, takes_set, takes_shown, takes_stored, timeout_row, told_step, tries_again, trusted_in, untrusted_in, walked, walks_on, whole, with_statuses, without_fids, without_server}
 use Rattle.afs_rows.specs.Going.{ClientState, Going, Need, answers, began, gives_back, next, with_read}
 use Rattle.afs_rows.specs.Runs.{Entry, Fall}
 use Rattle.afs_rows.specs.ServerRow.{boot_told, not_served, replied, seat_for}
-use Rattle.afs_rows.specs.States.{BackCall, Backs, CacheEntry, Gift, Seat}
+use Rattle.afs_rows.specs.States.{Backs, CacheEntry, Gift, Seat}
 use Rattle.afs_rows.specs.Steps.{Step}
-use Rattle.std.proofs.Common.{◌≡◌, ℕ, ◌≤◌, ◌⊎◌, inl, inr, Bool, true, false, cond, List, [], ◌∷◌, ◌+◌, map, nat_eq, nat_lt, Option, Some, None, refl, sym, ap, subst, ◌∙◌}
+use Rattle.std.proofs.Common.{◌≡◌, ℕ, inl, inr, Bool, true, false, cond, List, [], ◌∷◌, ◌+◌, map, nat_eq, nat_lt, Option, Some, None, refl, sym, ap, subst, ◌∙◌}
 use Rattle.std.proofs.Math.Nat.{le_refl}
 use Rattle.std.specs.List.{list_any}
 use Rattle.std.specs.Prelude.{◌&&◌, filter, not}
+use Rattle.afs_law.proofs.Loading.{two_all}
+use Rattle.afs_law.proofs.Turning.{of_reply_any}
 
 -- ---- a step that answers no call
 
@@ -86,14 +86,8 @@ begun_speaks me c clock act = begins_speaks me (record c { busy = 0 }) clock (λ
 again_speaks : (me : Node) (c : ClientState) (place : ℕ) (act : Going) → Speaks c.seats (calls_again me c place act)
 again_speaks me c place act = record { calls = (tt, tt); seats' = refl }
 
-ends_speaks : (me : Node) (c : ClientState) (cache : List CacheEntry) (front : List Line → List Line) (code : Code) → Speaks c.seats (ends_step me c cache front code)
-ends_speaks me c cache front code = record { calls = tt; seats' = refl }
-
 plain_speaks : (me : Node) (c : ClientState) (place : ℕ) (call : FsCall) → Speaks c.seats (takes_plain me c place call)
 plain_speaks me c place call = record { calls = tt; seats' = refl }
-
-stored_speaks : (me : Node) (c : ClientState) (clock place : ℕ) (f : Fid) (index : ℕ) (status : ReadStatus) (made : Option Body → Option Body) → Speaks c.seats (takes_stored me c clock place f index status made)
-stored_speaks me c clock place f index status made = record { calls = tt; seats' = refl }
 
 entry_speaks : (me : Node) (c : ClientState) (clock place : ℕ) (act : Going) (entry : CacheEntry) (body : ReadBody) → Speaks c.seats (takes_entry me c clock place act entry body)
 entry_speaks me c clock place act entry body =
@@ -217,17 +211,7 @@ speaks_tells me d b boot past n old s h w = record {
   seated = λ seat m x y. w seat m (ap (call_seat me) (sym h.seats') ∙ x) y;
 }
 
-any_reply : (P : Type 0) (c : Carried) → P → OfReply P c
-any_reply P (carried.Call user call) x = tt
-any_reply P (carried.Refusal code) x = x
-any_reply P (carried.Reply reply) x = x
-any_reply P carried.Notice x = tt
-
 -- ---- it is called by a server
-
-all_two : {A : Type 0} → (P Q R : A → Type 0) → ((x : A) → P x → Q x → R x) → (xs : List A) → AllOf P xs → AllOf Q xs → AllOf R xs
-all_two P Q R w [] h k = tt
-all_two P Q R w (x ∷ xs) h k = (w x h.0 k.0, all_two P Q R w xs h.1 k.1)
 
 -- a call of the server that was handled in this entry, whose lines drop what any break of such a call is on
 handled : (me : Node) (d : Option Fall) (b : Backs) (boot : ℕ) (seats : List Seat) (cs : ℕ → Option Seat) (clock : ℕ) (sent : List Message) (e : Entry) (past : List Entry) (n : ℕ) (head : Head) (user : List ℕ) (call : FsCall) → BackedIn me d b boot seats cs clock sent past → BackIn me d b.calls b.last_call boot head user call → head.to ≡ Client n → head.from ≡ me → all_lines (is_up me) e.lines ≡ true
@@ -240,7 +224,7 @@ handled me d b boot seats cs clock sent e past n head user call B k to own up dr
       dropped = λ c x y at q.
           let is : call ≡ breaks_call c.breaks = k.is c own x y (ap b.calls one ∙ at) q in
           let out : CallOut me (Client n) c b.last_call boot past = B.outs x (Client n) c at in
-          all_two (CarriedOwe me (Client n) c.number c.tries boot (lines_of past)) (λ (o : Owed). CarriesBreak (breaks_call c.breaks) o.what) (DroppedOwe me (Client n) (lines_of (e ∷ past)))
+          two_all (CarriedOwe me (Client n) c.number c.tries boot (lines_of past)) (λ (o : Owed). CarriesBreak (breaks_call c.breaks) o.what) (DroppedOwe me (Client n) (lines_of (e ∷ past)))
           (λ o z w. let owe : OweAt me (Client n) o.what o.number (lines_of past) = z.owe in record { owe = owe_over me (Client n) o.what o.number e past up owe; dropped = drop o.what owe.newer (subst (λ (u : FsCall). CarriesBreak u o.what) (sym is) w) }) c.breaks out.owes out.carries;
     }
 
@@ -261,14 +245,11 @@ replied_tells me d b boot past n epoch old head y to is done_ w =
     let r : Message = replied epoch head y in
     let P : Message → Type 0 = DoneIn me d b.calls b.last_call boot past in
     record {
-      dones = (any_reply (OfServer head.from (P r)) y (server_any head.from (P r) (record { client = Client n; from = to; done = done_ })), tt);
+      dones = (of_reply_any (OfServer head.from (P r)) y (server_any head.from (P r) (record { client = Client n; from = to; done = done_ })), tt);
       seated = λ seat m. at_seat (seat_for head r) me old (λ o. o ≡ Some seat → seat.reply ≡ Some m → SeatedIn me d b.calls b.last_call boot past n m)
           (λ own x z. subst (SeatedIn me d b.calls b.last_call boot past n) (some_of r m (ap (λ (s : Seat). s.reply) (some_of (seat_for head r) seat x) ∙ z)) (record { to = own; from = to; is_reply = is; done = done_ own }))
           (λ other x z. w seat m x z);
     }
-
-abbrev Calls : Node → Option Fall → Backs → ℕ → Head → Carried → Type 0
-Calls me d b boot head x = OfCall (ByServer (BackIn me d b.calls b.last_call boot)) head x
 
 -- what was kept is told again
 again_tells : (me : Node) (d : Option Fall) (b : Backs) (boot : ℕ) (past : List Entry) (n : ℕ) (old : List Seat) (head : Head) (r : Message) → AreSeated (Client n) old → LastSeat head.epoch head.number (call_seat head.from old) r
@@ -277,7 +258,7 @@ again_tells me d b boot past n old head r q l w =
     let k : IsReplyOf (Client n) head.from l.seat r = q head.from l.seat r l.at l.reply in
     let P : Message → Type 0 = DoneIn me d b.calls b.last_call boot past in
     record {
-      dones = (any_reply (OfServer r.head.to (P r)) r.carried (server_any r.head.to (P r) (record { client = Client n; from = k.from; done = λ own. (w l.seat r (ap (λ (m : Node). call_seat m old) (sym own ∙ k.to) ∙ l.at) l.reply).done })), tt);
+      dones = (of_reply_any (OfServer r.head.to (P r)) r.carried (server_any r.head.to (P r) (record { client = Client n; from = k.from; done = λ own. (w l.seat r (ap (λ (m : Node). call_seat m old) (sym own ∙ k.to) ∙ l.at) l.reply).done })), tt);
       seated = w;
     }
 

@@ -1,33 +1,34 @@
--- What was acknowledged survives: the server keeps the ideal volumes, and so does what a step that was interrupted may have left; the
--- versions that were made, or later ones, are in these.
+-- What was acknowledged survives, however many servers a cell has: each server keeps its ideal volumes, and so does what a step that was
+-- interrupted may have left; the versions that were made, or later ones, are in these.
+use Rattle.afs_law.proofs.Ideals.{held_at, VolumesIn}
+use Rattle.afs_law.proofs.Loading.{onto_both}
 use Rattle.afs_history.specs.declared.acts.Written.{Written}
 use Rattle.afs_history.specs.declared.lines.Line.{Line}
 use Rattle.afs_history.specs.declared.lines.Line.TheVariants as lines
 use Rattle.afs_history.specs.declared.scripts.Script.{Script}
 use Rattle.afs_ideal.specs.Operations.{Caller, changes, op, the_user, volume_called}
-use Rattle.afs_ideal.specs.Tables.{Table, get}
+use Rattle.afs_ideal.specs.Tables.{get}
 use Rattle.afs_ideal.specs.Told.{fid_at}
 use Rattle.afs_ideal.specs.Volumes.{Amend, Edit, Kind, Vnode, Volume, a_directory, a_file, a_link, amended, amends_at, body_by, version_at, versions_by}
-use Rattle.afs_law.proofs.Agreeing.{at_end}
-use Rattle.afs_law.proofs.Asking.{called_one, each_front}
+use Rattle.afs_law.proofs.Sent.{called_one, each_front}
 use Rattle.afs_law.proofs.Basics.{Each, IfCall, some_of}
-use Rattle.afs_law.proofs.Booting.{disk_front}
-use Rattle.afs_law.proofs.Deciding.{at_fall}
-use Rattle.afs_law.proofs.Facts.{Holds, IsOne}
-use Rattle.afs_law.proofs.Latest.{has_more, has_onto, holding_by, later_by}
-use Rattle.afs_law.proofs.Law.{first_passed, onto_last, onto_more}
+use Rattle.afs_law.proofs.Ascending.{run_versions}
+use Rattle.afs_law.proofs.Assembled.{run_legal}
+use Rattle.afs_law.proofs.Edits.{SoundIn, none_has}
+use Rattle.afs_law.proofs.Words.{IsOne}
+use Rattle.afs_law.proofs.Housed.{IsPlaced, placed}
+use Rattle.afs_law.proofs.Origins.{KnownAsked}
+use Rattle.afs_law.proofs.Remaining.{accepts, survives}
+use Rattle.afs_law.proofs.Latest.{has_more, has_onto}
+use Rattle.afs_law.proofs.SettingUp.{first_passed}
 use Rattle.afs_law.proofs.Made.{MadeBy, acknowledged_by, good_in}
-use Rattle.afs_law.proofs.Members.{runs_legal}
-use Rattle.afs_law.proofs.OneCell.{Cell, Moved, server_ends, the_server}
 use Rattle.afs_law.proofs.Ops.{Storing, amend_of, stored_kind, storing}
-use Rattle.afs_law.proofs.Servers.{run_same, seen_in}
 use Rattle.afs_law.specs.Grants.{change_below}
-use Rattle.afs_law.specs.Ideal.{HasVersion, brought, call_in, call_under, change_in, change_key, changed_under, first_key, last_version, set_up, version_in, volume_after}
-use Rattle.afs_law.specs.Laws.{AreMadeAndKept, HasMade, IsChangingAct, IsClosed, IsHeldStill, IsKept, IsOfKey, Survives, told_by_restart}
+use Rattle.afs_law.specs.Ideal.{Accepts, HasVersion, is_at, call_in, call_under, set_up, version_in, volume_after}
+use Rattle.afs_law.specs.Laws.{AcknowledgedAreKept, HasMade, IsClosed, IsHeldStill, IsOfKey}
 use Rattle.afs_law.specs.Legal.{AreGood, GoodChange, HasChange, LegalAfter, as_asked, versions_first}
 use Rattle.afs_law.specs.Once.{past_of}
-use Rattle.afs_law.specs.OneServer.{IsOneServer}
-use Rattle.afs_law.specs.Past.{is_called, lines_of, onto, running, sent_of}
+use Rattle.afs_law.specs.Past.{is_called, lines_of, onto, sent_of}
 use Rattle.afs_num.specs.declared.calls.FsCall.{FsCall}
 use Rattle.afs_num.specs.declared.calls.FsCall.TheVariants as calls
 use Rattle.afs_num.specs.declared.histories.Actor.{Actor}
@@ -35,16 +36,14 @@ use Rattle.afs_num.specs.declared.histories.Body.{Body}
 use Rattle.afs_num.specs.declared.histories.Body.TheVariants as bodies
 use Rattle.afs_num.specs.declared.histories.Version.{Version}
 use Rattle.afs_num.specs.declared.messages.Message.{Message}
-use Rattle.afs_num.specs.declared.types.Code.{Code}
 use Rattle.afs_num.specs.declared.types.Fid.{Fid}
 use Rattle.afs_num.specs.declared.types.Key.{Key}
 use Rattle.afs_num.specs.declared.types.Node.{Node}
+use Rattle.afs_num.specs.declared.types.Node.TheVariants.{Server}
 use Rattle.afs_history.specs.Written.{bytes_in}
 use Rattle.afs_rows.specs.Going.{Going, asked, nothing_set, stored_whole}
-use Rattle.afs_rows.specs.Runs.{Entry, Fall, begun_by_disk, fails_midway}
-use Rattle.afs_rows.specs.Runs as cells
-use Rattle.afs_rows.specs.ServerRow.{Begun}
-use Rattle.afs_rows.specs.States.{ServerState, volume_in}
+use Rattle.afs_rows.specs.ClientRow.{server_at}
+use Rattle.afs_rows.specs.Runs.{Cell, Entry, RunsTo, locations}
 use Rattle.std.proofs.Common.{◌≡◌, ℕ, ◌⊎◌, inl, inr, ◌+◌, Bool, true, false, cond, length, List, [], ◌∷◌, ◌++◌, Option, Some, None, pos, refl, sym, ap, subst, append-nil, ◌∙◌}
 
 -- ---- further lines
@@ -71,68 +70,25 @@ past_both : (past a b : List Entry) → past_of past (a ++ b) ≡ past_of (past_
 past_both past [] b = refl
 past_both past (e ∷ a) b = past_both (e ∷ past) a b
 
--- ---- what was told is kept
+-- ---- a version that was told is kept
 
-kept_in : (s : Script) (c : Cell) (past : List Entry) (v : Version) → Holds s c past → HasVersion v.fid v.index v.body (lines_of past) → IsKept v c.server.lasting.volumes (lines_of past)
-kept_in s c past v H told =
-    let l = later_by v.fid v.index v.body (lines_of past) (last_version v.fid (lines_of past)) refl told H.top H.one in
-    let h = holding_by v.fid l.last (volume_in v.fid.volume c.server.lasting.volumes) (lines_of past) (H.sound v.fid.volume) l.is in
-    record { last = l.last; is_last = l.is; since = l.since; same = l.same; volume = h.volume; at = h.at; held = h.held }
+-- its volume is at a server
+record IsAtHome (s : Script) (id : ℕ) : Type 0 where
+  server : ℕ
+  at : is_at id (Server server) s.volumes
 
--- ---- behind a step that was interrupted: what a restart finds, whose own record the disk then fails
+home_by : (s : Script) (past : List Entry) (v : Version) → SoundIn v.fid.volume (volume_after v.fid.volume past) (lines_of past) → (((i : ℕ) → is_at v.fid.volume (Server i) s.volumes → ⊥) → volume_after v.fid.volume past ≡ None) → HasVersion v.fid v.index v.body (lines_of past) → IsPlaced v.fid.volume s.volumes (locations s) → IsAtHome s v.fid.volume
+home_by s past v sound none told (inl at) = record { server = server_at (locations s) v.fid.volume; at = at }
+home_by s past v sound none told (inr away) = absurd (none_has v.fid v.index v.body (lines_of past) (subst (λ (o : Option Volume). SoundIn v.fid.volume o (lines_of past)) (none (λ i. away (Server i))) sound v.fid.vnode v.fid.unique) told)
 
--- a fault changes nothing
-fault_key : (ls : List Line) (n : Node) → change_key (ls ++ lines.Fault n ∷ []) ≡ change_key ls
-fault_key [] n = refl
-fault_key (l ∷ ls) n = ap (first_key (change_in l)) (fault_key ls n)
-
-record IsFailed (s : Script) (c : Cell) (past : List Entry) (fall : Fall) : Type 0 where
-  entry : Entry
-  cell : Cell
-  holds : Holds s cell (entry ∷ past)
-  server : cell.server ≡ (begun_by_disk the_server c.server true fall).state
-  lines_are : entry.lines ≡ (begun_by_disk the_server c.server true fall).before [] ++ lines.Fault the_server ∷ []
-  volumes : entry.volumes ≡ []
-
-failed : (s : Script) (c : Cell) (past : List Entry) (fall : Fall) → Holds s c past → c.down ≡ Some fall → IsFailed s c past fall
-failed s c past fall H down =
-    let m : Moved = server_ends c (begun_by_disk the_server c.server true fall) fall fails_midway in
-    record { entry = m.entry; cell = m.cell; holds = (at_fall s c past true fails_midway fall H down).holds; server = refl; lines_are = (disk_front the_server c.server true fall).before (lines.Fault the_server ∷ []); volumes = refl }
-
--- the volumes that it finds are the ideal ones, behind what it tells
-ideal_after : (s : Script) (c : Cell) (past : List Entry) (fall : Fall) (e : Entry) → Holds s c past → c.down ≡ Some fall → e.lines ≡ (begun_by_disk the_server c.server true fall).before [] → e.volumes ≡ [] → (id : ℕ)
-    → volume_in id (begun_by_disk the_server c.server true fall).state.lasting.volumes ≡ volume_after id (e ∷ past)
-ideal_after s c past fall e H down ls none id =
-    let f : Begun = begun_by_disk the_server c.server true fall in
-    let k : IsFailed s c past fall = failed s c past fall H down in
-    let keys : change_key k.entry.lines ≡ change_key e.lines = ap change_key k.lines_are ∙ (fault_key (f.before []) the_server ∙ sym (ap change_key ls)) in
-    ap (λ (x : ServerState). volume_in id x.lasting.volumes) (sym k.server)
-    ∙ (k.holds.ideal id
-    ∙ (ap (λ (vs : Table Volume). brought id vs (changed_under id (change_key k.entry.lines) (sent_of past) (volume_after id past))) (k.volumes ∙ sym none)
-    ∙ ap (λ (o : Option Key). brought id e.volumes (changed_under id o (sent_of past) (volume_after id past))) keys))
-
--- and they hold what was told before
-behind_in : (s : Script) (c : Cell) (past : List Entry) (v : Version) (fall : Fall) → Holds s c past → c.down ≡ Some fall → HasVersion v.fid v.index v.body (lines_of past)
-    → IsKept v (begun_by_disk the_server c.server true fall).state.lasting.volumes (onto (lines_of past) ((begun_by_disk the_server c.server true fall).before []))
-behind_in s c past v fall H down told =
-    let f : Begun = begun_by_disk the_server c.server true fall in
-    let m : Moved = server_ends c f fall fails_midway in
-    let at : lines_of (m.entry ∷ past) ≡ lines.Fault the_server ∷ onto (lines_of past) (f.before []) =
-    ap (onto (lines_of past)) ((disk_front the_server c.server true fall).before (lines.Fault the_server ∷ [])) ∙ onto_last (lines_of past) (f.before []) (lines.Fault the_server) in
-    let k : IsKept v f.state.lasting.volumes (lines_of (m.entry ∷ past)) =
-    kept_in s m.cell (m.entry ∷ past) v (at_fall s c past true fails_midway fall H down).holds (has_onto v.fid v.index v.body m.entry.lines (lines_of past) told) in
-    record { last = k.last; is_last = sym (ap (last_version v.fid) at) ∙ k.is_last; since = k.since; same = k.same; volume = k.volume; at = k.at; held = k.held }
-
-pub survives : (s : Script) (h : List Entry) (end : cells.Cell) → IsOneServer s → cells.RunsTo h s end → Survives (end.hosts 1) (past_of (set_up s ∷ []) h)
-survives s h end one r =
+version_kept : (s : Script) (h : List Entry) (end : Cell) (v : Version) → RunsTo h s end → HasVersion v.fid v.index v.body (lines_of (past_of (set_up s ∷ []) h)) → IsHeldStill s v end.hosts (past_of (set_up s ∷ []) h)
+version_kept s h end v r told =
     let past : List Entry = past_of (set_up s ∷ []) h in
-    let H : Holds s (seen_in end) past = at_end s h (seen_in end) one (run_same s h end one r) in
-    record { kept = H.ideal; after = λ fall down id. ideal_after s (seen_in end) past fall (told_by_restart (end.hosts 1) fall) H down refl refl id }
-
-version_kept : (s : Script) (h : List Entry) (end : cells.Cell) (v : Version) → IsOneServer s → cells.RunsTo h s end → HasVersion v.fid v.index v.body (lines_of (past_of (set_up s ∷ []) h)) → IsHeldStill v (end.hosts 1) (past_of (set_up s ∷ []) h)
-version_kept s h end v one r told =
-    let H : Holds s (seen_in end) (past_of (set_up s ∷ []) h) = at_end s h (seen_in end) one (run_same s h end one r) in
-    record { kept = kept_in s (seen_in end) (past_of (set_up s ∷ []) h) v H told; after = λ fall down. behind_in s (seen_in end) (past_of (set_up s ∷ []) h) v fall H down told }
+    let V : VolumesIn s end past = (held_at s h end r).1 in
+    let here : IsAtHome s v.fid.volume = home_by s past v (V.sound v.fid.volume) (V.none v.fid.volume) told (placed v.fid.volume s.volumes) in
+    let home : Accepts s v.fid.volume (Server here.server) (lines_of past) = accepts s v.fid.volume (Server here.server) (lines_of past) here.at in
+    let k = run_versions s h end r here.server v home told in
+    record { server = here.server; home = home; kept = k.0; after = k.1 }
 
 -- ---- the change of a key, in a legal history
 
@@ -299,17 +255,16 @@ closed_by s act contents k f user call sent ls found at is asks =
 
 -- ---- the law
 
-pub run_survives : (s : Script) (history before after : List Entry) (e : Entry) (first rest : List Line) (c : Node) (code : Code) (act : Going) (end : cells.Cell) → IsOneServer s → cells.RunsTo history s end → history ≡ before ++ (e ∷ after) → e.lines ≡ first ++ lines.Answer c code ∷ rest
-    → running s c (onto [] first ++ lines_of (past_of (set_up s ∷ []) before)) ≡ Some act → IsChangingAct act.act → code.0 ≡ pos 0 → AreMadeAndKept c act (past_of (set_up s ∷ []) before) (onto [] first) (end.hosts 1) (past_of (set_up s ∷ []) history)
-run_survives s history before after e first rest c code act end one r split line runs is zero =
-    let legal : LegalAfter s (set_up s ∷ []) history = runs_legal s history end one r in
+pub run_survives : AcknowledgedAreKept
+run_survives s history before after e first rest c code act end cell r split line runs is zero =
+    let legal : LegalAfter s (set_up s ∷ []) history = run_legal s history end cell r in
     let past : List Entry = past_of (set_up s ∷ []) before in
     let own : List Line = onto [] first in
     let m : MadeBy s c act past own = acknowledged_by s history before after e first rest c code act legal split line runs is zero in
     let k : Key = m.made.key in
-    let H : Holds s (seen_in end) (past_of (set_up s ∷ []) history) = at_end s history (seen_in end) one (run_same s history end one r) in
+    let a : KnownAsked s end (past_of (set_up s ∷ []) history) = (held_at s history end r).0 in
     let ones : Each (IfCall (IsOne end.sent)) (sent_of past) =
-    sent_front (IfCall (IsOne end.sent)) past (e ∷ after) (subst (λ (es : List Entry). Each (IfCall (IsOne end.sent)) (sent_of es)) (ap (past_of (set_up s ∷ [])) split ∙ past_both (set_up s ∷ []) before (e ∷ after)) (subst (Each (IfCall (IsOne end.sent))) (sym H.sent.told) H.sent.ones)) in
+    sent_front (IfCall (IsOne end.sent)) past (e ∷ after) (subst (λ (es : List Entry). Each (IfCall (IsOne end.sent)) (sent_of es)) (ap (past_of (set_up s ∷ [])) split ∙ past_both (set_up s ∷ []) before (e ∷ after)) (subst (Each (IfCall (IsOne end.sent))) (sym a.0.hears.told) a.1.ones)) in
     let all : past_of (set_up s ∷ []) history ≡ past_of past (e ∷ after) = ap (past_of (set_up s ∷ [])) split ∙ past_both (set_up s ∷ []) before (e ∷ after) in
     let here : onto (lines_of past) first ≡ own ++ lines_of past = onto_front (lines_of past) first in
     let good : AreGood s e.actor past [] (first ++ lines.Answer c code ∷ rest) = subst (AreGood s e.actor past []) line (good_in s (set_up s ∷ []) before after e (subst (LegalAfter s (set_up s ∷ [])) split legal)) in
@@ -324,11 +279,11 @@ run_survives s history before after e first rest c code act end one r split line
     record {
       made = m.made;
       closed = λ o contents close. let f = m.stores o contents close in
-          closed_by s act contents k f.0 m.made.user m.made.call end.sent (own ++ lines_of past) (found_at_end s k (sent_of past) end.sent (own ++ lines_of past) (subst (IsFound s k (sent_of past)) here found) (λ x at. subst (λ (ms : List Message). call_under k ms ≡ Some x) (ap sent_of (sym all) ∙ H.sent.told) (carried_behind k x past (e ∷ after) at)))
+          closed_by s act contents k f.0 m.made.user m.made.call end.sent (own ++ lines_of past) (found_at_end s k (sent_of past) end.sent (own ++ lines_of past) (subst (IsFound s k (sent_of past)) here found) (λ x at. subst (λ (ms : List Message). call_under k ms ≡ Some x) (ap sent_of (sym all) ∙ a.0.hears.told) (carried_behind k x past (e ∷ after) at)))
           (called_one m.client.0 k m.made.user m.made.call end.sent past (m.made.node ∙ m.client.1) m.made.called ones) (stored_call m.made.call f.0 (bytes_in contents) (m.asks ∙ f.1)) f.1;
-      survive = survives s history end one r;
-      versions = λ v has. version_kept s history end v one r (subst (λ (es : List Entry). HasVersion v.fid v.index v.body (lines_of es)) (sym all) (has_behind v.fid v.index v.body (e ∷ past) after
-          (subst (λ (ls : List Line). HasVersion v.fid v.index v.body (onto (lines_of past) ls)) (sym line) (subst (HasVersion v.fid v.index v.body) (sym (onto_more (lines_of past) first (lines.Answer c code ∷ rest))) (has_onto v.fid v.index v.body (lines.Answer c code ∷ rest) (onto (lines_of past) first) (subst (HasVersion v.fid v.index v.body) (sym here) (made_told k v (own ++ lines_of past) has)))))));
+      survive = λ i. survives s history end i r;
+      versions = λ v has. version_kept s history end v r (subst (λ (es : List Entry). HasVersion v.fid v.index v.body (lines_of es)) (sym all) (has_behind v.fid v.index v.body (e ∷ past) after
+          (subst (λ (ls : List Line). HasVersion v.fid v.index v.body (onto (lines_of past) ls)) (sym line) (subst (HasVersion v.fid v.index v.body) (sym (onto_both (lines_of past) first (lines.Answer c code ∷ rest))) (has_onto v.fid v.index v.body (lines.Answer c code ∷ rest) (onto (lines_of past) first) (subst (HasVersion v.fid v.index v.body) (sym here) (made_told k v (own ++ lines_of past) has)))))));
     }
   where
     found_lines : (s : Script) (k : Key) (sent : List Message) (ls more : List Line) → IsFound s k sent ls → IsFound s k sent (onto ls more)

@@ -5,26 +5,26 @@ use Rattle.afs_history.specs.declared.scripts.Script.{Script}
 use Rattle.afs_ideal.specs.Operations.{Caller, Found, Result, changes, the_user, volume_changed}
 use Rattle.afs_ideal.specs.Replies.{change_reply}
 use Rattle.afs_ideal.specs.Volumes.{Volume}
-use Rattle.afs_law.proofs.Basics.{Each, IfCall, LastSeat, OfCall, at_put, each_at, each_map, each_more, kept_last}
+use Rattle.afs_law.proofs.Basics.{Above, Each, IfCall, LastSeat, OfCall, at_put, each_at, each_map, each_more, kept_last, runs_admitted}
 use Rattle.afs_law.proofs.Acting.{begins_acts, given_acts, waits_acts}
-use Rattle.afs_law.proofs.Choosing.{risen_lines}
-use Rattle.afs_law.proofs.Cutting.{comes_first, now_up}
-use Rattle.afs_law.proofs.Facts.{IsOne}
+use Rattle.afs_law.proofs.Choosing.{granted_from, is_from, risen_lines}
+use Rattle.afs_law.proofs.Cutting.{comes_first, now_up, blow_stopped, same_cut}
+use Rattle.afs_law.proofs.Words.{IsOne}
 use Rattle.afs_law.proofs.Firm.{IsSentBy}
-use Rattle.afs_law.proofs.Hearing.{ran_later}
+use Rattle.afs_law.proofs.Hearing.{ran_later, no_server}
 use Rattle.afs_law.proofs.Housed.{HomesIn, IsHome, home_held}
 use Rattle.afs_law.proofs.Hosting.{HasHead, does_given, served_head}
-use Rattle.afs_law.proofs.Ideals.{Held, IsSent, of_this}
-use Rattle.afs_law.proofs.KeysOnce.{IsKnown, any_told, by_key}
+use Rattle.afs_law.proofs.Ideals.{AreBlank, Held, IsSent, blank_by, from_blank, of_this}
+use Rattle.afs_law.proofs.KeysOnce.{HasRun, IsKnown, any_told, by_key, new_key, not_run}
 use Rattle.afs_law.proofs.Moving.{Behind, EachMove}
 use Rattle.afs_law.proofs.Ops.{changes_is}
+use Rattle.afs_law.proofs.Passing.{no_change}
 use Rattle.afs_law.proofs.Promised.{are_ideal, is_file, reading_code}
 use Rattle.afs_law.proofs.Reasons.{AreAmong, IsFile, IsMaking, IsNo, IsRead, IsReading, Ran as RanFor, Runs, Why, answer_of, answers_after, answers_in, answers_same, held_by, read_to, why}
 use Rattle.afs_law.proofs.Replying.{AreTold, Leaves, Makes, MakesCut, Replied, Replies, Spares, disk_replies, serves_replies, starts_replies, times_replies, wakes_replies}
-use Rattle.afs_law.proofs.Serving.{IsAmong}
-use Rattle.afs_law.proofs.Standing.{runs_admitted}
+use Rattle.afs_law.proofs.Finding.{IsAmong}
 use Rattle.afs_law.specs.Breaks.{HasStopped}
-use Rattle.afs_law.specs.Ideal.{change_in, set_up, volume_after}
+use Rattle.afs_law.specs.Ideal.{change_in, change_key, set_up, volume_after}
 use Rattle.afs_law.specs.Legal.{HasChange, IsChanging, IsKey, IsResult, IsTold as IsToldOf, answer_at, code_given}
 use Rattle.afs_law.specs.ServerParts.{IsKind}
 use Rattle.afs_law.specs.Past.{HasCode, IsCall, IsToCome, Ran, answered_key, called_key, code_told, given_message, lines_of, onto, sent_of, server_boot}
@@ -71,25 +71,42 @@ pub record HasGrant (server c : Node) (f : Fid) (index expiry : ℕ) (ls : List 
 abbrev pub AreGranted : Head → ℕ → List Found → List Line → Type 0
 AreGranted head expiry fs ls = (f : Found) → IsAmong f fs → HasGrant head.from head.to f.fid f.vnode.index expiry ls
 
--- what was read, of the ideal volumes
+-- what was read, of the ideal volumes; the entry tells no version and no stop
 pub record TellsRead (V : ℕ → Option Volume) (user : List ℕ) (call : FsCall) (m : Message) (ls : List Line) : Type 0 where
   pub reading : Reading
   pub expiry : ℕ
   pub is : m.carried ≡ carried.Reply (tell.File (promised_in expiry reading.reply))
   pub read : IsReading V user call reading
   pub granted : AreGranted m.head expiry reading.granted ls
+  pub blank : AreBlank ls
+  pub going : HasStopped m.head.from ls → ⊥
+
+-- the entry that tells the change of this key, and the ideal volume there
+pub record HasMade (k : Key) (change : Change) (past : List Entry) : Type 0 where
+  pub newer : List Entry
+  pub at : Entry
+  pub older : List Entry
+  pub split : past ≡ newer ++ (at ∷ older)
+  pub key : change_key at.lines ≡ Some k
+  pub volume : volume_after change.id older ≡ Some change.before.volume
 
 -- what was changed, of the ideal volumes; where a restart made it no promises were made
-pub record TellsMade (V : ℕ → Option Volume) (user : List ℕ) (call : FsCall) (m : Message) (ls : List Line) : Type 0 where
+pub record TellsMade (V : ℕ → Option Volume) (user : List ℕ) (call : FsCall) (m : Message) (ls : List Line) (past : List Entry) : Type 0 where
   pub change : Change
   pub clock : ℕ
   pub is : m.carried ≡ carried_by (clock + promise_ticks) (change_reply change.id change.caller (time_in (stored_by clock change)) (result change) change.shown change.call)
   pub making : IsMaking V user call change
   pub granted : AreGranted m.head (clock + promise_ticks) (granted_in change) ls ⊎ HasStopped m.head.from ls
+  pub here : HasMade (answered_key m.head) change past
 
 abbrev pub IsRefused : Carried → Type 0
 IsRefused (carried.Refusal code) = ⊤
 IsRefused c = ⊥
+
+-- a refusal: no change of its key was told up to its entry
+pub record TellsNo (m : Message) (past : List Entry) : Type 0 where
+  pub refused : IsRefused m.carried
+  pub first : HasChange (answered_key m.head) (lines_of past) → ⊥
 
 pub record Tells (m : Message) (past : List Entry) : Type 0 where
   pub ran : Ran m.head past
@@ -100,7 +117,7 @@ pub record Tells (m : Message) (past : List Entry) : Type 0 where
   pub told : code_told m.carried ≡ Some code
   pub result : IsResult m.head.from code (answer_at user call ran.older) (answered_key m.head) ran.at.lines (lines_of past)
   pub kind : IsKind call m.carried
-  pub says : IsRefused m.carried ⊎ (TellsRead (λ id. volume_after id ran.older) user call m ran.at.lines ⊎ TellsMade (λ id. volume_after id ran.older) user call m ran.at.lines)
+  pub says : TellsNo m (ran.at ∷ ran.older) ⊎ (TellsRead (λ id. volume_after id ran.older) user call m ran.at.lines ⊎ TellsMade (λ id. volume_after id ran.older) user call m ran.at.lines past)
 
 -- a reply of a server to a client
 abbrev pub IsTold : List Entry → Message → Type 0
@@ -108,11 +125,11 @@ IsTold past m = (i j : ℕ) → m.head.from ≡ Server i → m.head.to ≡ Clien
 
 -- ---- an entry more
 
-key_more : (k : Key) (o : Option Key) (X : Type 0) → X → IsKey k o X
+pub key_more : (k : Key) (o : Option Key) (X : Type 0) → X → IsKey k o X
 key_more k None X h = h
 key_more k (Some l) X h = inr h
 
-change_later : (k : Key) (ls o : List Line) → HasChange k o → HasChange k (onto o ls)
+pub change_later : (k : Key) (ls o : List Line) → HasChange k o → HasChange k (onto o ls)
 change_later k [] o h = h
 change_later k (l ∷ ls) o h = change_later k ls (l ∷ o) (key_more k (change_in l) (HasChange k o) h)
 
@@ -123,6 +140,16 @@ told_later k r ls o h = tt
 result_later : (server : Node) (code : ℤ) (r : Option Result) (k : Key) (ran ls o : List Line) → IsResult server code r k ran o → IsResult server code r k ran (onto o ls)
 result_later server code r k ran ls o (inl h) = inl (h.0, told_later k r ls o h.1)
 result_later server code r k ran ls o (inr h) = inr h
+
+made_later : (e : Entry) (past : List Entry) (V : ℕ → Option Volume) (user : List ℕ) (call : FsCall) (m : Message) (ls : List Line) → TellsMade V user call m ls past → TellsMade V user call m ls (e ∷ past)
+made_later e past V user call m ls h = record {
+  change = h.change;
+  clock = h.clock;
+  is = h.is;
+  making = h.making;
+  granted = h.granted;
+  here = record { newer = e ∷ h.here.newer; at = h.here.at; older = h.here.older; split = ap (λ (es : List Entry). e ∷ es) h.here.split; key = h.here.key; volume = h.here.volume };
+}
 
 tells_later : (e : Entry) (past : List Entry) (m : Message) → IsTold past m → IsTold (e ∷ past) m
 tells_later e past m w i j from to code =
@@ -136,7 +163,13 @@ tells_later e past m w i j from to code =
       told = t.told;
       result = result_later m.head.from t.code (answer_at t.user t.call t.ran.older) (answered_key m.head) t.ran.at.lines e.lines (lines_of past) t.result;
       kind = t.kind;
-      says = t.says;
+      says = elim t.says [
+        | inl y ↦ inl y
+        | inr y ↦ elim y [
+          | inl z ↦ inr (inl z)
+          | inr z ↦ inr (inr (made_later e past (λ id. volume_after id t.ran.older) t.user t.call m t.ran.at.lines z))
+        ]
+      ];
     }
 
 replies_later : (e : Entry) (past : List Entry) (x : ServerState) → Replies (IsTold past) x → Replies (IsTold (e ∷ past)) x
@@ -171,7 +204,7 @@ pub record IsWell (call : FsCall) (c : Carried) : Type 0 where
   pub told : code_told c ≡ Some (pos 0)
   pub kind : IsKind call c
 
-made_well : (call : FsCall) (expiry id : ℕ) (caller : Caller) (times : Fid → ℕ) (v : Volume) (n : ℕ) → (volume_changed call ≡ None → ⊥) → IsWell call (carried_by expiry (change_reply id caller times v n call))
+pub made_well : (call : FsCall) (expiry id : ℕ) (caller : Caller) (times : Fid → ℕ) (v : Volume) (n : ℕ) → (volume_changed call ≡ None → ⊥) → IsWell call (carried_by expiry (change_reply id caller times v n call))
 made_well (calls.StoreData f st p w l b) expiry id caller times v n some = record { told = refl; kind = refl }
 made_well (calls.StoreAcl f acl) expiry id caller times v n some = record { told = refl; kind = refl }
 made_well (calls.StoreStatus f st) expiry id caller times v n some = record { told = refl; kind = refl }
@@ -184,7 +217,7 @@ made_well (calls.MakeDir d name st) expiry id caller times v n some = record { t
 made_well (calls.RemoveDir d name) expiry id caller times v n some = record { told = refl; kind = refl }
 made_well call expiry id caller times v n some = absurd (some refl)
 
-change_here : (k : Key) (me : Node) (n : ℕ) (front rest o : List Line) → HasChange k (onto o (front ++ lines.Change me k n ∷ rest))
+pub change_here : (k : Key) (me : Node) (n : ℕ) (front rest o : List Line) → HasChange k (onto o (front ++ lines.Change me k n ∷ rest))
 change_here k me n [] rest o = change_later k rest (lines.Change me k n ∷ o) (inl refl)
 change_here k me n (l ∷ front) rest o = change_here k me n front rest (l ∷ o)
 
@@ -233,8 +266,8 @@ ran_at i j x m past p r = record {
 -- a change
 saves_told : (i j : ℕ) (x : ServerState) (m : Message) (past : List Entry) (clock : ℕ) (ch : Change) (front rest : List Line) (o : List Line) → (p : Place i x m past) → (r : Runs (Server i) x m j) → IsMaking (held_by x) r.user r.call ch
     → lines_of past ≡ onto o (front ++ lines.Change (Server i) (key_of m.head) (length (made ch)) ∷ rest)
-    → AreGranted (reply_head x.lasting.boot m.head) (clock + promise_ticks) (granted_in ch) p.at.lines ⊎ HasStopped (Server i) p.at.lines → Tells (change_reply_to x.lasting.boot m.head clock ch) past
-saves_told i j x m past clock ch front rest o p r k ls g =
+    → AreGranted (reply_head x.lasting.boot m.head) (clock + promise_ticks) (granted_in ch) p.at.lines ⊎ HasStopped (Server i) p.at.lines → HasMade (key_of m.head) ch past → Tells (change_reply_to x.lasting.boot m.head clock ch) past
+saves_told i j x m past clock ch front rest o p r k ls g here =
     let V : ℕ → Option Volume = λ id. volume_after id p.older in
     let at : V ch.id ≡ Some ch.before.volume = p.ideal ch.id ch.before.volume k.at in
     let answer : answer_at r.user r.call p.older ≡ Some (changes ch.edits ch.shown) = sym (answers_after p.older r.user r.call) ∙ (answer_of V r.user r.call ch.id (Some ch.before.volume) k.of_volume at ∙ ap Some k.result) in
@@ -256,6 +289,7 @@ saves_told i j x m past clock ch front rest o p r k ls g =
         is = refl;
         making = record { of_volume = k.of_volume; at = at; result = k.result; caller = k.caller; called = k.called };
         granted = elim g [ inl y ↦ inl y | inr y ↦ inr (subst (λ (q : Node). HasStopped q p.at.lines) (sym r.to) y) ];
+        here = here;
       }));
     }
 
@@ -287,8 +321,8 @@ asked_same s c past i j m h home r =
 
 -- a refusal
 refused_told : (s : Script) (c : Cell) (past : List Entry) (e : Entry) (i j place : ℕ) (m : Message) (code : ℤ) → Held s c past → (p : Place i (c.hosts i).state m (e ∷ past)) → p.older ≡ past → p.at ≡ e → (r : Runs (Server i) (c.hosts i).state m j) → IsNo (held_by (c.hosts i).state) r.user r.call code
-    → answers_in (held_by (c.hosts i).state) r.user r.call ≡ answer_at r.user r.call past → e.lines ≡ lines.Given place ∷ [] → Tells (refusal (c.hosts i).state.lasting.boot m.head code) (e ∷ past)
-refused_told s c past e i j place m code h p older at r n same ls =
+    → answers_in (held_by (c.hosts i).state) r.user r.call ≡ answer_at r.user r.call past → e.lines ≡ lines.Given place ∷ [] → (HasChange (key_of m.head) (lines_of past) → ⊥) → Tells (refusal (c.hosts i).state.lasting.boot m.head code) (e ∷ past)
+refused_told s c past e i j place m code h p older at r n same ls fresh =
     let answer : answers_in (held_by (c.hosts i).state) r.user r.call ≡ answer_at r.user r.call p.older = same ∙ ap (answer_at r.user r.call) (sym older) in
     let alone : p.at.lines ≡ lines.Given place ∷ [] = ap (λ (y : Entry). y.lines) at ∙ ls in
     let k : Key = key_of m.head in
@@ -304,17 +338,21 @@ refused_told s c past e i j place m code h p older at r n same ls =
         | inr y ↦ inr (y.0, (y.1, (subst (λ (l : List Line). HasChange k l → ⊥) (sym alone) (λ z. z), subst (λ (l : List Line). HasStopped m.head.to l → ⊥) (sym alone) (λ z. z))))
       ]);
       kind = tt;
-      says = inl tt;
+      says = inl (record { refused = tt; first = λ z. fresh (subst (λ (q : List Entry). HasChange k (lines_of q)) older (subst (λ (l : List Line). HasChange k (onto (lines_of p.older) l)) alone z)) });
     }
+
+granted_going : (s me c : Node) (x : ℕ) (fs : List Found) → HasStopped s (granted me c x fs []) → ⊥
+granted_going s me c x [] h = h
+granted_going s me c x (f ∷ fs) h = granted_going s me c x fs h
 
 -- what is read
 shown_told : (s : Script) (c : Cell) (past : List Entry) (e : Entry) (i j place : ℕ) (m : Message) (g : Reading) → Held s c past → (p : Place i (c.hosts i).state m (e ∷ past)) → p.older ≡ past → p.at ≡ e → (r : Runs (Server i) (c.hosts i).state m j) → IsReading (held_by (c.hosts i).state) r.user r.call g
-    → (tail : List Line) → e.lines ≡ lines.Given place ∷ granted (Server i) m.head.from (c.clock + promise_ticks) g.granted tail → Tells (read_reply_to (c.hosts i).state.lasting.boot m.head (c.clock + promise_ticks) g) (e ∷ past)
-shown_told s c past e i j place m g h p older at r n tail ls =
+    → e.lines ≡ lines.Given place ∷ granted (Server i) m.head.from (c.clock + promise_ticks) g.granted [] → Tells (read_reply_to (c.hosts i).state.lasting.boot m.head (c.clock + promise_ticks) g) (e ∷ past)
+shown_told s c past e i j place m g h p older at r n ls =
     let answer : answers_in (held_by (c.hosts i).state) r.user r.call ≡ answer_at r.user r.call p.older = reading_code s c past i r.user r.call g h n ∙ ap (answer_at r.user r.call) (sym older) in
     let V : ℕ → Option Volume = λ id. volume_after id p.older in
     let after : answers_in V r.user r.call ≡ answers_in (held_by (c.hosts i).state) r.user r.call = answers_after p.older r.user r.call ∙ sym answer in
-    let lines_at : p.at.lines ≡ lines.Given place ∷ granted (Server i) m.head.from (c.clock + promise_ticks) g.granted tail = ap (λ (y : Entry). y.lines) at ∙ ls in
+    let lines_at : p.at.lines ≡ lines.Given place ∷ granted (Server i) m.head.from (c.clock + promise_ticks) g.granted [] = ap (λ (y : Entry). y.lines) at ∙ ls in
     let k : Key = key_of m.head in
     record {
       ran = ran_at i j (c.hosts i).state m (e ∷ past) p r;
@@ -331,8 +369,10 @@ shown_told s c past e i j place m g h p older at r n tail ls =
         is = refl;
         read = record { is = read_to (held_by (c.hosts i).state) V r.call g p.ideal n.is; code = ap code_given after ∙ n.code; still = λ z. n.still (subst IsChanging after z) };
         granted = λ f z. subst (λ (l : List Line). HasGrant m.head.to m.head.from f.fid f.vnode.index (c.clock + promise_ticks) l) (sym lines_at)
-            (grant_more m.head.to m.head.from f.fid f.vnode.index (c.clock + promise_ticks) (lines.Given place) (granted (Server i) m.head.from (c.clock + promise_ticks) g.granted tail)
-            (subst (λ (q : Node). HasGrant q m.head.from f.fid f.vnode.index (c.clock + promise_ticks) (granted (Server i) m.head.from (c.clock + promise_ticks) g.granted tail)) (sym r.to) (has_granted (Server i) m.head.from (c.clock + promise_ticks) g.granted tail f z)));
+            (grant_more m.head.to m.head.from f.fid f.vnode.index (c.clock + promise_ticks) (lines.Given place) (granted (Server i) m.head.from (c.clock + promise_ticks) g.granted [])
+            (subst (λ (q : Node). HasGrant q m.head.from f.fid f.vnode.index (c.clock + promise_ticks) (granted (Server i) m.head.from (c.clock + promise_ticks) g.granted [])) (sym r.to) (has_granted (Server i) m.head.from (c.clock + promise_ticks) g.granted [] f z)));
+        blank = subst AreBlank (sym lines_at) (blank_by (is_from (Server i)) (from_blank (Server i)) (lines.Given place ∷ granted (Server i) m.head.from (c.clock + promise_ticks) g.granted []) (granted_from (Server i) m.head.from (c.clock + promise_ticks) g.granted [] refl));
+        going = subst (λ (l : List Line). HasStopped m.head.to l → ⊥) (sym lines_at) (granted_going m.head.to (Server i) m.head.from (c.clock + promise_ticks) g.granted);
       }));
     }
 
@@ -377,6 +417,18 @@ kept_by : (T : Message → Type 0) (t : Bool) (boot : ℕ) (seats : List Seat) (
 kept_by T true boot seats head m h e = let l : LastSeat head.epoch head.number (call_seat head.from seats) m = kept_last head.epoch head.number (call_seat head.from seats) m e in h head.from l.seat m l.at l.reply
 kept_by T false boot seats head m h e = absurd cc
 
+abbrev KnownBy : Cell → (Key → Node) → Head → List ℕ → FsCall → Type 0
+KnownBy c callees head user call = IsKnown callees c.clients head.to (key_of head)
+
+-- a call that runs changed nothing before
+not_changed : (s : Script) (c : Cell) (past : List Entry) (i j place : ℕ) (m : Message) → Held s c past → message_at c.sent place ≡ Some m → (r : Runs (Server i) (c.hosts i).state m j) → HasChange (key_of m.head) (lines_of past) → ⊥
+not_changed s c past i j place m h at r =
+    let x : ServerState = (c.hosts i).state in
+    let callees : Key → Node = h.0.0.keys.callees in
+    let known : IsKnown callees c.clients (Server i) (key_of m.head) = subst (λ (q : Node). IsKnown callees c.clients q (key_of m.head)) r.to (of_this (KnownBy c callees) j m.head m.carried r.user r.call r.from r.carries (each_at (IfCall (KnownBy c callees)) c.sent place m at h.0.0.keys.calls)) in
+    let above : Above (call_seat m.head.from x.lasting.kept) m.head.epoch m.head.number = (h.0.0.keys.sound i).lower m.head.from m.head.epoch m.head.number (runs_admitted x.lasting.boot x.seats m.head r.runs).1 in
+    no_change (key_of m.head) (lines_of past) (new_key (HasRun callees c.clients c.hosts) (key_of m.head) (lines_of past) (not_run callees c.clients c.hosts i (key_of m.head) known above) h.0.0.keys.ran)
+
 served_makes : (s : Script) (c : Cell) (past : List Entry) (e : Entry) (i place : ℕ) (m : Message) (d : Decision) → Held s c past → IfCall (IsHome s) m → Replies (IsTold (e ∷ past)) (c.hosts i).state → (c.hosts i).down ≡ None → message_at c.sent place ≡ Some m → e.actor ≡ actors.Node (Server i)
     → e.lines ≡ served_lines (Server i) (c.hosts i).state c.clock place m d → IsOfHead m.head d → Why (Server i) (c.hosts i).state m d → Makes (IsTold (e ∷ past)) (c.hosts i).state c.clock d
 served_makes s c past e i place m drops h home k up at actor ls own y = tt
@@ -389,15 +441,15 @@ served_makes s c past e i place m (refuses head code) h home k up at actor ls ow
     subst (λ (z : Head). IsTold (e ∷ past) (refusal x.lasting.boot z code)) (sym own) (λ q j from to told.
     let R : RanFor (Server i) x m j (refuses head code) = y j to in
     refused_told s c past e i j place m code h p refl refl R.run R.why.1 (asked_same s c past i j m h home R.run)
-    (ls ∙ ap (λ (l : List Line). lines.Given place ∷ l) (turn_lines (Server i) x c.clock (refuses head code) m R.run.user R.run.call R.run.carries)))
+    (ls ∙ ap (λ (l : List Line). lines.Given place ∷ l) (turn_lines (Server i) x c.clock (refuses head code) m R.run.user R.run.call R.run.carries)) (not_changed s c past i j place m h at R.run))
 served_makes s c past e i place m (shows head g) h home k up at actor ls own y =
     let x : ServerState = (c.hosts i).state in
     let p : Place i x m (e ∷ past) = place_here s c past e i place m (shows head g) h up at actor ls in
-    let tail : List Line = (turned_by (Server i) x c.clock (expired c.clock x.backs) (shows head g) m.head m.carried).lines in
     let R : RanFor (Server i) x m y.0 (shows head g) = y.1 in
     subst (λ (z : Head). IsTold (e ∷ past) (read_reply_to x.lasting.boot z (c.clock + promise_ticks) g)) (sym R.why.0) (λ q j from to told.
-    shown_told s c past e i y.0 place m g h p refl refl R.run R.why.1 tail
-    (ls ∙ ap (λ (z : Head). lines.Given place ∷ granted (Server i) z.from (c.clock + promise_ticks) g.granted tail) R.why.0))
+    shown_told s c past e i y.0 place m g h p refl refl R.run R.why.1
+    (ls ∙ (ap (λ (z : Head). lines.Given place ∷ granted (Server i) z.from (c.clock + promise_ticks) g.granted (turned_by (Server i) x c.clock (expired c.clock x.backs) (shows head g) m.head m.carried).lines) R.why.0
+    ∙ ap (λ (l : List Line). lines.Given place ∷ granted (Server i) m.head.from (c.clock + promise_ticks) g.granted l) (turn_lines (Server i) x c.clock (shows head g) m R.run.user R.run.call R.run.carries))))
 served_makes s c past e i place m (saves head ch) h home k up at actor ls own y =
     let x : ServerState = (c.hosts i).state in
     let p : Place i x m (e ∷ past) = place_here s c past e i place m (saves head ch) h up at actor ls in
@@ -412,7 +464,8 @@ served_makes s c past e i place m (saves head ch) h home k up at actor ls own y 
     (grant_more m.head.to m.head.from f.fid f.vnode.index (c.clock + promise_ticks) (lines.Given place) (lines.Change (Server i) (key_of m.head) (length (made ch)) ∷ versioned (made ch) given)
     (grant_more m.head.to m.head.from f.fid f.vnode.index (c.clock + promise_ticks) (lines.Change (Server i) (key_of m.head) (length (made ch))) (versioned (made ch) given)
     (grant_behind m.head.to m.head.from f.fid f.vnode.index (c.clock + promise_ticks) (made ch) given
-    (subst (λ (n : Node). HasGrant n m.head.from f.fid f.vnode.index (c.clock + promise_ticks) given) (sym R.run.to) (has_granted (Server i) m.head.from (c.clock + promise_ticks) (granted_in ch) tail f z))))))))
+    (subst (λ (n : Node). HasGrant n m.head.from f.fid f.vnode.index (c.clock + promise_ticks) given) (sym R.run.to) (has_granted (Server i) m.head.from (c.clock + promise_ticks) (granted_in ch) tail f z)))))))
+    (record { newer = []; at = e; older = past; split = refl; key = ap change_key is; volume = are_ideal s c past i h ch.id ch.before.volume R.why.1.at }))
 
 -- ---- a step that was interrupted
 
@@ -425,10 +478,6 @@ place_later i x m e past p = record { newer = e ∷ p.newer; at = p.at; older = 
 
 cut_later : (i : ℕ) (x : ServerState) (m : Message) (e : Entry) (past : List Entry) → CutHeld i x m past → CutHeld i x m (e ∷ past)
 cut_later i x m e past h = record { place = place_later i x m e past h.place; stopped = h.stopped }
-
-blow_stopped : (i place : ℕ) (t : Bool) → HasStopped (Server i) (lines.Given place ∷ blow_line i t ∷ [])
-blow_stopped i place true = inl refl
-blow_stopped i place false = inl refl
 
 cut_here : (s : Script) (c : Cell) (past : List Entry) (i place : ℕ) (m : Message) (t : Bool) (e : Entry) → Held s c past → (c.hosts i).down ≡ None → message_at c.sent place ≡ Some m → e.actor ≡ actors.Node (Server i) → e.lines ≡ lines.Given place ∷ blow_line i t ∷ [] → CutHeld i (c.hosts i).state m (e ∷ past)
 cut_here s c past i place m t e h up at actor ls = record {
@@ -446,13 +495,14 @@ cut_here s c past i place m t e h up at actor ls = record {
   stopped = subst (HasStopped (Server i)) (sym ls) (blow_stopped i place t);
 }
 
-cut_leaves : (i : ℕ) (x : ServerState) (clock : ℕ) (m : Message) (e : Entry) (past : List Entry) (rest : List Line) (d : Decision) → CutHeld i x m past → e.lines ≡ (begun_after (Server i) x clock d).before rest → Why (Server i) x m d → Leaves (IsTold (e ∷ past)) x clock d
-cut_leaves i x clock m e past rest (saves head ch) h ls y =
+cut_leaves : (i : ℕ) (x : ServerState) (clock : ℕ) (m : Message) (e : Entry) (past : List Entry) (rest : List Line) (d : Decision) → CutHeld i x m past → AreAmong (held_by x) (λ id. volume_after id past) → e.lines ≡ (begun_after (Server i) x clock d).before rest → Why (Server i) x m d → Leaves (IsTold (e ∷ past)) x clock d
+cut_leaves i x clock m e past rest (saves head ch) h ideal ls y =
     let R : RanFor (Server i) x m y.0 (saves head ch) = y.1 in
     subst (λ (z : Head). IsTold (e ∷ past) (change_reply_to x.lasting.boot z clock ch)) (sym R.why.0) (λ q j from to told.
     saves_told i y.0 x m (e ∷ past) clock ch [] (versioned (made ch) rest) (lines_of past) (place_later i x m e past h.place) R.run R.why.1
-    (ap (onto (lines_of past)) (ls ∙ ap (λ (z : Head). lines.Change (Server i) (key_of z) (length (made ch)) ∷ versioned (made ch) rest) R.why.0)) (inr h.stopped))
-cut_leaves i x clock m e past rest d h ls y = tt
+    (ap (onto (lines_of past)) (ls ∙ ap (λ (z : Head). lines.Change (Server i) (key_of z) (length (made ch)) ∷ versioned (made ch) rest) R.why.0)) (inr h.stopped)
+    (record { newer = []; at = e; older = past; split = refl; key = ap change_key (ls ∙ ap (λ (z : Head). lines.Change (Server i) (key_of z) (length (made ch)) ∷ versioned (made ch) rest) R.why.0); volume = ideal ch.id ch.before.volume R.why.1.at }))
+cut_leaves i x clock m e past rest d h ideal ls y = tt
 
 -- ---- what holds after every entry
 
@@ -477,9 +527,6 @@ host_told hosts sent more past e i x h w r cut = record {
 
 all_later : (e : Entry) (past : List Entry) (sent : List Message) → Each (IsTold past) sent → Each (IsTold (e ∷ past)) sent
 all_later e past sent h = each_map (IsTold past) (IsTold (e ∷ past)) (tells_later e past) sent h
-
-no_server : (n i : ℕ) → Client n ≡ Server i → ⊥
-no_server n i e = absurd cc
 
 client_told : (n : ℕ) (past : List Entry) (m : Message) → m.head.from ≡ Client n → IsTold past m
 client_told n past m own i j from to told = absurd (no_server n i (sym own ∙ from))
@@ -528,7 +575,7 @@ cut_makes s c past e i true at_rest rest h down ls a = tt
 cut_makes s c past e i true in_boot rest h down ls a = tt
 cut_makes s c past e i true (in_step m clock) rest h down ls a =
     let sent : IsSent c.sent m = h.0.0.1.cut i m clock down in
-    cut_leaves i (c.hosts i).state clock m e past rest (decides (Server i) (c.hosts i).state clock (Whole m)) (h.1.cuts i m clock down) ls
+    cut_leaves i (c.hosts i).state clock m e past rest (decides (Server i) (c.hosts i).state clock (Whole m)) (h.1.cuts i m clock down) (are_ideal s c past i h.0.0) ls
     (why (Server i) (c.hosts i).state clock m (is_file (IsOne c.sent) m (each_at (IfCall (IsOne c.sent)) c.sent sent.0 m sent.1 h.0.0.0.1.ones)))
 
 disk_told : (s : Script) (c : Cell) (past : List Entry) (e : Entry) (i : ℕ) (after : Bool) (fall : Fall) (rest : List Line) → Telling s c past → (c.hosts i).down ≡ Some fall → e.lines ≡ (begun_by_disk (Server i) (c.hosts i).state after fall).before rest → Replies (IsTold (e ∷ past)) (begun_by_disk (Server i) (c.hosts i).state after fall).state
@@ -546,9 +593,6 @@ stays_told s c past i after fall now l h down none =
     let f : Begun = begun_by_disk (Server i) (c.hosts i).state after fall in
     let e : Entry = (server_stays c i f l now).entry in
     host_told c.hosts c.sent c.sent past e i (record { state = f.state; down = Some now; armed = unarmed }) h.1 (all_later e past c.sent h.1.sends) (disk_told s c past e i after fall (l ∷ []) h down refl) (λ m clock d. absurd (none m clock d))
-
-same_cut : (m k : Message) (a b : ℕ) → Some (in_step m a) ≡ Some (in_step k b) → m ≡ k
-same_cut m k a b e = cc
 
 pub told_moves : (s : Script) → EachMove (Telling s) (Behind ToldIn)
 told_moves s = record {

@@ -8,10 +8,10 @@ use Rattle.afs_law.proofs.Acting.{begins_acts, given_acts, is_of, waits_acts}
 use Rattle.afs_law.proofs.Backing.{all_lines}
 use Rattle.afs_law.proofs.Basics.{both}
 use Rattle.afs_law.proofs.Choosing.{IfCut, Works, disk_works, is_from, risen_from, risen_lines, serves_works, starts_works, times_works, wakes_works}
-use Rattle.afs_law.proofs.Ideals.{Held, blow_blank, held_kept, own_from, volumes_first}
+use Rattle.afs_law.proofs.Ideals.{Held, held_kept, own_from, volumes_first}
 use Rattle.afs_law.proofs.KeysOnce.{IsKnown, any_told, by_key}
-use Rattle.afs_law.proofs.Law.{AreVersions, all_versions, first_passed}
-use Rattle.afs_law.proofs.Loading.{is_tickless}
+use Rattle.afs_law.proofs.SettingUp.{first_passed}
+use Rattle.afs_law.proofs.Loading.{is_tickless, lines_both, clock_back}
 use Rattle.afs_law.proofs.Moving.{Behind, EachMove, IsKept, each_moved}
 use Rattle.afs_law.proofs.Origins.{asked_first}
 use Rattle.afs_law.specs.Ideal.{clock_of, first_lines, set_up}
@@ -24,10 +24,10 @@ use Rattle.afs_num.specs.declared.types.Node.TheVariants.{Client, Server}
 use Rattle.afs_records.specs.Durable.{Stored}
 use Rattle.afs_num.specs.declared.messages.Received.TheVariants.{Whole}
 use Rattle.afs_rows.specs.ClientRow.{begin_row, client_row, timeout_row}
-use Rattle.afs_rows.specs.Runs.{Cell, Entry, Fall, Moved, at_rest, begun_by_disk, blow_line, in_boot, in_step, start}
+use Rattle.afs_rows.specs.Runs.{Cell, Entry, Fall, at_rest, begun_by_disk, blow_line, in_boot, in_step, start}
 use Rattle.afs_rows.specs.ServerRow.{Begun, key_of, made, versioned}
 use Rattle.afs_rows.specs.States.{ServerState}
-use Rattle.std.proofs.Common.{suc, ◌≡◌, ℕ, ◌+◌, inl, inr, Bool, true, false, List, [], ◌∷◌, ◌++◌, length, refl, sym, ap, ◌∙◌}
+use Rattle.std.proofs.Common.{suc, ◌≡◌, ℕ, ◌+◌, inl, inr, Bool, true, false, List, [], ◌∷◌, length, refl, ap, ◌∙◌}
 use Rattle.std.specs.Prelude.{⊤}
 
 -- ---- what holds of each line of a server's step
@@ -45,11 +45,7 @@ lines_by : (q p : Line → Bool) → ((l : Line) → p l ≡ true → q l ≡ tr
 lines_by q p w [] h = refl
 lines_by q p w (l ∷ ls) h = let b = both (p l) (all_lines p ls) h in rw (w l b.0, lines_by q p w ls b.1) refl
 
-lines_more : (q : Line → Bool) (a b : List Line) → all_lines q a ≡ true → all_lines q b ≡ true → all_lines q (a ++ b) ≡ true
-lines_more q [] b h k = k
-lines_more q (l ∷ a) b h k = let x = both (q l) (all_lines q a) h in rw (x.0, lines_more q a b x.1 k) refl
-
-lines_told : (q : Line → Bool) → ((v : Version) → q (lines.Version v) ≡ true) → (vs : List Version) (ls : List Line) → all_lines q ls ≡ true → all_lines q (versioned vs ls) ≡ true
+pub lines_told : (q : Line → Bool) → ((v : Version) → q (lines.Version v) ≡ true) → (vs : List Version) (ls : List Line) → all_lines q ls ≡ true → all_lines q (versioned vs ls) ≡ true
 lines_told q w [] ls h = h
 lines_told q w (v ∷ vs) ls h = rw (w v, lines_told q w vs ls h) refl
 
@@ -63,7 +59,7 @@ pub works_lines : (P : Message → List Line → List Line → Type 0) (me : Nod
 works_lines P me x b ls q w (inl s) = lines_by q (is_from me) w.own ls s.lines
 works_lines P me x b ls q w (inr s) =
     let behind : all_lines q (versioned (made s.change) s.rest) ≡ true = lines_told q w.version (made s.change) s.rest (lines_by q (is_from me) w.own s.rest s.behind) in
-    ap (all_lines q) s.split ∙ lines_more q s.front _ (lines_by q (is_from me) w.own s.front s.before) (rw (w.change (key_of s.head) (length (made s.change)), behind) refl)
+    ap (all_lines q) s.split ∙ lines_both q s.front _ (lines_by q (is_from me) w.own s.front s.before) (rw (w.change (key_of s.head) (length (made s.change)), behind) refl)
 
 -- ---- the clock
 
@@ -78,14 +74,6 @@ of_tickless j l h = refl
 calm_tickless : (me : Node) → IsCalm me is_tickless
 calm_tickless me = record { own = own_tickless me; change = λ k n. refl; version = λ v. refl }
 
-tick_line : (l : Line) (o : List Line) → is_tickless l ≡ true → clock_of (l ∷ o) ≡ clock_of o
-tick_line (lines.Tick n) o h = absurd cc
-tick_line l o h = refl
-
-pub tickless_clock : (ls o : List Line) → all_lines is_tickless ls ≡ true → clock_of (onto o ls) ≡ clock_of o
-tickless_clock [] o h = refl
-tickless_clock (l ∷ ls) o h = let q = both (is_tickless l) (all_lines is_tickless ls) h in tickless_clock ls (l ∷ o) q.1 ∙ tick_line l o q.0
-
 abbrev pub TicksIn : Cell → List Entry → Type 0
 TicksIn c past = clock_of (lines_of past) ≡ c.clock
 
@@ -93,7 +81,7 @@ abbrev pub HeldTicks : Script → Cell → List Entry → Type 0
 HeldTicks s c past = Held s c past × TicksIn c past
 
 stands : (c : Cell) (past : List Entry) (ls : List Line) → TicksIn c past → all_lines is_tickless ls ≡ true → clock_of (onto (lines_of past) ls) ≡ c.clock
-stands c past ls t h = tickless_clock ls (lines_of past) h ∙ t
+stands c past ls t h = clock_back ls (lines_of past) h ∙ t
 
 pub works_stand : (c : Cell) (past : List Entry) (i : ℕ) (b : Table Stored) (ls : List Line) → TicksIn c past → Works AnyCall (Server i) (c.hosts i).state b ls → clock_of (onto (lines_of past) ls) ≡ c.clock
 works_stand c past i b ls t w = stands c past ls t (works_lines AnyCall (Server i) (c.hosts i).state b ls is_tickless (calm_tickless (Server i)) w)

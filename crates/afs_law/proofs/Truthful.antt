@@ -27,7 +27,7 @@ of_fids id [] h = h
 of_fids id (f ∷ fs) (inl e) = inl e
 of_fids id (f ∷ fs) (inr h) = inr (of_fids id fs h)
 
-asks_of : (call : FsCall) (id : ℕ) → IsAsked call id → AsksOf call id
+pub asks_of : (call : FsCall) (id : ℕ) → IsAsked call id → AsksOf call id
 asks_of (calls.GiveUpCallBacks fids callbacks) id h = h
 asks_of calls.GetTime id h = h
 asks_of (calls.BulkStatus fids) id h = of_fids id fids h

@@ -1,15 +1,15 @@
 -- The call that a client waits for was sent to its callee, and each timeout of it was told, however many servers a cell has.
+use Rattle.afs_law.proofs.Following.{none_runs, AreOpen, Follows, WaitsOn, begins_follow, falls_follow, given_follow, more_not, rises_follow, waits_follow}
 use Rattle.afs_history.specs.declared.lines.Line.{Line}
 use Rattle.afs_history.specs.declared.lines.Line.TheVariants as lines
 use Rattle.afs_history.specs.declared.scripts.Script.{Script}
 use Rattle.afs_law.proofs.Acting.{Acts, begins_acts, falls_acts, given_acts, last_key, rises_acts, waits_acts, who_at}
 use Rattle.afs_law.proofs.Basics.{at_put, each_at, some_of}
 use Rattle.afs_law.proofs.Firm.{IsFirm}
-use Rattle.afs_law.proofs.Following.{AreOpen, Follows, WaitsOn, begins_follow, falls_follow, given_follow, more_not, rises_follow, waits_follow}
 use Rattle.afs_law.proofs.Gifts.{Given, given_first, given_kept}
 use Rattle.afs_law.proofs.KeysOnce.{IsKnown, any_told, by_key}
 use Rattle.afs_law.proofs.Moving.{Behind, EachMove, IsKept, each_moved}
-use Rattle.afs_law.proofs.Origins.{none_runs, of_client, same_key_at}
+use Rattle.afs_law.proofs.Origins.{of_client, same_key_at}
 use Rattle.afs_law.proofs.Passing.{timeout_onto}
 use Rattle.afs_law.specs.Breaks.{HasTimeout}
 use Rattle.afs_law.specs.Ideal.{set_up}

@@ -97,7 +97,7 @@ number_by : (t : Bool) (rest : Bool) → t ≡ true → cond t true rest ≡ tru
 number_by true rest e = refl
 number_by false rest e = absurd cc
 
-number_second : (t rest : Bool) → rest ≡ true → cond t true rest ≡ true
+pub number_second : (t rest : Bool) → rest ≡ true → cond t true rest ≡ true
 number_second true rest e = refl
 number_second false rest e = e
 
@@ -141,13 +141,13 @@ kept_held me seats clock past owed (h ∷ hs) k boot newer at older before after
     (λ q. elim (w.0.own newer at older before after c what n split line boot (subst (λ (z : Key). IsCallUnder me z boot (given_message at.lines (sent_of older))) (sym q) y)) [ inl x ↦ inl x | inr x ↦ inr (not_ready n h.waits owed x is) ])
     (kept_held me seats clock past owed hs k boot newer at older before after c what n w.1 split line is y)
 
-no_back : (P : Head → List ℕ → FsCall → Type 0) (head : Head) (c : Carried) → (OfReply ⊥ c → ⊥) → OfCall P head c
+pub no_back : (P : Head → List ℕ → FsCall → Type 0) (head : Head) (c : Carried) → (OfReply ⊥ c → ⊥) → OfCall P head c
 no_back P head (carried.Call user call) r = absurd (r tt)
 no_back P head (carried.Refusal code) r = tt
 no_back P head (carried.Reply reply) r = tt
 no_back P head carried.Notice r = tt
 
-of_reply_any : (P : Type 0) (c : Carried) → P → OfReply P c
+pub of_reply_any : (P : Type 0) (c : Carried) → P → OfReply P c
 of_reply_any P (carried.Call user call) x = tt
 of_reply_any P (carried.Refusal code) x = x
 of_reply_any P (carried.Reply reply) x = x

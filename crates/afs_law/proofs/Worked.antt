@@ -24,13 +24,13 @@ use Rattle.afs_ideal.specs.AccessLists.{rights_of, acl_text, entry_text}
 use Rattle.afs_ideal.specs.Directories.{directory_bytes, name_bytes, directory_of, names_at, whole_at, count_at, name_at, spelled_at, bytes_below}
 use Rattle.afs_ideal.specs.SetUp.{laid_at, led}
 use Rattle.afs_ideal.specs.VnodeImage.{image}
-use Rattle.afs_law.proofs.Law.{legal}
+use Rattle.afs_law.proofs.Assembled.{run_legal}
+use Rattle.afs_law.specs.Cells.{IsOfCell}
 use Rattle.afs_rows.specs.ClientRow.{begin_row, client_row}
 use Rattle.afs_law.specs.Legal.{Legal}
 use Rattle.afs_history.specs.declared.lines.Line.{Line}
 use Rattle.afs_ideal.specs.SetUp.{first_volume}
-use Rattle.afs_rows.specs.Runs.{comes_up, steady, Entry}
-use Rattle.afs_law.proofs.OneCell.{waits, starts_again, sets_stop, ticks, server_waits, Cell, Input, begins, gives, moved, start, Leads}
+use Rattle.afs_rows.specs.Runs.{Cell, Entry, Input, Leads, begins, comes_up, gives, moved, server_waits, sets_stop, start, starts_again, steady, ticks, waits}
 use Rattle.afs_model.specs.Messages.{spelled}
 use Rattle.afs_num.specs.Names.{name_ok}
 use Rattle.std.specs.Fmt.{digits}
@@ -64,6 +64,9 @@ script n = record {
   schedule = None;
 }
 
+pub of_cell : (n : ℕ) → IsOfCell (script n)
+of_cell n = record { servers = omega arith; volumes = ((omega arith, omega arith), tt) }
+
 abbrev told : Cell → List Input → List Line
 told c [] = []
 told c (x ∷ xs) = (moved c x).entry.lines ++ told (moved c x).cell xs
@@ -92,7 +95,7 @@ row_six = refl
 
 -- a holder that never answers
 abbrev seven : List Input
-seven = begins 1 (acts.Open (operands.Fid file)) ∷ gives 1 steady ∷ gives 2 steady ∷ begins 2 (acts.Close (operands.Fid file) (Hex (codes "def"))) ∷ gives 3 steady ∷ server_waits (Client 1) ∷ server_waits (Client 1) ∷ server_waits (Client 1) ∷ gives 7 steady ∷ ticks 7199 ∷ begins 1 (acts.Open (operands.Fid file)) ∷ ticks 1 ∷ begins 1 (acts.Open (operands.Fid file)) ∷ gives 8 steady ∷ gives 9 steady ∷ []
+seven = begins 1 (acts.Open (operands.Fid file)) ∷ gives 1 steady ∷ gives 2 steady ∷ begins 2 (acts.Close (operands.Fid file) (Hex (codes "def"))) ∷ gives 3 steady ∷ server_waits 1 (Client 1) ∷ server_waits 1 (Client 1) ∷ server_waits 1 (Client 1) ∷ gives 7 steady ∷ ticks 7199 ∷ begins 1 (acts.Open (operands.Fid file)) ∷ ticks 1 ∷ begins 1 (acts.Open (operands.Fid file)) ∷ gives 8 steady ∷ gives 9 steady ∷ []
 
 row_seven : told (start (script 2)) seven ≡
     begun 1 ∷ lines.Given 1 ∷ lines.Grant (Server 1) (Client 1) file 1 7200 ∷ lines.Given 2 ∷ lines.Read (Client 1) file 1 Fetched (seen.Contents (bodies.File (codes "abc"))) ∷ answer 1 ∷ stores 2 ∷ lines.Given 3 ∷ (change 2 ++ lines.Owe (Server 1) (Client 1) (Some file) 1
@@ -103,7 +106,7 @@ row_seven = refl
 
 -- a stop after the gate was written: the kept reply waits for the break on all
 abbrev eight : List Input
-eight = begins 1 (acts.Close (operands.Fid file) (Hex (codes "def"))) ∷ sets_stop 3 1 ∷ gives 1 steady ∷ starts_again true comes_up ∷ waits 1 ∷ gives 3 steady ∷ gives 4 steady ∷ gives 5 steady ∷ gives 2 steady ∷ gives 6 steady ∷ gives 7 steady ∷ []
+eight = begins 1 (acts.Close (operands.Fid file) (Hex (codes "def"))) ∷ sets_stop 1 3 1 ∷ gives 1 steady ∷ starts_again 1 true comes_up ∷ waits 1 ∷ gives 3 steady ∷ gives 4 steady ∷ gives 5 steady ∷ gives 2 steady ∷ gives 6 steady ∷ gives 7 steady ∷ []
 
 row_eight : told (start (script 1)) eight ≡
     stores 1 ∷ lines.Stop (Server 1) 3 1 ∷ lines.Given 1 ∷ lines.Crash (Server 1) ∷ (change 1 ++ lines.Restart (Server 1) 2 ∷ lines.Owe (Server 1) (Client 1) None 1 ∷ lines.Timeout (Client 1) (Server 1) 1 1 1 ∷ lines.Given 3 ∷ lines.Given 4 ∷ lines.Given 5
@@ -152,15 +155,14 @@ six_front = begins 1 (acts.Open (operands.Fid file)) ∷ gives 1 steady ∷ begi
 -- with them it is: so far they are told
 owed_is_legal : (c : Cell) → Leads (start (script 2)) six_front (entries (start (script 2)) six_front) c → Legal (entries (start (script 2)) six_front) (script 2)
 unfolding moved begin_row client_row server_row back_timeout_row wake_row start_row record_bytes head_form volume_form spelled opaque pad word laid_at led name_ok directory_bytes name_bytes rights_of image acl_text digits entry_text
-owed_is_legal c r = legal (script 2) (entries (start (script 2)) six_front) c (refl, (refl, tt)) (record { inputs = six_front; leads = r })
-    (((omega arith, omega arith), (tt, tt)), (((omega arith, omega arith), (tt, (tt, tt))), (((omega arith, omega arith), (tt, tt)), (((omega arith, omega arith), (tt, (tt, (tt, (tt, tt))))), tt))))
+owed_is_legal c r = run_legal (script 2) (entries (start (script 2)) six_front) c (of_cell 2) (record { inputs = six_front; leads = r })
 
 not_owed : Legal (map without (entries (start (script 2)) six_front)) (script 2) → ⊥
 unfolding moved begin_row client_row server_row back_timeout_row wake_row start_row record_bytes head_form volume_form spelled opaque pad word laid_at led name_ok directory_bytes name_bytes rights_of image acl_text digits entry_text
 not_owed h = h.1.1.1.0.0.0.1.0.1.owed 1 file 7200 (λ e. absurd cc) (inl refl) refl (omega arith)
 
 abbrev eight_front : List Input
-eight_front = begins 1 (acts.Close (operands.Fid file) (Hex (codes "def"))) ∷ sets_stop 3 1 ∷ gives 1 steady ∷ starts_again true comes_up ∷ []
+eight_front = begins 1 (acts.Close (operands.Fid file) (Hex (codes "def"))) ∷ sets_stop 1 3 1 ∷ gives 1 steady ∷ starts_again 1 true comes_up ∷ []
 
 not_all_owed : Legal (map without (entries (start (script 1)) eight_front)) (script 1) → ⊥
 unfolding moved begin_row client_row server_row back_timeout_row wake_row start_row record_bytes head_form volume_form spelled opaque pad word laid_at led name_ok directory_bytes name_bytes rights_of image acl_text digits entry_text
@@ -201,7 +203,7 @@ last_entry c (x ∷ y ∷ xs) = last_entry (moved c x).cell (y ∷ xs)
 
 -- the disk stops before the change is on it: the restart has none, and the call runs then, once
 abbrev nine_before : List Input
-nine_before = begins 1 (acts.Close (operands.Fid file) (Hex (codes "def"))) ∷ sets_stop 3 0 ∷ gives 1 steady ∷ starts_again false comes_up ∷ waits 1 ∷ gives 3 steady ∷ gives 4 steady ∷ gives 5 steady ∷ gives 2 steady ∷ gives 6 steady ∷ gives 7 steady ∷ []
+nine_before = begins 1 (acts.Close (operands.Fid file) (Hex (codes "def"))) ∷ sets_stop 1 3 0 ∷ gives 1 steady ∷ starts_again 1 false comes_up ∷ waits 1 ∷ gives 3 steady ∷ gives 4 steady ∷ gives 5 steady ∷ gives 2 steady ∷ gives 6 steady ∷ gives 7 steady ∷ []
 
 row_nine_before : told (start (script 1)) nine_before ≡
     stores 1 ∷ lines.Stop (Server 1) 3 0 ∷ lines.Given 1 ∷ lines.Crash (Server 1) ∷ lines.Restart (Server 1) 2 ∷ lines.Owe (Server 1) (Client 1) None 1 ∷ lines.Timeout (Client 1) (Server 1) 1 1 1 ∷ lines.Given 3 ∷ lines.Given 4 ∷ lines.Given 5 ∷ (change 1 ++ lines.Given 2 ∷ lines.DropAll (Client 1) (Server 1)
@@ -221,7 +223,7 @@ row_ten = refl
 
 -- a store of the mode over an older body: the entry isn't just below the new index, so it is given up
 abbrev twenty_two : List Input
-twenty_two = begins 1 (acts.Open (operands.Fid file)) ∷ gives 1 steady ∷ gives 2 steady ∷ begins 2 (acts.Close (operands.Fid file) (Hex (codes "def"))) ∷ gives 3 steady ∷ server_waits (Client 1) ∷ server_waits (Client 1) ∷ server_waits (Client 1) ∷ gives 7 steady
+twenty_two = begins 1 (acts.Open (operands.Fid file)) ∷ gives 1 steady ∷ gives 2 steady ∷ begins 2 (acts.Close (operands.Fid file) (Hex (codes "def"))) ∷ gives 3 steady ∷ server_waits 1 (Client 1) ∷ server_waits 1 (Client 1) ∷ server_waits 1 (Client 1) ∷ gives 7 steady
     ∷ begins 1 (acts.SetMode (operands.Fid file) 384) ∷ gives 8 steady ∷ gives 9 steady ∷ begins 1 (acts.Open (operands.Fid file)) ∷ gives 10 steady ∷ gives 11 steady ∷ []
 
 row_twenty_two : filter is_kept (told (start (script 2)) twenty_two) ≡

@@ -1,4 +1,5 @@
 -- Histories that are wrong for one reason each: a run, altered in one entry, of which just one condition isn't met.
+use Rattle.afs_law.proofs.Ideals.{at_home}
 use Rattle.afs_law.proofs.Backing.{all_lines, is_oweless, no_owe}
 use Rattle.afs_num.specs.declared.types.Key.{Key}
 use Rattle.afs_num.specs.declared.types.Head.{Head}
@@ -14,11 +15,10 @@ use Rattle.afs_ideal.specs.Directories.{directory_bytes, name_bytes, directory_o
 use Rattle.afs_ideal.specs.SetUp.{laid_at, led}
 use Rattle.afs_ideal.specs.VnodeImage.{image}
 use Rattle.afs_law.proofs.Basics.{some_of}
-use Rattle.afs_law.proofs.Homes.{accepts_first}
+use Rattle.afs_law.proofs.Heard.{ran_heard}
 use Rattle.afs_law.specs.Grants.{GrantOf, until}
 use Rattle.afs_num.specs.declared.histories.Actor.{Actor}
 use Rattle.afs_num.specs.declared.types.Node.{Node}
-use Rattle.afs_law.proofs.OneCell.{ticks, Cell, stops, the_server, server_waits, Input, begins, gives, moved, nothing, sets_stop, start, starts_again, waits}
 use Rattle.afs_law.proofs.Worked.{apart_numbers, home, by_lines, stores, alters, answer, begun, entries, file, root, script, six_front}
 use Rattle.afs_law.specs.Breaks.{HasTimeout, HasStopped}
 use Rattle.afs_law.specs.Legal.{IsPromisedBy, Cause, EndsAct, IsResult, Legal, answer_at, code_given}
@@ -27,11 +27,11 @@ use Rattle.afs_num.specs.Names.{name_ok}
 use Rattle.afs_num.specs.declared.types.Fid.{Fid}
 use Rattle.afs_rows.specs.ClientRow.{begin_row, client_row}
 use Rattle.afs_rows.specs.Going.{Going, nothing_set, answers, asked, asks_for, gives_back, next, reads, stored_whole}
-use Rattle.afs_rows.specs.Runs.{Entry, comes_up, steady}
+use Rattle.afs_rows.specs.Runs.{Cell, Entry, Input, begins, comes_up, gives, moved, nothing, server_waits, sets_stop, start, starts_again, steady, stops, ticks, waits}
 use Rattle.afs_xdr.specs.Words.{opaque, pad, word, opaque_at, word_at, counted_at}
 use Rattle.afs_law.specs.Ideal.{set_up}
 use Rattle.afs_law.specs.Once.{past_of}
-use Rattle.afs_law.specs.Past.{WasSent, SendsTo, IsCall, server_boot, CalledSince, IsToCome, called_key, IsUnheard, IsCallUnder, Ran, answered_key, code_told, given_message, lines_of, sent_of}
+use Rattle.afs_law.specs.Past.{WasSent, SendsTo, IsCall, server_boot, CalledSince, IsToCome, called_key, Ran, answered_key, code_told, given_message, lines_of, sent_of}
 use Rattle.afs_num.specs.declared.calls.FsCall.{FsCall}
 use Rattle.afs_num.specs.declared.calls.FsCall.TheVariants as calls
 use Rattle.afs_num.specs.declared.histories.Actor.TheVariants as actors
@@ -185,11 +185,11 @@ abbrev timeouts_first : List Entry → List Entry
 timeouts_first (a ∷ b ∷ c ∷ d ∷ e ∷ f ∷ es) = a ∷ b ∷ c ∷ e ∷ f ∷ d ∷ es
 timeouts_first es = es
 
-only_owe : (newer base ls : List Line) (l : Line) (c : Node) (what : Option Fid) (n : ℕ) → all_lines is_oweless ls ≡ true → l ∷ ls ≡ newer ++ (lines.Owe the_server c what n ∷ base) → newer ≡ []
+only_owe : (newer base ls : List Line) (l : Line) (c : Node) (what : Option Fid) (n : ℕ) → all_lines is_oweless ls ≡ true → l ∷ ls ≡ newer ++ (lines.Owe (Server 1) c what n ∷ base) → newer ≡ []
 only_owe [] base ls l c what n none e = refl
-only_owe (x ∷ newer) base ls l c what n none e = let rest : ls ≡ newer ++ (lines.Owe the_server c what n ∷ base) = cc in absurd (no_owe ls newer base the_server c what n none rest)
+only_owe (x ∷ newer) base ls l c what n none e = let rest : ls ≡ newer ++ (lines.Owe (Server 1) c what n ∷ base) = cc in absurd (no_owe ls newer base (Server 1) c what n none rest)
 
-quit_ahead : Legal (timeouts_first (entries (start (script 2)) (begins 1 (acts.Open (operands.Fid file)) ∷ gives 1 steady ∷ begins 2 (acts.Close (operands.Fid file) (Hex (codes "def"))) ∷ gives 3 steady ∷ server_waits (Client 1) ∷ server_waits (Client 1) ∷ server_waits (Client 1) ∷ []))) (script 2) → ⊥
+quit_ahead : Legal (timeouts_first (entries (start (script 2)) (begins 1 (acts.Open (operands.Fid file)) ∷ gives 1 steady ∷ begins 2 (acts.Close (operands.Fid file) (Hex (codes "def"))) ∷ gives 3 steady ∷ server_waits 1 (Client 1) ∷ server_waits 1 (Client 1) ∷ server_waits 1 (Client 1) ∷ []))) (script 2) → ⊥
 unfolding moved begin_row client_row server_row back_timeout_row wake_row start_row record_bytes head_form volume_form spelled opaque pad word laid_at led name_ok directory_bytes name_bytes rights_of image acl_text digits entry_text directory_of names_at opaque_at word_at counted_at whole_at count_at name_at spelled_at bytes_below
 quit_ahead h =
     let g = h.1.1.1.1.1.1.0.0.0.1.0.1 in
@@ -221,14 +221,6 @@ abbrev answers_ahead : List Entry → List Entry
 answers_ahead [] = []
 answers_ahead (e ∷ []) = record e { lines = [] } ∷ record e { sent = [] } ∷ []
 answers_ahead (e ∷ f ∷ es) = e ∷ answers_ahead (f ∷ es)
-
-heard_in : (newer : List Entry) (at : Entry) (older : List Entry) (s : Node) (k : Key) (boot : ℕ) → IsUnheard s k boot (newer ++ (at ∷ older)) → IsCallUnder s k boot (given_message at.lines (sent_of older)) → ⊥
-heard_in [] at older s k boot h x = h.0 x
-heard_in (e ∷ newer) at older s k boot h x = heard_in newer at older s k boot h.1 x
-
--- who ran a call was given it
-ran_heard : (reply : Head) (past : List Entry) → Ran reply past → IsUnheard reply.from (answered_key reply) reply.boot past → ⊥
-ran_heard reply past r h = heard_in r.newer r.at r.older reply.from (answered_key reply) reply.boot (subst (IsUnheard reply.from (answered_key reply) reply.boot) r.split h) (subst (IsCallUnder reply.from (answered_key reply) reply.boot) (sym r.given) ((r.is_call, r.callee), (r.key, r.boot)))
 
 answered_ahead : Legal (answers_ahead (entries (start (script 1)) store_front)) (script 1) → ⊥
 unfolding moved begin_row client_row server_row back_timeout_row wake_row start_row record_bytes head_form volume_form spelled opaque pad word laid_at led name_ok directory_bytes name_bytes rights_of image acl_text digits entry_text directory_of names_at opaque_at word_at counted_at whole_at count_at name_at spelled_at bytes_below
@@ -265,7 +257,7 @@ abbrev to_boot_two : Entry → Entry
 to_boot_two e = record e { sent = map (λ (m : Message). record m { head = record m.head { boot = 2 } }) e.sent }
 
 abbrev late_front : List Input
-late_front = begins 1 (acts.Close (operands.Fid file) (Hex (codes "def"))) ∷ waits 1 ∷ waits 1 ∷ waits 1 ∷ begins 1 (acts.Close (operands.Fid file) (Hex (codes "xyz"))) ∷ gives 4 steady ∷ gives 5 steady ∷ stops ∷ starts_again true comes_up ∷ gives 2 steady ∷ []
+late_front = begins 1 (acts.Close (operands.Fid file) (Hex (codes "def"))) ∷ waits 1 ∷ waits 1 ∷ waits 1 ∷ begins 1 (acts.Close (operands.Fid file) (Hex (codes "xyz"))) ∷ gives 4 steady ∷ gives 5 steady ∷ stops 1 ∷ starts_again 1 true comes_up ∷ gives 2 steady ∷ []
 
 changed_behind_a_later_one : Legal (alters 1 to_boot_two (alters 9 (instead (lines.Given 2 ∷ lines.Change (Server 1) (key_of_one 1) 1 ∷ lines.Version (record { fid = file; index = 3; data_version = 3; body = bodies.File (codes "def") }) ∷ [])) (entries (start (script 1)) late_front))) (script 1) → ⊥
 unfolding moved begin_row client_row server_row back_timeout_row wake_row start_row record_bytes head_form volume_form spelled opaque pad word laid_at led name_ok directory_bytes name_bytes rights_of image acl_text digits entry_text directory_of names_at opaque_at word_at counted_at whole_at count_at name_at spelled_at bytes_below
@@ -288,7 +280,7 @@ run_in_another_boot h =
 
 -- the server stops in a step; the restart tells its store, and a reply of the boot before that there was no room
 abbrev stopped_front : List Input
-stopped_front = begins 1 (acts.Close (operands.Fid file) (Hex (codes "def"))) ∷ sets_stop 3 1 ∷ gives 1 steady ∷ starts_again true comes_up ∷ []
+stopped_front = begins 1 (acts.Close (operands.Fid file) (Hex (codes "def"))) ∷ sets_stop 1 3 1 ∷ gives 1 steady ∷ starts_again 1 true comes_up ∷ []
 
 abbrev roomless : Message
 roomless = record {
@@ -484,7 +476,7 @@ answered_in_another_boot h =
 -- A client gives a promise back by a call that is late: the server began again meanwhile, and the client was promised the file anew.
 -- The server takes the call for its own boot, forgets the new promise, and the store behind that owes nothing
 abbrev late_gift_front : List Input
-late_gift_front = begins 1 (acts.Open (operands.Fid file)) ∷ gives 1 steady ∷ gives 2 steady ∷ begins 1 acts.GiveUp ∷ waits 1 ∷ waits 1 ∷ waits 1 ∷ stops ∷ starts_again false comes_up ∷ gives 6 steady ∷ gives 8 steady ∷ gives 7 steady ∷ gives 9 steady ∷ []
+late_gift_front = begins 1 (acts.Open (operands.Fid file)) ∷ gives 1 steady ∷ gives 2 steady ∷ begins 1 acts.GiveUp ∷ waits 1 ∷ waits 1 ∷ waits 1 ∷ stops 1 ∷ starts_again 1 false comes_up ∷ gives 6 steady ∷ gives 8 steady ∷ gives 7 steady ∷ gives 9 steady ∷ []
 
 -- what the client sends and is sent behind the restart
 abbrev asked_anew : List Message → List Message
@@ -587,7 +579,7 @@ unfolding moved begin_row client_row server_row back_timeout_row wake_row start_
 granted_by_another_server h =
     let g = h.1.1.0.0.0.1.0.1 in
     let two : g.grant.server ≡ Server 2 = granter _ _ _ _ _ g.grant ∙ ap (λ (m : Message). m.head.from) (sym (some_of _ _ g.by)) in
-    elim (accepts_first (script 1) file.volume g.grant.server (until _ _ _ _ _ g.grant) g.home) [ inl x ↦ let e : Server 1 ≡ Server 2 = x.1.1 ∙ two in absurd cc | inr x ↦ x ]
+    elim (at_home (script 1) file.volume g.grant.server (until _ _ _ _ _ g.grant) g.home) [ inl x ↦ let e : Server 1 ≡ Server 2 = x.1.1 ∙ two in absurd cc | inr x ↦ x ]
 
 -- ---- rights are read by an act that needs them, of a reply to its call
 
@@ -647,7 +639,7 @@ abbrev in_boot_one : Line → Line
 in_boot_one (lines.Restart n boot) = lines.Restart n 1
 in_boot_one l = l
 
-begun_in_the_old_boot : Legal (alters 1 (by_lines in_boot_one) (entries (start (script 1)) (stops ∷ starts_again false comes_up ∷ []))) (script 1) → ⊥
+begun_in_the_old_boot : Legal (alters 1 (by_lines in_boot_one) (entries (start (script 1)) (stops 1 ∷ starts_again 1 false comes_up ∷ []))) (script 1) → ⊥
 unfolding moved begin_row client_row server_row back_timeout_row wake_row start_row record_bytes head_form volume_form spelled opaque pad word laid_at led name_ok directory_bytes name_bytes rights_of image acl_text digits entry_text directory_of names_at opaque_at word_at counted_at whole_at count_at name_at spelled_at bytes_below
 begun_in_the_old_boot h = let e : 1 < 1 = h.1.0.1.0.1.0.1 in absurd (omega arith)
 
@@ -749,7 +741,7 @@ abbrev sent_to_two : Entry → Entry
 sent_to_two e = record e { sent = map (λ (m : Message). record m { head = record m.head { to = Client 2 } }) e.sent }
 
 abbrev quit_history : List Entry
-quit_history = alters 3 sent_to_two (alters 4 sent_to_two (alters 5 sent_to_two (entries (start (script 2)) (begins 1 (acts.Open (operands.Fid file)) ∷ gives 1 steady ∷ begins 2 (acts.Close (operands.Fid file) (Hex (codes "def"))) ∷ gives 3 steady ∷ server_waits (Client 1) ∷ server_waits (Client 1) ∷ server_waits (Client 1) ∷ []))))
+quit_history = alters 3 sent_to_two (alters 4 sent_to_two (alters 5 sent_to_two (entries (start (script 2)) (begins 1 (acts.Open (operands.Fid file)) ∷ gives 1 steady ∷ begins 2 (acts.Close (operands.Fid file) (Hex (codes "def"))) ∷ gives 3 steady ∷ server_waits 1 (Client 1) ∷ server_waits 1 (Client 1) ∷ server_waits 1 (Client 1) ∷ []))))
 
 abbrev quit_past : List Entry
 quit_past = past_of (set_up (script 2) ∷ []) (take 6 quit_history)
@@ -844,7 +836,7 @@ granted_on_the_old_unique h =
 abbrev owes_two : Entry → Entry
 owes_two e = record e { lines = e.lines ++ lines.Owe (Server 1) (Client 2) None 2 ∷ [] }
 
-owed_to_a_stranger : Legal (alters 1 owes_two (entries (start (script 1)) (stops ∷ starts_again false comes_up ∷ []))) (script 1) → ⊥
+owed_to_a_stranger : Legal (alters 1 owes_two (entries (start (script 1)) (stops 1 ∷ starts_again 1 false comes_up ∷ []))) (script 1) → ⊥
 unfolding moved begin_row client_row server_row back_timeout_row wake_row start_row record_bytes head_form volume_form spelled opaque pad word laid_at led name_ok directory_bytes name_bytes rights_of image acl_text digits entry_text directory_of names_at opaque_at word_at counted_at whole_at count_at name_at spelled_at bytes_below
 owed_to_a_stranger h = let e : 2 ≤ 1 = h.1.0.0.0.1.1.0.1.cause.1.1 in absurd (omega arith)
 
@@ -909,7 +901,7 @@ owed_unpromised h =
     let e : None ≡ Some g.0 = g.1.0 in absurd cc
 
 -- a stop of the server is no reason for it, even if a server that stopped might owe something
-owed_behind_a_crash : Legal (alters 2 owes_one (entries (start (script 1)) (begins 1 (acts.Open (operands.Fid file)) ∷ gives 1 steady ∷ stops ∷ []))) (script 1) → ⊥
+owed_behind_a_crash : Legal (alters 2 owes_one (entries (start (script 1)) (begins 1 (acts.Open (operands.Fid file)) ∷ gives 1 steady ∷ stops 1 ∷ []))) (script 1) → ⊥
 unfolding moved begin_row client_row server_row back_timeout_row wake_row start_row record_bytes head_form volume_form spelled opaque pad word laid_at led name_ok directory_bytes name_bytes rights_of image acl_text digits entry_text directory_of names_at opaque_at word_at counted_at whole_at count_at name_at spelled_at bytes_below
 owed_behind_a_crash h = h.1.1.0.0.0.1.0.1.cause.0
 
@@ -938,7 +930,7 @@ owed_again h =
     let e : None ≡ Some g.0 = g.1.0 in absurd cc
 
 abbrev stored_in_boot_two : List Input
-stored_in_boot_two = begins 1 (acts.Open (operands.Fid file)) ∷ gives 1 steady ∷ stops ∷ starts_again false comes_up ∷ begins 2 (acts.Close (operands.Fid file) (Hex (codes "def"))) ∷ gives 5 steady ∷ gives 6 steady ∷ gives 7 steady ∷ []
+stored_in_boot_two = begins 1 (acts.Open (operands.Fid file)) ∷ gives 1 steady ∷ stops 1 ∷ starts_again 1 false comes_up ∷ begins 2 (acts.Close (operands.Fid file) (Hex (codes "def"))) ∷ gives 5 steady ∷ gives 6 steady ∷ gives 7 steady ∷ []
 
 owed_in_a_later_boot : Legal (alters 7 (owes_number 3) (entries (start (script 2)) stored_in_boot_two)) (script 2) → ⊥
 unfolding moved begin_row client_row server_row back_timeout_row wake_row start_row record_bytes head_form volume_form spelled opaque pad word laid_at led name_ok directory_bytes name_bytes rights_of image acl_text digits entry_text directory_of names_at opaque_at word_at counted_at whole_at count_at name_at spelled_at bytes_below
@@ -962,6 +954,6 @@ settled_by_a_stopped_server : Legal (alters 5 stops_first (entries (start (scrip
 unfolding moved begin_row client_row server_row back_timeout_row wake_row start_row record_bytes head_form volume_form spelled opaque pad word laid_at led name_ok directory_bytes name_bytes rights_of image acl_text digits entry_text directory_of names_at opaque_at word_at counted_at whole_at count_at name_at spelled_at bytes_below
 settled_by_a_stopped_server h = h.1.1.1.1.1.0.0.0.1.1.0.1.going (inl refl)
 
-quit_by_a_stopped_server : Legal (alters 6 stops_first (entries (start (script 2)) (changes_file ++ server_waits (Client 1) ∷ server_waits (Client 1) ∷ server_waits (Client 1) ∷ []))) (script 2) → ⊥
+quit_by_a_stopped_server : Legal (alters 6 stops_first (entries (start (script 2)) (changes_file ++ server_waits 1 (Client 1) ∷ server_waits 1 (Client 1) ∷ server_waits 1 (Client 1) ∷ []))) (script 2) → ⊥
 unfolding moved begin_row client_row server_row back_timeout_row wake_row start_row record_bytes head_form volume_form spelled opaque pad word laid_at led name_ok directory_bytes name_bytes rights_of image acl_text digits entry_text directory_of names_at opaque_at word_at counted_at whole_at count_at name_at spelled_at bytes_below
 quit_by_a_stopped_server h = h.1.1.1.1.1.1.0.0.0.1.1.0.1.going (inl refl)

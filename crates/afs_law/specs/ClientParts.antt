@@ -1,18 +1,20 @@
 -- More parts of what a legal history is, proved of the runs of every script, with any number of servers: what clients give back, that
 -- an act changes things once, by what it reads and is answered, and what it
 -- waits for.
-use Rattle.std.specs.Prelude.{◌≡◌, ◌≤◌, ℕ, List, [], ◌∷◌, ◌++◌, Bool, Some, true, false, ℤ, pos, if◌then◌else◌, ⊤, ◌⊎◌}
+use Rattle.std.specs.Prelude.{◌≡◌, ℕ, List, [], ◌∷◌, ◌++◌, Bool, Some, true, false, ℤ, pos, if◌then◌else◌, ⊤, ◌⊎◌}
 use Rattle.afs_history.specs.declared.lines.Line.{Line}
 use Rattle.afs_history.specs.declared.lines.Line.TheVariants as lines
 use Rattle.afs_history.specs.declared.scripts.Script.{Script}
-use Rattle.afs_history.specs.declared.scripts.VolumeLine.{VolumeLine}
+use Rattle.afs_law.specs.Cells.{IsOfCell}
 use Rattle.afs_law.specs.Grants.{IsDropped, fetch_reply, has_fetched, is_promised}
 use Rattle.afs_law.specs.Ideal.{set_up, user_of}
 use Rattle.afs_law.specs.Legal.{EndsAct, GoodGift, HasChange, HasChangeBy, HasOwnHalf, HasUsed, IsDead, IsDone, as_asked, has_dropped}
 use Rattle.afs_law.specs.Once.{past_of}
 use Rattle.afs_law.specs.Parts.{AllLines, EachEntry, EachSent, LineRule, waited_key}
 use Rattle.afs_law.specs.Past.{CalledSince, IsReply, answered_key, code_told, given_message, has_begun, has_sent, is_of_act, lines_of, lines_on, onto, running, sent_of}
-use Rattle.afs_law.specs.ServerParts.{IsCodeGood, IsKind}
+use Rattle.afs_law.specs.Breaks.{IsNamedIn}
+use Rattle.afs_law.specs.ServerParts.{IsCodeGood, IsKind, IsReadGood}
+use Rattle.afs_num.specs.declared.calls.FsCall.TheVariants as calls
 use Rattle.afs_num.specs.declared.calls.FsCall.{FsCall}
 use Rattle.afs_num.specs.declared.histories.Actor.TheVariants as actors
 use Rattle.afs_num.specs.declared.histories.ReadSource.{ReadSource}
@@ -65,9 +67,21 @@ pub record AreAskedFor (s : Script) (c : Node) (f : Fid) (source : ReadSource) (
   pub used : HasUsed s c past own
   pub asks : used.call ≡ asked act
 
--- what is promised and was fetched just now is of a reply with code 0 to a call of the running act; rights are such, too
+-- a call by which an act reads this object
+abbrev pub IsReadBy : Fid → FsCall → Type 0
+IsReadBy f (calls.FetchData g position wanted) = g ≡ f
+IsReadBy f (calls.FetchStatus g) = g ≡ f
+IsReadBy f (calls.BulkStatus fids) = IsNamedIn f fids
+IsReadBy f call = ⊥
+
+-- the entry was given a reply with code 0 to such a call of the running act
+pub record IsUse (s : Script) (c : Node) (f : Fid) (past : List Entry) (own : List Line) : Type 0 where
+  pub used : HasUsed s c past own
+  pub of : IsReadBy f used.call
+
+-- what is promised and was fetched just now is of a reply with code 0 to a call of the running act that reads it; rights are such, too
 abbrev pub IsUsed : Script → Bool → Node → Fid → ReadSource → List Entry → List Line → Type 0
-IsUsed s true c f source past own = source ≡ Fetched → HasUsed s c past own
+IsUsed s true c f source past own = source ≡ Fetched → IsUse s c f past own
 IsUsed s false c f source past own = AreAskedFor s c f source past own
 
 -- ---- answers
@@ -85,15 +99,6 @@ pub record IsReplied (s : Script) (c : Node) (act : Going) (code : ℤ) (past : 
   pub asks : as_asked call ≡ asked act
   pub called : CalledSince (answered_key reply.head) (user_of s c) call past
   pub ends : IsKind call reply.carried → code ≡ pos 0 → EndsAct (next act)
-
--- each volume is at a server of the cell, and the cell has eight at most
-abbrev pub AreInCell : ℕ → List VolumeLine → Type 0
-AreInCell n [] = ⊤
-AreInCell n (v ∷ vs) = ((1 ≤ v.server) × (v.server ≤ n)) × AreInCell n vs
-
-pub record IsOfCell (s : Script) : Type 0 where
-  pub servers : s.servers ≤ 8
-  pub volumes : AreInCell s.servers s.volumes
 
 -- The act gives promises back, and is answered in the entry in which it began: then that drops nothing. Of a script with a volume
 -- elsewhere this isn't said, for promises are given back to eight servers at most
@@ -123,6 +128,10 @@ AnswersAreDue = (s : Script) (history : List Entry) (end : Cell) → RunsTo hist
 -- timeout of its call, or that it had nothing to give back
 abbrev pub AnswersAreGood : Type 0
 AnswersAreGood = (s : Script) (history : List Entry) (end : Cell) → IsOfCell s → RunsTo history s end → AllLines (IsCodeGood s) s history
+
+-- and each read
+abbrev pub ReadsAreGood : Type 0
+ReadsAreGood = (s : Script) (history : List Entry) (end : Cell) → IsOfCell s → RunsTo history s end → AllLines (IsReadGood s) s history
 
 -- ---- what a client waits for
 

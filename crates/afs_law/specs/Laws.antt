@@ -30,7 +30,7 @@ use Rattle.afs_law.specs.Ideal.{Accepts, last_version, user_of, versions_in, vol
 use Rattle.afs_law.specs.Legal.{IsCaused, HasChangeBy, GoodRead, HasChange, Legal, Cause}
 use Rattle.afs_history.specs.declared.lines.Line.{Line}
 use Rattle.afs_law.specs.Once.{past_of, ChangesOnce}
-use Rattle.afs_law.specs.OneServer.{IsOneServer}
+use Rattle.afs_law.specs.Cells.{IsOfCell}
 use Rattle.afs_law.specs.Past.{IsReply, AreWithin, IsUpTo, CalledSince, HasCode, IsCall, lines_of, onto, running, IsUnheard, called_key, answered_key, Ran}
 use Rattle.afs_rows.specs.Runs.{Fall, begun_by_disk, message_at, Leads, start, Input, Entry, Cell, RunsTo, Host, first_lasting, first_stored, volumes_at}
 use Rattle.afs_rows.specs.ServerRow.{Begun, Change, is_client, lasting_after, lasting_started, record_of, serves, runs, refuses, not_served, whole, is_client, no_room, key_of, made, versioned}
@@ -58,9 +58,10 @@ use Rattle.afs_num.specs.declared.histories.ReadSource.{ReadSource}
 use Rattle.afs_num.specs.declared.types.Head.{Head}
 use Rattle.afs_num.specs.declared.calls.FsCall.{FsCall}
 
--- every run of a script for one server is legal, whatever is given to its nodes, how often and in what order
+-- every run is legal, whatever is given to its nodes, how often and in what order; of a script whose cell has eight servers at most, and
+-- each volume at one of them
 abbrev pub RunsAreLegal : Type 0
-RunsAreLegal = (s : Script) (history : List Entry) (end : Cell) → IsOneServer s → RunsTo history s end → Legal history s
+RunsAreLegal = (s : Script) (history : List Entry) (end : Cell) → IsOfCell s → RunsTo history s end → Legal history s
 
 -- in every run a key changes something at most once
 abbrev pub KeysRunOnce : Type 0
@@ -102,7 +103,7 @@ PairsAreKnown = (s : Script) (history : List Entry) (end : Cell) → RunsTo hist
 -- what an idle client trusts can be shown: a read of it from the cache would be good
 abbrev pub TrustedIsGood : Type 0
 TrustedIsGood =
-    (s : Script) (history : List Entry) (end : Cell) → IsOneServer s → RunsTo history s end → (j : ℕ) → (end.clients j).running ≡ None → (f : Fid) (e : CacheEntry) → find_cached f (end.clients j).cache ≡ Some e → end.clock < e.expiry
+    (s : Script) (history : List Entry) (end : Cell) → IsOfCell s → RunsTo history s end → (j : ℕ) → (end.clients j).running ≡ None → (f : Fid) (e : CacheEntry) → find_cached f (end.clients j).cache ≡ Some e → end.clock < e.expiry
     → ((body : Body) → e.body ≡ Some body → GoodRead s (Client j) f e.index Cached (seen.Contents body) (past_of (set_up s ∷ []) history) []) × GoodRead s (Client j) f e.index Cached (seen.Status e.status) (past_of (set_up s ∷ []) history) []
 
 -- a good read shows the newest version where no break of its grant is outstanding
@@ -163,24 +164,30 @@ pub record IsKept (v : Version) (volumes : Table Stored) (told : List Line) : Ty
   pub at : volume_in v.fid.volume volumes ≡ Some volume
   pub held : live (Some last) ≡ option_map (version_at v.fid.volume v.fid.vnode) (vnode_of v.fid volume)
 
--- What a restart of the server finds, where the record of the interrupted step is on its disk; and the entry that this restart makes,
+-- What a restart of a server finds, where the record of the interrupted step is on its disk; and the entry that this restart makes,
 -- by what it tells of that step
-abbrev pub found_by_restart : Host → Fall → Begun
-found_by_restart host fall = begun_by_disk (Server 1) host.state true fall
+abbrev pub found_by_restart : ℕ → Host → Fall → Begun
+found_by_restart i host fall = begun_by_disk (Server i) host.state true fall
 
-abbrev pub told_by_restart : Host → Fall → Entry
-told_by_restart host fall = record { actor = actors.Node (Server 1); lines = (found_by_restart host fall).before []; sent = []; volumes = [] }
+abbrev pub told_by_restart : ℕ → Host → Fall → Entry
+told_by_restart i host fall = record { actor = actors.Node (Server i); lines = (found_by_restart i host fall).before []; sent = []; volumes = [] }
 
--- The server keeps of each volume just the ideal one: all that the changes which were told have made of it, with each mode, owner, link
--- count and access list. While the server is down, it is also so of what the step that was interrupted may have left
-pub record Survives (host : Host) (past : List Entry) : Type 0 where
-  pub kept : (id : ℕ) → volume_in id host.state.lasting.volumes ≡ volume_after id past
-  pub after : (fall : Fall) → host.down ≡ Some fall → (id : ℕ) → volume_in id (found_by_restart host fall).state.lasting.volumes ≡ volume_after id (told_by_restart host fall ∷ past)
+-- no other server accepts stores of the volume
+abbrev pub IsNoOthers : Script → ℕ → ℕ → List Line → Type 0
+IsNoOthers s i id ls = (q : Node) → Accepts s id q ls → q ≡ Server i
 
--- of one version: these volumes hold it or a later one, and so does what the interrupted step may have left
-pub record IsHeldStill (v : Version) (host : Host) (past : List Entry) : Type 0 where
-  pub kept : IsKept v host.state.lasting.volumes (lines_of past)
-  pub after : (fall : Fall) → host.down ≡ Some fall → IsKept v (found_by_restart host fall).state.lasting.volumes (lines_of (told_by_restart host fall ∷ past))
+-- The server keeps of each volume that is no other's just the ideal one: all that the changes which were told have made of it, with each
+-- mode, owner, link count and access list. While the server is down, it is also so of what the step that was interrupted may have left
+pub record Survives (s : Script) (i : ℕ) (host : Host) (past : List Entry) : Type 0 where
+  pub kept : (id : ℕ) → IsNoOthers s i id (lines_of past) → volume_in id host.state.lasting.volumes ≡ volume_after id past
+  pub after : (fall : Fall) → host.down ≡ Some fall → (id : ℕ) → IsNoOthers s i id (lines_of past) → volume_in id (found_by_restart i host fall).state.lasting.volumes ≡ volume_after id (told_by_restart i host fall ∷ past)
+
+-- of one version: the server that accepts stores of its volume holds it or a later one, and so does what the interrupted step may have left
+pub record IsHeldStill (s : Script) (v : Version) (hosts : ℕ → Host) (past : List Entry) : Type 0 where
+  pub server : ℕ
+  pub home : Accepts s v.fid.volume (Server server) (lines_of past)
+  pub kept : IsKept v (hosts server).state.lasting.volumes (lines_of past)
+  pub after : (fall : Fall) → (hosts server).down ≡ Some fall → IsKept v (found_by_restart server (hosts server) fall).state.lasting.volumes (lines_of (told_by_restart server (hosts server) fall ∷ past))
 
 -- the version gives a file the bytes that a close stores
 pub record IsClosed (act : Going) (contents : Written) (key : Key) (ls : List Line) : Type 0 where
@@ -191,19 +198,19 @@ pub record IsClosed (act : Going) (contents : Written) (key : Key) (ls : List Li
 
 -- One key of the act has a change line; where the act is a close, a version under that gives the file the bytes of the close. All changes
 -- that were told, and so this one, survive: in each volume, and by each version under this key
-pub record AreMadeAndKept (c : Node) (act : Going) (past : List Entry) (own : List Line) (host : Host) (later : List Entry) : Type 0 where
+pub record AreMadeAndKept (s : Script) (c : Node) (act : Going) (past : List Entry) (own : List Line) (hosts : ℕ → Host) (later : List Entry) : Type 0 where
   pub made : IsMade c past own
   pub closed : (o : Operand) (contents : Written) → act.act ≡ acts.Close o contents → IsClosed act contents made.key (own ++ lines_of past)
-  pub survive : Survives host later
-  pub versions : (v : Version) → HasMade made.key v (own ++ lines_of past) → IsHeldStill v host later
+  pub survive : (i : ℕ) → Survives s i (hosts i) later
+  pub versions : (v : Version) → HasMade made.key v (own ++ lines_of past) → IsHeldStill s v hosts later
 
--- What is acknowledged survives every crash. In every run of a script for one server, where an act that changes something was answered
--- 0, its change was told, and from then on the server keeps of each volume what all changes that were told have made of it. Before the
--- answer stand the entries `before`, and in its own entry the lines `first`; `end` is any moment behind it
+-- What is acknowledged survives every crash. In every run, where an act that changes something was answered 0, its change was told, and
+-- from then on each server keeps of its volumes what all changes that were told have made of them. Before the answer stand the entries
+-- `before`, and in its own entry the lines `first`; `end` is any moment behind it
 abbrev pub AcknowledgedAreKept : Type 0
 AcknowledgedAreKept =
-    (s : Script) (history before after : List Entry) (e : Entry) (first rest : List Line) (c : Node) (code : Code) (act : Going) (end : Cell) → IsOneServer s → RunsTo history s end → history ≡ before ++ (e ∷ after) → e.lines ≡ first ++ lines.Answer c code ∷ rest
-    → running s c (onto [] first ++ lines_of (past_of (set_up s ∷ []) before)) ≡ Some act → IsChangingAct act.act → code.0 ≡ pos 0 → AreMadeAndKept c act (past_of (set_up s ∷ []) before) (onto [] first) (end.hosts 1) (past_of (set_up s ∷ []) history)
+    (s : Script) (history before after : List Entry) (e : Entry) (first rest : List Line) (c : Node) (code : Code) (act : Going) (end : Cell) → IsOfCell s → RunsTo history s end → history ≡ before ++ (e ∷ after) → e.lines ≡ first ++ lines.Answer c code ∷ rest
+    → running s c (onto [] first ++ lines_of (past_of (set_up s ∷ []) before)) ≡ Some act → IsChangingAct act.act → code.0 ≡ pos 0 → AreMadeAndKept s c act (past_of (set_up s ∷ []) before) (onto [] first) end.hosts (past_of (set_up s ∷ []) history)
 
 -- Behind a legal history, where a reply is the cause of a client's answer, its server ran the call since the act began
 abbrev pub AnswersAreRecent : Type 0
@@ -347,19 +354,19 @@ pub record IsAwaited (c : ClientState) (head : Head) : Type 0 where
   pub epoch : head.epoch ≡ c.epoch
   pub number : head.number ≡ c.last
 
--- A changing call that may still run, and that its client doesn't wait for, be its act answered or dead: what the client trusts of
--- the fids that it may change, it was promised in an older boot. So it trusts none of them while the server hasn't stopped
+-- A changing call that its server may still run, and that its client doesn't wait for, be its act answered or dead: what the client keeps of
+-- the fids that it may change, it was promised in an older boot of that server. So it keeps none of them while the server hasn't stopped
 abbrev pub UnawaitedAreUntrusted : Type 0
 UnawaitedAreUntrusted =
-    (s : Script) (history : List Entry) (end : Cell) → IsOneServer s → RunsTo history s end → (j place : ℕ) (head : Head) (user : List ℕ) (call : FsCall) (id : ℕ) → message_at end.sent place ≡ Some (record { head = head; carried = carried.Call user (ask.File call) }) → head.from ≡ Client j
-    → volume_changed call ≡ Some id → admitted (end.hosts 1).state.lasting.boot (end.hosts 1).state.seats head ≡ pairs.runs → (IsAwaited (end.clients j) head → ⊥)
-    → (f : Fid) (e : CacheEntry) → is_in_scope call f ≡ true → find_cached f (end.clients j).cache ≡ Some e → end.clock < e.expiry
-    → (reply : Message) × ((fetch_reply (Client j) f (past_of (set_up s ∷ []) history) ≡ Some reply) × (reply.head.boot < (end.hosts 1).state.lasting.boot))
+    (s : Script) (history : List Entry) (end : Cell) → RunsTo history s end → (i j place : ℕ) (head : Head) (user : List ℕ) (call : FsCall) (id : ℕ) → message_at end.sent place ≡ Some (record { head = head; carried = carried.Call user (ask.File call) }) → head.from ≡ Client j → head.to ≡ Server i
+    → volume_changed call ≡ Some id → admitted (end.hosts i).state.lasting.boot (end.hosts i).state.seats head ≡ pairs.runs → (IsAwaited (end.clients j) head → ⊥)
+    → (f : Fid) (e : CacheEntry) → is_in_scope call f ≡ true → find_cached f (end.clients j).cache ≡ Some e
+    → (reply : Message) × ((fetch_reply (Client j) f (past_of (set_up s ∷ []) history) ≡ Some reply) × (reply.head.boot < (end.hosts i).state.lasting.boot))
 
--- A changing call that its client gave up at the third timeout and that the server, which is up, would run: the client trusts nothing of
--- the volume that it may change
+-- A changing call that its client gave up at the third timeout and that its server would run, up or down: the client keeps nothing of the
+-- volume that it may change
 abbrev pub DeadAreUntrusted : Type 0
 DeadAreUntrusted =
-    (s : Script) (history : List Entry) (end : Cell) → IsOneServer s → RunsTo history s end → (j place : ℕ) (head : Head) (user : List ℕ) (call : FsCall) (id : ℕ) → message_at end.sent place ≡ Some (record { head = head; carried = carried.Call user (ask.File call) }) → head.from ≡ Client j
-    → volume_changed call ≡ Some id → HasTimeout (Client j) (Server 1) head.epoch head.number 3 (lines_of (past_of (set_up s ∷ []) history)) → (end.hosts 1).down ≡ None → admitted (end.hosts 1).state.lasting.boot (end.hosts 1).state.seats head ≡ pairs.runs
-    → (f : Fid) (e : CacheEntry) → f.volume ≡ id → find_cached f (end.clients j).cache ≡ Some e → end.clock < e.expiry → ⊥
+    (s : Script) (history : List Entry) (end : Cell) → RunsTo history s end → (i j place : ℕ) (head : Head) (user : List ℕ) (call : FsCall) (id : ℕ) → message_at end.sent place ≡ Some (record { head = head; carried = carried.Call user (ask.File call) }) → head.from ≡ Client j → head.to ≡ Server i
+    → volume_changed call ≡ Some id → HasTimeout (Client j) (Server i) head.epoch head.number 3 (lines_of (past_of (set_up s ∷ []) history)) → admitted (end.hosts i).state.lasting.boot (end.hosts i).state.seats head ≡ pairs.runs
+    → (f : Fid) (e : CacheEntry) → f.volume ≡ id → find_cached f (end.clients j).cache ≡ Some e → ⊥

@@ -3,7 +3,7 @@ pub mod Ideal
 pub mod Grants
 pub mod Breaks
 pub mod Legal
-pub mod OneServer
+pub mod Cells
 pub mod Once
 pub mod Laws
 pub mod Parts

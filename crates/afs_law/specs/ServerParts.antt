@@ -2,14 +2,13 @@
 use Rattle.afs_law.specs.Breaks.{GoodQuit, GoodSettle, HasOwe, lines_at, live_grant}
 use Rattle.afs_law.specs.Grants.{is_promised}
 use Rattle.afs_law.specs.Ideal.{Accepts, HasVersion, clock_of, set_up, volume_after}
-use Rattle.afs_law.specs.Laws.{IsKept}
+use Rattle.afs_law.specs.Laws.{IsKept, told_by_restart}
 use Rattle.afs_law.specs.Legal.{GoodCode, GoodGrant, GoodOwe, GoodReadBy, GoodReply, IsChanged, IsResult, Legal, answer_at, versions_first}
 use Rattle.afs_law.specs.Once.{past_of}
 use Rattle.afs_law.specs.Parts.{AllLines, EachEntry, EachSent, LineRule}
 use Rattle.afs_law.specs.Past.{HasCode, Ran, answered_key, code_told, lines_of}
 use Rattle.afs_model.specs.FsRows.{call_number, reply_number}
 use Rattle.afs_num.specs.declared.calls.FsCall.{FsCall}
-use Rattle.afs_num.specs.declared.histories.Actor.TheVariants as actors
 use Rattle.afs_num.specs.declared.histories.Version.{Version}
 use Rattle.afs_num.specs.declared.messages.Call.TheVariants as ask
 use Rattle.afs_num.specs.declared.messages.Carried.{Carried}
@@ -20,7 +19,7 @@ use Rattle.afs_num.specs.declared.types.Fid.{Fid}
 use Rattle.afs_num.specs.declared.types.Node.TheVariants.{Client, Server}
 use Rattle.afs_history.specs.declared.lines.Line.TheVariants as lines
 use Rattle.afs_history.specs.declared.scripts.Script.{Script}
-use Rattle.afs_rows.specs.Runs.{Cell, Entry, Fall, Host, RunsTo, begun_by_disk}
+use Rattle.afs_rows.specs.Runs.{Cell, Entry, Fall, RunsTo, begun_by_disk}
 use Rattle.afs_rows.specs.States.{volume_in}
 use Rattle.std.specs.Prelude.{◌≡◌, ◌<◌, ℕ, ℤ, List, [], ◌∷◌, ◌++◌, Some, true, ⊤}
 
@@ -84,10 +83,6 @@ abbrev pub RepliesAreTrue : Type 0
 RepliesAreTrue = (s : Script) (history : List Entry) (end : Cell) → RunsTo history s end → EachEntry (λ past e. EachSent IsTruthful (e ∷ past) e.sent) (set_up s ∷ []) history
 
 -- ---- what is kept
-
--- the entry that a restart would make, where the record of the interrupted step is on the disk, by what it tells of that step
-abbrev pub told_by_restart : ℕ → Host → Fall → Entry
-told_by_restart i host fall = record { actor = actors.Node (Server i); lines = (begun_by_disk (Server i) host.state true fall).before []; sent = []; volumes = [] }
 
 -- while a server is down, what its step that was interrupted may have left is the ideal volumes too, behind what a restart tells of that step
 abbrev pub FallsAreKept : Type 0

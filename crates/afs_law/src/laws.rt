@@ -5,7 +5,7 @@ ghost use Rattle.afs_law.specs.ClientParts.{AnswersAreDue, AnswersAreGood, Cache
 ghost use Rattle.afs_law.specs.Parts.{ActsAreTold, CallsAreAsked, ChangesAreIdeal, EntriesAreSound, LinesAreInPlace, MessagesAreOwn};
 ghost use Rattle.afs_law.specs.ServerParts.{BreaksAreGood, FallsAreKept, GoodReadsAreLegal, GrantsAreGood, RepliesAreTrue, RepliesWait, VersionsAreKept};
 
-/// Every run of a script for one server is legal.
+/// Every run is legal, of a script for eight servers at most, which have its volumes.
 pub fn runs_are_legal()
     ensures { RunsAreLegal }
 {}
@@ -25,8 +25,8 @@ pub fn acknowledged_are_made()
     ensures { AcknowledgedAreMade }
 {}
 
-/// In a run of a script for one server, what was acknowledged survives every crash: the server keeps of each volume what all changes that
-/// were told have made of it, and so does what an interrupted step may have left, with what a restart tells of that.
+/// In a run of such a script, what was acknowledged survives every crash: each server keeps of each volume that is no other's what all
+/// changes that were told have made of it, and so does what an interrupted step may have left, with what a restart tells of that.
 pub fn acknowledged_are_kept()
     ensures { AcknowledgedAreKept }
 {}
@@ -51,7 +51,7 @@ pub fn pairs_are_known()
     ensures { PairsAreKnown }
 {}
 
-/// In a run of a script for one server, what an idle client trusts can be shown from its cache.
+/// In a run of such a script, what an idle client trusts can be shown from its cache.
 pub fn trusted_is_good()
     ensures { TrustedIsGood }
 {}
@@ -126,13 +126,13 @@ pub fn replies_follow_drops()
     ensures { RepliesFollowDrops }
 {}
 
-/// In a run of a script for one server, a changing call that may still run, and for which its client no longer waits, can change nothing
-/// that this client trusts, but for what it was promised in an older boot.
+/// In a run, a changing call that its server may still run, and for which its client no longer waits, can change nothing that this client
+/// keeps, but for what it was promised in an older boot of that server.
 pub fn unawaited_are_untrusted()
     ensures { UnawaitedAreUntrusted }
 {}
 
-/// In a run of a script for one server, a client trusts nothing of the volume of a changing call that it gave up and that may still run.
+/// In a run, a client keeps nothing of the volume of a changing call that it gave up and that its server may still run.
 pub fn dead_are_untrusted()
     ensures { DeadAreUntrusted }
 {}

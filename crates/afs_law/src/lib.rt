@@ -1,4 +1,4 @@
-//! The law of the cell for one server: what its nodes do, which histories are legal, and that every run is.
+//! The law of the cell: what its nodes do, which histories are legal, and that every run is.
 #![tactic(auto)]
 
 pub mod laws;

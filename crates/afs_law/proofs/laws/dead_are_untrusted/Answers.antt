@@ -1,4 +1,4 @@
-use Rattle.afs_law.proofs.Dying.{run_dead}
+use Rattle.afs_law.proofs.Untrusted.{run_dead}
 use Rattle.afs_law.proofs.laws.dead_are_untrusted.Goals as goal
 
 pub returns : goal.returns

@@ -1,4 +1,4 @@
-use Rattle.afs_law.proofs.Servers.{runs_one}
+use Rattle.afs_law.proofs.Running.{runs_one}
 use Rattle.afs_rows.specs.Runs.{start}
 use Rattle.afs_law.proofs.laws.runs_are_one.Goals as goal
 

@@ -1,4 +1,4 @@
-use Rattle.afs_law.proofs.Standing.{run_untrusted}
+use Rattle.afs_law.proofs.Untrusted.{run_untrusted}
 use Rattle.afs_law.proofs.laws.unawaited_are_untrusted.Goals as goal
 
 pub returns : goal.returns

@@ -1,136 +1,45 @@
-use Rattle.afs_law.proofs.Passing.{no_change}
-use Rattle.afs_num.specs.declared.messages.Carried.{Carried}
-use Rattle.afs_num.specs.declared.messages.Carried.TheVariants as carried
-use Rattle.afs_num.specs.declared.types.Head.{Head}
-use Rattle.afs_rows.specs.States.{Location}
-use Rattle.afs_rows.specs.ClientRow.{server_at, server_or_first}
+-- What the set-up tells, and what it leaves.
 use Rattle.afs_ideal.proofs.Edits.{first_agrees}
-use Rattle.afs_ideal.specs.SetUp.{first_versions}
+use Rattle.afs_ideal.specs.SetUp.{first_versions, first_volume}
 use Rattle.afs_ideal.specs.Tables.{AscendsFrom, Table, get, set}
 use Rattle.afs_ideal.specs.Told.{last_told}
 use Rattle.afs_ideal.specs.Volumes.{version_at, Vnode, Volume}
-use Rattle.afs_law.proofs.Answering.{client_goes, begun_goes}
-use Rattle.afs_law.proofs.Backing.{all_lines, is_oweless, no_owe, is_still, live_back, zero_back, live_given, before_own, rising_back}
-use Rattle.afs_law.proofs.Basics.{Each, IfReply, OfReply, OfClient, same_fid-refl, same_fid-true, some_of, both}
-use Rattle.afs_law.proofs.Deciding.{server_times, server_wakes_goes, given_goes, stops_goes, restarts_goes}
+use Rattle.afs_law.proofs.Backing.{all_lines, is_oweless, is_still}
+use Rattle.afs_law.proofs.Basics.{Each, same_fid-refl, same_fid-true, some_of}
 use Rattle.afs_law.proofs.Edits.{one_more, Ones, index_in, fid_at, live, SoundIn, sound_same, Tops, get-set, none_has}
-use Rattle.afs_law.proofs.Facts.{View, ReplyIn, view, IsFine, Reached, Holds, Goes}
+use Rattle.afs_law.proofs.Words.{IsFine, Reached}
 use Rattle.afs_law.proofs.Naming.{first_fine}
-use Rattle.afs_law.proofs.Resting.{voids, ticks_goes, stop_set, fail_set}
-use Rattle.afs_law.proofs.Waiting.{waits_goes, client_stops_goes, client_starts_goes}
-use Rattle.afs_law.specs.Breaks.{live_grant, last_number}
-use Rattle.afs_law.specs.Ideal.{first_told, last_version, HasVersion, Accepts, clock_of, Reach, reach_over, first_lines, set_up, is_at, unless, reach, change_key, volume_after, brought, or_before, changed_under}
-use Rattle.afs_law.specs.Legal.{AreRising, IsOfScript, WereRun, IsNew, LegalAfter, Legal}
+use Rattle.afs_law.specs.Ideal.{first_told, last_version, HasVersion, Accepts, Reach, reach_over, first_lines, set_up, is_at, unless, reach, change_key, volume_after, brought, or_before, changed_under}
+use Rattle.afs_law.specs.Legal.{AreRising, IsOfScript}
 use Rattle.afs_history.specs.declared.lines.Line.{Line}
-use Rattle.afs_law.specs.OneServer.{AreAtServer, IsOneServer}
-use Rattle.afs_law.specs.Past.{HasCode, Ran, sent_of, server_boot, running, onto, lines_of, given_message, IsCallUnder}
-use Rattle.afs_ideal.specs.SetUp.{first_volume}
-use Rattle.afs_rows.specs.Runs.{locations_in, location_by, Entry, message_at, Armed, Fall, Luck, first_volumes, unless_there, counts_later}
-use Rattle.afs_law.proofs.OneCell.{is_away, the_server, Cell, Moved, waits, ticks, client_stops, client_starts, stops, starts_again, sets_stop, sets_fail, server_armed, Input, begins, gives, nothing, moved, given_to, given_at, Leads, start, RunsTo, server_waits, wakes}
-use Rattle.std.proofs.Common.{zero, suc, find, ◌≡◌, ℕ, ◌+◌, ◌≤◌, ◌⊎◌, inl, inr, Bool, true, false, cond, nat_eq, List, [], ◌∷◌, ◌++◌, Option, Some, None, refl, sym, ap, subst, ◌∙◌, arith, eqb-true, eqb, eq-eqb, le_of_eq}
+use Rattle.afs_law.specs.Past.{onto, lines_of, given_message}
+use Rattle.afs_rows.specs.Runs.{Entry, first_volumes, unless_there}
+use Rattle.std.proofs.Common.{◌≡◌, ℕ, ◌+◌, ◌≤◌, ◌⊎◌, inl, inr, Bool, true, false, cond, List, [], ◌∷◌, ◌++◌, Option, Some, None, refl, sym, ap, subst, ◌∙◌, arith, eqb-true, eqb, eq-eqb, le_of_eq}
 use Rattle.std.specs.Prelude.{is_some, ⊤}
 use Rattle.afs_num.specs.Fids.{same_fid}
 use Rattle.afs_num.specs.declared.types.Fid.{Fid}
 use Rattle.afs_num.specs.declared.types.Key.{Key}
 use Rattle.afs_num.specs.declared.types.Node.{Node}
-use Rattle.afs_num.specs.declared.types.Node.TheVariants.{Loc, Server, Client, Admin}
 use Rattle.afs_num.specs.declared.messages.Message.{Message}
 use Rattle.afs_history.specs.declared.scripts.Script.{Script}
 use Rattle.afs_num.specs.declared.histories.Body.{Body}
 use Rattle.afs_num.specs.declared.histories.Version.{Version}
 use Rattle.afs_history.specs.declared.scripts.VolumeLine.{VolumeLine}
-use Rattle.std.proofs.Math.Nat.{le_refl}
-use Rattle.afs_law.proofs.Keeping.{first_in}
 use Rattle.afs_history.specs.declared.lines.Line.TheVariants as lines
-
--- Every run of a script is legal.
+use Rattle.afs_law.proofs.Loading.{onto_both}
 
 -- ---- every input
-
-pub is_server : (n : ℕ) (m : Message) → m.head.to ≡ Server n → nat_eq n 1 ≡ true → m.head.to ≡ the_server
-is_server n m to e = to ∙ ap Server (eqb-true n 1 e)
-
-pub either : (s : Script) (c : Cell) (past : List Entry) (t : Bool) (m k : Moved) → Goes s past m → Goes s past k → Goes s past (cond t m k)
-either s c past true m k a b = a
-either s c past false m k a b = b
-
-pub to_goes : (s : Script) (c : Cell) (past : List Entry) (p : ℕ) (luck : Luck) (m : Message) (to : Node) → Holds s c past → message_at c.sent p ≡ Some m → m.head.to ≡ to → Goes s past (given_to c p luck m to)
-to_goes s c past p luck m (Server n) h at to = either s c past (nat_eq n 1) _ _ (given_goes s c past p luck m c.down n h refl at to) (voids s c past h)
-to_goes s c past p luck m (Client n) h at to = either s c past (is_away c n) _ _ (voids s c past h) (client_goes s c past n p m h at to)
-to_goes s c past p luck m Loc h at to = voids s c past h
-to_goes s c past p luck m (Admin n) h at to = voids s c past h
-
-pub at_goes : (s : Script) (c : Cell) (past : List Entry) (p : ℕ) (luck : Luck) (o : Option Message) → Holds s c past → message_at c.sent p ≡ o → Goes s past (given_at c p luck o)
-at_goes s c past p luck None h at = voids s c past h
-at_goes s c past p luck (Some m) h at = to_goes s c past p luck m m.head.to h at refl
-
-pub stop_goes : (s : Script) (c : Cell) (past : List Entry) (n pick : ℕ) (armed : Armed) (d : Option Fall) → Holds s c past → c.down ≡ d → Goes s past (server_armed c (lines.Stop the_server n pick) armed d)
-stop_goes s c past n pick armed None h up = stop_set s c past n pick armed h up
-stop_goes s c past n pick armed (Some fall) h up = voids s c past h
-
-pub fail_goes : (s : Script) (c : Cell) (past : List Entry) (n : ℕ) (armed : Armed) (d : Option Fall) → Holds s c past → c.down ≡ d → Goes s past (server_armed c (lines.Fail the_server n) armed d)
-fail_goes s c past n armed None h up = fail_set s c past n armed h up
-fail_goes s c past n armed (Some fall) h up = voids s c past h
-
-pub goes : (s : Script) (c : Cell) (past : List Entry) (x : Input) → Holds s c past → Goes s past (moved c x)
-unfolding moved
-goes s c past (begins n act) h = either s c past (is_away c n) _ _ (voids s c past h) (begun_goes s c past n act (c.clients n).running h refl)
-goes s c past (gives p luck) h = at_goes s c past p luck (message_at c.sent p) h refl
-goes s c past (waits n) h = either s c past (is_away c n) _ _ (voids s c past h) (waits_goes s c past n (c.clients n).running h refl)
-goes s c past (ticks zero) h = voids s c past h
-goes s c past (ticks (suc n)) h = ticks_goes s c past (suc n) h
-goes s c past (client_stops n) h = either s c past (is_away c n) _ _ (voids s c past h) (client_stops_goes s c past n h)
-goes s c past (client_starts n) h = either s c past (c.away n) _ _ (client_starts_goes s c past n h) (voids s c past h)
-goes s c past stops h = stops_goes s c past c.down h refl
-goes s c past (starts_again after o) h = restarts_goes s c past after o c.down h refl
-goes s c past (sets_stop calls pick) h = stop_goes s c past calls pick _ c.down h refl
-goes s c past (sets_fail call) h = fail_goes s c past call _ c.down h refl
-goes s c past (server_waits n) h = server_times s c past n c.down h refl
-goes s c past wakes h = server_wakes_goes s c past c.down h refl
-goes s c past nothing h = voids s c past h
-
-ran_of : (views : ℕ → View) (past : List Entry) (j : ℕ) (head : Head) (x : Carried) → HasCode x → head.to ≡ Client j → OfReply (OfClient head.to (ReplyIn views past (record { head = head; carried = x }))) x → Ran head past
-ran_of views past j head (carried.Call user call) code to h = absurd code
-ran_of views past j head carried.Notice code to h = absurd code
-ran_of views past j head (carried.Refusal code') code to h = (subst (λ (n : Node). OfClient n (ReplyIn views past (record { head = head; carried = carried.Refusal code' }))) to h).fact.ran
-ran_of views past j head (carried.Reply reply) code to h = (subst (λ (n : Node). OfClient n (ReplyIn views past (record { head = head; carried = carried.Reply reply }))) to h).fact.ran
-
-are_ran : (views : ℕ → View) (past : List Entry) (ms : List Message) → Each (IfReply (ReplyIn views past)) ms → WereRun past ms
-are_ran views past [] h = tt
-are_ran views past (m ∷ ms) h = (λ i j is from to. ran_of views past j m.head m.carried is.1 to h.0, are_ran views past ms h.1)
 
 pub last_each : (P : Message → Type 0) (a b : List Message) → Each P (a ++ b) → Each P b
 last_each P [] b h = h
 last_each P (m ∷ a) b h = last_each P a b h.1
-
-sent_ran : (s : Script) (c : Cell) (e : Entry) (past : List Entry) → (h : Holds s c (e ∷ past)) → WereRun (e ∷ past) e.sent
-sent_ran s c e past h = are_ran (view h.floors c) (e ∷ past) e.sent (last_each (IfReply (ReplyIn (view h.floors c) (e ∷ past))) (sent_of past) e.sent (subst (Each (IfReply (ReplyIn (view h.floors c) (e ∷ past)))) (sym h.sent.told) h.sent.replies))
 
 -- the entries are of nodes of the script, and boots rise
 abbrev pub AreEntries : Script → List Entry → List Entry → Type 0
 AreEntries s past [] = ⊤
 AreEntries s past (e ∷ es) = (IsOfScript s e.actor × AreRising (lines_of past) e.lines) × AreEntries s (e ∷ past) es
 
-pub legal_after : (s : Script) (xs : List Input) (c : Cell) (past es : List Entry) (end : Cell) → Holds s c past → Leads c xs es end → AreEntries s past es → LegalAfter s past es
-legal_after s [] c past [] end h r sound = tt
-legal_after s [] c past (e ∷ es) end h r sound = absurd r
-legal_after s (x ∷ xs) c past [] end h r sound = absurd r
-legal_after s (x ∷ xs) c past (e ∷ es) end h r sound =
-    let g : Goes s past (moved c x) = goes s c past x h in
-    let own : AreEntries s past ((moved c x).entry ∷ es) = subst (λ (y : Entry). AreEntries s past (y ∷ es)) r.0 sound in
-    subst (λ (y : Entry). LegalAfter s past (y ∷ es)) (sym r.0)
-    (((g.good, g.replies), (((g.volumes, own.0.0), own.0.1), sent_ran s (moved c x).cell (moved c x).entry past g.holds)), legal_after s xs (moved c x).cell ((moved c x).entry ∷ past) es end g.holds r.1 own.1)
-
 -- ---- the set-up
-
-pub onto_last : (o ls : List Line) (l : Line) → onto o (ls ++ l ∷ []) ≡ l ∷ onto o ls
-onto_last o [] l = refl
-onto_last o (k ∷ ls) l = onto_last (k ∷ o) ls l
-
--- the set-up's lines, by any look-back that passes versions
-pub onto_more : (o a b : List Line) → onto o (a ++ b) ≡ onto (onto o a) b
-onto_more o [] b = refl
-onto_more o (l ∷ a) b = onto_more (l ∷ o) a b
 
 -- the lines of a set-up volume's versions, the newest first
 abbrev pub version_lines : ℕ → Table Vnode → List Line → List Line
@@ -156,7 +65,7 @@ lines_at v = first_told v.id (first_volume v).vnodes []
 pub first_passed : (P : List Line → Type 0) → ((v : Version) (o : List Line) → P o → P (lines.Version v ∷ o)) → (vs : List VolumeLine) (o : List Line) → P o → P (onto o (first_lines vs))
 first_passed P w [] o h = h
 first_passed P w (v ∷ vs) o h = first_by (is_some (get v.id (first_volumes vs))) (λ (ls : List Line). P (onto o ls)) (first_lines vs) (first_lines vs ++ lines_at v)
-    (λ t. first_passed P w vs o h) (λ t. subst P (sym (onto_more o (first_lines vs) (lines_at v) ∙ onto_first v.id (first_volume v).vnodes [] (onto o (first_lines vs)))) (passed P w v.id (first_volume v).vnodes (onto o (first_lines vs)) (first_passed P w vs o h)))
+    (λ t. first_passed P w vs o h) (λ t. subst P (sym (onto_both o (first_lines vs) (lines_at v) ∙ onto_first v.id (first_volume v).vnodes [] (onto o (first_lines vs)))) (passed P w v.id (first_volume v).vnodes (onto o (first_lines vs)) (first_passed P w vs o h)))
 
 -- ---- volumes and lines of the set-up agree
 
@@ -261,7 +170,7 @@ first_new_volume v t ls none h =
 
 pub first_facts_by : (b : Bool) (v : VolumeLine) (t : Table Volume) (ls : List Line) → is_some (get v.id t) ≡ b → FirstFacts t (onto [] ls) → FirstFacts (unless_there b v.id (first_volume v) t) (onto [] (unless b ls (ls ++ lines_at v)))
 first_facts_by true v t ls b h = h
-first_facts_by false v t ls b h = subst (FirstFacts (set v.id (first_volume v) t)) (sym (onto_more [] ls (lines_at v) ∙ onto_first v.id (first_volume v).vnodes [] (onto [] ls))) (first_new_volume v t (onto [] ls) (not_some (get v.id t) b) h)
+first_facts_by false v t ls b h = subst (FirstFacts (set v.id (first_volume v) t)) (sym (onto_both [] ls (lines_at v) ∙ onto_first v.id (first_volume v).vnodes [] (onto [] ls))) (first_new_volume v t (onto [] ls) (not_some (get v.id t) b) h)
 
 pub first_facts : (vs : List VolumeLine) → FirstFacts (first_volumes vs) (onto [] (first_lines vs))
 first_facts [] = record { sound = λ id n u. refl; top = λ f i b x. absurd x; one = λ f i a b x y. absurd x; fine = λ i u e. absurd cc }
@@ -280,13 +189,6 @@ found_by' false id other V u o P t h e = inr (h e)
 pub found_there : (b : Bool) (v : VolumeLine) (t : Table Volume) (id : ℕ) (u : Volume) (P : Type 0) → (get id t ≡ Some u → P) → get id (unless_there b v.id (first_volume v) t) ≡ Some u → ((b ≡ false) × (v.id ≡ id)) ⊎ P
 found_there true v t id u P h e = inr (h e)
 found_there false v t id u P h e = elim (found_by' (eqb v.id id) v.id id (first_volume v) u (get id t) P refl h (sym (get-set v.id id (first_volume v) t) ∙ e)) [ inl y ↦ inl (refl, y) | inr y ↦ inr y ]
-
-pub found_home : (vs : List VolumeLine) → AreAtServer vs → (id : ℕ) (u : Volume) → get id (first_volumes vs) ≡ Some u → is_at id the_server vs
-found_home [] one id u x = absurd cc
-found_home (v ∷ vs) one id u x = elim (found_there (is_some (get v.id (first_volumes vs))) v (first_volumes vs) id u (is_at id the_server vs) (found_home vs one.1 id u) x) [
-  | inl y ↦ inl (y.0, (y.1, ap Server one.0))
-  | inr y ↦ inr y
-]
 
 -- all of them are versions
 abbrev pub AreVersions : List Line → Type 0
@@ -348,92 +250,7 @@ first_oweless [] h = refl
 first_oweless (lines.Version v ∷ ls) h = first_oweless ls h
 first_oweless (l ∷ ls) h = absurd h
 
-pub lines_both : (a b : List Line) → all_lines is_oweless a ≡ true → all_lines is_oweless b ≡ true → all_lines is_oweless (a ++ b) ≡ true
-lines_both [] b h k = k
-lines_both (l ∷ a) b h k = let q = both (is_oweless l) (all_lines is_oweless a) h in rw (q.0, lines_both a b q.1 k) refl
-
 pub lines_none : (newer : List Entry) (x at : Entry) (older : List Entry) → x ∷ [] ≡ newer ++ (at ∷ older) → x ≡ at
 lines_none [] x at older e = cc
 lines_none (y ∷ []) x at older e = absurd cc
 lines_none (y ∷ z ∷ newer) x at older e = absurd cc
-
-pub first_owes : {X : Type 0} → (ms : List Message) (newer : List Entry) (x at : Entry) (older : List Entry) (before after : List Line) (c : Node) (what : Option Fid) (n : ℕ) → all_lines is_oweless x.lines ≡ true → x ∷ [] ≡ newer ++ (at ∷ older) → at.lines ≡ before ++ lines.Owe the_server c what n ∷ after → X
-first_owes ms newer x at older before after c what n h split line = absurd (no_owe at.lines before after the_server c what n (subst (λ (e : Entry). all_lines is_oweless e.lines ≡ true) (lines_none newer x at older split) h) line)
-
-server_by : (t : Bool) (l : Location) (o : Option Location) → l.server ≡ 1 → server_or_first o ≡ 1 → server_or_first (cond t (Some l) o) ≡ 1
-server_by true l o e h = e
-server_by false l o e h = h
-
-located_by : (t : Bool) (v : VolumeLine) (ls : List Location) (id : ℕ) → v.server ≡ 1 → server_at ls id ≡ 1 → server_at (location_by t v ls) id ≡ 1
-located_by true v ls id e h = h
-located_by false v ls id e h = server_by (nat_eq v.id id) (record { name = v.name; id = v.id; server = v.server }) (find (λ l. nat_eq l.id id) ls) e h
-
--- every volume is at the server
-found_server : (vs : List VolumeLine) → AreAtServer vs → (id : ℕ) → server_at (locations_in vs) id ≡ 1
-found_server [] a id = refl
-found_server (v ∷ vs) a id = located_by (counts_later v.id vs) v (locations_in vs) id a.0 (found_server vs a.1 id)
-
-pub starts : (s : Script) → IsOneServer s → Holds s (start s) (set_up s ∷ [])
-starts s one =
-    let facts : FirstFacts (first_volumes s.volumes) (onto [] (first_lines s.volumes)) = first_facts s.volumes in
-    record {
-      floors = λ j. record { floor = 1; held = 1 };
-      count = refl;
-      own = λ j. record { table = refl; user = refl; callee = λ a z. absurd cc; needs = λ a z. absurd cc; apart = tt; gifts = tt };
-      tried = λ j. record { told = λ act x. absurd cc };
-      servers = λ id. found_server s.volumes one.1 id;
-      ideal = λ id. first_in id (first_volumes s.volumes) ∙ ideal_first s id;
-      sound = λ id. subst (λ (o : Option Volume). SoundIn id o (lines_of (set_up s ∷ []))) (sym (first_in id (first_volumes s.volumes))) (facts.sound id);
-      fine = λ id v e. facts.fine id v (sym (first_in id (first_volumes s.volumes)) ∙ e);
-      home = λ id v found. any_home s id the_server (lines_of (set_up s ∷ [])) (found_home s.volumes one.1 id v (sym (first_in id (first_volumes s.volumes)) ∙ found));
-      new = λ k above. first_passed (IsNew k) (λ v o h. h) s.volumes [] tt;
-      changing = λ k x. absurd (no_change k (lines_of (set_up s ∷ [])) (first_passed (IsNew k) (λ v o h. h) s.volumes [] tt) x);
-      unheard = λ k b may. ((λ x. subst (λ (o : Option Message). IsCallUnder the_server k b o) (given_first (first_lines s.volumes) [] (all_versions s.volumes)) x), tt);
-      booted = le_refl 1;
-      boots = first_passed (λ (ls : List Line). server_boot the_server ls ≡ Some 1) (λ v o h. h) s.volumes [] refl;
-      down = tt;
-      clients = λ j. record {
-        behind = λ seat x. absurd cc;
-        behind_durable = λ seat x. absurd cc;
-        lower = λ e n x. x;
-        kept = λ seat m x y. absurd cc;
-        stored = λ seat m x y. absurd cc;
-        known = le_refl 1;
-        floored = le_refl 1;
-        holds = le_refl 1;
-        waits = λ act x. absurd cc;
-        idle = λ x. first_passed (λ (ls : List Line). running s (Client j) ls ≡ None) (λ v o h. h) s.volumes [] refl;
-        made = λ act x. absurd cc;
-        old = λ f u found. absurd cc;
-        current = λ f e x lasts. absurd cc;
-        runs = λ act x. absurd cc;
-        asked = λ act x. absurd cc;
-        late = λ act x. absurd cc;
-        none = λ x. refl;
-        spared = λ act x. absurd cc;
-        gave = λ act x. absurd cc;
-        reached = λ f. reached_first (Client j) f _ s;
-      };
-      sent = record { calls = tt; replies = tt; notices = tt; origins = tt; acts = tt; ones = tt; lone = ((λ j k l a b x y. absurd cc), tt); told = refl; waiting = tt; to_clients = tt };
-      clock = first_passed (λ (ls : List Line). clock_of ls ≡ 0) (λ v o h. h) s.volumes [] refl;
-      top = facts.top;
-      one = facts.one;
-      backs = λ z. record {
-        granted = λ x. tt;
-        numbered = let y : last_number the_server (onto [] (first_lines s.volumes)) ≡ 0 = zero_back the_server (first_lines s.volumes) [] (first_oweless (first_lines s.volumes) (all_versions s.volumes)) refl in le_of_eq y;
-        promised = λ j f x l t. let none : live_grant the_server j f [] ≡ Some x = live_given the_server j f x (set_up s) [] (live_back the_server j f x (first_lines s.volumes) (before_own the_server (set_up s) []) (first_still (first_lines s.volumes) (all_versions s.volumes)) l) in absurd cc;
-        accounted = λ newer at older before after c what n split line. first_owes (start s).sent newer (set_up s) at older before after c what n (first_oweless (first_lines s.volumes) (all_versions s.volumes)) split line;
-        owing = λ x. tt;
-        rising = rising_back the_server (first_lines s.volumes) [] (first_oweless (first_lines s.volumes) (all_versions s.volumes)) tt;
-        clients = λ x. record { promised = tt; owed = tt };
-        waiting = λ x. tt;
-        outs = λ x j c at. absurd cc;
-        calls = tt;
-        dones = tt;
-        seated = λ j seat m x y. absurd cc;
-      };
-    }
-
--- Every run of a script for one server is legal, whatever is given, how often and in what order.
-pub legal : (s : Script) (h : List Entry) (end : Cell) → IsOneServer s → RunsTo h s end → AreEntries s (set_up s ∷ []) h → Legal h s
-legal s h end one r sound = legal_after s r.inputs (start s) (set_up s ∷ []) h end (starts s one) r.leads sound
