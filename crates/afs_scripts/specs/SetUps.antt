@@ -3,6 +3,7 @@ use Rattle.std.specs.Prelude.{◌≡◌, ◌<◌, ℕ, List, Some, Ok}
 use Rattle.afs_history.specs.declared.scripts.Script.{Script}
 use Rattle.afs_records.specs.Changes.{set_up}
 use Rattle.afs_records.specs.Durable.{Durable}
+use Rattle.afs_law.specs.ClientParts.{IsOfCell}
 use Rattle.afs_law.specs.Laws.{AscendBy}
 use Rattle.afs_law.specs.OneServer.{IsOneServer}
 use Rattle.afs_volstore.specs.Laying.{HaveShortNames}
@@ -19,6 +20,10 @@ NamesAreShort = (s : Script) → IsCellScript s → HaveShortNames s.volumes
 
 abbrev pub NumbersAscend : Type 0
 NumbersAscend = (s : Script) → IsCellScript s → AscendBy 0 s.volumes
+
+-- each volume is at one of the cell's servers, of which there are eight at most
+abbrev pub VolumesAreInCell : Type 0
+VolumesAreInCell = (s : Script) → IsCellScript s → IsOfCell s
 
 abbrev pub OneServerAtSix : Type 0
 OneServerAtSix = (level : ℕ) (bytes : List ℕ) (s : Script) → script_of level bytes ≡ Ok s → level < 7 → IsOneServer s
