@@ -2,8 +2,9 @@
 use afs_num::calls::FsReply;
 use afs_num::sequences::Sequence;
 use afs_num::types::Fid;
-use afs_server_parts::grants::Grants;
+use afs_server_parts::few::Few;
 use afs_server_parts::spelled::SpelledMessage;
+use afs_server_parts::telling::Grant;
 use afs_volume::ReadyChange;
 
 /// What becomes of a call: no answer; its caller is told this server's boot number; its kept reply is sent again; it is refused
@@ -15,7 +16,7 @@ pub enum Decided {
     TellsBoot,
     Repeats(SpelledMessage),
     Refuses(i32),
-    Shows(FsReply, Grants),
+    Shows(FsReply, Few<Grant>),
     GivesUp(Sequence<Fid>),
     Changes(u32, ReadyChange),
 }

@@ -24,7 +24,7 @@ use afs_num::calls::{AfsFetchStatus, FsCall, FsReply};
 use afs_num::messages::{Call, Carried, Received};
 use afs_num::sequences::Sequence;
 use afs_num::types::{Fid, Head, Mem, Node};
-use afs_server_parts::grants::Grants;
+use afs_server_parts::few::Few;
 use afs_server_parts::spelled::SpelledMessage;
 use afs_server_parts::telling::Grant;
 use afs_volstore::VolStore;
@@ -121,43 +121,43 @@ fn is_on_volume(call: &FsCall) -> bool
 }
 
 /// A promise on this fid, of which this status is told.
-fn grant(fid: Fid, status: &AfsFetchStatus) -> Grants
+fn grant(fid: Fid, status: &AfsFetchStatus) -> Few<Grant>
     ensures { result ≡ record { fid = fid; index = status.now.sync_counter } ∷ [] }
 {
-    Grants::one(Grant {
+    Few::one(Grant {
         fid,
         index: status.sync_counter,
     })
 }
 
 /// The promise that a reply to FetchData of this fid grants.
-fn granted_data(alloc: Global, fid: Fid, reply: &FsReply) -> Grants
+fn granted_data(alloc: Global, fid: Fid, reply: &FsReply) -> Few<Grant>
     ensures { result ≡ granted_data fid reply.now }
 {
     match reply {
         FsReply::FetchData { status, .. } => grant(fid, status),
-        _ => Grants::none(alloc),
+        _ => Few::none(alloc),
     }
 }
 
 /// The promise that a reply to FetchStatus of this fid grants.
-fn granted_status(alloc: Global, fid: Fid, reply: &FsReply) -> Grants
+fn granted_status(alloc: Global, fid: Fid, reply: &FsReply) -> Few<Grant>
     ensures { result ≡ granted_status fid reply.now }
 {
     match reply {
         FsReply::FetchStatus { status, .. } => grant(fid, status),
-        _ => Grants::none(alloc),
+        _ => Few::none(alloc),
     }
 }
 
 /// The promises that this reply to the call grants.
-fn granted(alloc: Global, call: &FsCall, reply: &FsReply) -> Grants
+fn granted(alloc: Global, call: &FsCall, reply: &FsReply) -> Few<Grant>
     ensures { result ≡ granted_in call.now reply.now }
 {
     match call {
         FsCall::FetchData { fid, .. } => granted_data(alloc, *fid, reply),
         FsCall::FetchStatus { fid } => granted_status(alloc, *fid, reply),
-        _ => Grants::none(alloc),
+        _ => Few::none(alloc),
     }
 }
 
@@ -342,7 +342,7 @@ impl FileServer {
                     clock: now,
                     microseconds: 0,
                 };
-                Ok(Decided::Shows(reply, Grants::none(self.alloc)))
+                Ok(Decided::Shows(reply, Few::none(self.alloc)))
             }
             FsCall::BulkStatus { fids } => {
                 self.statuses(store, head, user, fids.as_slice(), now)

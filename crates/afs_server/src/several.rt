@@ -19,7 +19,7 @@ use afs_num::calls::{
 };
 use afs_num::sequences::Sequence;
 use afs_num::types::{Code, Fid, Head, Mem};
-use afs_server_parts::grants::Grants;
+use afs_server_parts::few::Few;
 use afs_server_parts::telling::Grant;
 use afs_volstore::VolStore;
 use afs_volume::Volume;
@@ -185,7 +185,7 @@ fn told_as(told: Result<Told, OpFault>) -> Mem<Decided>
                 callbacks: told.callbacks,
                 sync: sync_told(told.sync),
             };
-            Ok(Decided::Shows(reply, Grants::of(told.grants)))
+            Ok(Decided::Shows(reply, Few::of(told.grants)))
         }
         Err(OpFault::Code(code)) => Ok(Decided::Refuses(code.0)),
         Err(OpFault::OutOfMemory) => Err(AllocError),

@@ -1,6 +1,5 @@
 pub mod Called
-pub mod Carried
-pub mod Granted
+pub mod Few
 pub mod Kept
 pub mod Sending
 pub mod Telling

@@ -9,7 +9,8 @@ ghost use Rattle.afs_num.specs.declared.types.Node.{Node};
 ghost use Rattle.afs_rows.specs.Callbacks.{put_at};
 ghost use Rattle.afs_server_parts.specs.Called.{call_seen, call_to, callee_at, calls_seen, known_to, node_called, AreGoodCalls, IsGoodOrNone};
 
-use crate::breaks::Breaks;
+use crate::few::Few;
+use afs_breaks::types::OwedBreak;
 use afs_num::keyed::{Keyed, find_keyed, put_last};
 use afs_num::types::{Mem, Node};
 use std::alloc::Global;
@@ -22,7 +23,7 @@ pub struct BackCall {
     pub server: Node,
     pub number: u32,
     pub tries: u32,
-    pub breaks: Breaks,
+    pub breaks: Few<OwedBreak>,
 }
 
 impl Model for BackCall {

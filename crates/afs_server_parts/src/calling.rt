@@ -5,8 +5,8 @@ ghost use Rattle.afs_num.specs.Nodes.{IsNode};
 ghost use Rattle.afs_rows.specs.Callbacks.{break_message, breaks_call, breaks_opcode, broken_until, call_for, carries_for, fids_of, first_of, is_for, most_breaks, opcode_for};
 ghost use Rattle.afs_server_parts.specs.Called.{call_seen};
 
-use crate::breaks::Breaks;
 use crate::callees::BackCall;
+use crate::few::Few;
 use crate::spelled::SpelledMessage;
 use afs_breaks::types::OwedBreak;
 use afs_num::calls::{AfsCallBack, CallBacks, Fids, FsCall};
@@ -47,15 +47,15 @@ fn first_for(alloc: Global, node: Node, owed: &[OwedBreak]) -> Mem<Sequence<Owed
 }
 
 /// What a call carries whose oldest break is this.
-pub fn carried(alloc: Global, oldest: &OwedBreak, owed: &[OwedBreak]) -> Mem<Breaks>
+pub fn carried(alloc: Global, oldest: &OwedBreak, owed: &[OwedBreak]) -> Mem<Few<OwedBreak>>
     ensures few { IfOk result (λ os. length os ≤ 50) }
     ensures value { IfOk result (λ os. os ≡ carries_for oldest.now.what oldest.now owed.now) }
 {
     match oldest.what {
-        None => Ok(Breaks::one(*oldest)),
+        None => Ok(Few::one(*oldest)),
         Some(_) => {
             let breaks = first_for(alloc, oldest.client, owed)?;
-            Ok(Breaks::of(breaks))
+            Ok(Few::of(breaks))
         }
     }
 }

@@ -3,11 +3,10 @@
 #![tactic(auto)]
 
 mod answering;
-pub mod breaks;
 pub mod callees;
 pub mod callers;
 pub mod calling;
-pub mod grants;
+pub mod few;
 pub mod held;
 pub mod owed;
 pub mod pumping;
