@@ -3,7 +3,7 @@ use Rattle.std.specs.Prelude.{◌≡◌, ◌<◌, ℕ, List, Some, Ok}
 use Rattle.afs_history.specs.declared.scripts.Script.{Script}
 use Rattle.afs_records.specs.Changes.{set_up}
 use Rattle.afs_records.specs.Durable.{Durable}
-use Rattle.afs_law.specs.ClientParts.{IsOfCell}
+use Rattle.afs_law.specs.Cells.{IsOfCell}
 use Rattle.afs_law.specs.Laws.{AscendBy}
 use Rattle.afs_law.specs.OneServer.{IsOneServer}
 use Rattle.afs_volstore.specs.Laying.{HaveShortNames}
