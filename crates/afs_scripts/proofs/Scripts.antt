@@ -1,7 +1,7 @@
 -- What every script of a cell has: short names, ascending numbers, volumes at its own servers, and one server below level 7.
 use Rattle.std.proofs.Common.{◌≡◌, ℕ, ◌+◌, ◌≤◌, List, [], ◌∷◌, arith}
 use Rattle.afs_history.specs.declared.scripts.VolumeLine.{VolumeLine}
-use Rattle.afs_law.specs.ClientParts.{AreInCell}
+use Rattle.afs_law.specs.Cells.{AreInCell}
 use Rattle.afs_law.specs.Laws.{AscendBy}
 use Rattle.afs_volstore.specs.Laying.{HaveShortNames}
 use Rattle.afs_words.specs.declared.nodes.Counts.{Counts}

@@ -4,7 +4,7 @@ use Rattle.afs_history.specs.declared.scripts.Script.{Script}
 use Rattle.afs_history.specs.declared.scripts.VolumeLine.{VolumeLine}
 use Rattle.afs_records.specs.Changes.{set_up}
 use Rattle.afs_records.specs.Durable.{Durable}
-use Rattle.afs_law.specs.ClientParts.{IsOfCell}
+use Rattle.afs_law.specs.Cells.{IsOfCell}
 use Rattle.afs_law.specs.Laws.{AscendBy}
 use Rattle.afs_volstore.specs.Laying.{HaveShortNames}
 use Rattle.afs_volstore.specs.Opening.{CanBeSetUp}

@@ -12,7 +12,7 @@ use Rattle.afs_disk.specs.declared.bank.LendFault.{LendFault}
 use Rattle.afs_disk.specs.declared.bank.LendFault.TheVariants as lending
 use Rattle.afs_disk.specs.declared.bank.Place.{Place}
 use Rattle.afs_disk.specs.declared.disks.Lent.{Lent}
-use Rattle.afs_law.specs.ClientParts.{IsOfCell}
+use Rattle.afs_law.specs.Cells.{IsOfCell}
 use Rattle.afs_law.specs.Laws.{RunsAreLegal}
 use Rattle.afs_outside.specs.Outside.{AppendsFront}
 use Rattle.afs_records.specs.Durable.{Durable}

@@ -15,7 +15,7 @@ use Rattle.afs_records.specs.Durable.{fold_all, Durable}
 use Rattle.afs_records.specs.Stands.{Stands}
 use Rattle.afs_records.proofs.Forms.{some_is}
 use Rattle.afs_rows.specs.Runs.{Cell}
-use Rattle.afs_law.specs.ClientParts.{IsOfCell}
+use Rattle.afs_law.specs.Cells.{IsOfCell}
 use Rattle.afs_law.specs.Laws.{RunsAreLegal}
 use Rattle.afs_text.specs.HistoryText.{history_text}
 use Rattle.afs_text.specs.Telling.{told}
