@@ -97,14 +97,11 @@ impl Writer {
         Ok(())
     }
 
-    /// The bytes.
+    /// The bytes, in a block of their size.
     pub fn into_vec(self) -> Result<Vec<u8>, AllocError>
         ensures { IfOk result (λ v. v.items ≡ self) }
     {
-        match self.bytes.into_vec() {
-            Ok(bytes) => Ok(bytes),
-            Err(_) => Err(AllocError),
-        }
+        Vec::from_slice(*self.bytes.allocator(), self.bytes.as_slice())
     }
 }
 
