@@ -14,7 +14,7 @@ use Rattle.afs_shape.specs.declared.kinds.Field.{Field}
 use Rattle.afs_shape.specs.Spelling.{fields_spelled}
 use Rattle.afs_shape.specs.Reading.{◌>>=◌, in_place, fields_at, fields_to_end_at}
 use Rattle.afs_shape.specs.Tables.{kinds_in, AreOf, AreInRange}
-use Rattle.afs_shape.specs.Rows.{MessageTable, table_rows, message_of, HasRow, IsWithin, Made, IsSoundTable}
+use Rattle.afs_shape.specs.Rows.{MessageTable, table_rows, message_of, IsWithin, IsSoundTable}
 use Rattle.afs_shape.specs.Bodies.{found_row, row_at, made, body_at}
 use Rattle.afs_shape.proofs.Codecs.{IsBytes}
 use Rattle.afs_shape.proofs.FieldLaws.{bind_ok, in_place_ok, shape_ok_is, fields_take, fields_again}

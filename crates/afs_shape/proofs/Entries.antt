@@ -1,5 +1,5 @@
 -- What is read is spelled so, and what is spelled is read: volumes in a list, sites and location entries.
-use Rattle.std.proofs.Common.{◌≡◌, ℕ, ◌^◌, ◌<◌, ◌≤◌, List, [], ◌∷◌, ◌++◌, length, Result, Ok, Err, refl, sym, ap, subst, ◌∙◌, append_assoc, append-nil}
+use Rattle.std.proofs.Common.{◌≡◌, ℕ, List, [], ◌∷◌, ◌++◌, Result, Ok, refl, sym, ap, subst, ◌∙◌, append_assoc, append-nil}
 use Rattle.std.specs.List.{AllByRecursion}
 use Rattle.std.proofs.lemmas.List.Concat.{flat_map-cons}
 use Rattle.afs_num.specs.declared.volume_calls.ListedVolume.{ListedVolume}
@@ -9,8 +9,8 @@ use Rattle.afs_xdr.specs.declared.faults.XdrFault.{XdrFault}
 use Rattle.afs_xdr.specs.Words.{AreWords, ◌>>=◌, word, words, opaque, word_at, opaque_at}
 use Rattle.afs_shape.specs.Items.{list_at, volume_kind_at, server_at, listed_volume_at, site_at, entry_at, volume_name_limit, site_limit}
 use Rattle.afs_shape.specs.Spelling.{list, listed_volume, site, entry, listed_volume_words, site_words, entry_words}
-use Rattle.afs_shape.specs.Tables.{IsCount, IsVolumeKind, IsServer, IsListedVolume, IsSite, IsEntry}
-use Rattle.afs_shape.proofs.Codecs.{IsBytes, Takes, Takes-then, IsCodec, bind_ok, bind_assoc, ok_is, word_codec, opaque_codec, list_codec, volume_kind_codec, server_codec, fits_codec}
+use Rattle.afs_shape.specs.Tables.{IsListedVolume, IsSite, IsEntry}
+use Rattle.afs_shape.proofs.Codecs.{Takes, Takes-then, IsCodec, bind_ok, bind_assoc, ok_is, word_codec, opaque_codec, list_codec, volume_kind_codec, server_codec, fits_codec}
 
 -- ---- one value behind another
 

@@ -1,13 +1,12 @@
 -- Tables of several interfaces as one table.
-use Rattle.std.proofs.Common.{◌≡◌, ℕ, Bool, true, false, cond, eqb, List, [], ◌∷◌, ◌++◌, Option, Some, None, refl, sym, ap, ◌∙◌, append-nil}
+use Rattle.std.proofs.Common.{◌≡◌, ℕ, Bool, true, false, cond, eqb, List, [], ◌∷◌, ◌++◌, Option, Some, refl, sym, ap, ◌∙◌, append-nil}
 use Rattle.std.specs.Prelude.{nat_eq, ◌==◌, ◌||◌, ◌&&◌, find, map, not}
 use Rattle.std.specs.Option.{option_map}
-use Rattle.std.specs.List.{list_any}
 use Rattle.std.proofs.lemmas.Bool.{eqb-true, eqb-false, eq-eqb, ne_eqb}
 use Rattle.afs_shape.specs.declared.kinds.Kind.{Kind}
 use Rattle.afs_shape.specs.declared.kinds.Field.{Field}
-use Rattle.afs_shape.specs.Tables.{kinds_in, is_among, AreOf}
-use Rattle.afs_shape.specs.Rows.{MessageRow, MessageTable, made_in, message_of, opcodes, in_interface, Made}
+use Rattle.afs_shape.specs.Tables.{kinds_in, is_among}
+use Rattle.afs_shape.specs.Rows.{MessageRow, MessageTable, made_in, message_of, opcodes, in_interface}
 use Rattle.afs_shape.proofs.MadeLaws.{MakesBehind, RowMakes}
 
 eqb_swap : (a b : ℕ) (t : Bool) → eqb a b ≡ t → nat_eq b a ≡ t

@@ -1,14 +1,8 @@
 -- What makes a table sound: each slot hands out what is of its kind, and each row's maker a message of that row.
 use Rattle.std.proofs.Common.{◌≡◌, ℕ, Bool, true, false, cond, eqb, List, [], ◌∷◌, ◌++◌, Option, Some, None, refl, sym, ap, subst, ◌∙◌, append_assoc, append-nil}
-use Rattle.std.specs.Prelude.{nat_eq, ◌==◌, find, map, ℤ}
+use Rattle.std.specs.Prelude.{nat_eq, ◌==◌, find, map}
 use Rattle.std.specs.Option.{option_map}
 use Rattle.std.proofs.lemmas.Bool.{eqb-true, eqb-false, eq-eqb, ne_eqb}
-use Rattle.afs_num.specs.declared.types.Fid.{Fid}
-use Rattle.afs_num.specs.declared.calls.AfsStoreStatus.{AfsStoreStatus}
-use Rattle.afs_num.specs.declared.calls.AfsFetchStatus.{AfsFetchStatus}
-use Rattle.afs_num.specs.declared.calls.AfsCallBack.{AfsCallBack}
-use Rattle.afs_num.specs.declared.calls.AfsVolSync.{AfsVolSync}
-use Rattle.afs_num.specs.declared.location_calls.LocEntry.{LocEntry}
 use Rattle.afs_shape.specs.declared.kinds.Kind.{Kind}
 use Rattle.afs_shape.specs.declared.kinds.Kind.TheVariants as kinds
 use Rattle.afs_shape.specs.declared.kinds.Field.{Field}

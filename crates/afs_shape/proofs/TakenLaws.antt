@@ -1,5 +1,5 @@
 -- Fields that are read one after the other, and taken as they are read.
-use Rattle.std.proofs.Common.{◌≡◌, ℕ, suc, ◌+◌, List, [], ◌∷◌, length, Option, Some, None, Result, Ok, Err, refl, sym, ap, subst, ◌∙◌, arith}
+use Rattle.std.proofs.Common.{◌≡◌, ℕ, suc, ◌+◌, List, [], ◌∷◌, length, Option, Some, Result, Ok, Err, refl, sym, ap, subst, ◌∙◌, arith}
 use Rattle.afs_xdr.specs.declared.faults.XdrFault.{XdrFault}
 use Rattle.afs_xdr.specs.Words.{end_at}
 use Rattle.afs_shape.specs.declared.faults.ShapeFault.{ShapeFault}
@@ -10,7 +10,7 @@ use Rattle.afs_shape.specs.Reading.{◌>>=◌, in_place, field_at, fields_at, fi
 use Rattle.afs_shape.specs.Taking.{no_more, taken_behind}
 use Rattle.afs_shape.specs.Taken.{IsFirst, fields_from_at, row_fields_at, TakesRead}
 use Rattle.afs_shape.specs.Rows.{MessageTable, message_of}
-use Rattle.afs_shape.specs.Bodies.{row_at, made, body_at}
+use Rattle.afs_shape.specs.Bodies.{row_at, body_at}
 
 -- ---- one field in front
 

@@ -1,5 +1,5 @@
 -- Taking fields from the front, each as what its kind says.
-use Rattle.std.specs.Prelude.{◌≡◌, ℕ, ℤ, List, [], ◌∷◌, Option, Some, None}
+use Rattle.std.specs.Prelude.{ℕ, ℤ, List, [], ◌∷◌, Option, Some, None}
 use Rattle.afs_num.specs.declared.types.Fid.{Fid}
 use Rattle.afs_num.specs.declared.calls.AfsStoreStatus.{AfsStoreStatus}
 use Rattle.afs_num.specs.declared.calls.AfsFetchStatus.{AfsFetchStatus}
@@ -79,19 +79,9 @@ abbrev pub no_more : List Field → Option (Unit {0})
 no_more [] = Some tt
 no_more (f ∷ fs) = None
 
--- the field in front was handed out
-abbrev pub NextIs : List Field → List Field → Option Field → Type 0
-NextIs old new (Some f) = old ≡ f ∷ new
-NextIs old new None = (old ≡ []) × (new ≡ [])
-
 -- the first field, and what is taken from those behind it
 unfoldable pub taken_behind : {A V : Type 0} → (List Field → Option (A × List Field)) → (List Field → Option V) → List Field → Option (A × V)
 taken_behind first rest fs = do
   x ← first fs
   v ← rest x.1
   Some (x.0, v)
-
--- what was taken from the old fields leaves the new; where nothing of that kind stood first, nothing is said
-abbrev pub TakesFirst : {X Y : Type 0} → (List Field → Option (Y × List Field)) → (X → Y) → List Field → List Field → Option X → Type 0
-TakesFirst first view old new (Some x) = first old ≡ Some (view x, new)
-TakesFirst first view old new None = first old ≡ None
