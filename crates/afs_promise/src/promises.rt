@@ -216,7 +216,7 @@ impl Promises {
     /// Withdraws these promises, as `hits` gave them: their breaks become owed, one behind the other. It takes no memory, and
     /// looks for each of them once.
     pub fn withdraw_found(&mut self, found: &[Promise]) -> Mem<()>
-        // Each of them is held, and stands there once.
+        // As many promises go as these are: each is on what its client holds a promise on, and none stands there twice.
         requires held { length found.now + length (without_found found.now self.old.promises) ≤ length self.old.promises }
         requires number { self.old.last_owed + length self.old.promises ≤ 4000000000 }
         ensures ok { IsOk result }
