@@ -103,7 +103,7 @@ PairsAreKnown = (s : Script) (history : List Entry) (end : Cell) → RunsTo hist
 -- what an idle client trusts can be shown: a read of it from the cache would be good
 abbrev pub TrustedIsGood : Type 0
 TrustedIsGood =
-    (s : Script) (history : List Entry) (end : Cell) → IsOfCell s → RunsTo history s end → (j : ℕ) → (end.clients j).running ≡ None → (f : Fid) (e : CacheEntry) → find_cached f (end.clients j).cache ≡ Some e → end.clock < e.expiry
+    (s : Script) (history : List Entry) (end : Cell) → RunsTo history s end → (j : ℕ) → (end.clients j).running ≡ None → (f : Fid) (e : CacheEntry) → find_cached f (end.clients j).cache ≡ Some e → end.clock < e.expiry
     → ((body : Body) → e.body ≡ Some body → GoodRead s (Client j) f e.index Cached (seen.Contents body) (past_of (set_up s ∷ []) history) []) × GoodRead s (Client j) f e.index Cached (seen.Status e.status) (past_of (set_up s ∷ []) history) []
 
 -- a good read shows the newest version where no break of its grant is outstanding
