@@ -1,7 +1,7 @@
 //! Laws about the runs of a script. Each is the contract of a function that does nothing.
 
 ghost use Rattle.afs_law.specs.Laws.{AcknowledgedAreKept, AcknowledgedAreMade, AnswersAreRecent, ChangesAreFolded, EffectsAreTold, KeysRunOnce, ReadsAreNewest, RunsAreLegal, RunsAreOne, SetUpsAreFirst, StartsAreFolded, VolumesAreTold, PairsAreKnown, TrustedIsGood, RoomlessAreRefused, UnservedAreRefused, CallsRunOnce, RepliesAreCaused, RepliesWereRun, KeptWereRun, DurableAreChanges, GrantsAreKept, BreaksAreOwed, RepliesFollowDrops, UnawaitedAreUntrusted, DeadAreUntrusted};
-ghost use Rattle.afs_law.specs.ClientParts.{AnswersAreDue, AnswersAreGood, CachedAreFetched, ChangesAreAlone, GiftsAreDropped, WaitsAreSilent};
+ghost use Rattle.afs_law.specs.ClientParts.{AnswersAreDue, AnswersAreGood, CachedAreFetched, ChangesAreAlone, GiftsAreDropped, ReadsAreGood, WaitsAreSilent};
 ghost use Rattle.afs_law.specs.Parts.{ActsAreTold, CallsAreAsked, ChangesAreIdeal, EntriesAreSound, LinesAreInPlace, MessagesAreOwn};
 ghost use Rattle.afs_law.specs.ServerParts.{BreaksAreGood, FallsAreKept, GoodReadsAreLegal, GrantsAreGood, RepliesAreTrue, RepliesWait, VersionsAreKept};
 
@@ -178,6 +178,11 @@ pub fn answers_are_due()
 /// its call, or that it had nothing to give back.
 pub fn answers_are_good()
     ensures { AnswersAreGood }
+{}
+
+/// Each read is good: whole, not older than any that its client has seen, resting on a promise, and the newest unless that was withdrawn.
+pub fn reads_are_good()
+    ensures { ReadsAreGood }
 {}
 
 /// While a client waits for a call it reads nothing and is answered nothing; and unless the reply is spoiled it dropped nothing since that
