@@ -361,7 +361,7 @@ UnawaitedAreUntrusted =
     (s : Script) (history : List Entry) (end : Cell) → RunsTo history s end → (i j place : ℕ) (head : Head) (user : List ℕ) (call : FsCall) (id : ℕ) → message_at end.sent place ≡ Some (record { head = head; carried = carried.Call user (ask.File call) }) → head.from ≡ Client j → head.to ≡ Server i
     → volume_changed call ≡ Some id → admitted (end.hosts i).state.lasting.boot (end.hosts i).state.seats head ≡ pairs.runs → (IsAwaited (end.clients j) head → ⊥)
     → (f : Fid) (e : CacheEntry) → is_in_scope call f ≡ true → find_cached f (end.clients j).cache ≡ Some e
-    → (reply : Message) × ((fetch_reply (Client j) f (past_of (set_up s ∷ []) history) ≡ Some reply) × (reply.head.boot < (end.hosts i).state.lasting.boot))
+    → (reply : Message) × ((fetch_reply (Client j) f (past_of (set_up s ∷ []) history) ≡ Some reply) × ((reply.head.from ≡ Server i) × (reply.head.boot < (end.hosts i).state.lasting.boot)))
 
 -- A changing call that its client gave up at the third timeout and that its server would run, up or down: the client keeps nothing of the
 -- volume that it may change
