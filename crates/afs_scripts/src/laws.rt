@@ -1,6 +1,6 @@
 //! Laws that join a script to the cell. Each is the contract of a function that does nothing.
 
-ghost use Rattle.afs_scripts.specs.SetUps.{NamesAreShort, NumbersAscend, OneServerAtSix, SetUpsAreAccepted};
+ghost use Rattle.afs_scripts.specs.SetUps.{NamesAreShort, NumbersAscend, OneServerAtSix, SetUpsAreAccepted, VolumesAreInCell};
 
 /// Each server's volumes can be set up on a disk of the script's capacity.
 pub fn set_ups_are_accepted()
@@ -15,6 +15,11 @@ pub fn names_are_short()
 /// The numbers of volumes ascend.
 pub fn numbers_ascend()
     ensures { NumbersAscend }
+{}
+
+/// Each volume of a script is at one of the cell's servers, of which there are eight at most.
+pub fn volumes_are_in_cell()
+    ensures { VolumesAreInCell }
 {}
 
 /// Below the level of several servers a script is one of one server.

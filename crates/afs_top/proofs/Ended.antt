@@ -12,8 +12,8 @@ use Rattle.afs_disk.specs.declared.bank.LendFault.{LendFault}
 use Rattle.afs_disk.specs.declared.bank.LendFault.TheVariants as lending
 use Rattle.afs_disk.specs.declared.bank.Place.{Place}
 use Rattle.afs_disk.specs.declared.disks.Lent.{Lent}
+use Rattle.afs_law.specs.Cells.{IsOfCell}
 use Rattle.afs_law.specs.Laws.{RunsAreLegal}
-use Rattle.afs_law.specs.OneServer.{IsOneServer}
 use Rattle.afs_outside.specs.Outside.{AppendsFront}
 use Rattle.afs_records.specs.Durable.{Durable}
 use Rattle.afs_rows.specs.Runs.{Cell}
@@ -63,7 +63,7 @@ excused {A} before after never_falls (inr rose) = inr (rose_once before after ro
 -- what is known of it
 pub record HasEnded {D : Type 0} (seen : D → Option (List ℕ)) (may_leave : D → List ℕ → Type 0) (faults limit : D → ℕ) (s : Script) (w : WorldState D) : Type 0 where
   pub law : RunsAreLegal
-  pub one : IsOneServer s
+  pub in_cell : IsOfCell s
   pub world : IsWorld seen may_leave faults limit s w
   pub going : w.is_lost ≡ false
   pub standing : AllTell seen w.servers → (c : Cell) → IsCell seen may_leave limit w c → AreStanding seen limit c (lent_from 1 w.servers)
@@ -108,7 +108,7 @@ replays {D} seen may_leave faults limit s w fs wire Writes excuse o is found non
     record {
       history = told w.wire w.history;
       kept = map part fs;
-      played = played_legally seen may_leave faults limit is.law s w o.disk_faults (map part fs) is.one is.world.safe.entries p.1 (rose_by _ _ o.disk_faults back.counts many) so.keep;
+      played = played_legally seen may_leave faults limit is.law s w o.disk_faults (map part fs) is.in_cell is.world.safe.entries p.1 (rose_by _ _ o.disk_faults back.counts many) so.keep;
       written = subst Writes (whole_text seen may_leave faults limit s w fs wire is.world p.1.runs.read) written;
       given = given_so excuse seen p.1.cell (map part fs) (kept_disks 1 fs) o.given.before o.given.after so gives back.some;
     }
@@ -122,7 +122,7 @@ reading_fails {D} seen may_leave faults limit s w fs wire o is found failed writ
     record {
       rose = rose_by 1 _ o.disk_faults back.counts (one_grown 0 _ _ less more (inl (omega (arith))));
       written = entries_of seen may_leave faults limit s w wire o is.world written;
-      told = λ p. failed_behind seen may_leave faults limit is.law s w wire o is.one is.world.safe.entries p.1 (rose_by _ _ o.disk_faults back.counts (one_grown _ _ _ less more (counts_lent faults _ 1 w.servers p.1.runs.counts)))
+      told = λ p. failed_behind seen may_leave faults limit is.law s w wire o is.in_cell is.world.safe.entries p.1 (rose_by _ _ o.disk_faults back.counts (one_grown _ _ _ less more (counts_lent faults _ 1 w.servers p.1.runs.counts)))
           (written_told seen may_leave faults limit s w wire o is.world p.1.runs.read written);
     }
 
@@ -134,7 +134,7 @@ reading_wants {D} seen may_leave faults limit s w fs wire o is found written bac
     let some : HasPlayedSome seen may_leave faults limit s w = record { inputs = p.1.inputs; cell = p.1.cell; runs = p.1.runs; played = inl p.1.played } in
     record {
       history = told w.wire w.history;
-      played = played_some seen may_leave faults limit is.law s w o.disk_faults is.one is.world.safe.entries some (rose_by _ _ o.disk_faults back.counts many);
+      played = played_some seen may_leave faults limit is.law s w o.disk_faults is.in_cell is.world.safe.entries some (rose_by _ _ o.disk_faults back.counts many);
       written = written_told seen may_leave faults limit s w wire o is.world p.1.runs.read written;
     }
 
@@ -163,14 +163,14 @@ ended {D} seen may_leave faults limit s w fs wire o statuses.Limit taken is foun
 -- what is known of a world whose run is no more than begun, and may be lost
 pub record HasWanted {D : Type 0} (seen : D → Option (List ℕ)) (may_leave : D → List ℕ → Type 0) (faults limit : D → ℕ) (s : Script) (w : WorldState D) : Type 0 where
   pub law : RunsAreLegal
-  pub one : IsOneServer s
+  pub in_cell : IsOfCell s
   pub world : IsWorld seen may_leave faults limit s w
 
 pub wanted : {D : Type 0} (seen : D → Option (List ℕ)) (may_leave : D → List ℕ → Type 0) (faults limit : D → ℕ) (s : Script) (w : WorldState D) (wire : Bool) (o : Outside)
     → HasWanted seen may_leave faults limit s w → Writes o (kept_history_text wire w.wire w.history) → GoesBack seen faults (lent_from 1 w.servers) o → Part seen may_leave faults limit s w → ReplaysSome s wire o
 wanted {D} seen may_leave faults limit s w wire o is written back p = record {
   history = told w.wire w.history;
-  played = played_some seen may_leave faults limit is.law s w o.disk_faults is.one is.world.safe.entries p.1 (rose_by _ _ o.disk_faults back.counts (counts_lent faults _ 1 w.servers p.1.runs.counts));
+  played = played_some seen may_leave faults limit is.law s w o.disk_faults is.in_cell is.world.safe.entries p.1 (rose_by _ _ o.disk_faults back.counts (counts_lent faults _ 1 w.servers p.1.runs.counts));
   written = written_told seen may_leave faults limit s w wire o is.world p.1.runs.read written;
 }
 
@@ -188,7 +188,7 @@ was_cut {D} seen may_leave faults limit s w wire o is written back = λ p.
     record {
       history = told w.wire w.history;
       kept = left.0;
-      played = played_first seen may_leave faults limit is.law s w o.disk_faults left.0 is.one p.1 (rose_by _ _ o.disk_faults back.counts (counts_lent faults _ 1 w.servers p.1.0.runs.counts)) left.1.keep;
+      played = played_first seen may_leave faults limit is.law s w o.disk_faults left.0 is.in_cell p.1 (rose_by _ _ o.disk_faults back.counts (counts_lent faults _ 1 w.servers p.1.0.runs.counts)) left.1.keep;
       written = written_told seen may_leave faults limit s w wire o is.world p.1.0.runs.read written;
       given = given_so (RoseBy 1 o.bank_faults) seen p.1.0.cell left.0 (lent_from 1 w.servers) o.given.before o.given.after left.1 (excused o.bank_faults.before o.bank_faults.after back.never_falls back.gives) back.some;
     }

@@ -5,8 +5,8 @@ use Rattle.afs_num.specs.declared.devices.Failed as bank
 use Rattle.afs_history.specs.declared.scripts.Script.{Script}
 use Rattle.afs_disk.specs.Disk.{Rose}
 use Rattle.afs_disk.specs.declared.disks.Lent.{Lent}
+use Rattle.afs_law.specs.Cells.{IsOfCell}
 use Rattle.afs_law.specs.Laws.{RunsAreLegal}
-use Rattle.afs_law.specs.OneServer.{IsOneServer}
 use Rattle.afs_outside.specs.declared.outside.Failed.{Failed}
 use Rattle.afs_text.specs.FinalText.{final_text}
 use Rattle.afs_volstore.specs.Stores.{Store}
@@ -47,10 +47,10 @@ pub record IsOver {D : Type 0} (seen : D → Option (List ℕ)) (may_leave : D �
   pub standing : StandsSince seen may_leave limit w disks
 
 has_ended : {D : Type 0} (seen : D → Option (List ℕ)) (may_leave : D → List ℕ → Type 0) (faults limit : D → ℕ) (wire : Bool) (start : Option (List ℕ)) (count : ℕ) (gone : HistoryTold) (w : WorldState D) (now : Option (List ℕ)) (counted : ℕ) (written : Result (Unit {0}) Failed) (disks : List (Lent D))
-    → RunsAreLegal → IsOneServer w.script → w.is_lost ≡ false → IsWritten seen may_leave faults limit wire start count gone w now counted written → IsOver seen may_leave limit w disks → HasEnded seen may_leave faults limit w.script (whole gone w)
-has_ended {D} seen may_leave faults limit wire start count gone w now counted written disks law one going told over = record {
+    → RunsAreLegal → IsOfCell w.script → w.is_lost ≡ false → IsWritten seen may_leave faults limit wire start count gone w now counted written → IsOver seen may_leave limit w disks → HasEnded seen may_leave faults limit w.script (whole gone w)
+has_ended {D} seen may_leave faults limit wire start count gone w now counted written disks law in_cell going told over = record {
   law = law;
-  one = one;
+  in_cell = in_cell;
   world = told.world;
   going = going;
   standing = λ tells c is. subst (λ (ls : List (Lent D)). AreStanding seen limit c ls) over.are (over.standing going gone told.is told.world.safe c is);
@@ -60,7 +60,7 @@ gives_of : {D : Type 0} (seen : D → Option (List ℕ)) (disks : List (Lent D))
 gives_of {D} seen disks o (Ok u) all cause = inl all
 gives_of {D} seen disks o (Err f) all cause = inr cause
 
-module _ {D : Type 0} (seen : D → Option (List ℕ)) (may_leave : D → List ℕ → Type 0) (faults limit : D → ℕ) (wire : Bool) (start : Option (List ℕ)) (count : ℕ) (gone : HistoryTold) (w : WorldState D) (now : Option (List ℕ)) (counted : ℕ) (written : Result (Unit {0}) Failed) (disks : List (Lent D)) (o : Outside) (law : RunsAreLegal) (one : IsOneServer w.script)
+module _ {D : Type 0} (seen : D → Option (List ℕ)) (may_leave : D → List ℕ → Type 0) (faults limit : D → ℕ) (wire : Bool) (start : Option (List ℕ)) (count : ℕ) (gone : HistoryTold) (w : WorldState D) (now : Option (List ℕ)) (counted : ℕ) (written : Result (Unit {0}) Failed) (disks : List (Lent D)) (o : Outside) (law : RunsAreLegal) (in_cell : IsOfCell w.script)
     (told : IsWritten seen may_leave faults limit wire start count gone w now counted written) where
   -- played to its end, and what its disks keep was read
   pub end_of : (fs : List (Left (Store D) D)) (status result : Status) (taken : Result (Unit {0}) bank.Failed) → w.is_lost ≡ false → IsOver seen may_leave limit w disks → AreFound seen faults limit disks fs
@@ -69,7 +69,7 @@ module _ {D : Type 0} (seen : D → Option (List ℕ)) (may_leave : D → List �
       → o.disk_faults.after ≡ with_faults (faults_of faults (kept_disks 1 fs)) o.disk_faults.before → o.bank_faults.before ≤ o.bank_faults.after → result ≡ returned status taken
       → EndsRun w.script wire (AllTell seen w.servers × HasPlayedAll seen may_leave faults limit w.script (whole gone w)) ⊥ ⊥ o result
   end_of fs status result taken going over found tells all some cause counts never_falls are =
-      let is = has_ended seen may_leave faults limit wire start count gone w now counted written disks law one going told over in
+      let is = has_ended seen may_leave faults limit wire start count gone w now counted written disks law in_cell going told over in
       let found_here = subst (λ (ls : List (Lent D)). AreFound seen faults limit ls fs) over.are found in
       let back : GoesBack seen faults (kept_disks 1 fs) o = record { gives = gives_of seen (kept_disks 1 fs) o taken all cause; some = some; counts = counts; never_falls = never_falls } in
       subst (λ (x : Status). EndsRun w.script wire (AllTell seen w.servers × HasPlayedAll seen may_leave faults limit w.script (whole gone w)) ⊥ ⊥ o x) (sym are) (ended seen may_leave faults limit w.script (whole gone w) fs wire o status taken is found_here tells all cause back)
@@ -87,16 +87,16 @@ module _ {D : Type 0} (seen : D → Option (List ℕ)) (may_leave : D → List �
     pub cut_of : w.is_lost ≡ false → result ≡ statuses.Limit → EndsRun w.script wire (AllTell seen w.servers × HasPlayedFirst seen may_leave faults limit w.script (whole gone w)) ⊥ ⊥ o result
     cut_of going are =
         subst (λ (x : Status). EndsRun w.script wire (AllTell seen w.servers × HasPlayedFirst seen may_leave faults limit w.script (whole gone w)) ⊥ ⊥ o x) (sym are)
-        (was_cut seen may_leave faults limit w.script (whole gone w) wire o (has_ended seen may_leave faults limit wire start count gone w now counted written disks law one going told over) writes gone_back)
+        (was_cut seen may_leave faults limit w.script (whole gone w) wire o (has_ended seen may_leave faults limit wire start count gone w now counted written disks law in_cell going told over) writes gone_back)
 
     -- memory was wanting
     pub wanted_of : result ≡ statuses.OutOfMemory → EndsRun w.script wire (AllTell seen w.servers × HasPlayedSome seen may_leave faults limit w.script (whole gone w)) ⊥ ⊥ o result
     wanted_of are =
         subst (λ (x : Status). EndsRun w.script wire (AllTell seen w.servers × HasPlayedSome seen may_leave faults limit w.script (whole gone w)) ⊥ ⊥ o x) (sym are)
-        (inr (record { written = entries; told = λ p. wanted seen may_leave faults limit w.script (whole gone w) wire o (record { law = law; one = one; world = told.world }) writes gone_back p }))
+        (inr (record { written = entries; told = λ p. wanted seen may_leave faults limit w.script (whole gone w) wire o (record { law = law; in_cell = in_cell; world = told.world }) writes gone_back p }))
 
     -- so it was for its disks
     pub unread_of : result ≡ statuses.OutOfMemory → EndsRun w.script wire (AllTell seen w.servers × HasPlayedAll seen may_leave faults limit w.script (whole gone w)) ⊥ ⊥ o result
     unread_of are =
         subst (λ (x : Status). EndsRun w.script wire (AllTell seen w.servers × HasPlayedAll seen may_leave faults limit w.script (whole gone w)) ⊥ ⊥ o x) (sym are)
-        (inr (record { written = entries; told = λ p. wanted seen may_leave faults limit w.script (whole gone w) wire o (record { law = law; one = one; world = told.world }) writes gone_back (all_wanted seen may_leave faults limit w.script (whole gone w) p) }))
+        (inr (record { written = entries; told = λ p. wanted seen may_leave faults limit w.script (whole gone w) wire o (record { law = law; in_cell = in_cell; world = told.world }) writes gone_back (all_wanted seen may_leave faults limit w.script (whole gone w) p) }))

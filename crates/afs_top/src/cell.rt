@@ -12,7 +12,6 @@ use crate::statuses::{Form, Status, form_of};
 use afs_disk::Bank;
 use afs_grammar::laws::scripts_are_of_cells;
 use afs_outside::outside::{Sink, Source};
-use afs_scripts::laws::one_server_at_six;
 use std::alloc::Global;
 
 /// Plays the script that the source holds and writes its text to the sink, over disks that the bank lends. The words are those
@@ -45,7 +44,6 @@ pub fn cell_main<S: Source, K: Sink, B: Bank<D: Drop>>(
         Err(_) => return Status::OutOfMemory,
     };
     scripts_are_of_cells();
-    one_server_at_six();
     match script_in(alloc, source) {
         Ok(script) => replay(alloc, &script, wire, &place, sink, bank),
         Err(status) => status,

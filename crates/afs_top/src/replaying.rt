@@ -2,7 +2,6 @@
 
 ghost use Rattle.std.specs.Prelude.{◌≡◌, ◌≤◌, ◌⊎◌, ◌++◌, ℕ, List, [], Bool, Option, length, map, false};
 ghost use Rattle.afs_disk.specs.Disk.{Rose};
-ghost use Rattle.afs_law.specs.OneServer.{IsOneServer};
 ghost use Rattle.afs_grammar.specs.CellScripts.{IsCellScript};
 ghost use Rattle.afs_outside.specs.Outside.{Puts};
 ghost use Rattle.afs_cell.specs.Since.{whole, IsWorldSince};
@@ -29,6 +28,7 @@ use afs_law::laws::runs_are_legal;
 use afs_lending::{give_back, give_back_all, lend_all};
 use afs_num::devices::Failed as BankFailed;
 use afs_outside::outside::{Failed, Sink, pass_on};
+use afs_scripts::laws::volumes_are_in_cell;
 use afs_volstore::VolStore;
 use std::alloc::Global;
 
@@ -128,12 +128,12 @@ fn end<K: Sink, B: Bank<D: Drop>>(
 ) -> Status
     requires world { IsWorldSince B.D.seen B.D.may_leave B.D.faults B.D.limit world }
     requires going { world.is_lost ≡ false }
-    requires one { IsOneServer world.script }
     ensures ends { (wire : Bool) (start : Option (List ℕ)) (count : ℕ) (gone : HistoryTold) → IsWritten B.D.seen B.D.may_leave B.D.faults B.D.limit wire start count gone world.entry (K.held sink.old) (K.faults sink.old) written → EndsRun world.entry.script wire (AllTell B.D.seen world.entry.servers × HasPlayedAll B.D.seen B.D.may_leave B.D.faults B.D.limit world.entry.script (whole gone world.entry)) ⊥ ⊥ (record { sink = span start (K.held sink.new); lends = span (B.lends bank.old) (B.lends bank.new); given = span (B.given bank.old) (B.given bank.new); sink_faults = span count (K.faults sink.new); bank_faults = span (B.faults bank.old) (B.faults bank.new); disk_faults = span (B.lent_faults bank.old) (B.lent_faults bank.new) }) result }
     ensures lends { B.lends bank.new ≡ B.lends bank.old }
     ensures never_falls { B.faults bank.old ≤ B.faults bank.new }
 {
     runs_are_legal();
+    volumes_are_in_cell();
     let left = match world.read_at_end() {
         Ok(left) => left,
         Err(disks) => return give_up(bank, disks, Status::OutOfMemory),
@@ -152,12 +152,12 @@ fn cut<K: Sink, B: Bank<D: Drop>>(
 ) -> Status
     requires world { IsWorldSince B.D.seen B.D.may_leave B.D.faults B.D.limit world }
     requires going { world.is_lost ≡ false }
-    requires one { IsOneServer world.script }
     ensures ends { (wire : Bool) (start : Option (List ℕ)) (count : ℕ) (gone : HistoryTold) → IsWritten B.D.seen B.D.may_leave B.D.faults B.D.limit wire start count gone world.entry (K.held sink.old) (K.faults sink.old) written → EndsRun world.entry.script wire (AllTell B.D.seen world.entry.servers × HasPlayedFirst B.D.seen B.D.may_leave B.D.faults B.D.limit world.entry.script (whole gone world.entry)) ⊥ ⊥ (record { sink = span start (K.held sink.new); lends = span (B.lends bank.old) (B.lends bank.new); given = span (B.given bank.old) (B.given bank.new); sink_faults = span count (K.faults sink.new); bank_faults = span (B.faults bank.old) (B.faults bank.new); disk_faults = span (B.lent_faults bank.old) (B.lent_faults bank.new) }) result }
     ensures lends { B.lends bank.new ≡ B.lends bank.old }
     ensures never_falls { B.faults bank.old ≤ B.faults bank.new }
 {
     runs_are_legal();
+    volumes_are_in_cell();
     let disks = world.end();
     // The status stands already; that the sink failed is counted.
     let _passed = put_no_more(sink, written);
@@ -172,12 +172,12 @@ fn give_in<K: Sink, B: Bank<D: Drop>>(
     bank: &mut B,
 ) -> Status
     requires world { IsWorldSince B.D.seen B.D.may_leave B.D.faults B.D.limit world }
-    requires one { IsOneServer world.script }
     ensures ends { (wire : Bool) (start : Option (List ℕ)) (count : ℕ) (gone : HistoryTold) → IsWritten B.D.seen B.D.may_leave B.D.faults B.D.limit wire start count gone world.entry (K.held sink.old) (K.faults sink.old) written → EndsRun world.entry.script wire (AllTell B.D.seen world.entry.servers × HasPlayedSome B.D.seen B.D.may_leave B.D.faults B.D.limit world.entry.script (whole gone world.entry)) ⊥ ⊥ (record { sink = span start (K.held sink.new); lends = span (B.lends bank.old) (B.lends bank.new); given = span (B.given bank.old) (B.given bank.new); sink_faults = span count (K.faults sink.new); bank_faults = span (B.faults bank.old) (B.faults bank.new); disk_faults = span (B.lent_faults bank.old) (B.lent_faults bank.new) }) result }
     ensures lends { B.lends bank.new ≡ B.lends bank.old }
     ensures never_falls { B.faults bank.old ≤ B.faults bank.new }
 {
     runs_are_legal();
+    volumes_are_in_cell();
     let disks = world.end();
     // The status stands already; that the sink failed is counted.
     let _passed = put_no_more(sink, written);
@@ -194,7 +194,6 @@ fn replay_over<K: Sink, B: Bank<D: Drop>>(
     bank: &mut B,
 ) -> Status
     requires script { IsCellScript script.now }
-    requires one { IsOneServer script.now }
     requires lent { AreLent B.D.limit script.now.capacity 1 disks }
     requires all { length disks ≡ script.now.servers }
     requires unused { AreUnused B.D.faults disks }
@@ -228,7 +227,6 @@ pub(crate) fn replay<K: Sink, B: Bank<D: Drop>>(
     bank: &mut B,
 ) -> Status
     requires script { IsCellScript script.now }
-    requires one { IsOneServer script.now }
     ensures { EndsReplay script.now wire place.now (B.tells bank.old place.now) (SetUpLeaves B.D.seen B.D.may_leave B.D.faults script.now (record { sink = span (K.held sink.old) (K.held sink.new); lends = span (B.lends bank.old) (B.lends bank.new); given = span (B.given bank.old) (B.given bank.new); sink_faults = span (K.faults sink.old) (K.faults sink.new); bank_faults = span (B.faults bank.old) (B.faults bank.new); disk_faults = span (B.lent_faults bank.old) (B.lent_faults bank.new) })) (record { sink = span (K.held sink.old) (K.held sink.new); lends = span (B.lends bank.old) (B.lends bank.new); given = span (B.given bank.old) (B.given bank.new); sink_faults = span (K.faults sink.old) (K.faults sink.new); bank_faults = span (B.faults bank.old) (B.faults bank.new); disk_faults = span (B.lent_faults bank.old) (B.lent_faults bank.new) }) result }
 {
     match lend_all(alloc, bank, place, script.servers, script.capacity) {

@@ -12,8 +12,8 @@ returns-in-Err-clause-ends g c = (have_form (map string_bytes c.args.words.now) 
 pub returns-in-Err-clause-no_form : goal.returns-in-Err-clause-no_form
 returns-in-Err-clause-no_form g c = λ none. absurd (none (have_form (map string_bytes c.args.words.now) c.in-Err.ensures.err))
 
-pub replay-requires-clause-script : goal.replay-requires-clause-script
-replay-requires-clause-script g c = c.scripts_are_of_cells.ensures 6 c.in-Ok.ensures.script.input c.in-Ok.script c.in-Ok.ensures.script.read
+pub replay-requires : goal.replay-requires
+replay-requires g c = record { script = c.scripts_are_of_cells.ensures 6 c.in-Ok.ensures.script.input c.in-Ok.script c.in-Ok.ensures.script.read }
 
 pub returns-in-Ok-clause-ends : goal.returns-in-Ok-clause-ends
 returns-in-Ok-clause-ends g c =

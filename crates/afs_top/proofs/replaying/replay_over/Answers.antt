@@ -30,8 +30,10 @@ returns-in-Limit-clause-ends g c =
     first_ends g.B.D.Disk.seen g.B.D.Disk.may_leave g.B.D.Disk.faults g.B.D.Disk.limit _ c.args.wire _ _ _ _ _ c.play-world.result c.play-world.ensures c.args.script.now c.in-Ok.ensures.world.safe.script _ _ c.in-Ok.ensures.tells.0 _ _ c.in-Limit.is
     (c.cut.ensures.ends c.args.wire _ _ c.play-world.ensures.gone (written_of g.B.D.Disk.seen g.B.D.Disk.may_leave g.B.D.Disk.faults g.B.D.Disk.limit _ c.args.wire _ _ _ _ _ c.play-world.result c.play-world.ensures))
 
-pub give_in-requires-clause-world : goal.give_in-requires-clause-world
-give_in-requires-clause-world g c = since_of g.B.D.Disk.seen g.B.D.Disk.may_leave g.B.D.Disk.faults g.B.D.Disk.limit _ c.args.wire _ _ _ _ _ c.play-world.result c.play-world.ensures
+pub give_in-requires : goal.give_in-requires
+give_in-requires g c = record {
+  world = since_of g.B.D.Disk.seen g.B.D.Disk.may_leave g.B.D.Disk.faults g.B.D.Disk.limit _ c.args.wire _ _ _ _ _ c.play-world.result c.play-world.ensures;
+}
 
 pub returns-in-OutOfMemory-clause-ends : goal.returns-in-OutOfMemory-clause-ends
 returns-in-OutOfMemory-clause-ends g c =
