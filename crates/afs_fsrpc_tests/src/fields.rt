@@ -59,7 +59,7 @@ fn fields_are_written(rt: HostRuntime) -> Result<(), Fail> {
     let mut writer = Writer::new(rt.alloc());
     shape.write_fields(&fields, &mut writer)?;
     let want = [0, 0, 0, 1, 0, 0, 0, 2, 0, 0, 0, 3, 0, 0, 0, 9];
-    assert_eq!(rt; writer.into_vec().as_slice(), want.as_slice());
+    assert_eq!(rt; writer.into_vec()?.as_slice(), want.as_slice());
     Ok(())
 }
 

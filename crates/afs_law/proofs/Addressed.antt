@@ -10,7 +10,7 @@ use Rattle.afs_law.proofs.Acting.{Acts, IsTheCall, begins_acts, falls_acts, give
 use Rattle.afs_law.proofs.Basics.{Each, IfCall, at_put, each_at, each_map, each_more, if_call, some_of}
 use Rattle.afs_law.proofs.Calling.{IsUncalled, uncalled_any}
 use Rattle.afs_law.proofs.Firm.{IsFirm}
-use Rattle.afs_law.proofs.Following.{Follows, begins_follow, falls_follow, given_follow, rises_follow, waits_follow}
+use Rattle.afs_law.proofs.Following.{AreOfServers, Follows, begins_follow, falls_follow, given_follow, rises_follow, waits_follow}
 use Rattle.afs_law.proofs.Gifts.{Given, given_first, given_kept}
 use Rattle.afs_law.proofs.KeysOnce.{IsKnown, any_told, by_key}
 use Rattle.afs_law.proofs.Knowing.{served_uncalled, started_uncalled, timed_uncalled, woken_uncalled}
@@ -28,11 +28,12 @@ use Rattle.afs_num.specs.declared.messages.Message.{Message}
 use Rattle.afs_num.specs.declared.types.Fid.{Fid}
 use Rattle.afs_num.specs.declared.types.Head.{Head}
 use Rattle.afs_num.specs.declared.types.Node.TheVariants.{Server}
+use Rattle.afs_num.specs.declared.types.Node.{Node}
 use Rattle.afs_rows.specs.Callbacks.{put}
 use Rattle.afs_rows.specs.ClientRow.{call_by, callee_by, first_server_of, number_or_none, server_at, volume_asked}
 use Rattle.afs_rows.specs.Going.{ClientState, Going, Homes, Need, Parted, Shown, Taken, act_needs, answers, asks_for, at_parent, by_body, by_kind, by_statuses, call_for, fid_of, first_body, by_status, first_status, gives_back, has_rights, in_directory, in_home, is_even, is_last_name, is_root, looked_up, named_first, next, of_one, parted, reading, reading_rights, reading_status, reading_statuses, reads, reads_rights, reads_status, reads_statuses, root_of, shows, statuses_in, step_to, to_object, to_parent, walk}
 use Rattle.afs_rows.specs.Runs.{Cell, Entry, locations, start}
-use Rattle.afs_rows.specs.States.{Location}
+use Rattle.afs_rows.specs.States.{Gift, Location}
 use Rattle.afs_rows.specs.Steps.{Step}
 use Rattle.std.proofs.Common.{◌≡◌, ℕ, ◌⊎◌, inl, inr, Bool, true, false, cond, List, [], ◌∷◌, ◌++◌, map, Option, Some, None, refl, sym, ap, subst, ◌∙◌, not, nat_eq}
 use Rattle.std.specs.Prelude.{⊤, ◌&&◌, ◌||◌}
@@ -197,6 +198,24 @@ callee_same x y need t g = ap (λ (ls : List Location). Server (server_at ls (vo
 abbrev pub CalleesOf : (ℕ → ClientState) → Type 0
 CalleesOf clients = (j : ℕ) (act : Going) → (clients j).running ≡ Some act → (clients j).callee ≡ callee_by (clients j) (next act)
 
+-- and what it has to give back is of servers; so its callee is one
+abbrev pub GiversOf : (ℕ → ClientState) → Type 0
+GiversOf clients = (j : ℕ) → AreOfServers (clients j).gifts
+
+abbrev pub IsServer : Node → Type 0
+IsServer n = (i : ℕ) × (n ≡ Server i)
+
+first_giver : (gs : List Gift) → AreOfServers gs → IsServer (first_server_of gs)
+first_giver [] h = (1, refl)
+first_giver (g ∷ gs) h = h.0
+
+asked_server : (x : ClientState) (need : Need) → AreOfServers x.gifts → IsServer (callee_by x need)
+asked_server x gives_back h = first_giver x.gifts h
+asked_server x need h = (server_at x.table (volume_asked (call_for need)), refl)
+
+pub callee_server : (j : ℕ) (clients : ℕ → ClientState) (act : Going) → CalleesOf clients → GiversOf clients → (clients j).running ≡ Some act → IsServer (clients j).callee
+callee_server j clients act h k run = subst IsServer (sym (h j act run)) (asked_server (clients j) (next act) (k j))
+
 step_callee : (n : ℕ) (c : ClientState) (st : Step ClientState) → ((act : Going) → c.running ≡ Some act → c.callee ≡ callee_by c (next act)) → Acts n (who_at c) c.gifts st → Follows n c st → (act : Going) → st.state.running ≡ Some act → st.state.callee ≡ callee_by st.state (next act)
 step_callee n c st h a f act run = elim a.goes [
   | inl r ↦ elim r.act [
@@ -212,27 +231,33 @@ step_callee n c st h a f act run = elim a.goes [
 -- ---- every file call
 
 pub record IsHome (s : Script) (head : Head) (user : List ℕ) (call : FsCall) : Type 0 where
+  pub server : IsServer head.to
   pub to : (id : ℕ) → AsksOf call id → head.to ≡ Server (server_at (locations s) id)
 
-new_home : (s : Script) (n : ℕ) (y : ClientState) → y.table ≡ locations s → ((act : Going) → y.running ≡ Some act → y.callee ≡ callee_by y (next act)) → (head : Head) (user : List ℕ) (call : FsCall) → IsTheCall n y head user call → IsHome s head user call
-new_home s n y t h head user call x = record {
+new_home : (s : Script) (n : ℕ) (y : ClientState) → y.table ≡ locations s → AreOfServers y.gifts → ((act : Going) → y.running ≡ Some act → y.callee ≡ callee_by y (next act)) → (head : Head) (user : List ℕ) (call : FsCall) → IsTheCall n y head user call → IsHome s head user call
+new_home s n y t g h head user call x = record {
+  server = subst IsServer (sym (x.to ∙ h x.act x.runs)) (asked_server y (next x.act) g);
   to = λ id w. x.to ∙ (h x.act x.runs ∙ (to_volume y (next x.act) id (needs_one x.act.homes x.act.act x.act.reads) (asks_change x.act) (subst (λ (f : FsCall). AsksOf f id) x.asks w) ∙ ap (λ (ls : List Location). Server (server_at ls id)) t));
 }
 
 abbrev pub HomesIn : Script → Cell → List Entry → Type 0
-HomesIn s c past = CalleesOf c.clients × Each (IfCall (IsHome s)) c.sent
+HomesIn s c past = (CalleesOf c.clients × GiversOf c.clients) × Each (IfCall (IsHome s)) c.sent
 
 abbrev pub Addressed : Script → Cell → List Entry → Type 0
 Addressed s c past = Given s c past × HomesIn s c past
 
-client_homes : (s : Script) (c : Cell) (past : List Entry) (n : ℕ) (st : Step ClientState) → (c.clients n).table ≡ locations s → HomesIn s c past → Acts n (who_at (c.clients n)) (c.clients n).gifts st → Follows n (c.clients n) st → CalleesOf (put n st.state c.clients) × Each (IfCall (IsHome s)) (c.sent ++ st.sent)
+client_homes : (s : Script) (c : Cell) (past : List Entry) (n : ℕ) (st : Step ClientState) → (c.clients n).table ≡ locations s → HomesIn s c past → Acts n (who_at (c.clients n)) (c.clients n).gifts st → Follows n (c.clients n) st → (CalleesOf (put n st.state c.clients) × GiversOf (put n st.state c.clients)) × Each (IfCall (IsHome s)) (c.sent ++ st.sent)
 client_homes s c past n st t h a f =
-    let now : (act : Going) → st.state.running ≡ Some act → st.state.callee ≡ callee_by st.state (next act) = step_callee n (c.clients n) st (h.0 n) a f in (
-      λ j. at_put n j (λ (x : ClientState). (act : Going) → x.running ≡ Some act → x.callee ≡ callee_by x (next act)) st.state c.clients (λ same. now) (λ other. h.0 j),
-      each_more (IfCall (IsHome s)) c.sent st.sent h.1 (each_map (IfCall (IsTheCall n st.state)) (IfCall (IsHome s)) (if_call (IsTheCall n st.state) (IsHome s) (new_home s n st.state (a.table ∙ t) now)) st.sent (the_calls n (c.clients n) st a.goes)),
+    let now : (act : Going) → st.state.running ≡ Some act → st.state.callee ≡ callee_by st.state (next act) = step_callee n (c.clients n) st (h.0.0 n) a f in
+    let gifts : AreOfServers st.state.gifts = f.servers (h.0.1 n) in (
+      (
+        λ j. at_put n j (λ (x : ClientState). (act : Going) → x.running ≡ Some act → x.callee ≡ callee_by x (next act)) st.state c.clients (λ same. now) (λ other. h.0.0 j),
+        λ j. at_put n j (λ (x : ClientState). AreOfServers x.gifts) st.state c.clients (λ same. gifts) (λ other. h.0.1 j),
+      ),
+      each_more (IfCall (IsHome s)) c.sent st.sent h.1 (each_map (IfCall (IsTheCall n st.state)) (IfCall (IsHome s)) (if_call (IsTheCall n st.state) (IsHome s) (new_home s n st.state (a.table ∙ t) gifts now)) st.sent (the_calls n (c.clients n) st a.goes)),
     )
 
-server_homes : (s : Script) (c : Cell) (past : List Entry) (ms : List Message) → HomesIn s c past → Each IsUncalled ms → CalleesOf c.clients × Each (IfCall (IsHome s)) (c.sent ++ ms)
+server_homes : (s : Script) (c : Cell) (past : List Entry) (ms : List Message) → HomesIn s c past → Each IsUncalled ms → (CalleesOf c.clients × GiversOf c.clients) × Each (IfCall (IsHome s)) (c.sent ++ ms)
 server_homes s c past ms h none = (h.0, each_more (IfCall (IsHome s)) c.sent ms h.1 (each_map IsUncalled (IfCall (IsHome s)) (uncalled_any (IsHome s)) ms none))
 
 homes_moves : (s : Script) → EachMove (Addressed s) (Behind (HomesIn s))
@@ -261,4 +286,4 @@ pub homes_kept : (s : Script) → IsKept (Addressed s)
 homes_kept s c past x h = (given_kept s c past x h.0, each_moved (Addressed s) (Behind (HomesIn s)) (homes_moves s) c past x h)
 
 pub homes_first : (s : Script) → Addressed s (start s) (set_up s ∷ [])
-homes_first s = (given_first s, (λ j act r. absurd cc, tt))
+homes_first s = (given_first s, ((λ j act r. absurd cc, λ j. tt), tt))

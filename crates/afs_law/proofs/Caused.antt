@@ -1,7 +1,11 @@
--- The reply of a server to the call for which a client waits has its cause in the entry that ran the call, however many servers a cell has.
+-- The reply to the call for which a client waits is of a server, and has its cause in the entry that ran the call, however many servers a
+-- cell has.
 use Rattle.afs_history.specs.declared.scripts.Script.{Script}
 use Rattle.afs_law.proofs.Acting.{last_key}
-use Rattle.afs_law.proofs.Basics.{ByClient, Each, IfCall, OfCall, by_client, each_at, some_of}
+use Rattle.afs_law.proofs.Addressed.{IsServer, callee_server}
+use Rattle.afs_law.proofs.Basics.{ByClient, Each, IfCall, IfReply, OfCall, OfClient, OfReply, by_client, each_at, some_of}
+use Rattle.afs_law.proofs.KeysOnce.{IsKnown}
+use Rattle.afs_law.specs.Laws.{RepliesAreCaused}
 use Rattle.afs_law.proofs.Facts.{IsOne}
 use Rattle.afs_law.proofs.Firm.{IsFirm}
 use Rattle.afs_law.proofs.Moving.{run_keeps}
@@ -24,12 +28,12 @@ use Rattle.afs_num.specs.declared.types.Key.{Key}
 use Rattle.afs_num.specs.declared.types.Node.{Node}
 use Rattle.afs_num.specs.declared.types.Node.TheVariants.{Client, Server}
 use Rattle.afs_rows.specs.ClientRow.{call_of}
-use Rattle.afs_rows.specs.Going.{Going, asked}
+use Rattle.afs_rows.specs.Going.{ClientState, Going, asked}
 use Rattle.afs_rows.specs.Runs.{Cell, Entry, RunsTo, message_at, start}
 use Rattle.std.proofs.Common.{◌≡◌, ℕ, ℤ, List, ◌∷◌, ◌++◌, [], Some, sym, ap, subst, ◌∙◌}
 
 -- the call that an entry was given is the one under its key
-ran_one : (past : List Entry) (j : ℕ) (m : Message) (ran : Ran m.head past) (user : List ℕ) (call : FsCall) → ran.message.carried ≡ carried.Call user (ask.File call) → m.head.to ≡ Client j → (sent : List Message) → Each (IfCall (IsOne sent)) sent → sent_of past ≡ sent → call_under (answered_key m.head) sent ≡ Some (user, call)
+pub ran_one : (past : List Entry) (j : ℕ) (m : Message) (ran : Ran m.head past) (user : List ℕ) (call : FsCall) → ran.message.carried ≡ carried.Call user (ask.File call) → m.head.to ≡ Client j → (sent : List Message) → Each (IfCall (IsOne sent)) sent → sent_of past ≡ sent → call_under (answered_key m.head) sent ≡ Some (user, call)
 ran_one past j m ran user call is to sent ones told =
     let from : ran.message.head.from ≡ Client j = ap (λ (k : Key). k.node) ran.key ∙ to in
     let all : Each (IfCall (IsOne sent)) (sent_of (ran.newer ++ (ran.at ∷ ran.older))) = subst (λ (p : List Entry). Each (IfCall (IsOne sent)) (sent_of p)) ran.split (subst (Each (IfCall (IsOne sent))) (sym told) ones) in
@@ -73,5 +77,35 @@ caused_in s c past i j place m act h at code from to runs epoch number =
       ),
     )
 
+-- ---- who sends it
+
+code_in : (j : ℕ) (to : Node) (X : Type 0) (x : Carried) → HasCode x → to ≡ Client j → OfReply (OfClient to X) x → X
+code_in j to X (carried.Refusal code) is e h = by_client j to X e h
+code_in j to X (carried.Reply reply) is e h = by_client j to X e h
+code_in j to X (carried.Call user call) is e h = absurd is
+code_in j to X carried.Notice is e h = absurd is
+
+-- the reply to a key is of the callee of that
+abbrev pub IsOfCallee : (Key → Node) → (ℕ → ClientState) → Message → Type 0
+IsOfCallee callees clients r = IsKnown callees clients r.head.from (answered_key r.head)
+
+pub of_callee : (callees : Key → Node) (clients : ℕ → ClientState) (j : ℕ) (m : Message) → IfReply (IsOfCallee callees clients) m → HasCode m.carried → m.head.to ≡ Client j → m.head.from ≡ callees (answered_key m.head)
+of_callee callees clients j m h code to = (code_in j m.head.to (IsOfCallee callees clients m) m.carried code to h).called
+
+of_server : (s : Script) (c : Cell) (past : List Entry) (j place : ℕ) (m : Message) (act : Going) → Truthful s c past → message_at c.sent place ≡ Some m → HasCode m.carried → m.head.to ≡ Client j → (c.clients j).running ≡ Some act → m.head.epoch ≡ (c.clients j).epoch → m.head.number ≡ (c.clients j).last → IsServer m.head.from
+of_server s c past j place m act h at code to runs epoch number =
+    let a : KnownAsked s c past = h.0.0.0 in
+    let callee : m.head.from ≡ (c.clients j).callee = of_callee a.0.keys.callees c.clients j m (each_at (IfReply (IsOfCallee a.0.keys.callees c.clients)) c.sent place m at a.0.keys.answers) code to ∙ (ap a.0.keys.callees (key_is j m.head (c.clients j).epoch (c.clients j).last to epoch number) ∙ a.0.keys.own j) in
+    subst IsServer (sym callee) (callee_server j c.clients act h.0.1.1.0.0 h.0.1.1.0.1 runs)
+
+-- ---- the law
+
 pub truthful_at : (s : Script) (h : List Entry) (end : Cell) → RunsTo h s end → Truthful s end (past_of (set_up s ∷ []) h)
 truthful_at s h end r = run_keeps (Truthful s) (truthful_kept s) r.inputs (start s) (set_up s ∷ []) h end (truthful_first s) r.leads
+
+pub run_caused : RepliesAreCaused
+run_caused s h end r j place m act at code to runs epoch number =
+    let past : List Entry = past_of (set_up s ∷ []) h in
+    let t : Truthful s end past = truthful_at s h end r in
+    let from : IsServer m.head.from = of_server s end past j place m act t at code to runs epoch number in
+    caused_in s end past from.0 j place m act t at code from.1 to runs epoch number

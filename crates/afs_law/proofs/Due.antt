@@ -10,7 +10,9 @@ use Rattle.afs_law.proofs.Backing.{all_lines}
 use Rattle.afs_law.proofs.Basics.{a_key, at_put, both, each_at, same_node-refl, some_of}
 use Rattle.afs_law.proofs.Changing.{run_each}
 use Rattle.afs_law.proofs.Choosing.{disk_works, one_from, risen_from, risen_lines, serves_works, starts_works, times_works, wakes_works}
+use Rattle.afs_law.proofs.Facts.{IsOpen, is_passing}
 use Rattle.afs_law.proofs.Firm.{IsFirm}
+use Rattle.afs_law.proofs.Following.{AreOpen}
 use Rattle.afs_law.proofs.Moving.{Behind, EachMove, IsKept, each_moved}
 use Rattle.afs_law.proofs.Nexts.{asks_change}
 use Rattle.afs_law.proofs.Origins.{AskedIn, any_cut, any_message, blow_idle, idle_works, is_idle}
@@ -21,8 +23,10 @@ use Rattle.afs_law.specs.Breaks.{HasTimeout}
 use Rattle.afs_law.specs.ClientParts.{AnswersAreDue, IsDue, IsDueCode, IsOfCell, IsUsed}
 use Rattle.afs_law.specs.Grants.{is_promised}
 use Rattle.afs_law.specs.Ideal.{set_up, user_of}
-use Rattle.afs_law.specs.Legal.{HasUsed, IsAtOnce, has_read}
+use Rattle.afs_law.specs.Legal.{EndsAct, HasUsed, IsAtOnce, has_read}
 use Rattle.afs_law.specs.Parts.{EachLine}
+use Rattle.afs_law.specs.ServerParts.{IsKind}
+use Rattle.afs_model.specs.FsRows.{call_number, reply_number}
 use Rattle.afs_law.specs.Past.{CalledSince, IsReply, WasSent, answered_key, code_told, given_message, has_begun, lines_of, running, sent_of}
 use Rattle.afs_model.specs.Calls as pairs
 use Rattle.afs_model.specs.Calls.{Admitted, admitted}
@@ -59,9 +63,9 @@ use Rattle.afs_rows.specs.Going.{ClientState, Going, Need, answers, asked, asks_
 use Rattle.afs_rows.specs.Runs.{Cell, Entry, Moved, begun_by_disk, blow_line, locations, message_at, start, user_at}
 use Rattle.afs_rows.specs.States.{CacheEntry, Gift, Location}
 use Rattle.afs_rows.specs.Steps.{Step}
-use Rattle.std.proofs.Common.{zero, suc, ◌+◌, ◌≡◌, ◌≤◌, ℕ, ◌⊎◌, inl, inr, Bool, true, false, cond, List, [], ◌∷◌, ◌++◌, map, Option, Some, None, refl, sym, ap, subst, ◌∙◌, filter, not, pos, ℤ, eqb-true, ltb-false, arith}
+use Rattle.std.proofs.Common.{zero, suc, ◌+◌, ◌≡◌, ◌≤◌, ℕ, ◌⊎◌, inl, inr, Bool, true, false, cond, List, [], ◌∷◌, ◌++◌, map, Option, Some, None, refl, sym, ap, subst, ◌∙◌, filter, not, pos, ℤ, eq-eqb, eqb-true, ltb-false, arith}
 use Rattle.std.specs.List.{list_any}
-use Rattle.std.specs.Prelude.{⊤, ◌&&◌, nat_eq, nat_lt}
+use Rattle.std.specs.Prelude.{⊤, ◌&&◌, ◌||◌, nat_eq, nat_lt}
 
 -- ---- lines that are no reads and no answers
 
@@ -197,13 +201,17 @@ now_used s n place c act m past own q zero_told k = record { reply = m; by = k.0
 read_enough : (s : Script) (n place : ℕ) (c : ClientState) (act : Going) (m : Message) (past : List Entry) → IsTold s n place c act m past → code_told m.carried ≡ Some (pos 0) → IsEnough s n past (IsRead n m past)
 read_enough s n place c act m past q zero_told o k = inr (now_used s n place c act m past o q zero_told k.0, k.1)
 
-by_reply : (s : Script) (n place : ℕ) (c : ClientState) (act : Going) (m : Message) (past : List Entry) (code : Code) → IsTold s n place c act m past → code_told m.carried ≡ Some code.0 → (own : List Line) → IsGiven n m past own → Runs s n past own act → IsDueCode s (Client n) code past own
-by_reply s n place c act m past code q told own k r = record { act = act; runs = r; cause = inl (record { reply = m; by = k.0; is_reply = q.reply; told = told; to = q.to; before = k.1; call = call_of c act; asks = call_is c act; called = q.called }) }
+-- a reply of the call's kind has this code, where that is 0, only where the act ends with this call
+abbrev IsEnd : ClientState → Going → Carried → Code → Type 0
+IsEnd c act x code = IsKind (call_of c act) x → code.0 ≡ pos 0 → EndsAct (next act)
+
+by_reply : (s : Script) (n place : ℕ) (c : ClientState) (act : Going) (m : Message) (past : List Entry) (code : Code) → IsTold s n place c act m past → code_told m.carried ≡ Some code.0 → IsEnd c act m.carried code → (own : List Line) → IsGiven n m past own → Runs s n past own act → IsDueCode s (Client n) code past own
+by_reply s n place c act m past code q told w own k r = record { act = act; runs = r; cause = inl (record { reply = m; by = k.0; is_reply = q.reply; told = told; to = q.to; before = k.1; call = call_of c act; asks = call_is c act; called = q.called; ends = w }) }
 
 -- its act is answered, and what it may have changed dropped
-ends_due : (s : Script) (n place : ℕ) (c : ClientState) (act : Going) (m : Message) (past : List Entry) (es : List CacheEntry) (code : Code) → IsTold s n place c act m past → code_told m.carried ≡ Some code.0 → Due s n past [] (given place (dropped (Client n) es (lines.Answer (Client n) code ∷ [])))
-ends_due s n place c act m past es code q told =
-    (tt, drops_due s n past (IsGiven n m past) (given_steady n m past) es (lines.Given place ∷ []) (lines.Answer (Client n) code ∷ []) act (q.at, refl) q.runs (λ o k r. (by_reply s n place c act m past code q told o k r, tt)))
+ends_due : (s : Script) (n place : ℕ) (c : ClientState) (act : Going) (m : Message) (past : List Entry) (es : List CacheEntry) (code : Code) → IsTold s n place c act m past → code_told m.carried ≡ Some code.0 → IsEnd c act m.carried code → Due s n past [] (given place (dropped (Client n) es (lines.Answer (Client n) code ∷ [])))
+ends_due s n place c act m past es code q told w =
+    (tt, drops_due s n past (IsGiven n m past) (given_steady n m past) es (lines.Given place ∷ []) (lines.Answer (Client n) code ∷ []) act (q.at, refl) q.runs (λ o k r. (by_reply s n place c act m past code q told w o k r, tt)))
 
 use_by : (s : Script) (c : Node) (f : Fid) (past : List Entry) (own : List Line) (t : Bool) → t ≡ true → HasUsed s c past own → IsUsed s t c f Fetched past own
 use_by s c f past own true e h = λ z. h
@@ -276,19 +284,49 @@ rights_needed gs (answers code) f w e = absurd cc
 
 -- ---- replies, by their calls
 
-plain_due : (s : Script) (n place : ℕ) (c : ClientState) (act : Going) (m : Message) (past : List Entry) (call : FsCall) → IsTold s n place c act m past → code_told m.carried ≡ Some (pos 0) → Due s n past [] (given place (dropped (Client n) (dropped_after call c.cache) (lines.Answer (Client n) zero_code ∷ [])))
-plain_due s n place c act m past call q z = ends_due s n place c act m past (dropped_after call c.cache) zero_code q z
+-- the opcodes of the calls by which an act reads
+abbrev reads_by : ℕ → Bool
+reads_by n = nat_eq n 130 || (nat_eq n 131 || (nat_eq n 132 || nat_eq n 155))
 
-data_due : (s : Script) (n clock place : ℕ) (c : ClientState) (act : Going) (m : Message) (past : List Entry) (contents : List ℕ) (status : AfsFetchStatus) (callback : AfsCallBack) (sync : AfsVolSync) (call : FsCall) → IsTold s n place c act m past → code_told m.carried ≡ Some (pos 0) → Due s n past [] (takes_data (Client n) c clock place act contents status callback sync call).lines
-data_due s n clock place c act m past contents status callback sync (calls.FetchData f position wanted) q z = entry_due s n clock place c act m past (entry_told c.callee f status callback sync (Some (body_told status.file_type contents))) (seen.Contents (body_told status.file_type contents)) refl q z
-data_due s n clock place c act m past contents status callback sync call q z = plain_due s n place c act m past call q z
+-- an act that isn't at its end, and waits for a call by which it doesn't read, ends with that
+number_ends : (gs : List Gift) (need : Need) (n : ℕ) → IsOpen need → n ≡ call_number (call_by gs need) → reads_by n ≡ false → EndsAct need
+number_ends gs (reads f) n o e h = let no_ : true ≡ false = sym (ap reads_by e) ∙ h in absurd cc
+number_ends gs (reads_status f) n o e h = let no_ : true ≡ false = sym (ap reads_by e) ∙ h in absurd cc
+number_ends gs (reads_statuses fs) n o e h = let no_ : true ≡ false = sym (ap reads_by e) ∙ h in absurd cc
+number_ends gs (reads_rights f) n o e h = let no_ : true ≡ false = sym (ap reads_by e) ∙ h in absurd cc
+number_ends gs (asks_for call) n o e h = tt
+number_ends gs gives_back n o e h = tt
+number_ends gs (answers code) n o e h = absurd o
 
-shown_due : (s : Script) (n clock place : ℕ) (c : ClientState) (act : Going) (m : Message) (past : List Entry) (status : AfsFetchStatus) (callback : AfsCallBack) (sync : AfsVolSync) (call : FsCall) → IsTold s n place c act m past → code_told m.carried ≡ Some (pos 0) → Due s n past [] (takes_shown (Client n) c clock place act status callback sync call).lines
-shown_due s n clock place c act m past status callback sync (calls.FetchStatus f) q z = entry_due s n clock place c act m past (entry_told c.callee f status callback sync None) (seen.Status (status_told status)) refl q z
-shown_due s n clock place c act m past status callback sync call q z = plain_due s n place c act m past call q z
+-- the message carries this reply to the call of the act, which isn't at its end
+record IsAnswered (c : ClientState) (act : Going) (m : Message) (reply : FsReply) : Type 0 where
+  carries : m.carried ≡ carried.Reply (tell.File reply)
+  open' : IsOpen (next act)
 
-list_due : (s : Script) (n clock place : ℕ) (c : ClientState) (act : Going) (m : Message) (past : List Entry) (text : List ℕ) (status : AfsFetchStatus) (sync : AfsVolSync) (call : FsCall) → call_of c act ≡ call → IsTold s n place c act m past → code_told m.carried ≡ Some (pos 0) → Due s n past [] (takes_list (Client n) c clock place act text status sync call).lines
-list_due s n clock place c act m past text status sync (calls.FetchAcl f) same q z =
+-- one that shows nothing of what an act reads ends it
+shown_end : (c : ClientState) (act : Going) (m : Message) (reply : FsReply) → IsAnswered c act m reply → reads_by (reply_number reply) ≡ false → IsEnd c act m.carried zero_code
+shown_end c act m reply a h kind z = number_ends c.gifts (next act) (reply_number reply) a.open' (subst (IsKind (call_of c act)) a.carries kind) h
+
+differ : (n k : ℕ) → nat_eq n k ≡ false → n ≡ k → ⊥
+differ n k apart e = let no_ : true ≡ false = sym (eq-eqb n k e) ∙ apart in absurd cc
+
+-- none is to a call of another kind
+other_end : (c : ClientState) (act : Going) (m : Message) (reply : FsReply) (call : FsCall) → IsAnswered c act m reply → call_of c act ≡ call → nat_eq (reply_number reply) (call_number call) ≡ false → IsEnd c act m.carried zero_code
+other_end c act m reply call a same apart kind z = absurd (differ (reply_number reply) (call_number call) apart (subst (IsKind (call_of c act)) a.carries kind ∙ ap call_number same))
+
+plain_due : (s : Script) (n place : ℕ) (c : ClientState) (act : Going) (m : Message) (past : List Entry) (call : FsCall) → IsTold s n place c act m past → code_told m.carried ≡ Some (pos 0) → IsEnd c act m.carried zero_code → Due s n past [] (given place (dropped (Client n) (dropped_after call c.cache) (lines.Answer (Client n) zero_code ∷ [])))
+plain_due s n place c act m past call q z w = ends_due s n place c act m past (dropped_after call c.cache) zero_code q z w
+
+data_due : (s : Script) (n clock place : ℕ) (c : ClientState) (act : Going) (m : Message) (past : List Entry) (contents : List ℕ) (status : AfsFetchStatus) (callback : AfsCallBack) (sync : AfsVolSync) (call : FsCall) → call_of c act ≡ call → IsAnswered c act m (replies.FetchData contents status callback sync) → IsTold s n place c act m past → code_told m.carried ≡ Some (pos 0) → Due s n past [] (takes_data (Client n) c clock place act contents status callback sync call).lines
+data_due s n clock place c act m past contents status callback sync (calls.FetchData f position wanted) same a q z = entry_due s n clock place c act m past (entry_told c.callee f status callback sync (Some (body_told status.file_type contents))) (seen.Contents (body_told status.file_type contents)) refl q z
+data_due s n clock place c act m past contents status callback sync call same a q z = plain_due s n place c act m past call q z (other_end c act m (replies.FetchData contents status callback sync) call a same refl)
+
+shown_due : (s : Script) (n clock place : ℕ) (c : ClientState) (act : Going) (m : Message) (past : List Entry) (status : AfsFetchStatus) (callback : AfsCallBack) (sync : AfsVolSync) (call : FsCall) → call_of c act ≡ call → IsAnswered c act m (replies.FetchStatus status callback sync) → IsTold s n place c act m past → code_told m.carried ≡ Some (pos 0) → Due s n past [] (takes_shown (Client n) c clock place act status callback sync call).lines
+shown_due s n clock place c act m past status callback sync (calls.FetchStatus f) same a q z = entry_due s n clock place c act m past (entry_told c.callee f status callback sync None) (seen.Status (status_told status)) refl q z
+shown_due s n clock place c act m past status callback sync call same a q z = plain_due s n place c act m past call q z (other_end c act m (replies.FetchStatus status callback sync) call a same refl)
+
+list_due : (s : Script) (n clock place : ℕ) (c : ClientState) (act : Going) (m : Message) (past : List Entry) (text : List ℕ) (status : AfsFetchStatus) (sync : AfsVolSync) (call : FsCall) → call_of c act ≡ call → IsAnswered c act m (replies.FetchAcl text status sync) → IsTold s n place c act m past → code_told m.carried ≡ Some (pos 0) → Due s n past [] (takes_list (Client n) c clock place act text status sync call).lines
+list_due s n clock place c act m past text status sync (calls.FetchAcl f) same a q z =
     let body : ReadBody = seen.AccessList text in
     let need : next act ≡ reads_rights f = rights_needed c.gifts (next act) f (asks_change act) same in
     let es : List CacheEntry = filter (is_older f status.sync_counter sync.release) c.cache in
@@ -301,43 +339,43 @@ list_due s n clock place c act m past text status sync (calls.FetchAcl f) same q
         drops_due s n past (IsRead n m past) (read_steady n m past) es (lines.Read (Client n) f status.sync_counter Fetched body ∷ lines.Given place ∷ []) ls (with_read f body act) (has_now n m past place f status.sync_counter Fetched body q.at) (read_runs s n (lines_of past) f status.sync_counter Fetched body act q.runs) w,
       ),
     ))
-list_due s n clock place c act m past text status sync call same q z = plain_due s n place c act m past call q z
+list_due s n clock place c act m past text status sync call same a q z = plain_due s n place c act m past call q z (other_end c act m (replies.FetchAcl text status sync) call a same refl)
 
 -- the client's own store
-stored_due : (s : Script) (n place : ℕ) (c : ClientState) (act : Going) (m : Message) (past : List Entry) → IsTold s n place c act m past → code_told m.carried ≡ Some (pos 0) → Due s n past [] (given place (lines.Answer (Client n) zero_code ∷ []))
-stored_due s n place c act m past q z = ends_due s n place c act m past [] zero_code q z
+stored_due : (s : Script) (n place : ℕ) (c : ClientState) (act : Going) (m : Message) (past : List Entry) → IsTold s n place c act m past → code_told m.carried ≡ Some (pos 0) → IsEnd c act m.carried zero_code → Due s n past [] (given place (lines.Answer (Client n) zero_code ∷ []))
+stored_due s n place c act m past q z w = ends_due s n place c act m past [] zero_code q z w
 
-status_due : (s : Script) (n clock place : ℕ) (c : ClientState) (act : Going) (m : Message) (past : List Entry) (f : Fid) (status : AfsFetchStatus) (call : FsCall) → IsTold s n place c act m past → code_told m.carried ≡ Some (pos 0) → Due s n past [] (takes_status (Client n) c clock place f status call).lines
-status_due s n clock place c act m past f status call q z = either_due s n past (not c.spoiled && is_below clock status.sync_counter (find_cached f c.cache)) _ _ (stored_due s n place c act m past q z) (plain_due s n place c act m past call q z)
+status_due : (s : Script) (n clock place : ℕ) (c : ClientState) (act : Going) (m : Message) (past : List Entry) (f : Fid) (status : AfsFetchStatus) (call : FsCall) → IsTold s n place c act m past → code_told m.carried ≡ Some (pos 0) → IsEnd c act m.carried zero_code → Due s n past [] (takes_status (Client n) c clock place f status call).lines
+status_due s n clock place c act m past f status call q z w = either_due s n past (not c.spoiled && is_below clock status.sync_counter (find_cached f c.cache)) _ _ (stored_due s n place c act m past q z w) (plain_due s n place c act m past call q z w)
 
-set_due : (s : Script) (n clock place : ℕ) (c : ClientState) (act : Going) (m : Message) (past : List Entry) (status : AfsFetchStatus) (call : FsCall) → IsTold s n place c act m past → code_told m.carried ≡ Some (pos 0) → Due s n past [] (takes_set (Client n) c clock place status call).lines
-set_due s n clock place c act m past status (calls.StoreData f set position wanted file_length contents) q z = either_due s n past c.spoiled _ _ (plain_due s n place c act m past (calls.StoreData f set position wanted file_length contents) q z) (stored_due s n place c act m past q z)
-set_due s n clock place c act m past status (calls.StoreAcl f acl) q z = status_due s n clock place c act m past f status (calls.StoreAcl f acl) q z
-set_due s n clock place c act m past status (calls.StoreStatus f set) q z = status_due s n clock place c act m past f status (calls.StoreStatus f set) q z
-set_due s n clock place c act m past status call q z = plain_due s n place c act m past call q z
+set_due : (s : Script) (n clock place : ℕ) (c : ClientState) (act : Going) (m : Message) (past : List Entry) (status : AfsFetchStatus) (call : FsCall) → IsTold s n place c act m past → code_told m.carried ≡ Some (pos 0) → IsEnd c act m.carried zero_code → Due s n past [] (takes_set (Client n) c clock place status call).lines
+set_due s n clock place c act m past status (calls.StoreData f set position wanted file_length contents) q z w = either_due s n past c.spoiled _ _ (plain_due s n place c act m past (calls.StoreData f set position wanted file_length contents) q z w) (stored_due s n place c act m past q z w)
+set_due s n clock place c act m past status (calls.StoreAcl f acl) q z w = status_due s n clock place c act m past f status (calls.StoreAcl f acl) q z w
+set_due s n clock place c act m past status (calls.StoreStatus f set) q z w = status_due s n clock place c act m past f status (calls.StoreStatus f set) q z w
+set_due s n clock place c act m past status call q z w = plain_due s n place c act m past call q z w
 
-bulk_due : (s : Script) (n clock place : ℕ) (c : ClientState) (act : Going) (m : Message) (past : List Entry) (statuses : List AfsFetchStatus) (callbacks : List AfsCallBack) (sync : AfsVolSync) (call : FsCall) → call_of c act ≡ call → IsTold s n place c act m past → code_told m.carried ≡ Some (pos 0) → Due s n past [] (takes_bulk (Client n) c clock place act statuses callbacks sync call).lines
-bulk_due s n clock place c act m past statuses callbacks sync (calls.BulkStatus fids) same q z = entries_due s n clock place c act m past (entries_told c.callee sync fids statuses callbacks) fids (statuses_needed c.gifts (next act) fids (asks_change act) same) q z
-bulk_due s n clock place c act m past statuses callbacks sync call same q z = plain_due s n place c act m past call q z
+bulk_due : (s : Script) (n clock place : ℕ) (c : ClientState) (act : Going) (m : Message) (past : List Entry) (statuses : List AfsFetchStatus) (callbacks : List AfsCallBack) (sync : AfsVolSync) (call : FsCall) → call_of c act ≡ call → IsAnswered c act m (replies.BulkStatus statuses callbacks sync) → IsTold s n place c act m past → code_told m.carried ≡ Some (pos 0) → Due s n past [] (takes_bulk (Client n) c clock place act statuses callbacks sync call).lines
+bulk_due s n clock place c act m past statuses callbacks sync (calls.BulkStatus fids) same a q z = entries_due s n clock place c act m past (entries_told c.callee sync fids statuses callbacks) fids (statuses_needed c.gifts (next act) fids (asks_change act) same) q z
+bulk_due s n clock place c act m past statuses callbacks sync call same a q z = plain_due s n place c act m past call q z (other_end c act m (replies.BulkStatus statuses callbacks sync) call a same refl)
 
-more_due : (s : Script) (n place : ℕ) (c : ClientState) (act : Going) (m : Message) (past : List Entry) (more : List Gift) → IsTold s n place c act m past → code_told m.carried ≡ Some (pos 0) → Due s n past [] (gives_by (Client n) c (given place) act more).lines
-more_due s n place c act m past [] q z = stored_due s n place c act m past q z
-more_due s n place c act m past (g ∷ more) q z = (tt, tt)
+more_due : (s : Script) (n place : ℕ) (c : ClientState) (act : Going) (m : Message) (past : List Entry) (more : List Gift) → IsTold s n place c act m past → code_told m.carried ≡ Some (pos 0) → IsEnd c act m.carried zero_code → Due s n past [] (gives_by (Client n) c (given place) act more).lines
+more_due s n place c act m past [] q z w = stored_due s n place c act m past q z w
+more_due s n place c act m past (g ∷ more) q z w = (tt, tt)
 
-given_due : (s : Script) (n place : ℕ) (c : ClientState) (act : Going) (m : Message) (past : List Entry) (call : FsCall) → IsTold s n place c act m past → code_told m.carried ≡ Some (pos 0) → Due s n past [] (takes_given (Client n) c place act call).lines
-given_due s n place c act m past (calls.GiveUpCallBacks fids callbacks) q z = more_due s n place c act m past (behind_batch c.gifts) q z
-given_due s n place c act m past call q z = plain_due s n place c act m past call q z
+given_due : (s : Script) (n place : ℕ) (c : ClientState) (act : Going) (m : Message) (past : List Entry) (call : FsCall) → IsTold s n place c act m past → code_told m.carried ≡ Some (pos 0) → IsEnd c act m.carried zero_code → Due s n past [] (takes_given (Client n) c place act call).lines
+given_due s n place c act m past (calls.GiveUpCallBacks fids callbacks) q z w = more_due s n place c act m past (behind_batch c.gifts) q z w
+given_due s n place c act m past call q z w = plain_due s n place c act m past call q z w
 
-takes_due : (s : Script) (n clock place : ℕ) (c : ClientState) (act : Going) (m : Message) (past : List Entry) (call : FsCall) (reply : FsReply) → call_of c act ≡ call → IsTold s n place c act m past → code_told m.carried ≡ Some (pos 0) → Due s n past [] (takes (Client n) c clock place act call reply).lines
-takes_due s n clock place c act m past call (replies.FetchData contents status callback sync) same q z = data_due s n clock place c act m past contents status callback sync call q z
-takes_due s n clock place c act m past call (replies.FetchAcl text status sync) same q z = list_due s n clock place c act m past text status sync call same q z
-takes_due s n clock place c act m past call (replies.FetchStatus status callback sync) same q z = shown_due s n clock place c act m past status callback sync call q z
-takes_due s n clock place c act m past call (replies.StoreData status sync) same q z = set_due s n clock place c act m past status call q z
-takes_due s n clock place c act m past call (replies.StoreAcl status sync) same q z = set_due s n clock place c act m past status call q z
-takes_due s n clock place c act m past call (replies.StoreStatus status sync) same q z = set_due s n clock place c act m past status call q z
-takes_due s n clock place c act m past call (replies.BulkStatus statuses callbacks sync) same q z = bulk_due s n clock place c act m past statuses callbacks sync call same q z
-takes_due s n clock place c act m past call replies.GiveUpCallBacks same q z = given_due s n place c act m past call q z
-takes_due s n clock place c act m past call reply same q z = plain_due s n place c act m past call q z
+takes_due : (s : Script) (n clock place : ℕ) (c : ClientState) (act : Going) (m : Message) (past : List Entry) (call : FsCall) (reply : FsReply) → call_of c act ≡ call → IsAnswered c act m reply → IsTold s n place c act m past → code_told m.carried ≡ Some (pos 0) → Due s n past [] (takes (Client n) c clock place act call reply).lines
+takes_due s n clock place c act m past call (replies.FetchData contents status callback sync) same a q z = data_due s n clock place c act m past contents status callback sync call same a q z
+takes_due s n clock place c act m past call (replies.FetchAcl text status sync) same a q z = list_due s n clock place c act m past text status sync call same a q z
+takes_due s n clock place c act m past call (replies.FetchStatus status callback sync) same a q z = shown_due s n clock place c act m past status callback sync call same a q z
+takes_due s n clock place c act m past call (replies.StoreData status sync) same a q z = set_due s n clock place c act m past status call q z (shown_end c act m (replies.StoreData status sync) a refl)
+takes_due s n clock place c act m past call (replies.StoreAcl status sync) same a q z = set_due s n clock place c act m past status call q z (shown_end c act m (replies.StoreAcl status sync) a refl)
+takes_due s n clock place c act m past call (replies.StoreStatus status sync) same a q z = set_due s n clock place c act m past status call q z (shown_end c act m (replies.StoreStatus status sync) a refl)
+takes_due s n clock place c act m past call (replies.BulkStatus statuses callbacks sync) same a q z = bulk_due s n clock place c act m past statuses callbacks sync call same a q z
+takes_due s n clock place c act m past call replies.GiveUpCallBacks same a q z = given_due s n place c act m past call q z (shown_end c act m replies.GiveUpCallBacks a refl)
+takes_due s n clock place c act m past call reply same a q z = plain_due s n place c act m past call q z (shown_end c act m reply a refl)
 
 -- ---- what counts for the act that runs
 
@@ -347,6 +385,7 @@ record IsWaiting (s : Script) (n place : ℕ) (c : ClientState) (head : Head) (x
   at : message_at (sent_of past) place ≡ Some (record { head = head; carried = x })
   to : head.to ≡ Client n
   firm : IsFirm head x
+  open' : AreOpen c
 
 its_key : (n : ℕ) (c : ClientState) (act : Going) (head : Head) → head.to ≡ Client n → is_awaited c act head ≡ true → last_key n c ≡ answered_key head
 its_key n c act head to e =
@@ -363,10 +402,10 @@ counts_due s n clock place c act head (carried.Call user call) past w r e = (tt,
 counts_due s n clock place c act head (carried.Refusal code) past w r e =
     let q : IsTold s n place c act (record { head = head; carried = carried.Refusal code }) past = is_told s n place c act head (carried.Refusal code) past w r e (w.firm.0, tt) in
     either_due s n past (is_spent c act) _ _ (tt, tt)
-    (either_due s n past (is_busy_code code && nat_lt c.busy most_busy) _ _ (tt, tt) (ends_due s n place c act (record { head = head; carried = carried.Refusal code }) past [] code q refl))
+    (either_due s n past (is_busy_code code && nat_lt c.busy most_busy) _ _ (tt, tt) (ends_due s n place c act (record { head = head; carried = carried.Refusal code }) past [] code q refl (λ k z. let no_ : true ≡ false = sym (ap is_passing z) ∙ w.firm.1 in absurd cc)))
 counts_due s n clock place c act head (carried.Reply (tell.File reply)) past w r e =
     let q : IsTold s n place c act (record { head = head; carried = carried.Reply (tell.File reply) }) past = is_told s n place c act head (carried.Reply (tell.File reply)) past w r e (w.firm, tt) in
-    either_due s n past (is_spent c act) _ _ (tt, tt) (takes_due s n clock place c act (record { head = head; carried = carried.Reply (tell.File reply) }) past (call_of c act) reply refl q refl)
+    either_due s n past (is_spent c act) _ _ (tt, tt) (takes_due s n clock place c act (record { head = head; carried = carried.Reply (tell.File reply) }) past (call_of c act) reply refl (record { carries = refl; open' = w.open' act r }) q refl)
 counts_due s n clock place c act head (carried.Reply reply) past w r e = (tt, tt)
 counts_due s n clock place c act head carried.Notice past w r e = (tt, tt)
 
@@ -527,6 +566,7 @@ waiting_for s c past n place m h at to = record {
   at = ap (λ (ms : List Message). message_at ms place) h.0.0.0.0.0.hears.told ∙ at;
   to = to;
   firm = each_at (λ m. IsFirm m.head m.carried) c.sent place m at h.0.0.1;
+  open' = (h.1 n).open';
 }
 
 works_due : (s : Script) (i : ℕ) (past : List Entry) (ls : List Line) → all_lines is_idle ls ≡ true → EachLine (IsDue s) (actors.Node (Server i)) past [] ls

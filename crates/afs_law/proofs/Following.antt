@@ -4,8 +4,8 @@ use Rattle.afs_history.specs.declared.acts.Act.{Act}
 use Rattle.afs_history.specs.declared.lines.Line.{Line}
 use Rattle.afs_history.specs.declared.lines.Line.TheVariants as lines
 use Rattle.afs_ideal.specs.Operations.{is_number, volume_changed}
-use Rattle.afs_law.proofs.Basics.{both, same_node-refl, some_of}
-use Rattle.afs_law.proofs.Facts.{fids_of_gifts, is_passing}
+use Rattle.afs_law.proofs.Basics.{both, same_node-refl, same_node-true, some_of}
+use Rattle.afs_law.proofs.Facts.{IsOpen, fids_of_gifts, is_passing}
 use Rattle.afs_law.proofs.Firm.{IsFirm}
 use Rattle.afs_law.proofs.Giving.{ordered_dropped}
 use Rattle.afs_law.proofs.Passing.{all_dropped_onto, dropped_rest}
@@ -38,12 +38,12 @@ use Rattle.afs_num.specs.declared.types.Code.{Code}
 use Rattle.afs_num.specs.declared.types.Fid.{Fid}
 use Rattle.afs_num.specs.declared.types.Head.{Head}
 use Rattle.afs_num.specs.declared.types.Node.{Node}
-use Rattle.afs_num.specs.declared.types.Node.TheVariants.{Client}
-use Rattle.afs_rows.specs.ClientRow.{Walked, admits_call, awaits, batch, begin_row, begins_by, behind_batch, body_told, breaks, call_by, call_of, calls_again, client_row, counts, drop_line, dropped, entries_told, entry_told, find_cached, gift_of, given, gives_by, goes_by, hears, in_order, is_awaited, is_below, is_busy_code, is_named, is_older, is_reading, is_spent, is_spoiled_by_all, is_trusted, is_waiting, look_at, looked, most_busy, most_reads, names_act, names_call, put_entries, put_entry, read_lines, reborn, refuses, replies_step, runs_carried, status_look, status_told, takes, takes_bulk, takes_data, takes_entries, takes_entry, takes_given, takes_list, takes_set, takes_shown, takes_status, timeout_row, told_step, trusted_in, untrusted_in, walked, walks_on, whole, with_statuses}
+use Rattle.afs_num.specs.declared.types.Node.TheVariants.{Client, Server}
+use Rattle.afs_rows.specs.ClientRow.{Walked, admits_call, awaits, batch, begin_row, begins_by, behind_batch, body_told, breaks, call_by, call_of, calls_again, client_row, counts, drop_line, dropped, entries_told, entry_told, find_cached, gift_of, gifts_to, given, gives_by, goes_by, hears, in_order, is_awaited, is_below, is_busy_code, is_named, is_older, is_reading, is_spent, is_spoiled_by_all, is_trusted, is_waiting, look_at, looked, most_busy, most_reads, names_act, names_call, put_entries, put_entry, read_lines, reborn, refuses, replies_step, runs_carried, status_look, status_told, takes, takes_bulk, takes_data, takes_entries, takes_entry, takes_given, takes_list, takes_set, takes_shown, takes_status, timeout_row, told_step, trusted_in, untrusted_in, walked, walks_on, whole, with_statuses}
 use Rattle.afs_rows.specs.Going.{ClientState, Going, Need, answers, began, gives_back, next, with_read}
 use Rattle.afs_rows.specs.States.{CacheEntry, Gift}
 use Rattle.afs_rows.specs.Steps.{Step}
-use Rattle.std.proofs.Common.{◌+◌, ◌≡◌, ℕ, ◌⊎◌, inl, inr, Bool, true, false, cond, List, [], ◌∷◌, map, length, Option, Some, None, refl, sym, subst, filter, not, ap, ◌∙◌, arith}
+use Rattle.std.proofs.Common.{zero, suc, drop, flat_map, ◌++◌, ◌+◌, ◌≡◌, ℕ, ◌⊎◌, inl, inr, Bool, true, false, cond, List, [], ◌∷◌, map, length, Option, Some, None, refl, sym, subst, filter, not, ap, ◌∙◌, arith}
 use Rattle.std.specs.List.{list_any}
 use Rattle.std.specs.Prelude.{◌&&◌, ◌||◌, nat_lt, ⊤}
 
@@ -72,7 +72,18 @@ pub record WaitsOn (j : ℕ) (c : ClientState) (s : Step ClientState) : Type 0 w
   pub unspoiled : s.state.spoiled ≡ false → c.spoiled ≡ false
   pub undropped : s.state.spoiled ≡ false → (act : Going) → c.running ≡ Some act → (f : Fid) → names_call (f ∷ []) (call_of c act) ≡ true → (o : List Line) → IsDropped c.callee (Client j) f (onto o s.lines) → IsDropped c.callee (Client j) f o
 
+-- each promise that is to be given back is one of a server
+abbrev pub AreOfServers : List Gift → Type 0
+AreOfServers [] = ⊤
+AreOfServers (g ∷ gs) = ((i : ℕ) × (g.server ≡ Server i)) × AreOfServers gs
+
+-- the act that runs isn't at its end
+abbrev pub AreOpen : ClientState → Type 0
+AreOpen c = (act : Going) → c.running ≡ Some act → IsOpen (next act)
+
 pub record Follows (j : ℕ) (c : ClientState) (s : Step ClientState) : Type 0 where
+  pub servers : AreOfServers c.gifts → AreOfServers s.state.gifts
+  pub opens : AreOpen c → AreOpen s.state
   pub spared : IsSpared s.state
   pub dropped : (o : List Line) → AreDropped (Client j) (fids_of_gifts c.gifts) o → AreDropped (Client j) (fids_of_gifts s.state.gifts) (onto o s.lines)
   pub reads : (b : Going) → s.state.running ≡ Some b → (s.state.last ≡ c.last → ⊥) → IsReading c
@@ -95,22 +106,24 @@ on_same j c s r q e l t quiet u d = record { running = r; callee = q; epoch = e;
 
 -- its act ends
 ends_follows : (j : ℕ) (c : ClientState) (s : Step ClientState) → s.state.running ≡ None → s.state.gifts ≡ [] → Follows j c s
-ends_follows j c s n e = record { spared = record { none = λ r. e; some = λ a r k. e }; dropped = λ o h. no_gifts j s.state.gifts (onto o s.lines) e; reads = λ b r. absurd (none_runs s.state.running b n r); fresh = λ b r. absurd (none_runs s.state.running b n r); stays = λ b r. absurd (none_runs s.state.running b n r) }
+ends_follows j c s n e = record { servers = λ w. subst AreOfServers (sym e) tt; opens = λ o b r. absurd (none_runs s.state.running b n r); spared = record { none = λ r. e; some = λ a r k. e }; dropped = λ o h. no_gifts j s.state.gifts (onto o s.lines) e; reads = λ b r. absurd (none_runs s.state.running b n r); fresh = λ b r. absurd (none_runs s.state.running b n r); stays = λ b r. absurd (none_runs s.state.running b n r) }
 
 -- it goes on with nothing to give back
-bare_follows : (j : ℕ) (c : ClientState) (s : Step ClientState) → IsReading c → s.state.gifts ≡ [] → s.state.last ≡ c.last + 1 → s.state.tries ≡ 0 → Follows j c s
-bare_follows j c s v e l t = record { spared = record { none = λ r. e; some = λ a r k. e }; dropped = λ o h. no_gifts j s.state.gifts (onto o s.lines) e; reads = λ b r k. v; fresh = λ b r k. t; stays = λ b r z. absurd (more_not s.state.last c.last l z) }
+bare_follows : (j : ℕ) (c : ClientState) (s : Step ClientState) → (AreOpen c → AreOpen s.state) → IsReading c → s.state.gifts ≡ [] → s.state.last ≡ c.last + 1 → s.state.tries ≡ 0 → Follows j c s
+bare_follows j c s o v e l t = record { servers = λ w. subst AreOfServers (sym e) tt; opens = o; spared = record { none = λ r. e; some = λ a r k. e }; dropped = λ o h. no_gifts j s.state.gifts (onto o s.lines) e; reads = λ b r k. v; fresh = λ b r k. t; stays = λ b r z. absurd (more_not s.state.last c.last l z) }
 
 still_dropped : (j : ℕ) (gs hs : List Gift) (ls o : List Line) → hs ≡ gs → IsStill j ls → AreDropped (Client j) (fids_of_gifts gs) o → AreDropped (Client j) (fids_of_gifts hs) (onto o ls)
 still_dropped j gs hs ls o e st h = subst (λ (xs : List Gift). AreDropped (Client j) (fids_of_gifts xs) (onto o ls)) (sym e) (all_dropped_onto (Client j) (fids_of_gifts gs) ls o st.0 st.1 h)
 
 -- it makes no call
 rests_follows : (j : ℕ) (c : ClientState) (s : Step ClientState) → WaitsOn j c s → IsSpared s.state → s.state.gifts ≡ c.gifts → IsStill j s.lines → Follows j c s
-rests_follows j c s p sp e st = record { spared = sp; dropped = λ o h. still_dropped j c.gifts s.state.gifts s.lines o e st h; reads = λ b r k. absurd (k p.last); fresh = λ b r k. absurd (k p.last); stays = λ b r z. p }
+rests_follows j c s p sp e st = record { servers = λ w. subst AreOfServers (sym e) w; opens = λ o b r. o b (sym p.running ∙ r); spared = sp; dropped = λ o h. still_dropped j c.gifts s.state.gifts s.lines o e st h; reads = λ b r k. absurd (k p.last); fresh = λ b r k. absurd (k p.last); stays = λ b r z. p }
 
 -- it calls again
 again_follows : (j : ℕ) (c : ClientState) (s : Step ClientState) (act : Going) → IsSpared c → IsReading c → c.running ≡ Some act → s.state.running ≡ Some act → s.state.gifts ≡ c.gifts → IsStill j s.lines → s.state.last ≡ c.last + 1 → s.state.tries ≡ 0 → Follows j c s
 again_follows j c s act sp v r run e st l t = record {
+  servers = λ w. subst AreOfServers (sym e) w;
+  opens = λ o b q. o b (r ∙ (sym run ∙ q));
   spared = record { none = λ q. absurd (none_runs s.state.running act q run); some = λ a q k. e ∙ sp.some a (r ∙ (sym run ∙ q)) k };
   dropped = λ o h. still_dropped j c.gifts s.state.gifts s.lines o e st h;
   reads = λ b q k. v;
@@ -138,20 +151,24 @@ either_follows false j c a b h k = k
 told_follows : (j : ℕ) (c : ClientState) (place : ℕ) (ms : List Message) → IsSpared c → Follows j c (told_step c place ms)
 told_follows j c place ms sp = rests_follows j c (told_step c place ms) (on_same j c (told_step c place ms) refl refl refl refl refl refl (λ z. z) (λ z act r f n o x. x)) sp refl (refl, λ f. refl)
 
-goes_follows : (j : ℕ) (c y : ClientState) (front : List Line → List Line) (w : Walked) (need : Need) → IsReading c → y.gifts ≡ [] → y.last ≡ c.last → Follows j c (goes_by (Client j) y front w need)
-goes_follows j c y front w (answers n) v e l = ends_follows j c (goes_by (Client j) y front w (answers n)) refl refl
-goes_follows j c y front w need v e l = bare_follows j c (goes_by (Client j) y front w need) v e (ap (λ (n : ℕ). n + 1) l) refl
+-- what it asks for now it needs
+asks_open : (act : Going) (need : Need) → next act ≡ need → IsOpen need → (b : Going) → Some act ≡ Some b → IsOpen (next b)
+asks_open act need e h b r = subst IsOpen (sym e ∙ ap next (some_of act b r)) h
+
+goes_follows : (j : ℕ) (c y : ClientState) (front : List Line → List Line) (w : Walked) (need : Need) → next w.act ≡ need → IsReading c → y.gifts ≡ [] → y.last ≡ c.last → Follows j c (goes_by (Client j) y front w need)
+goes_follows j c y front w (answers n) is v e l = ends_follows j c (goes_by (Client j) y front w (answers n)) refl refl
+goes_follows j c y front w need is v e l = bare_follows j c (goes_by (Client j) y front w need) (λ o. asks_open w.act need is tt) v e (ap (λ (n : ℕ). n + 1) l) refl
 
 walks_follows : (j : ℕ) (c y : ClientState) (clock : ℕ) (front : List Line → List Line) (act : Going) (cache : List CacheEntry) → IsReading c → y.gifts ≡ [] → y.last ≡ c.last → Follows j c (walks_on (Client j) y clock front act cache)
-walks_follows j c y clock front act cache v e l = let w : Walked = walked (most_reads act) clock act cache in goes_follows j c y front w (next w.act) v e l
+walks_follows j c y clock front act cache v e l = let w : Walked = walked (most_reads act) clock act cache in goes_follows j c y front w (next w.act) refl v e l
 
-entry_follows : (j : ℕ) (c : ClientState) (clock place : ℕ) (act : Going) (e : CacheEntry) (body : ReadBody) → IsReading c → c.gifts ≡ [] → Follows j c (takes_entry (Client j) c clock place act e body)
-entry_follows j c clock place act e body v none =
-    either_follows (is_trusted clock e) j c _ _ (walks_follows j c c clock (read_lines (Client j) place (look_at Fetched e body)) (with_read e.fid body act) (put_entry c.capacity e c.cache) v none refl) (bare_follows j c (calls_again (Client j) c place act) v none refl refl)
+entry_follows : (j : ℕ) (c : ClientState) (clock place : ℕ) (act : Going) (e : CacheEntry) (body : ReadBody) → c.running ≡ Some act → IsReading c → c.gifts ≡ [] → Follows j c (takes_entry (Client j) c clock place act e body)
+entry_follows j c clock place act e body r v none =
+    either_follows (is_trusted clock e) j c _ _ (walks_follows j c c clock (read_lines (Client j) place (look_at Fetched e body)) (with_read e.fid body act) (put_entry c.capacity e c.cache) v none refl) (bare_follows j c (calls_again (Client j) c place act) (λ o b q. o b (r ∙ q)) v none refl refl)
 
-entries_follows : (j : ℕ) (c : ClientState) (clock place : ℕ) (act : Going) (es : List CacheEntry) → IsReading c → c.gifts ≡ [] → Follows j c (takes_entries (Client j) c clock place act es)
-entries_follows j c clock place act es v none =
-    either_follows (list_any (λ e. not (is_trusted clock e)) es) j c _ _ (bare_follows j c (calls_again (Client j) c place act) v none refl refl)
+entries_follows : (j : ℕ) (c : ClientState) (clock place : ℕ) (act : Going) (es : List CacheEntry) → c.running ≡ Some act → IsReading c → c.gifts ≡ [] → Follows j c (takes_entries (Client j) c clock place act es)
+entries_follows j c clock place act es r v none =
+    either_follows (list_any (λ e. not (is_trusted clock e)) es) j c _ _ (bare_follows j c (calls_again (Client j) c place act) (λ o b q. o b (r ∙ q)) v none refl refl)
     (walks_follows j c c clock (λ ls. given place (looked (Client j) (map status_look es) ls)) (with_statuses es act) (put_entries c.capacity es c.cache) v none refl)
 
 status_follows : (j : ℕ) (c : ClientState) (clock place : ℕ) (f : Fid) (status : AfsFetchStatus) (call : FsCall) → Follows j c (takes_status (Client j) c clock place f status call)
@@ -159,12 +176,12 @@ status_follows j c clock place f status call = either_follows (not c.spoiled && 
 
 data_follows : (j : ℕ) (c : ClientState) (clock place : ℕ) (act : Going) (contents : List ℕ) (status : AfsFetchStatus) (callback : AfsCallBack) (sync : AfsVolSync) (call : FsCall) → IsSpared c → c.running ≡ Some act → call_of c act ≡ call → Follows j c (takes_data (Client j) c clock place act contents status callback sync call)
 data_follows j c clock place act contents status callback sync (calls.FetchData f position wanted) sp r same =
-    entry_follows j c clock place act (entry_told c.callee f status callback sync (Some (body_told status.file_type contents))) (seen.Contents (body_told status.file_type contents)) (reading_by c act (calls.FetchData f position wanted) r same refl) (bare_by c act (calls.FetchData f position wanted) sp r same tt)
+    entry_follows j c clock place act (entry_told c.callee f status callback sync (Some (body_told status.file_type contents))) (seen.Contents (body_told status.file_type contents)) r (reading_by c act (calls.FetchData f position wanted) r same refl) (bare_by c act (calls.FetchData f position wanted) sp r same tt)
 data_follows j c clock place act contents status callback sync call sp r same = ends_follows j c _ refl refl
 
 shown_follows : (j : ℕ) (c : ClientState) (clock place : ℕ) (act : Going) (status : AfsFetchStatus) (callback : AfsCallBack) (sync : AfsVolSync) (call : FsCall) → IsSpared c → c.running ≡ Some act → call_of c act ≡ call → Follows j c (takes_shown (Client j) c clock place act status callback sync call)
 shown_follows j c clock place act status callback sync (calls.FetchStatus f) sp r same =
-    entry_follows j c clock place act (entry_told c.callee f status callback sync None) (seen.Status (status_told status)) (reading_by c act (calls.FetchStatus f) r same refl) (bare_by c act (calls.FetchStatus f) sp r same tt)
+    entry_follows j c clock place act (entry_told c.callee f status callback sync None) (seen.Status (status_told status)) r (reading_by c act (calls.FetchStatus f) r same refl) (bare_by c act (calls.FetchStatus f) sp r same tt)
 shown_follows j c clock place act status callback sync call sp r same = ends_follows j c _ refl refl
 
 list_follows : (j : ℕ) (c : ClientState) (clock place : ℕ) (act : Going) (text : List ℕ) (status : AfsFetchStatus) (sync : AfsVolSync) (call : FsCall) → IsSpared c → c.running ≡ Some act → call_of c act ≡ call → Follows j c (takes_list (Client j) c clock place act text status sync call)
@@ -180,13 +197,20 @@ set_follows j c clock place status call = ends_follows j c _ refl refl
 
 bulk_follows : (j : ℕ) (c : ClientState) (clock place : ℕ) (act : Going) (statuses : List AfsFetchStatus) (callbacks : List AfsCallBack) (sync : AfsVolSync) (call : FsCall) → IsSpared c → c.running ≡ Some act → call_of c act ≡ call → Follows j c (takes_bulk (Client j) c clock place act statuses callbacks sync call)
 bulk_follows j c clock place act statuses callbacks sync (calls.BulkStatus fids) sp r same =
-    entries_follows j c clock place act (entries_told c.callee sync fids statuses callbacks) (reading_by c act (calls.BulkStatus fids) r same refl) (bare_by c act (calls.BulkStatus fids) sp r same tt)
+    entries_follows j c clock place act (entries_told c.callee sync fids statuses callbacks) r (reading_by c act (calls.BulkStatus fids) r same refl) (bare_by c act (calls.BulkStatus fids) sp r same tt)
 bulk_follows j c clock place act statuses callbacks sync call sp r same = ends_follows j c _ refl refl
+
+rest_servers : (n : ℕ) (gs : List Gift) → AreOfServers gs → AreOfServers (drop n gs)
+rest_servers zero gs h = h
+rest_servers (suc n) [] h = h
+rest_servers (suc n) (g ∷ gs) h = rest_servers n gs h.1
 
 -- the rest of its promises
 more_follows : (j : ℕ) (c : ClientState) (place : ℕ) (act : Going) (more : List Gift) → IsSpared c → IsReading c → c.running ≡ Some act → behind_batch c.gifts ≡ more → Follows j c (gives_by (Client j) c (given place) act more)
 more_follows j c place act [] sp v r is = ends_follows j c _ refl refl
 more_follows j c place act (g ∷ more) sp v r is = record {
+  servers = λ w. subst AreOfServers is (rest_servers (length (batch c.gifts)) c.gifts w);
+  opens = λ o b q. o b (r ∙ q);
   spared = record {
     none = λ q. absurd cc;
     some = λ a q k. let no : [] ≡ g ∷ more = sym (ap behind_batch (sp.some a (r ∙ q) k)) ∙ is in absurd cc;
@@ -385,9 +409,28 @@ dropped_each : (j : ℕ) (es : List CacheEntry) (o : List Line) → AreDropped (
 dropped_each j [] o = tt
 dropped_each j (u ∷ es) o = (dropped_here j es u.fid (lines.Drop (Client j) u.fid ∷ o) (inl (refl, refl)), dropped_each j es (lines.Drop (Client j) u.fid ∷ o))
 
+-- those in order are, whatever the cache has
+if_servers : (t : Bool) (g : Gift) (k : ℕ) (gs : List Gift) → (t ≡ true → g.server ≡ Server k) → AreOfServers gs → AreOfServers (cond t (g ∷ gs) gs)
+if_servers true g k gs is h = ((k, is refl), h)
+if_servers false g k gs is h = h
+
+to_servers : (gs : List Gift) (k : ℕ) → AreOfServers (gifts_to gs k)
+to_servers [] k = tt
+to_servers (g ∷ gs) k = if_servers (same_node g.server (Server k)) g k (gifts_to gs k) (same_node-true g.server (Server k)) (to_servers gs k)
+
+both_servers : (gs hs : List Gift) → AreOfServers gs → AreOfServers hs → AreOfServers (gs ++ hs)
+both_servers [] hs h k = k
+both_servers (g ∷ gs) hs h k = (h.0, both_servers gs hs h.1 k)
+
+ordered_servers : (gs : List Gift) (ks : List ℕ) → AreOfServers (flat_map (gifts_to gs) ks)
+ordered_servers gs [] = tt
+ordered_servers gs (k ∷ ks) = both_servers (gifts_to gs k) (flat_map (gifts_to gs) ks) (to_servers gs k) (ordered_servers gs ks)
+
 first_gives : (j : ℕ) (c y : ClientState) (act : Act) (going : Going) (es : List CacheEntry) (gs : List Gift) → c.running ≡ None → y.last ≡ c.last → next going ≡ gives_back → in_order (map gift_of es) ≡ gs → Follows j c (gives_by (Client j) y (λ ls. lines.Begin (Client j) act ∷ dropped (Client j) es ls) going gs)
 first_gives j c y act going es [] idle l by is = ends_follows j c _ refl refl
 first_gives j c y act going es (g ∷ gs) idle l by is = record {
+  servers = λ w. subst AreOfServers is (ordered_servers (map gift_of es) (1 ∷ 2 ∷ 3 ∷ 4 ∷ 5 ∷ 6 ∷ 7 ∷ 8 ∷ []));
+  opens = λ o b q. subst IsOpen (sym by ∙ ap next (some_of going b q)) tt;
   spared = record { none = λ q. absurd cc; some = λ a q k. absurd (k (ap next (some_of a going (sym q)) ∙ by)) };
   dropped = λ o h. subst (λ (xs : List Gift). AreDropped (Client j) (fids_of_gifts xs) (onto (lines.Begin (Client j) act ∷ o) (dropped (Client j) es []))) is
       (ordered_dropped (Client j) (map gift_of es) (onto (lines.Begin (Client j) act ∷ o) (dropped (Client j) es [])) (dropped_each j es (lines.Begin (Client j) act ∷ o)));

@@ -80,6 +80,7 @@ pub mod Caused
 pub mod Trying
 pub mod Ours
 pub mod Due
+pub mod Codes
 pub mod Kept
 pub mod Later
 pub mod Entering

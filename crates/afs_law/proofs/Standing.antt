@@ -1,12 +1,10 @@
 -- What holds between any two entries of a run of one server, as laws: each is one of the facts.
-use Rattle.afs_law.proofs.Users.{user_is}
 use Rattle.std.proofs.Common.{◌≡◌, ℕ, ℤ, ◌<◌, ◌≤◌, arith, inl, inr, Bool, true, false, cond, nat_eq, eqb-true, List, [], ◌∷◌, Option, Some, refl, sym, subst, ◌∙◌}
 use Rattle.afs_ideal.specs.Operations.{volume_changed}
 use Rattle.afs_model.specs.Calls.{admitted, call_seat, paired}
 use Rattle.afs_model.specs.Calls as pairs
 use Rattle.afs_num.specs.declared.calls.FsCall.{FsCall}
 use Rattle.afs_num.specs.declared.messages.Call.TheVariants as ask
-use Rattle.afs_num.specs.declared.messages.Carried.{Carried}
 use Rattle.afs_num.specs.declared.messages.Carried.TheVariants as carried
 use Rattle.afs_num.specs.declared.messages.Message.{Message}
 use Rattle.afs_history.specs.declared.scripts.Script.{Script}
@@ -15,21 +13,18 @@ use Rattle.afs_num.specs.declared.types.Head.{Head}
 use Rattle.afs_num.specs.declared.types.Node.{Node}
 use Rattle.afs_num.specs.declared.types.Node.TheVariants.{Client}
 use Rattle.afs_rows.specs.ClientRow.{find_cached}
-use Rattle.afs_rows.specs.Going.{Going, asked}
+use Rattle.afs_rows.specs.Going.{Going}
 use Rattle.afs_rows.specs.Runs.{Entry, message_at}
 use Rattle.afs_rows.specs.Runs as cells
 use Rattle.afs_rows.specs.States.{CacheEntry, Seat}
 use Rattle.afs_law.specs.Grants.{fetch_reply}
-use Rattle.afs_law.specs.Ideal.{user_of, set_up}
+use Rattle.afs_law.specs.Ideal.{set_up}
 use Rattle.afs_law.specs.Laws.{IsAwaited}
-use Rattle.afs_law.specs.Legal.{as_asked, Cause}
 use Rattle.afs_law.specs.Once.{past_of}
 use Rattle.afs_law.specs.OneServer.{IsOneServer}
-use Rattle.afs_law.specs.Past.{sent_of, HasCode}
 use Rattle.afs_law.proofs.Agreeing.{at_end}
-use Rattle.afs_law.proofs.Basics.{Each, Above, IfCall, IfReply, OfClient, OfReply, by_client, client_number, each_at, runs_above}
-use Rattle.afs_law.proofs.Facts.{its_call, Origin, CallFact, CallIn, Holds, InScope, IsAged, IsSafe, ReplyFact, ReplyIn, view}
-use Rattle.afs_law.proofs.Nexts.{asks_is}
+use Rattle.afs_law.proofs.Basics.{Above, IfCall, by_client, client_number, each_at, runs_above}
+use Rattle.afs_law.proofs.Facts.{CallFact, CallIn, Holds, InScope, IsAged, IsSafe, view}
 use Rattle.afs_law.proofs.OneCell.{Cell}
 use Rattle.afs_law.proofs.Servers.{run_same, seen_in}
 
@@ -45,32 +40,6 @@ admitted_by false boot seats head t e = absurd cc
 
 pub runs_admitted : (boot : ℕ) (seats : List Seat) (head : Head) → admitted boot seats head ≡ pairs.runs → (head.boot ≡ boot) × Above (call_seat head.from seats) head.epoch head.number
 runs_admitted boot seats head e = admitted_by (nat_eq head.boot boot) boot seats head refl e
-
--- ---- a reply that counts has its cause
-
-reply_in : (c : Carried) (to : Node) (X : Type 0) (j : ℕ) → HasCode c → to ≡ Client j → OfReply (OfClient to X) c → X
-reply_in (carried.Call user call) to X j is e h = absurd is
-reply_in (carried.Refusal code) to X j is e h = by_client j to X e h
-reply_in (carried.Reply reply) to X j is e h = by_client j to X e h
-reply_in carried.Notice to X j is e h = absurd is
-
--- the cause of a reply, for the client's user
-for_user : (s : Script) (past : List Entry) (j : ℕ) (m : Message) (code : ℤ) (call asks : FsCall) → Cause m code (as_asked call) past [] → as_asked call ≡ asks → m.head.to ≡ Client j → (sent : List Message) → Each (IfCall (Origin s past)) sent → sent_of past ≡ sent
-    → (code : ℤ) × ((cause : Cause m code asks past []) × (cause.user ≡ user_of s (Client j)))
-for_user s past j m code call asks cause e to sent origins told =
-    let c : Cause m code asks past [] = subst (λ (q : FsCall). Cause m code q past []) e cause in
-    (code, (c, user_is s past j m c.ran c.user c.call c.carries to sent origins told))
-
-pub run_caused : (s : Script) (h : List Entry) (end : cells.Cell) → IsOneServer s → cells.RunsTo h s end → (j place : ℕ) (m : Message) (act : Going) → message_at end.sent place ≡ Some m → HasCode m.carried → m.head.to ≡ Client j
-    → (end.clients j).running ≡ Some act → m.head.epoch ≡ (end.clients j).epoch → m.head.number ≡ (end.clients j).last → (code : ℤ) × ((cause : Cause m code (asked act) (past_of (set_up s ∷ []) h) []) × (cause.user ≡ user_of s (Client j)))
-run_caused s h end is r j place m act at code to runs epoch number =
-    let past : List Entry = past_of (set_up s ∷ []) h in
-    let c : Cell = seen_in end in
-    let k : Holds s c past = holds_at s h end is r in
-    let f : ReplyIn (view k.floors c) past m = reply_in m.carried m.head.to (ReplyIn (view k.floors c) past m) j code to (each_at (IfReply (ReplyIn (view k.floors c) past)) c.sent place m at k.sent.replies) in
-    let fact : ReplyFact j (view k.floors c j) past m = subst (λ (i : ℕ). ReplyFact i (view k.floors c i) past m) (client_number f.client j (sym f.to ∙ to)) f.fact in
-    let a = fact.answers act runs epoch number in
-    for_user s past j m a.code (its_call (end.clients j).gifts act) (asked act) a.cause (asks_is (end.clients j).gifts act) to c.sent k.sent.origins k.sent.told
 
 -- ---- a call that was given up
 

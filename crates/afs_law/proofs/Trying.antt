@@ -5,7 +5,7 @@ use Rattle.afs_history.specs.declared.scripts.Script.{Script}
 use Rattle.afs_law.proofs.Acting.{Acts, begins_acts, falls_acts, given_acts, last_key, rises_acts, waits_acts, who_at}
 use Rattle.afs_law.proofs.Basics.{at_put, each_at, some_of}
 use Rattle.afs_law.proofs.Firm.{IsFirm}
-use Rattle.afs_law.proofs.Following.{Follows, WaitsOn, begins_follow, falls_follow, given_follow, more_not, rises_follow, waits_follow}
+use Rattle.afs_law.proofs.Following.{AreOpen, Follows, WaitsOn, begins_follow, falls_follow, given_follow, more_not, rises_follow, waits_follow}
 use Rattle.afs_law.proofs.Gifts.{Given, given_first, given_kept}
 use Rattle.afs_law.proofs.KeysOnce.{IsKnown, any_told, by_key}
 use Rattle.afs_law.proofs.Moving.{Behind, EachMove, IsKept, each_moved}
@@ -73,6 +73,7 @@ sent_same n x y act past q e l u g h =
 -- ---- a step of a client
 
 pub record Waits (j : ℕ) (x : ClientState) (past : List Entry) : Type 0 where
+  pub open' : AreOpen x
   pub tried : IsTried j x (lines_of past)
   pub sent : IsSentTo j x past
 
@@ -98,12 +99,12 @@ step_sent n c st past h a f act run = elim a.goes [
 ]
 
 other_waits : (j : ℕ) (x : ClientState) (e : Entry) (past : List Entry) → Waits j x past → Waits j x (e ∷ past)
-other_waits j x e past h = record { tried = λ act run k a b. timeout_onto (Client j) x.callee x.epoch x.last k (lines_of past) e.lines (h.tried act run k a b); sent = λ act run. inr (h.sent act run) }
+other_waits j x e past h = record { open' = h.open'; tried = λ act run k a b. timeout_onto (Client j) x.callee x.epoch x.last k (lines_of past) e.lines (h.tried act run k a b); sent = λ act run. inr (h.sent act run) }
 
 client_waits : (c : Cell) (past : List Entry) (n : ℕ) (st : Step ClientState) → ((j : ℕ) → Waits j (c.clients j) past) → Acts n (who_at (c.clients n)) (c.clients n).gifts st → Follows n (c.clients n) st → (j : ℕ) → Waits j (put n st.state c.clients j) (of_client n st ∷ past)
 client_waits c past n st h a f j =
     at_put n j (λ (x : ClientState). Waits j x (of_client n st ∷ past)) st.state c.clients
-    (λ same. subst (λ (i : ℕ). Waits i st.state (of_client n st ∷ past)) same (record { tried = step_tried n (c.clients n) st past (h n).tried a f; sent = step_sent n (c.clients n) st past (h n).sent a f }))
+    (λ same. subst (λ (i : ℕ). Waits i st.state (of_client n st ∷ past)) same (record { open' = f.opens (h n).open'; tried = step_tried n (c.clients n) st past (h n).tried a f; sent = step_sent n (c.clients n) st past (h n).sent a f }))
     (λ other. other_waits j (c.clients j) (of_client n st) past (h j))
 
 -- ---- every step
@@ -140,4 +141,4 @@ pub waits_kept : (s : Script) → IsKept (GivenWaits s)
 waits_kept s c past x h = (given_kept s c past x h.0, each_moved (GivenWaits s) (Behind WaitsIn) (waits_moves s) c past x h)
 
 pub waits_first : (s : Script) → GivenWaits s (start s) (set_up s ∷ [])
-waits_first s = (given_first s, λ j. record { tried = λ act r. absurd cc; sent = λ act r. absurd cc })
+waits_first s = (given_first s, λ j. record { open' = λ act r. absurd cc; tried = λ act r. absurd cc; sent = λ act r. absurd cc })

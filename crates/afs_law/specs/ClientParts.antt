@@ -8,10 +8,11 @@ use Rattle.afs_history.specs.declared.scripts.Script.{Script}
 use Rattle.afs_history.specs.declared.scripts.VolumeLine.{VolumeLine}
 use Rattle.afs_law.specs.Grants.{IsDropped, fetch_reply, has_fetched, is_promised}
 use Rattle.afs_law.specs.Ideal.{set_up, user_of}
-use Rattle.afs_law.specs.Legal.{GoodGift, HasChange, HasChangeBy, HasOwnHalf, HasUsed, IsDead, IsDone, as_asked, has_dropped}
+use Rattle.afs_law.specs.Legal.{EndsAct, GoodGift, HasChange, HasChangeBy, HasOwnHalf, HasUsed, IsDead, IsDone, as_asked, has_dropped}
 use Rattle.afs_law.specs.Once.{past_of}
 use Rattle.afs_law.specs.Parts.{AllLines, EachEntry, EachSent, LineRule, waited_key}
 use Rattle.afs_law.specs.Past.{CalledSince, IsReply, answered_key, code_told, given_message, has_begun, has_sent, is_of_act, lines_of, lines_on, onto, running, sent_of}
+use Rattle.afs_law.specs.ServerParts.{IsCodeGood, IsKind}
 use Rattle.afs_num.specs.declared.calls.FsCall.{FsCall}
 use Rattle.afs_num.specs.declared.histories.Actor.TheVariants as actors
 use Rattle.afs_num.specs.declared.histories.ReadSource.{ReadSource}
@@ -72,7 +73,7 @@ IsUsed s false c f source past own = AreAskedFor s c f source past own
 -- ---- answers
 
 -- the entry was given a reply with this code to the call of this very act, which its client sent for its user since the act began, and
--- that was in an entry before
+-- that was in an entry before. If the reply is of that call's kind, it has code 0 only where the act ends with this call
 pub record IsReplied (s : Script) (c : Node) (act : Going) (code : ℤ) (past : List Entry) (own : List Line) : Type 0 where
   pub reply : Message
   pub by : given_message own (sent_of past) ≡ Some reply
@@ -83,6 +84,7 @@ pub record IsReplied (s : Script) (c : Node) (act : Going) (code : ℤ) (past : 
   pub call : FsCall
   pub asks : as_asked call ≡ asked act
   pub called : CalledSince (answered_key reply.head) (user_of s c) call past
+  pub ends : IsKind call reply.carried → code ≡ pos 0 → EndsAct (next act)
 
 -- each volume is at a server of the cell, and the cell has eight at most
 abbrev pub AreInCell : ℕ → List VolumeLine → Type 0
@@ -101,8 +103,7 @@ pub record IsGivenAtOnce (s : Script) (c : Node) (act : Going) (code : ℤ) (own
   pub begun : has_begun c own ≡ true
   pub none : IsOfCell s → has_dropped c own ≡ false
 
--- an act runs, and its answer has its cause. That the ideal cell gives the code of the reply, and that only the last call of an act
--- answers it with 0, isn't asked here
+-- an act runs, and its answer has its cause. That the ideal cell gives the code of the reply isn't asked here
 pub record IsDueCode (s : Script) (c : Node) (code : Code) (past : List Entry) (own : List Line) : Type 0 where
   pub act : Going
   pub runs : running s c (own ++ lines_of past) ≡ Some act
@@ -117,6 +118,11 @@ IsDue s who l past own next = ⊤
 -- of its call, or at once
 abbrev pub AnswersAreDue : Type 0
 AnswersAreDue = (s : Script) (history : List Entry) (end : Cell) → RunsTo history s end → AllLines (IsDue s) s history
+
+-- each answer of a run has its cause: a reply that tells what the ideal cell made of the act's own call, or what the act read, or the third
+-- timeout of its call, or that it had nothing to give back
+abbrev pub AnswersAreGood : Type 0
+AnswersAreGood = (s : Script) (history : List Entry) (end : Cell) → IsOfCell s → RunsTo history s end → AllLines (IsCodeGood s) s history
 
 -- ---- what a client waits for
 

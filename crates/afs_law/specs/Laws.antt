@@ -279,7 +279,7 @@ CallsRunOnce =
 -- tells what the ideal cell made of it there, for the client's user
 abbrev pub RepliesAreCaused : Type 0
 RepliesAreCaused =
-    (s : Script) (history : List Entry) (end : Cell) → IsOneServer s → RunsTo history s end → (j place : ℕ) (m : Message) (act : Going) → message_at end.sent place ≡ Some m → HasCode m.carried → m.head.to ≡ Client j
+    (s : Script) (history : List Entry) (end : Cell) → RunsTo history s end → (j place : ℕ) (m : Message) (act : Going) → message_at end.sent place ≡ Some m → HasCode m.carried → m.head.to ≡ Client j
     → (end.clients j).running ≡ Some act → m.head.epoch ≡ (end.clients j).epoch → m.head.number ≡ (end.clients j).last → (code : ℤ) × ((cause : Cause m code (asked act) (past_of (set_up s ∷ []) history) []) × (cause.user ≡ user_of s (Client j)))
 
 -- each reply of a server to a client, once sent, is that of the entry that ran its call in the boot that it carries

@@ -1,7 +1,7 @@
 //! Laws about the runs of a script. Each is the contract of a function that does nothing.
 
 ghost use Rattle.afs_law.specs.Laws.{AcknowledgedAreKept, AcknowledgedAreMade, AnswersAreRecent, ChangesAreFolded, EffectsAreTold, KeysRunOnce, ReadsAreNewest, RunsAreLegal, RunsAreOne, SetUpsAreFirst, StartsAreFolded, VolumesAreTold, PairsAreKnown, TrustedIsGood, RoomlessAreRefused, UnservedAreRefused, CallsRunOnce, RepliesAreCaused, RepliesWereRun, KeptWereRun, DurableAreChanges, GrantsAreKept, BreaksAreOwed, RepliesFollowDrops, UnawaitedAreUntrusted, DeadAreUntrusted};
-ghost use Rattle.afs_law.specs.ClientParts.{AnswersAreDue, CachedAreFetched, ChangesAreAlone, GiftsAreDropped, WaitsAreSilent};
+ghost use Rattle.afs_law.specs.ClientParts.{AnswersAreDue, AnswersAreGood, CachedAreFetched, ChangesAreAlone, GiftsAreDropped, WaitsAreSilent};
 ghost use Rattle.afs_law.specs.Parts.{ActsAreTold, CallsAreAsked, ChangesAreIdeal, EntriesAreSound, LinesAreInPlace, MessagesAreOwn};
 ghost use Rattle.afs_law.specs.ServerParts.{BreaksAreGood, FallsAreKept, GoodReadsAreLegal, GrantsAreGood, RepliesAreTrue, RepliesWait, VersionsAreKept};
 
@@ -91,8 +91,7 @@ pub fn calls_run_once()
     ensures { CallsRunOnce }
 {}
 
-/// In a run of a script for one server, a reply that counts is that of the entry which ran its call, and tells what the ideal cell made
-/// of it there.
+/// A reply that counts is that of the entry which ran its call, and tells what the ideal cell made of it there.
 pub fn replies_are_caused()
     ensures { RepliesAreCaused }
 {}
@@ -173,6 +172,12 @@ pub fn changes_are_alone()
 /// call, or that it had nothing to give back.
 pub fn answers_are_due()
     ensures { AnswersAreDue }
+{}
+
+/// Each answer has its cause: a reply that tells what the ideal cell made of the act's own call, or what the act read, or the third timeout of
+/// its call, or that it had nothing to give back.
+pub fn answers_are_good()
+    ensures { AnswersAreGood }
 {}
 
 /// While a client waits for a call it reads nothing and is answered nothing; and unless the reply is spoiled it dropped nothing since that

@@ -105,9 +105,10 @@ fn encode_notice(alloc: Global, head: &Head) -> Mem<Octets>
     ensures spelled { IfOk result (λ bytes. bytes ≡ spelled (record { head = head.now; carried = Carried.Notice })) }
     ensures fits { AreWords (head_words head.now) }
 {
-    let mut w = Writer::with_capacity(alloc, 32)?;
+    let mut w = Writer::new(alloc);
     write_head(head, &mut w)?;
-    Ok(Octets::from_vec(w.into_vec()))
+    let bytes = w.into_vec()?;
+    Ok(Octets::from_vec(bytes))
 }
 
 #[tactic(auto, unfolding(afs_model::specs::Messages::spelled))]

@@ -1,6 +1,6 @@
 //! Bytes that wait to be put.
 
-ghost use Rattle.std.specs.Prelude.{◌≡◌, ◌+◌, ◌-◌, ◌<◌, ◌≤◌, [], ◌∷◌, ◌++◌, length, drop};
+ghost use Rattle.std.specs.Prelude.{◌≡◌, ◌+◌, ◌-◌, ◌≤◌, [], ◌++◌, length, drop};
 
 use std::marker::Model;
 
@@ -51,26 +51,6 @@ impl<const N: usize> Piece<N> {
         ensures { self.new ≡ [] }
     {
         self.len = 0;
-    }
-
-    #[inline(always)]
-    pub fn push(&mut self, byte: u8)
-        requires { length self.old < N }
-        ensures { self.new ≡ self.old ++ byte ∷ [] }
-    {
-        self.bytes[self.len] = byte;
-        self.len += 1;
-    }
-
-    #[inline(always)]
-    pub fn push_two(&mut self, first: u8, second: u8)
-        requires { length self.old + 2 ≤ N }
-        ensures { self.new ≡ self.old ++ first ∷ second ∷ [] }
-    {
-        let len = self.len;
-        self.bytes[len] = first;
-        self.bytes[len + 1] = second;
-        self.len = len + 2;
     }
 
     #[inline(always)]

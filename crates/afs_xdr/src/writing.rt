@@ -1,15 +1,15 @@
-ghost use Rattle.std.specs.Prelude.{◌≡◌, ◌+◌, ◌<◌, ◌≤◌, ◌*◌, ◌==◌, ◌^◌, [], ◌++◌, length, take, replicate, vec_len, vec_capacity, IfOk, OnOk, OnErr};
+ghost use Rattle.std.specs.Prelude.{◌≡◌, ◌+◌, ◌<◌, ◌≤◌, ◌*◌, ◌==◌, ◌^◌, [], ◌++◌, length, take, replicate, IfOk, OnOk, OnErr};
 ghost use Rattle.afs_xdr.specs.Words.{word, words, opaque, AreWords};
 
 use crate::reading::pad_of;
+use bytes::BytesMut;
 use std::alloc::{AllocError, Global};
 use std::marker::Model;
-use std::mem;
 
 /// Appends fields one after another. Want of memory leaves it as it was.
 #[derive(Drop)]
 pub struct Writer {
-    bytes: Vec<u8>,
+    bytes: BytesMut,
 }
 
 impl Model for Writer {
@@ -26,7 +26,7 @@ impl Writer {
         ensures { result ≡ [] }
     {
         Writer {
-            bytes: Vec::new(alloc),
+            bytes: BytesMut::new(alloc),
         }
     }
 
@@ -35,18 +35,19 @@ impl Writer {
         ensures { IfOk result (λ w. w ≡ []) }
     {
         Ok(Writer {
-            bytes: Vec::with_capacity(alloc, capacity)?,
+            bytes: BytesMut::with_capacity(alloc, capacity)?,
         })
     }
 
     /// Appends a word.
-    #[tactic(auto, unfolding(crate::specs::Words::word))]
     pub fn word(&mut self, n: u32) -> Result<(), AllocError>
         ensures ok { OnOk result (self.new ≡ self.old ++ word n) }
         ensures fits { n < 2 ^ 32 }
         ensures err { OnErr result (self.new ≡ self.old) }
     {
-        self.bytes.extend_from_slice(&n.to_be_bytes())
+        self.bytes.reserve(4)?;
+        put_word(&mut self.bytes, n);
+        Ok(())
     }
 
     /// Appends words.
@@ -56,9 +57,7 @@ impl Writer {
         ensures err { OnErr result (self.new ≡ self.old) }
     {
         self.bytes.reserve(4 * ns.len())?;
-        let mut out = taken(&mut self.bytes);
-        put_words(&mut out, ns);
-        self.bytes = out;
+        put_words(&mut self.bytes, ns);
         Ok(())
     }
 
@@ -92,62 +91,36 @@ impl Writer {
     {
         let pad = pad_of(bytes.len());
         self.bytes.reserve(4 + bytes.len() + pad)?;
-        let mut out = taken(&mut self.bytes);
-        put_word(&mut out, bytes.len() as u32);
-        put(&mut out, bytes);
-        put_zeros(&mut out, pad);
-        self.bytes = out;
+        put_word(&mut self.bytes, bytes.len() as u32);
+        self.bytes.extend_reserved(bytes);
+        put_zeros(&mut self.bytes, pad);
         Ok(())
     }
 
-    /// The bytes, without a copy.
-    pub fn into_vec(self) -> Vec<u8>
-        ensures { result.items ≡ self }
+    /// The bytes.
+    pub fn into_vec(self) -> Result<Vec<u8>, AllocError>
+        ensures { IfOk result (λ v. v.items ≡ self) }
     {
-        let Writer { bytes } = self;
-        bytes
-    }
-}
-
-/// The bytes so far, out of their place: while they stand in a local of their own, their place and their count stay in
-/// registers.
-#[inline]
-fn taken(bytes: &mut Vec<u8>) -> Vec<u8>
-    ensures { result ≡ bytes.old }
-{
-    let none = Vec::new(*bytes.allocator());
-    mem::replace(bytes, none)
-}
-
-/// Appends bytes where there is room for them.
-#[inline]
-fn put(out: &mut Vec<u8>, bytes: &[u8])
-    requires { vec_len out.old + length bytes.now ≤ vec_capacity out.old }
-    ensures items { out.new.items ≡ out.old.items ++ bytes.now }
-    ensures len { vec_len out.new ≡ vec_len out.old + length bytes.now }
-    ensures capacity { vec_capacity out.old ≤ vec_capacity out.new }
-{
-    match out.extend_from_slice(bytes) {
-        Ok(()) => {}
-        Err(_) => unreachable!(),
+        match self.bytes.into_vec() {
+            Ok(bytes) => Ok(bytes),
+            Err(_) => Err(AllocError),
+        }
     }
 }
 
 /// Appends a word where there is room for it.
-#[inline]
 #[tactic(auto, unfolding(crate::specs::Words::word))]
-fn put_word(out: &mut Vec<u8>, n: u32)
-    requires { vec_len out.old + 4 ≤ vec_capacity out.old }
+fn put_word(out: &mut BytesMut, n: u32)
+    requires { 4 ≤ out.old.spare }
     ensures items { out.new.items ≡ out.old.items ++ word n }
-    ensures len { vec_len out.new ≡ vec_len out.old + 4 }
-    ensures capacity { vec_capacity out.old ≤ vec_capacity out.new }
+    ensures spare { out.new.spare + 4 ≡ out.old.spare }
 {
-    put(out, &n.to_be_bytes());
+    out.extend_reserved(&n.to_be_bytes());
 }
 
 /// Appends words where there is room for them.
-fn put_words(out: &mut Vec<u8>, ns: &[u32])
-    requires { vec_len out.old + 4 * length ns.now ≤ vec_capacity out.old }
+fn put_words(out: &mut BytesMut, ns: &[u32])
+    requires { 4 * length ns.now ≤ out.old.spare }
     ensures { out.new.items ≡ out.old.items ++ words ns.now }
 {
     for n in ns {
@@ -156,15 +129,15 @@ fn put_words(out: &mut Vec<u8>, ns: &[u32])
 }
 
 /// Appends so many zero bytes, at most three, where there is room for them.
-fn put_zeros(out: &mut Vec<u8>, count: usize)
+fn put_zeros(out: &mut BytesMut, count: usize)
     requires few { count < 4 }
-    requires room { vec_len out.old + count ≤ vec_capacity out.old }
+    requires room { count ≤ out.old.spare }
     ensures { out.new.items ≡ out.old.items ++ replicate count 0 }
 {
     match count {
         0 => {}
-        1 => put(out, &[0]),
-        2 => put(out, &[0, 0]),
-        _ => put(out, &[0, 0, 0]),
+        1 => out.extend_reserved(&[0]),
+        2 => out.extend_reserved(&[0, 0]),
+        _ => out.extend_reserved(&[0, 0, 0]),
     }
 }

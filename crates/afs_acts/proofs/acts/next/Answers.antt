@@ -1,5 +1,4 @@
 use Rattle.std.proofs.Common.{ap, sym, ◌∙◌}
-use Rattle.std.specs.Arc.{arc_value}
 use Rattle.afs_history.specs.declared.acts.Act.{Act}
 use Rattle.afs_rows.specs.Going.{next}
 use Rattle.afs_acts.specs.Needs.{needed_by}
@@ -11,8 +10,8 @@ pub returns-clause-value : goal.returns-clause-value
 returns-clause-value c =
     let g = c.going.inside in
     c.in_ok-need.ensures.value
-    ∙ (ap (λ (act : Act). needed_by g.homes act c.as_slice.result.now) c.deref.ensures
-    ∙ (ap (needed_by g.homes (arc_value g.act)) c.as_slice.ensures ∙ (sym (needs_are g.homes (arc_value g.act) g.reads) ∙ ap next c.going.view_is)))
+    ∙ (ap (λ (act : Act). needed_by g.homes act c.as_slice.result.now) c.get.ensures
+    ∙ (ap (needed_by g.homes g.act) c.as_slice.ensures ∙ (sym (needs_are g.homes g.act g.reads) ∙ ap next c.going.view_is)))
 
 pub returns-clause-fits : goal.returns-clause-fits
 returns-clause-fits c = next_fits c.args.going.now c.requires

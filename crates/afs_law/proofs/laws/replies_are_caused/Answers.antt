@@ -1,4 +1,4 @@
-use Rattle.afs_law.proofs.Standing.{run_caused}
+use Rattle.afs_law.proofs.Caused.{run_caused}
 use Rattle.afs_law.proofs.laws.replies_are_caused.Goals as goal
 
 pub returns : goal.returns

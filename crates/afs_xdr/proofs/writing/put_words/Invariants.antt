@@ -1,9 +1,9 @@
-use Rattle.std.proofs.Common.{◌≡◌, ◌+◌, ◌*◌, ◌≤◌, ◌-◌, ◌++◌, take, length, vec_len, vec_capacity}
+use Rattle.std.proofs.Common.{◌≡◌, ◌*◌, ◌≤◌, ◌-◌, ◌++◌, take, length}
 use Rattle.afs_xdr.specs.Words.{words}
 use Rattle.afs_xdr.proofs.writing.put_words.Given as goal
 
 abbrev pub invariant-loop-n : goal.invariant-loop-n
 invariant-loop-n l = record {
   written : l.out.items ≡ l.fn.out.items ++ words (take l.n-index l.ns);
-  room : vec_len l.out + 4 * (length l.ns - l.n-index) ≤ vec_capacity l.out;
+  room : 4 * (length l.ns - l.n-index) ≤ l.out.spare;
 }

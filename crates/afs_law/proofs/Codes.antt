@@ -1,0 +1,174 @@
+-- Each answer of a run has its cause, however many servers a cell has: where it is a reply, that is what the ideal cell made of the call.
+use Rattle.afs_history.specs.declared.lines.Line.{Line}
+use Rattle.afs_history.specs.declared.lines.Line.TheVariants as lines
+use Rattle.afs_history.specs.declared.scripts.Script.{Script}
+use Rattle.afs_ideal.specs.Operations.{Result, changes}
+use Rattle.afs_law.proofs.Addressed.{IsHome, IsServer}
+use Rattle.afs_law.proofs.Asking.{called_one, each_front}
+use Rattle.afs_law.proofs.Basics.{Each, IfCall, IfReply, some_of}
+use Rattle.afs_law.proofs.Caused.{IsOfCallee, of_callee, ran_one}
+use Rattle.afs_law.proofs.Changing.{run_each}
+use Rattle.afs_law.proofs.Due.{run_due}
+use Rattle.afs_law.proofs.Facts.{IsOne}
+use Rattle.afs_law.proofs.Ideals.{of_this}
+use Rattle.afs_law.proofs.KeysOnce.{IsKnown}
+use Rattle.afs_law.proofs.Origins.{KnownAsked}
+use Rattle.afs_law.proofs.Placing.{run_placed}
+use Rattle.afs_law.proofs.Telling.{IsTold, Tells}
+use Rattle.afs_law.proofs.Truthful.{Truthful, truthful_first, truthful_kept}
+use Rattle.afs_law.proofs.Users.{given_each}
+use Rattle.afs_law.specs.ClientParts.{AnswersAreGood, IsDue, IsDueCode, IsGivenAtOnce, IsOfCell, IsReplied}
+use Rattle.afs_law.specs.Ideal.{change_in, set_up, user_of}
+use Rattle.afs_law.specs.Legal.{GoodCode, HasChange, HasNothing, IsCaused, IsInPlace, IsKey, IsOfClient, IsResult, IsTold as IsToldOf, answer_at, as_asked}
+use Rattle.afs_law.specs.Parts.{EachEntry, EachLine}
+use Rattle.afs_law.specs.Past.{CalledSince, Sends, answered_key, called_key, lines_of, sent_of}
+use Rattle.afs_law.specs.ServerParts.{IsCodeGood, IsKind}
+use Rattle.afs_num.specs.declared.calls.FsCall.{FsCall}
+use Rattle.afs_num.specs.declared.histories.Actor.{Actor}
+use Rattle.afs_num.specs.declared.messages.Call.TheVariants as ask
+use Rattle.afs_num.specs.declared.messages.Carried.TheVariants as carried
+use Rattle.afs_num.specs.declared.messages.Message.{Message}
+use Rattle.afs_num.specs.declared.types.Code.{Code}
+use Rattle.afs_num.specs.declared.types.Head.{Head}
+use Rattle.afs_num.specs.declared.types.Key.{Key}
+use Rattle.afs_num.specs.declared.types.Node.{Node}
+use Rattle.afs_num.specs.declared.types.Node.TheVariants.{Admin, Client, Loc, Server}
+use Rattle.afs_rows.specs.Going.{ClientState, Going}
+use Rattle.afs_rows.specs.Runs.{Cell, Entry, start}
+use Rattle.afs_rows.specs.ServerRow.{key_of}
+use Rattle.std.proofs.Common.{◌≡◌, ℕ, ℤ, inl, inr, List, [], ◌∷◌, ◌++◌, Option, Some, None, sym, ap, subst, ◌∙◌}
+
+-- ---- a reply to a client's call is of a server
+
+each_both : (P Q : Message → Type 0) (ms : List Message) → Each P ms → Each Q ms → Each (λ m. P m × Q m) ms
+each_both P Q [] h k = tt
+each_both P Q (m ∷ ms) h k = ((h.0, k.0), each_both P Q ms h.1 k.1)
+
+-- a message that carries this call under this key, of which T holds
+record HasSent (T : Message → Type 0) (k : Key) (user : List ℕ) (call : FsCall) : Type 0 where
+  message : Message
+  key : called_key message.head ≡ k
+  carries : message.carried ≡ carried.Call user (ask.File call)
+  holds : T message
+
+sent_call : (T : Message → Type 0) (k : Key) (user : List ℕ) (call : FsCall) (ms : List Message) → Sends k user call ms → Each T ms → HasSent T k user call
+sent_call T k user call [] x h = absurd x
+sent_call T k user call (m ∷ ms) (inl x) h = record { message = m; key = x.0; carries = x.1; holds = h.0 }
+sent_call T k user call (m ∷ ms) (inr x) h = sent_call T k user call ms x h.1
+
+since_call : (T : Message → Type 0) (k : Key) (user : List ℕ) (call : FsCall) (past : List Entry) → CalledSince k user call past → Each T (sent_of past) → HasSent T k user call
+since_call T k user call [] x h = absurd x
+since_call T k user call (e ∷ past) (inl x) h = sent_call T k user call e.sent x.1 (each_front T (sent_of past) e.sent h).1
+since_call T k user call (e ∷ past) (inr x) h = since_call T k user call past x.1 (each_front T (sent_of past) e.sent h).0
+
+-- the callee of a key under which a client sent a call
+callee_server : (s : Script) (callees : Key → Node) (clients : ℕ → ClientState) (j : ℕ) (k : Key) (user : List ℕ) (call : FsCall) (past : List Entry) → k.node ≡ Client j → CalledSince k user call past → Each (IfCall (λ h u f. IsKnown callees clients h.to (key_of h))) (sent_of past) → Each (IfCall (IsHome s)) (sent_of past) → IsServer (callees k)
+callee_server s callees clients j k user call past node called known homes =
+    let K : Head → List ℕ → FsCall → Type 0 = λ h u f. IsKnown callees clients h.to (key_of h) in
+    let x : HasSent (λ m. IfCall K m × IfCall (IsHome s) m) k user call = since_call (λ m. IfCall K m × IfCall (IsHome s) m) k user call past called (each_both (IfCall K) (IfCall (IsHome s)) (sent_of past) known homes) in
+    let head : Head = x.message.head in
+    let from : head.from ≡ Client j = ap (λ (q : Key). q.node) x.key ∙ node in
+    let to : head.to ≡ callees k = (of_this K j head x.message.carried user call from x.carries x.holds.0).called ∙ ap callees x.key in
+    subst IsServer to (of_this (IsHome s) j head x.message.carried user call from x.carries x.holds.1).server
+
+-- ---- the cause
+
+key_front : (k : Key) (o : Option Key) (X : Type 0) → X → IsKey k o X
+key_front k None X h = h
+key_front k (Some l) X h = inr h
+
+change_front : (k : Key) (own o : List Line) → HasChange k o → HasChange k (own ++ o)
+change_front k [] o h = h
+change_front k (l ∷ own) o h = key_front k (change_in l) (HasChange k (own ++ o)) (change_front k own o h)
+
+told_front : (k : Key) (r : Option Result) (own o : List Line) → IsToldOf k r o → IsToldOf k r (own ++ o)
+told_front k (Some (changes es shown)) own o h = change_front k own o h
+told_front k r own o h = tt
+
+result_front : (server : Node) (code : ℤ) (r : Option Result) (k : Key) (ran own o : List Line) → IsResult server code r k ran o → IsResult server code r k ran (own ++ o)
+result_front server code r k ran own o (inl h) = inl (h.0, told_front k r own o h.1)
+result_front server code r k ran own o (inr h) = inr h
+
+caused_by : (s : Script) (c : Cell) (past : List Entry) (own : List Line) (j : ℕ) (act : Going) (code : ℤ) → Truthful s c past → IsReplied s (Client j) act code past own → IsCaused s (Client j) act code past own
+caused_by s c past own j act code h q =
+    let a : KnownAsked s c past = h.0.0.0 in
+    let m : Message = q.reply in
+    let k : Key = answered_key m.head in
+    let told : sent_of past ≡ c.sent = a.0.hears.told in
+    let each : (T : Message → Type 0) → Each T c.sent → Each T (sent_of past) = λ T all. subst (Each T) (sym told) all in
+    let R : Message → Type 0 = IfReply (IsOfCallee a.0.keys.callees c.clients) in
+    let from : IsServer m.head.from =
+    subst IsServer (sym (of_callee a.0.keys.callees c.clients j m (given_each R own (sent_of past) m q.by (each R a.0.keys.answers)) q.is_reply.1 q.to))
+    (callee_server s a.0.keys.callees c.clients j k (user_of s (Client j)) q.call past q.to q.called (each _ a.0.keys.calls) (each (IfCall (IsHome s)) h.0.1.1.1)) in
+    let t : Tells m past = given_each (IsTold past) own (sent_of past) m q.by (each (IsTold past) h.1.sends) from.0 j from.1 q.to q.is_reply.1 in
+    let one : Some (t.user, t.call) ≡ Some (user_of s (Client j), q.call) =
+    sym (ran_one past j m t.ran t.user t.call t.carries q.to c.sent a.1.ones told) ∙ called_one j k (user_of s (Client j)) q.call c.sent past q.to q.called (each (IfCall (IsOne c.sent)) a.1.ones) in
+    let same : (t.user, t.call) ≡ (user_of s (Client j), q.call) = some_of (t.user, t.call) (user_of s (Client j), q.call) one in
+    let call : t.call ≡ q.call = ap (λ (p : List ℕ × FsCall). p.1) same in
+    let codes : t.code ≡ code = some_of t.code code (sym t.told ∙ q.told) in
+    record {
+      reply = m;
+      by = q.by;
+      to = q.to;
+      cause = record {
+        is_reply = q.is_reply;
+        told = q.told;
+        ran = t.ran;
+        user = t.user;
+        call = t.call;
+        carries = t.carries;
+        asks = ap as_asked call ∙ q.asks;
+        result = result_front m.head.from code (answer_at t.user t.call t.ran.older) k t.ran.at.lines own (lines_of past) (subst (λ (x : ℤ). IsResult m.head.from x (answer_at t.user t.call t.ran.older) k t.ran.at.lines (lines_of past)) codes t.result);
+      };
+      own_user = ap (λ (p : List ℕ × FsCall). p.0) same;
+      before = q.before;
+      called = subst (λ (p : List ℕ × FsCall). CalledSince k p.0 p.1 past) (sym same) q.called;
+      ends = q.ends (subst (λ (f : FsCall). IsKind f m.carried) call t.kind);
+    }
+
+-- ---- each line
+
+nothing_given : (s : Script) (c : Node) (act : Going) (code : ℤ) (own : List Line) → IsOfCell s → IsGivenAtOnce s c act code own → HasNothing c act code own
+nothing_given s c act code own cell q = record { is = q.is; by = q.by; begun = q.begun; none = q.none cell }
+
+good_code : (s : Script) (c : Cell) (past : List Entry) (own : List Line) (j : ℕ) (code : Code) → IsOfCell s → Truthful s c past → IsDueCode s (Client j) code past own → GoodCode s (Client j) code past own
+good_code s c past own j code cell h d = record {
+  act = d.act;
+  runs = d.runs;
+  cause = elim d.cause [
+    | inl q ↦ inl (caused_by s c past own j d.act code.0 h q)
+    | inr x ↦ inr (elim x [
+      | inl done ↦ inl done
+      | inr y ↦ inr (elim y [ inl dead ↦ inl dead | inr none ↦ inr (nothing_given s (Client j) d.act code.0 own cell none) ])
+    ])
+  ];
+}
+
+-- it stands in an entry of its client
+good_by : (s : Script) (c : Cell) (past : List Entry) (own : List Line) (who : Actor) (n : Node) (code : Code) → IsOfCell s → Truthful s c past → IsOfClient who n → IsDueCode s n code past own → GoodCode s n code past own
+good_by s c past own who (Client j) code cell h of d = good_code s c past own j code cell h d
+good_by s c past own who (Server i) code cell h of d = absurd of
+good_by s c past own who (Admin i) code cell h of d = absurd of
+good_by s c past own who Loc code cell h of d = absurd of
+
+good_line : (s : Script) (c : Cell) (past : List Entry) (own next : List Line) (who : Actor) (l : Line) → IsOfCell s → Truthful s c past → IsInPlace s who l past own next → IsDue s who l past own next → IsCodeGood s who l past own next
+good_line s c past own next who (lines.Answer n code) cell h place due = good_by s c past own who n code cell h place.0 due
+good_line s c past own next who l cell h place due = tt
+
+good_lines : (s : Script) (c : Cell) (past : List Entry) (own ls : List Line) (who : Actor) → IsOfCell s → Truthful s c past → EachLine (IsInPlace s) who past own ls → EachLine (IsDue s) who past own ls → EachLine (IsCodeGood s) who past own ls
+good_lines s c past own [] who cell h place due = tt
+good_lines s c past own (l ∷ ls) who cell h place due = (good_line s c past own ls who l cell h place.0 due.0, good_lines s c past (l ∷ own) ls who cell h place.1 due.1)
+
+-- ---- the law
+
+-- what holds before an entry of a run
+abbrev TrueBefore : Script → List Entry → Entry → Type 0
+TrueBefore s past e = (c : Cell) × Truthful s c past
+
+codes_from : (s : Script) (past es : List Entry) → IsOfCell s → EachEntry (λ before e. EachLine (IsInPlace s) e.actor before [] e.lines) past es → EachEntry (λ before e. EachLine (IsDue s) e.actor before [] e.lines) past es → EachEntry (TrueBefore s) past es → EachEntry (λ before e. EachLine (IsCodeGood s) e.actor before [] e.lines) past es
+codes_from s past [] cell place due h = tt
+codes_from s past (e ∷ es) cell place due h = (good_lines s h.0.0 past [] e.lines e.actor cell h.0.1 place.0 due.0, codes_from s (e ∷ past) es cell place.1 due.1 h.1)
+
+pub run_codes : AnswersAreGood
+run_codes s h end cell r =
+    codes_from s (set_up s ∷ []) h cell (run_placed s h end r) (run_due s h end r) (run_each (Truthful s) (TrueBefore s) (truthful_kept s) (λ c past x k. (c, k)) r.inputs (start s) (set_up s ∷ []) h end (truthful_first s) r.leads)
