@@ -10,7 +10,8 @@ abbrev pub IsOpen : {D : Type 0} → ServerSeat D → Type 0
 IsOpen {D} (Up r) = r.store.closed ≡ false
 IsOpen {D} (Down s) = Unit {0}
 
--- the disk of the server of this number can be read: it is no longer than one may be
+-- the disk of the server of this number can be read: it is no longer than one may be, and while the server is up no device call of it
+-- has failed
 pub record IsReadable {D : Type 0} (limit : D → ℕ) (i : ℕ) (s : ServerSeat D) : Type 0 where
   pub node : IsNode (Server i)
   pub short : limit (seat_disk s) ≤ 268435456

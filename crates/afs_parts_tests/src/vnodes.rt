@@ -49,7 +49,7 @@ fn again(alloc: Global, bytes: &[u8]) -> Result<Vec<u8>, ImageFault> {
     let root = read_image(alloc, &mut Reader::new(bytes))?;
     let mut writer = Writer::new(alloc);
     write_image(&root, &mut writer)?;
-    writer.into_vec()
+    Ok(writer.into_vec()?)
 }
 
 // Why bytes are no image, and how many are left.

@@ -9,7 +9,8 @@ abbrev pub Lays : {T : Type 0} → List ℕ → List ℕ → List ℕ → Option
 Lays {T = T} text before after old new f g (Ok u) = (front : List ℕ) × (front ++ after ≡ before ++ text) × Puts {T = T} front old new f g (Ok u)
 Lays {T = T} text before after old new f g (Err e) = Puts {T = T} (before ++ text) old new f g (Err e)
 
--- this text was laid among bytes, behind the first of them; behind it is this place
+-- this text was laid among bytes, behind the first of them; behind it is this place. Of the bytes that stand from there on nothing is said:
+-- they may have been written over
 pub record LaysAt (text : List ℕ) (at : ℕ) (old new : List ℕ) (behind : ℕ) : Type 0 where
   pub laid : take behind new ≡ take at old ++ text
   pub end : behind ≡ at + length text
