@@ -40,6 +40,10 @@ readable {D} limit s w safe going =
 abbrev pub Completes : {D : Type 0} (seen : D → Option (List ℕ)) (faults limit : D → ℕ) (seats : List (ServerSeat D)) (node : ℕ) (rest : List (ServerSeat D)) (found : List (Left (Store D) D)) → Type 0
 Completes {D} seen faults limit seats node rest found = (fs : List (Left (Store D) D)) → AreFound seen faults limit (lent_from (node + 1) rest) fs → AreFound seen faults limit (lent_from 1 seats) (found ++ fs)
 
+pub none_found : {D : Type 0} (seen : D → Option (List ℕ)) (faults limit : D → ℕ) (seats rest : List (ServerSeat D)) (found : List (Left (Store D) D)) → rest ≡ seats → found ≡ [] → Completes seen faults limit seats 0 rest found
+none_found {D} seen faults limit seats rest found all none fs h =
+    subst (λ (gs : List (Left (Store D) D)). AreFound seen faults limit (lent_from 1 seats) (gs ++ fs)) (sym none) (subst (λ (ss : List (ServerSeat D)). AreFound seen faults limit (lent_from 1 ss) fs) all h)
+
 pub one_found : {D : Type 0} (seen : D → Option (List ℕ)) (faults limit : D → ℕ) (seats : List (ServerSeat D)) (node : ℕ) (rest more : List (ServerSeat D)) (found longer : List (Left (Store D) D)) (s : ServerSeat D) (f : Left (Store D) D)
     → more ≡ s ∷ rest → longer ≡ found ++ f ∷ [] → IsRead seen faults limit (seat_disk s) f → Completes seen faults limit seats node more found → Completes seen faults limit seats (node + 1) rest longer
 one_found {D} seen faults limit seats node rest more found longer s f first put read all fs h =

@@ -5,8 +5,25 @@ use Rattle.afs_final.specs.declared.reading.Left.{Left}
 use Rattle.afs_cell.specs.FirstSeats.{AreKeptSeats}
 use Rattle.afs_cell.specs.Worlds.{ServerSeat}
 use Rattle.afs_cell.proofs.GivenBack.{none_left}
-use Rattle.afs_cell.proofs.DisksRead.{all_found, next_readable, one_found}
+use Rattle.afs_cell.specs.Readable.{AreReadable}
+use Rattle.afs_cell.proofs.DisksRead.{all_found, next_readable, none_found, one_found}
 use Rattle.afs_cell.proofs.reading.left_of.Goals as goal
+
+pub loop-seat-init : goal.loop-seat-init
+loop-seat-init g c =
+    let given : into_iter_items c.into_iter-seat-iterator.result ≡ c.args.seats.items = c.into_iter-seat-iterator.ensures.into_iter_gives.0 in
+    let none : c.in-Ok.left.items ≡ [] = c.in-Ok.ensures.items in
+    let as_many = ap (λ (ss : List (ServerSeat g.row.D.Denot)). length ss) given in
+    let no_more = ap (λ (fs : List (Left (Store g.row.D.Denot) g.row.D.Denot)). length fs) none in
+    let capacity = c.in-Ok.ensures.capacity in
+    let len = c.len.ensures in
+    record {
+      all = none_found g.D.Disk.seen g.D.Disk.faults g.D.Disk.limit c.args.seats.items (into_iter_items c.into_iter-seat-iterator.result) c.in-Ok.left.items given none;
+      ready = subst (λ (ss : List (ServerSeat g.row.D.Denot)). AreReadable g.D.Disk.limit 1 ss) (sym given) c.requires.ready;
+      kept = λ k. subst (λ (ss : List (ServerSeat g.row.D.Denot)). AreKeptSeats g.D.Disk.seen g.D.Disk.may_leave g.D.Disk.limit ss) given k;
+      room = omega (arith, as_many, no_more, capacity, len);
+      count = omega (arith, as_many);
+    }
 
 pub left_at-requires : goal.left_at-requires
 left_at-requires g c =
