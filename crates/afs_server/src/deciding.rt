@@ -292,7 +292,7 @@ impl FileServer {
     {
         match store.volume(id) {
             None => Ok(Decided::Refuses(NO_VOLUME)),
-            Some(volume) => self.in_found(store, head, volume, user, call, now),
+            Some(volume) => { self.in_found(store, head, volume, user, call, now) }
         }
     }
 
@@ -313,7 +313,7 @@ impl FileServer {
     {
         match volume_called(call) {
             None => Ok(Decided::Refuses(NOT_SERVED)),
-            Some(id) => self.in_volume(store, head, id, user, call, now),
+            Some(id) => { self.in_volume(store, head, id, user, call, now) }
         }
     }
 
@@ -344,7 +344,9 @@ impl FileServer {
                 };
                 Ok(Decided::Shows(reply, Few::none(self.alloc)))
             }
-            FsCall::BulkStatus { fids } => self.statuses(store, head, user, fids.as_slice(), now),
+            FsCall::BulkStatus { fids } => {
+                self.statuses(store, head, user, fids.as_slice(), now)
+            }
             _ => unreachable!(),
         }
     }
@@ -388,7 +390,7 @@ impl FileServer {
             Carried::Call {
                 user,
                 call: Call::File(call),
-            } => self.serve(store, head, user.as_slice(), call, now),
+            } => { self.serve(store, head, user.as_slice(), call, now) }
             Carried::Call { .. } => Ok(Decided::Refuses(NOT_SERVED)),
             _ => Ok(Decided::Drops),
         }
@@ -411,7 +413,7 @@ impl FileServer {
             Received::Nothing => Ok(Decided::Drops),
             Received::Unserved { .. } => Ok(Decided::Refuses(NOT_SERVED)),
             Received::Unreadable { .. } => Ok(Decided::Refuses(code_of_unreadable(head.opcode))),
-            Received::Whole { message } => self.run_carried(store, head, &message.carried, now),
+            Received::Whole { message } => { self.run_carried(store, head, &message.carried, now) }
         }
     }
 
@@ -453,7 +455,7 @@ impl FileServer {
         ensures runs { IfOk result (λ d. Runs d (paired head.now.epoch head.now.number (call_seat head.now.from self.now.seats))) }
     {
         match admit {
-            Admit::Run => self.run(store, head, received, now),
+            Admit::Run => { self.run(store, head, received, now) }
             Admit::Kept(bytes) => {
                 let reply = SpelledMessage::read(self.alloc, bytes)?;
                 Ok(Decided::Repeats(reply))

@@ -36,12 +36,14 @@ impl FileServer {
             Does now d (turn_for store.old.node (server_seen self.old store.old) now (row.expired now (server_seen self.old store.old).backs) d) self.old self.new store.old store.new result }
     {
         match decided {
-            Decided::Drops => self.pass(store, now),
-            Decided::TellsBoot => self.tell_boot(store, head, now),
-            Decided::Repeats(reply) => self.repeat(store, reply, now),
-            Decided::Refuses(code) => self.refuse(store, head, code, now),
-            Decided::Shows(reply, grants) => self.show(store, head, reply, grants.as_slice(), now),
-            Decided::GivesUp(fids) => self.give_up(store, head, fids.as_slice(), now),
+            Decided::Drops => { self.pass(store, now) }
+            Decided::TellsBoot => { self.tell_boot(store, head, now) }
+            Decided::Repeats(reply) => { self.repeat(store, reply, now) }
+            Decided::Refuses(code) => { self.refuse(store, head, code, now) }
+            Decided::Shows(reply, grants) => {
+                self.show(store, head, reply, grants.as_slice(), now)
+            }
+            Decided::GivesUp(fids) => { self.give_up(store, head, fids.as_slice(), now) }
             Decided::Changes(..) => unreachable!(),
         }
     }

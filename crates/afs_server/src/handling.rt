@@ -219,7 +219,7 @@ impl FileServer {
             OnDisk D.seen D.left_by D.size D.may_leave D.moment D.left_since D.faults D.own_faults D.calls D.setting D.limit (record_decided store.old.durable.boot now d) store.old.durable store.old.disk store.new.disk result }
     {
         match &message.carried {
-            Carried::Call { .. } => self.take_call(store, &message.head, received, now),
+            Carried::Call { .. } => { self.take_call(store, &message.head, received, now) }
             Carried::Reply { .. } => self.take_reply(store, &message.head, now),
             Carried::Refusal { .. } => self.take_reply(store, &message.head, now),
             Carried::Notice => self.take_notice(store, &message.head, now),
@@ -245,9 +245,9 @@ impl FileServer {
     {
         match received {
             Received::Nothing => self.take_nothing(store, now),
-            Received::Unserved { head } => self.take_call(store, head, received, now),
-            Received::Unreadable { head } => self.take_call(store, head, received, now),
-            Received::Whole { message } => self.take_whole(store, received, message, now),
+            Received::Unserved { head } => { self.take_call(store, head, received, now) }
+            Received::Unreadable { head } => { self.take_call(store, head, received, now) }
+            Received::Whole { message } => { self.take_whole(store, received, message, now) }
         }
     }
 
