@@ -75,4 +75,4 @@ run_by_reads s h end r reads codes =
     legal_from s (set_up s ∷ []) h (run_placed s h end r) (run_grants s h end r) (run_ideal s h end r) (run_alone s h end r) (run_breaks s h end r) reads codes (run_own s h end r) (run_gifts s h end r) (run_waits s h end r) (run_entered s h end r)
 
 pub run_legal : RunsAreLegal
-run_legal s h end cell r = run_by_reads s h end r (run_reads s h end cell r) (run_codes s h end cell r)
+run_legal s h end cell r = run_by_reads s h end r (run_reads s h end r) (run_codes s h end cell r)

@@ -11,7 +11,6 @@ use Rattle.afs_law.proofs.Ticking.{HeldTicks, ticks_first, ticks_kept}
 use Rattle.afs_law.proofs.Trusted.{trusted_good}
 use Rattle.afs_law.proofs.Trusting.{Trusts}
 use Rattle.afs_law.proofs.Watched.{Watched, shown_now, watched_first, watched_kept}
-use Rattle.afs_law.specs.Cells.{IsOfCell}
 use Rattle.afs_law.specs.ClientParts.{IsDue, IsUsed, ReadsAreGood}
 use Rattle.afs_law.specs.Ideal.{set_up}
 use Rattle.afs_law.specs.Laws.{TrustedIsGood}
@@ -66,15 +65,15 @@ entries_good s past [] a b = tt
 entries_good s past (e ∷ es) a b = (lines_good s e.actor past [] e.lines a.0 b.0, entries_good s (e ∷ past) es a.1 b.1)
 
 pub run_reads : ReadsAreGood
-run_reads s h end cell r =
+run_reads s h end r =
     entries_good s (set_up s ∷ []) h (run_each (Watched s) (λ past e. EachLine (IsShown s) e.actor past [] e.lines) (watched_kept s) (λ c past x W. shown_now s c past x W) r.inputs (start s) (set_up s ∷ []) h end (watched_first s) r.leads) (run_due s h end r)
 
 -- ---- what an idle client trusts
 
-run_trusts : (s : Script) (h : List Entry) (end : Cell) → IsOfCell s → RunsTo h s end → (j : ℕ) → Trusts s j (end.clients j) end.clock (past_of (set_up s ∷ []) h)
-run_trusts s h end cell r j = (run_keeps (Watched s) (watched_kept s) r.inputs (start s) (set_up s ∷ []) h end (watched_first s) r.leads).1 j
+run_trusts : (s : Script) (h : List Entry) (end : Cell) → RunsTo h s end → (j : ℕ) → Trusts s j (end.clients j) end.clock (past_of (set_up s ∷ []) h)
+run_trusts s h end r j = (run_keeps (Watched s) (watched_kept s) r.inputs (start s) (set_up s ∷ []) h end (watched_first s) r.leads).1 j
 
 pub run_trusted : TrustedIsGood
-run_trusted s h end is r j idle f e found lasts =
+run_trusted s h end r j idle f e found lasts =
     let ticks = (run_keeps (HeldTicks s) (ticks_kept s) r.inputs (start s) (set_up s ∷ []) h end (ticks_first s) r.leads).1 in
-    trusted_good s j (end.clients j) end.clock (past_of (set_up s ∷ []) h) f e ticks (run_trusts s h end is r j) (λ g u at. run_kept s h end r j g u at) idle found lasts
+    trusted_good s j (end.clients j) end.clock (past_of (set_up s ∷ []) h) f e ticks (run_trusts s h end r j) (λ g u at. run_kept s h end r j g u at) idle found lasts

@@ -2,7 +2,7 @@
 use Rattle.afs_history.specs.declared.scripts.Script.{Script}
 use Rattle.afs_law.proofs.Bringing.{fid_of}
 use Rattle.afs_law.proofs.Looking.{Ready, ShownRead, ready_good}
-use Rattle.afs_law.proofs.Minding.{HasDone}
+use Rattle.afs_law.proofs.Proceeding.{idle_done}
 use Rattle.afs_law.proofs.Taking.{ready_old}
 use Rattle.afs_law.proofs.Trusting.{Trusts}
 use Rattle.afs_law.specs.ClientParts.{IsFetchedEntry}
@@ -20,7 +20,7 @@ use Rattle.afs_rows.specs.ClientRow.{body_seen, find_cached, shown_by}
 use Rattle.afs_rows.specs.Going.{ClientState, Need, reads, reads_status}
 use Rattle.afs_rows.specs.Runs.{Entry}
 use Rattle.afs_rows.specs.States.{CacheEntry}
-use Rattle.std.proofs.Common.{◌≡◌, ◌<◌, ℕ, List, [], Some, None, refl, sym, ap, subst, ◌∙◌}
+use Rattle.std.proofs.Common.{◌≡◌, ◌<◌, ℕ, List, [], Some, None, refl, ap, subst, ◌∙◌}
 
 -- what can be shown of a read but for the reply that was used is all, where nothing was fetched
 cached_good : (s : Script) (c : Node) (f : Fid) (index : ℕ) (body : ReadBody) (past : List Entry) → ShownRead s c f index Cached body past [] → GoodRead s c f index Cached body past []
@@ -39,15 +39,12 @@ cached_good s c f index body past r = record {
   newest = r.newest;
 }
 
-idle_done : (s : Script) (j : ℕ) (x : ClientState) (f : Fid) (server : Node) (past : List Entry) → x.running ≡ None → HasDone j x f server past
-idle_done s j x f server past idle = ((λ act runs. let no_ : None ≡ Some act = sym idle ∙ runs in absurd cc), (λ act runs. let no_ : None ≡ Some act = sym idle ∙ runs in absurd cc))
-
 shown_well : (s : Script) (j : ℕ) (x : ClientState) (clock : ℕ) (past : List Entry) (f : Fid) (e : CacheEntry) (need : Need) (body : ReadBody) → clock_of (lines_of past) ≡ clock → Trusts s j x clock past → ((g : Fid) (u : CacheEntry) → find_cached g x.cache ≡ Some u → IsFetchedEntry j g u past) → x.running ≡ None → find_cached f x.cache ≡ Some e → clock < e.expiry → shown_by need e ≡ Some body
     → GoodRead s (Client j) f e.index Cached body past []
 shown_well s j x clock past f e need body ticks T K idle found lasts shown =
     let own : e.fid ≡ f = fid_of f x.cache e found in
     let at : find_cached e.fid x.cache ≡ Some e = ap (λ (g : Fid). find_cached g x.cache) own ∙ found in
-    let r : Ready s j e.fid e past [] = ready_old s j x clock past [] e.fid e refl T K (idle_done s j x e.fid e.server past idle) lasts (record { found = at; fetched = refl; spares = λ o d. d; low = λ l. (T.entries e.fid e at).low l }) in
+    let r : Ready s j e.fid e past [] = ready_old s j x clock past [] e.fid e refl T K (idle_done j x e.fid e.server past idle) lasts (record { found = at; fetched = refl; spares = λ o d. d; low = λ l. (T.entries e.fid e at).low l }) in
     subst (λ (g : Fid). GoodRead s (Client j) g e.index Cached body past []) own (cached_good s (Client j) e.fid e.index body past (ready_good s j clock past [] need e body ticks lasts shown r))
 
 pub trusted_good : (s : Script) (j : ℕ) (x : ClientState) (clock : ℕ) (past : List Entry) (f : Fid) (e : CacheEntry) → clock_of (lines_of past) ≡ clock → Trusts s j x clock past → ((g : Fid) (u : CacheEntry) → find_cached g x.cache ≡ Some u → IsFetchedEntry j g u past) → x.running ≡ None → find_cached f x.cache ≡ Some e → clock < e.expiry

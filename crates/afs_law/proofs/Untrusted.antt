@@ -213,10 +213,13 @@ run_untrusted s h end r i j place head user call id at from to some runs not_ f 
       x.reply,
       (
         x.by,
-        elim (x.passed from (some ∙ ap (λ (n : ℕ). Some n) (sym vol)) not_) [
-          | inl p ↦ older_boot s end past i j head x.reply G (reply_in s end past i j head user call f G x) x.code x.from x.to from above (up_past j head x.reply past p)
-          | inr o ↦ over_boot s end past i j head user call f G from to above x o
-        ],
+        (
+          x.from,
+          elim (x.passed from (some ∙ ap (λ (n : ℕ). Some n) (sym vol)) not_) [
+            | inl p ↦ older_boot s end past i j head x.reply G (reply_in s end past i j head user call f G x) x.code x.from x.to from above (up_past j head x.reply past p)
+            | inr o ↦ over_boot s end past i j head user call f G from to above x o
+          ],
+        ),
       ),
     )
 

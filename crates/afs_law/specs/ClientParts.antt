@@ -129,9 +129,9 @@ AnswersAreDue = (s : Script) (history : List Entry) (end : Cell) → RunsTo hist
 abbrev pub AnswersAreGood : Type 0
 AnswersAreGood = (s : Script) (history : List Entry) (end : Cell) → IsOfCell s → RunsTo history s end → AllLines (IsCodeGood s) s history
 
--- and each read
+-- Each read is good: of a promised body by a promise, of rights by a reply to the act's call for them
 abbrev pub ReadsAreGood : Type 0
-ReadsAreGood = (s : Script) (history : List Entry) (end : Cell) → IsOfCell s → RunsTo history s end → AllLines (IsReadGood s) s history
+ReadsAreGood = (s : Script) (history : List Entry) (end : Cell) → RunsTo history s end → AllLines (IsReadGood s) s history
 
 -- ---- what a client waits for
 

@@ -103,7 +103,7 @@ PairsAreKnown = (s : Script) (history : List Entry) (end : Cell) → RunsTo hist
 -- what an idle client trusts can be shown: a read of it from the cache would be good
 abbrev pub TrustedIsGood : Type 0
 TrustedIsGood =
-    (s : Script) (history : List Entry) (end : Cell) → IsOfCell s → RunsTo history s end → (j : ℕ) → (end.clients j).running ≡ None → (f : Fid) (e : CacheEntry) → find_cached f (end.clients j).cache ≡ Some e → end.clock < e.expiry
+    (s : Script) (history : List Entry) (end : Cell) → RunsTo history s end → (j : ℕ) → (end.clients j).running ≡ None → (f : Fid) (e : CacheEntry) → find_cached f (end.clients j).cache ≡ Some e → end.clock < e.expiry
     → ((body : Body) → e.body ≡ Some body → GoodRead s (Client j) f e.index Cached (seen.Contents body) (past_of (set_up s ∷ []) history) []) × GoodRead s (Client j) f e.index Cached (seen.Status e.status) (past_of (set_up s ∷ []) history) []
 
 -- a good read shows the newest version where no break of its grant is outstanding
@@ -361,7 +361,7 @@ UnawaitedAreUntrusted =
     (s : Script) (history : List Entry) (end : Cell) → RunsTo history s end → (i j place : ℕ) (head : Head) (user : List ℕ) (call : FsCall) (id : ℕ) → message_at end.sent place ≡ Some (record { head = head; carried = carried.Call user (ask.File call) }) → head.from ≡ Client j → head.to ≡ Server i
     → volume_changed call ≡ Some id → admitted (end.hosts i).state.lasting.boot (end.hosts i).state.seats head ≡ pairs.runs → (IsAwaited (end.clients j) head → ⊥)
     → (f : Fid) (e : CacheEntry) → is_in_scope call f ≡ true → find_cached f (end.clients j).cache ≡ Some e
-    → (reply : Message) × ((fetch_reply (Client j) f (past_of (set_up s ∷ []) history) ≡ Some reply) × (reply.head.boot < (end.hosts i).state.lasting.boot))
+    → (reply : Message) × ((fetch_reply (Client j) f (past_of (set_up s ∷ []) history) ≡ Some reply) × ((reply.head.from ≡ Server i) × (reply.head.boot < (end.hosts i).state.lasting.boot)))
 
 -- A changing call that its client gave up at the third timeout and that its server would run, up or down: the client keeps nothing of the
 -- volume that it may change

@@ -1,7 +1,7 @@
 //! Laws about the runs of a script. Each is the contract of a function that does nothing.
 
 ghost use Rattle.afs_law.specs.Laws.{AcknowledgedAreKept, AcknowledgedAreMade, AnswersAreRecent, ChangesAreFolded, EffectsAreTold, KeysRunOnce, ReadsAreNewest, RunsAreLegal, RunsAreOne, SetUpsAreFirst, StartsAreFolded, VolumesAreTold, PairsAreKnown, TrustedIsGood, RoomlessAreRefused, UnservedAreRefused, CallsRunOnce, RepliesAreCaused, RepliesWereRun, KeptWereRun, DurableAreChanges, GrantsAreKept, BreaksAreOwed, RepliesFollowDrops, UnawaitedAreUntrusted, DeadAreUntrusted};
-ghost use Rattle.afs_law.specs.ClientParts.{AnswersAreDue, AnswersAreGood, CachedAreFetched, ChangesAreAlone, GiftsAreDropped, WaitsAreSilent};
+ghost use Rattle.afs_law.specs.ClientParts.{AnswersAreDue, AnswersAreGood, CachedAreFetched, ChangesAreAlone, GiftsAreDropped, ReadsAreGood, WaitsAreSilent};
 ghost use Rattle.afs_law.specs.Parts.{ActsAreTold, CallsAreAsked, ChangesAreIdeal, EntriesAreSound, LinesAreInPlace, MessagesAreOwn};
 ghost use Rattle.afs_law.specs.ServerParts.{BreaksAreGood, FallsAreKept, GoodReadsAreLegal, GrantsAreGood, RepliesAreTrue, RepliesWait, VersionsAreKept};
 
@@ -51,7 +51,7 @@ pub fn pairs_are_known()
     ensures { PairsAreKnown }
 {}
 
-/// In a run of such a script, what an idle client trusts can be shown from its cache.
+/// What an idle client trusts can be shown from its cache.
 pub fn trusted_is_good()
     ensures { TrustedIsGood }
 {}
@@ -178,6 +178,12 @@ pub fn answers_are_due()
 /// its call, or that it had nothing to give back.
 pub fn answers_are_good()
     ensures { AnswersAreGood }
+{}
+
+/// Each read is good: it is whole, no older than what its client saw, rests on a promise that lasts, and shows the newest version unless
+/// that promise was withdrawn; of rights it was the newest since the act began.
+pub fn reads_are_good()
+    ensures { ReadsAreGood }
 {}
 
 /// While a client waits for a call it reads nothing and is answered nothing; and unless the reply is spoiled it dropped nothing since that
