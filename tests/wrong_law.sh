@@ -50,11 +50,14 @@ needed() {
     for below in $(sed -n "s/^$1://p" crates.txt); do needed "$below"; done
 }
 
-# The file of proofs and those below it.
+# The file of proofs and those below it, each once.
 stands_on() {
-    echo "$1"
-    for below in $(sed -n 's/^use Rattle\.afs_law\.proofs\.\([^.]*\)\..*/\1/p' "crates/afs_law/proofs/$1.antt" | sort -u); do
-        stands_on "$below"
+    while [ "$#" -gt 0 ]; do
+        file=$1
+        shift
+        if grep -qx "$file" "$work/walk"; then continue; fi
+        echo "$file" >> "$work/walk"
+        set -- "$@" $(sed -n 's/^use Rattle\.afs_law\.proofs\.\([^.]*\)\..*/\1/p' "crates/afs_law/proofs/$file.antt" | sort -u)
     done
 }
 
@@ -68,7 +71,8 @@ done
 rm -rf "$work"/crates/afs_rows/proofs/*
 : > "$work/crates/afs_rows/proofs/Lib.antt"
 model=$work/crates/afs_law
-stands_on Assembled | sort -u > "$work/walk"
+: > "$work/walk"
+stands_on Assembled
 
 # Proves the crate in the copy. What was refused is told in two files, sorted and without what only stands on it: in
 # refused the lemmas of the walk, one 'FILE LEMMA' a line, and whole lines on other files than proofs; in others the rest.
