@@ -266,6 +266,5 @@ impl Disk for FileDisk {
 
     fn crash(&mut self, _pick: u8)
         ensures same { self.new ≡ self.old }
-    {
-    }
+    {}
 }

@@ -153,7 +153,10 @@ fn a_file_that_stands_elsewhere_is_not_lent(rt: HostRuntime) -> Result<(), Fail>
     fs::hard_link(&rt, "./elsewhere", "./node-85")?;
     assert_eq!(rt; bank.lend(&here, 85, 100).err(), Some(LendFault::Failed));
     fs::remove_file(&rt, "./node-85")?;
-    assert_eq!(rt; fs::read(&rt, "./elsewhere")?.as_slice(), b"kept".as_slice());
+    assert_eq!(rt;
+        fs::read(&rt, "./elsewhere")?.as_slice(),
+        b"kept".as_slice()
+    );
     fs::remove_file(&rt, "./elsewhere")?;
     Ok(())
 }

@@ -9,6 +9,7 @@ const NULL_DEVICE: &str = "/dev/null";
 
 /// The descriptor of the input, and the last one of the output and the errors.
 const INPUT: RawFd = 0;
+
 const LAST_OUTPUT: RawFd = 2;
 
 /// The null device in the place of each standard stream that is closed. Else the next file that is opened would take that place:
