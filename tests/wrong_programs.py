@@ -129,8 +129,8 @@ def clause(goal):
 
 
 def of_contract(goals):
-    """The clauses that these goals are about. What a loop keeps is no contract, but a step of the proof."""
-    return sorted({clause(it) for it in goals if not it.startswith(("loop-", "overflow"))})
+    """The clauses of the function and of its types that these goals are about: not what a loop keeps, or an overflow."""
+    return sorted({clause(it) for it in goals if it.startswith(("returns", "invariant_of"))})
 
 
 class Edit:
@@ -162,35 +162,36 @@ class Edit:
                 return f"nothing was said of {name}: {last[0][:160] if last else 'no line'}"
         return None
 
+    def is_refused(self, goals):
+        """Whether the clauses that the edit tells are among these goals, or any of the contract, where it tells none."""
+        found = {clause(it) for it in goals}
+        return found.issuperset(self.clauses) if self.clauses else bool(of_contract(goals))
+
     def judge(self, room, kept):
         """Whether the contract refuses the edit, and what to say of it."""
-        said = check(self.crate, room, self.functions, kept)
+        said, without = check(self.crate, room, self.functions, kept), ""
         why = self.unlike(said)
-        if why:
-            return False, why
-        found, answered = of_contract(said.goals), ""
-        if not found:
-            # What is complained of are proofs by hand alone: without them a clause has to stay open.
-            files = [it for it in said.files if os.path.basename(it) in ("Answers.antt", "Proof.antt")]
-            if not files:
-                return False, f"no clause of a contract refuses it, but {', '.join(sorted({*said.goals})) or 'a file of proofs'}"
-            for file in files:
+        by_hand = [it for it in said.files if os.path.basename(it) in ("Answers.antt", "Proof.antt")]
+        if not why and by_hand and not self.is_refused(said.goals):
+            # A proof by hand may only name what the edit took away: without it the clause has to stay open.
+            for file in by_hand:
                 os.remove(f"{room}/{file}")
-            said = check(self.crate, room, self.functions, kept)
+            said, without = check(self.crate, room, self.functions, kept), " without the answers by hand"
             why = self.unlike(said)
-            if why:
-                return False, f"{why}, once {', '.join(files)} is away"
-            found, answered = of_contract(said.goals), ", without the proof by hand"
-        where, refusing = " and ".join(self.functions), ", ".join(found)
-        lost = [it for it in self.clauses if it not in found]
-        if lost or not found:
-            return False, f"{where} is refused by {refusing or 'no clause of its contract'}, and not by {', '.join(lost)}{answered}"
-        return True, f"{where} is refused by {refusing}{answered}"
+        if why:
+            return False, f"{why}{without}"
+        where, found = " and ".join(self.functions), {clause(it) for it in said.goals}
+        if not self.is_refused(said.goals):
+            wanted = ", ".join(self.clauses) or "a clause of its contract"
+            return False, f"{where} is refused by {', '.join(sorted(found)) or 'no goal'}{without}, and not by {wanted}"
+        refusing = self.clauses or of_contract(said.goals)
+        others = len(found.difference(refusing))
+        return True, f"{where} is refused by {', '.join(refusing)}{f' and {others} more' if others else ''}{without}"
 
     def attempt(self, kept):
         """Tries the edit in a copy of the crate."""
-        if not self.functions or not self.clauses:
-            return False, "it has no line 'refused: FUNCTION' or no line 'clause: NAME'"
+        if not self.functions:
+            return False, "it has no line 'refused: FUNCTION'"
         crate = f"{edits.ROOT}/crates/{self.crate}"
         with tempfile.TemporaryDirectory(dir=os.path.dirname(kept)) as room:
             for part in PARTS:
@@ -211,11 +212,12 @@ def every_edit():
 
 
 def chosen(words):
-    """The edits of these crates, or of these names, or those of a turn: then every so many-th, so that each is tried in turn."""
+    """The edits of these crates or names, or those of a turn: every so many-th that tells its clause, so that each has its turn."""
     every = every_edit()
     if words[:1] == ["--turn"] and len(words) == 2:
-        turns = -(-len(every) // IN_A_TURN)
-        return every[int(words[1]) % turns :: turns]
+        settled = [it for it in every if it.clauses]
+        turns = -(-len(settled) // IN_A_TURN)
+        return settled[int(words[1]) % turns :: turns]
     for word in words:
         if not any(word in (it.crate, it.name) for it in every):
             raise Stop(f"there are no wrong programs {word}")
@@ -237,11 +239,11 @@ def try_all(tried):
     with tempfile.TemporaryDirectory(prefix="wrong-programs-") as work:
 
         def kept(crate):
-            """A folder for what is proved of the functions that the changed ones call: one for each crate and lane."""
-            if not hasattr(own, "work"):
-                own.work = tempfile.mkdtemp(dir=work)
-            os.makedirs(f"{own.work}/{crate}", exist_ok=True)
-            return f"{own.work}/{crate}"
+            """A folder for what is proved of the functions that the changed ones call, while a lane tries edits of one crate."""
+            if getattr(own, "crate", None) != crate:
+                shutil.rmtree(getattr(own, "kept", work + "/none"), ignore_errors=True)
+                own.crate, own.kept = crate, tempfile.mkdtemp(dir=work)
+            return own.kept
 
         def one(edit):
             began = time.time()

@@ -13,9 +13,9 @@
 # crates/*/out/rlib: rt ci and rt check leave them there. Where one is not there, or older than its sources, the status is 2.
 #
 # An edit fails here where it can't be applied or compiled, where the function is accepted or only another one is refused, and where
-# its clause is not among those that stay open. What a loop keeps, and an overflow, count for nothing: they are not the contract.
-# Where all that is complained of are files of answers, which may only name what the edit took away, it is tried once more without
-# these files.
+# its clause is not among those that stay open. Where it tells no clause, one of the function's contract has to stay open, which
+# what a loop keeps and an overflow are not; such an edit has no turn. Where files of answers are complained of, which may only
+# name what the edit took away, and the clause does not stay open beside them, it is tried once more without these files.
 set -eu
 
 exec python3 "$(dirname "$0")/wrong_programs.py" "$@"
