@@ -7,6 +7,7 @@ import glob
 import os
 import re
 import shutil
+import signal
 import subprocess
 import sys
 import tempfile
@@ -253,12 +254,17 @@ def try_all(tried):
                 print(f"{'ok' if is_refused else 'failed'}: {edit.name}: {text} ({time.time() - began:.0f} s)", flush=True)
 
         with concurrent.futures.ThreadPoolExecutor(lanes) as pool:
-            for it in [pool.submit(one, edit) for edit in tried]:
-                it.result()
+            try:
+                for it in [pool.submit(one, edit) for edit in tried]:
+                    it.result()
+            except BaseException:
+                pool.shutdown(cancel_futures=True)
+                raise
     return sum(refused)
 
 
 def main(words):
+    signal.signal(signal.SIGTERM, lambda *_: sys.exit(143))
     try:
         tried = chosen(words)
         stop_on_lacking(tried)
