@@ -217,7 +217,7 @@ def chosen(words):
     every = every_edit()
     if words[:1] == ["--turn"] and len(words) == 2:
         settled = [it for it in every if it.clauses]
-        turns = -(-len(settled) // IN_A_TURN)
+        turns = max(1, -(-len(settled) // IN_A_TURN))
         return settled[int(words[1]) % turns :: turns]
     for word in words:
         if not any(word in (it.crate, it.name) for it in every):
