@@ -195,6 +195,12 @@ class Check:
             self.faults.append((number, fault))
 
 
+def lone_fault(column, named):
+    """A script may stand for itself; other files and folders have names after them."""
+    is_script = column == "test" and named.endswith(".sh")
+    return None if is_script else f"{named} has no name after it"
+
+
 def check_cell(check, number, column, cell):
     """Looks up the names of a cell. What follows the word `clause` are clauses of the function before, up to a semicolon."""
     named, function, is_clause, names = None, None, False, 0
@@ -203,7 +209,7 @@ def check_cell(check, number, column, cell):
             is_clause = "clause" in part or is_clause and ";" not in part
         elif "/" in part:
             if named and not names:
-                check.tell(number, f"{named} has no name after it")
+                check.tell(number, lone_fault(column, named))
             named, function, is_clause, names = part, None, False, 0
             check.look(number, file_fault(column, named))
         elif not named or not os.path.exists(place_of(named)):
@@ -214,15 +220,13 @@ def check_cell(check, number, column, cell):
             function = function if is_clause else part
     if not named:
         check.tell(number, f"the {column} names no file")
-    elif not names and not os.path.isfile(place_of(named)):
-        check.tell(number, f"{named} has no name after it")
-    elif not names and column != "test":
-        check.tell(number, f"{named} has no name after it")
+    elif not names:
+        check.tell(number, lone_fault(column, named))
 
 
 def check_rule(check, number, cell, count, sections):
     """A rule has its number, a sentence, and a link to its section of the other page."""
-    if not re.match(rf"{count}\. \w", cell):
+    if not re.match(rf"{count}\. [\w`-]", cell):
         check.tell(number, f"the rule does not begin with its number, {count}")
     targets = [target for _, target in links(cell)]
     wanted = os.path.basename(RULED) + "#"
@@ -301,7 +305,7 @@ TRIALS = (
     ("a method of another type", replaced("`FileServer::handle`", "`CacheManager::handle`"), "there is no CacheManager::handle"),
     ("a definition in another file", replaced("`afs_rows/specs/ServerRow` `admits`", "`afs_rows/specs/ClientRow` `admits`"), "admits is not declared"),
     ("a file that is not there", replaced("`afs_rows/specs/ServerRow`", "`afs_rows/specs/ServersRow`"), "there is no afs_rows/specs/ServersRow"),
-    ("a clause that is none", replaced("clause `step`", "clause `steep`"), "has no clause steep"),
+    ("a clause that is none", replaced("`FileServer::handle`, clause `step`", "`FileServer::handle`, clause `steep`"), "has no clause steep"),
     ("a private function for a proof", replaced("`FileServer::handle`, clause `step`", "`FileServer::take`"), "is not public"),
     ("a law that is none", replaced("`calls_run_once`", "`calls_run_twice`"), "there is no calls_run_twice"),
     ("a row that is not there", replaced("`call_given_twice`", "`call_given_thrice`"), "there is no call_given_thrice"),
