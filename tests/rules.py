@@ -11,6 +11,7 @@ import os
 import re
 import sys
 from dataclasses import dataclass, field
+from functools import lru_cache
 
 from pages import anchor, anchors, links, prose_lines, table_rows, text_of, HEADING
 
@@ -25,15 +26,19 @@ WITHOUT_RULES = ("Where each rule stands", "What is promised of all this")
 ENDINGS = {"rows": ".row", "must-fail": ".edit", "wrong_law": ".edit", "wrong_operations": ".edit", "wrong_disks": ".edit"}
 
 
+# Each file is read once.
+text_in = lru_cache(None)(text_of)
+
+
 # ---- files of definitions and proofs
 
+DECLARED = re.compile(r"^(?:(?:abbrev|unfoldable|opaque|pub) )*(\w+) :|^(?:(?:opaque|pub) )*(?:record|data) (\w+) [:({]", re.MULTILINE)
 
-def is_declared(name, text):
-    """A word is declared at the beginning of a line; fields and cases stand further in, and are none."""
-    word = re.escape(name)
-    plain = rf"^(?:(?:abbrev|unfoldable|opaque|pub) )*{word} :"
-    shaped = rf"^(?:(?:opaque|pub) )*(?:record|data) {word} (?::|\(|\{{)"
-    return re.search(f"{plain}|{shaped}", text, re.MULTILINE) is not None
+
+@lru_cache(None)
+def declared_in(path):
+    """The words of a file. They stand at the beginning of a line; fields and cases stand further in, and are none."""
+    return {plain or shaped for plain, shaped in DECLARED.findall(text_in(path))}
 
 
 # ---- files of code
@@ -67,11 +72,12 @@ def owner_named(kind, rest):
     return re.search(r"\w+", name).group(), of_trait
 
 
-def functions_in(text):
+@lru_cache(None)
+def functions_in(path):
     """The functions of a file of code, by their names; a method is named Type::name."""
     functions = {}
     owner, of_trait, is_test, open_head = "", False, False, None
-    for line in text.splitlines():
+    for line in text_in(path).splitlines():
         if line == "}":
             owner, of_trait = "", False
         block = OWNER.match(line)
@@ -96,9 +102,10 @@ def functions_in(text):
     return functions
 
 
-def has_item(name, text):
-    """A constant, a type or a trait of this name."""
-    return re.search(rf"^(?:pub(?:\(\w+\))? )?(?:const|static|struct|enum|trait) {re.escape(name)}\b", text, re.MULTILINE) is not None
+@lru_cache(None)
+def items_in(path):
+    """The constants, types and traits of a file of code."""
+    return set(re.findall(r"^(?:pub(?:\(\w+\))? )?(?:const|static|struct|enum|trait) (\w+)", text_in(path), re.MULTILINE))
 
 
 # ---- what is wrong with a name, in its column
@@ -130,19 +137,17 @@ def file_fault(column, named):
 
 
 def word_fault(named, name):
-    return None if is_declared(name, text_of(place_of(named))) else f"{name} is not declared in {named}"
+    return None if name in declared_in(place_of(named)) else f"{name} is not declared in {named}"
 
 
 def code_fault(named, name):
-    text = text_of(place_of(named))
-    if name in functions_in(text) or has_item(name, text):
-        return None
-    return f"there is no {name} in {named}"
+    place = place_of(named)
+    return None if name in functions_in(place) or name in items_in(place) else f"there is no {name} in {named}"
 
 
 def contract_fault(named, name):
     """The proof of a rule may be a public contract, or a law, which is one whose function does nothing."""
-    function = functions_in(text_of(place_of(named))).get(name)
+    function = functions_in(place_of(named)).get(name)
     if not function:
         return f"there is no {name} in {named}"
     if not function.is_public:
@@ -151,7 +156,7 @@ def contract_fault(named, name):
 
 
 def clause_fault(named, function, name):
-    found = functions_in(text_of(place_of(named))).get(function)
+    found = functions_in(place_of(named)).get(function)
     return None if found and name in found.clauses else f"{function} in {named} has no clause {name}"
 
 
@@ -161,8 +166,8 @@ def test_fault(named, name):
         ending = next((ENDINGS[part] for part in named.split("/") if part in ENDINGS), ".edit")
         return None if os.path.exists(os.path.join(place, name + ending)) else f"there is no {name} in {named}"
     if named.endswith(".table"):
-        return None if re.search(rf"^\| {re.escape(name)} +\|", text_of(place), re.MULTILINE) else f"there is no line {name} in {named}"
-    function = functions_in(text_of(place)).get(name) if named.endswith(".rt") else None
+        return None if re.search(rf"^\| {re.escape(name)} +\|", text_in(place), re.MULTILINE) else f"there is no line {name} in {named}"
+    function = functions_in(place).get(name) if named.endswith(".rt") else None
     return None if function and function.is_test else f"there is no test {name} in {named}"
 
 
