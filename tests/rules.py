@@ -22,8 +22,6 @@ FEWEST_RULES = 60
 # This section of the page says why a column has none, and these of the other page state no rule.
 REASONS = "Where a column has none"
 WITHOUT_RULES = ("Where each rule stands", "What is promised of all this")
-# What a folder's names end in.
-ENDINGS = {"rows": ".row", "must-fail": ".edit", "wrong_law": ".edit", "wrong_operations": ".edit", "wrong_disks": ".edit"}
 
 
 # Each file is read once.
@@ -128,12 +126,20 @@ FOLDERS = {
 }
 
 
+def folders_of(named):
+    """A wrong program of a crate stands in its must-fail or in tests/wrong_programs, and may go from one to the other."""
+    crate = re.fullmatch(r"(?:tests/wrong_programs/)?(afs_\w+)(?:/must-fail)?", named)
+    return [f"crates/{crate.group(1)}/must-fail", f"tests/wrong_programs/{crate.group(1)}"] if crate else [place_of(named)]
+
+
+def is_there(named):
+    return any(os.path.exists(place) for place in folders_of(named))
+
+
 def file_fault(column, named):
     if not re.fullmatch(FOLDERS[column], named):
         return f"{named} is no place for a {column}"
-    if not os.path.exists(place_of(named)):
-        return f"there is no {named}"
-    return None
+    return None if is_there(named) else f"there is no {named}"
 
 
 def word_fault(named, name):
@@ -162,13 +168,15 @@ def clause_fault(named, function, name):
 
 def test_fault(named, name):
     place = place_of(named)
-    if os.path.isdir(place):
-        ending = next((ENDINGS[part] for part in named.split("/") if part in ENDINGS), ".edit")
-        return None if os.path.exists(os.path.join(place, name + ending)) else f"there is no {name} in {named}"
     if named.endswith(".table"):
-        return None if re.search(rf"^\| {re.escape(name)} +\|", text_in(place), re.MULTILINE) else f"there is no line {name} in {named}"
-    function = functions_in(place).get(name) if named.endswith(".rt") else None
-    return None if function and function.is_test else f"there is no test {name} in {named}"
+        found = re.search(rf"^\| {re.escape(name)} +\|", text_in(place), re.MULTILINE)
+    elif named.endswith(".rt"):
+        function = functions_in(place).get(name)
+        found = function and function.is_test
+    else:
+        files = [os.path.join(folder, name) for folder in folders_of(named)]
+        found = any(os.path.exists(file + ending) for file in files for ending in (".row", ".edit"))
+    return None if found else f"there is no {name} in {named}"
 
 
 def name_fault(column, named, function, name):
@@ -217,7 +225,7 @@ def check_cell(check, number, column, cell):
                 check.tell(number, lone_fault(column, named))
             named, function, is_clause, names = part, None, False, 0
             check.look(number, file_fault(column, named))
-        elif not named or not os.path.exists(place_of(named)):
+        elif not named or not is_there(named):
             check.look(number, f"{part} has no file before it")
         else:
             names += 1
@@ -314,7 +322,7 @@ TRIALS = (
     ("a private function for a proof", replaced("`FileServer::handle`, clause `step`", "`FileServer::take`"), "is not public"),
     ("a law that is none", replaced("`calls_run_once`", "`calls_run_twice`"), "there is no calls_run_twice"),
     ("a row that is not there", replaced("`call_given_twice`", "`call_given_thrice`"), "there is no call_given_thrice"),
-    ("a line of refusals that is not there", replaced("`two servers`", "`three servers`"), "there is no line three servers"),
+    ("a line of refusals that is not there", replaced("`two servers`", "`three servers`"), "there is no three servers"),
     ("an empty cell", lambda text: re.sub(r"\| none \|", "|  |", text, count=1), "or an empty one"),
     ("a cell too few", lambda text: re.sub(r"\| none \|", "|", text, count=1), "has not 5 cells"),
     ("a section that is not there", replaced("(cell.md#", "(cell.md#no-"), "has no section no-"),
