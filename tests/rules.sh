@@ -11,4 +11,4 @@ if ! command -v python3 > /dev/null 2>&1; then
     exit 0
 fi
 
-python3 tests/rules.py
+python3 -B tests/rules.py
