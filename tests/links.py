@@ -1,4 +1,5 @@
-"""Follows the links of the README and of the pages of docs to files of the repository, and to headings of pages.
+"""Follows the links of the README and of the pages of docs to files of the repository, and to headings of pages. It also looks
+whether the index of the decisions has each entry, once.
 
 python3 tests/links.py [PAGE..]: the pages, or README.md and all below docs. A link to elsewhere is not followed. The last line
 tells how many links were followed.
@@ -8,7 +9,10 @@ import os
 import re
 import sys
 
-from pages import anchors, links, text_of
+from pages import GIVEN, anchors, links, text_of
+
+INDEX = "docs/DECISIONS.md"
+ENTRIES = "docs/decisions"
 
 
 def all_pages():
@@ -35,6 +39,15 @@ def fault_of(page, target):
     return None
 
 
+def unlisted():
+    """The entries of the decisions that the index doesn't have just once."""
+    listed = [target for _, target in links(text_of(INDEX))]
+    for name in sorted(os.listdir(ENTRIES)):
+        for given in GIVEN.findall(text_of(os.path.join(ENTRIES, name))):
+            if listed.count(f"{os.path.basename(ENTRIES)}/{name}#{given}") != 1:
+                yield f"{name}#{given}"
+
+
 def tried():
     """The check is tried: links that lead nowhere, and what has to be told of each."""
     trials = (("docs/no_page.md", "there is no"), ("docs/cell.md#no-heading", "has no heading"), ("../outside.md", "leads out"))
@@ -55,6 +68,9 @@ def main():
             if fault:
                 wrong += 1
                 print(f"{page}:{number}: {fault}")
+    for entry in unlisted():
+        wrong += 1
+        print(f"{INDEX} doesn't have {entry} once")
     print(f"{followed} links checked, {wrong} wrong")
     return 1 if wrong else 0
 

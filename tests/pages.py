@@ -4,6 +4,7 @@ import re
 
 HEADING = re.compile(r"(#+) (.*)")
 LINK = re.compile(r"\[[^\]]*\]\(([^)\s]+)\)")
+GIVEN = re.compile(r'<a id="([^"]+)"></a>')
 
 
 def text_of(path):
@@ -28,9 +29,10 @@ def anchor(heading):
 
 
 def anchors(text):
-    """The anchors of a page's headings. A second heading of the same words gets -1, a third -2."""
+    """The anchors of a page: those that it gives itself, and its headings. A second heading of the same words gets -1, a third -2."""
     found = []
     for _, line in prose_lines(text):
+        found += GIVEN.findall(line)
         heading = HEADING.fullmatch(line)
         if heading:
             name = anchor(heading.group(2))
