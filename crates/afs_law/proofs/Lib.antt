@@ -96,10 +96,14 @@ pub mod Beside
 pub mod Watched
 pub mod Entering
 pub mod Trusted
+pub mod Brought
 pub mod Readings
+pub mod Claims
+pub mod Timed
 pub mod Assembled
 pub mod Made
 pub mod Surviving
+pub mod Ends
 pub mod Worked
 pub mod KeptRuns
 pub mod Wrong

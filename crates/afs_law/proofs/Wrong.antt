@@ -1,6 +1,6 @@
 -- Histories that are wrong for one reason each: a run, altered in one entry, of which just one condition isn't met.
 use Rattle.afs_law.proofs.Ideals.{at_home}
-use Rattle.afs_law.proofs.Backing.{all_lines, is_oweless, no_owe}
+use Rattle.afs_law.proofs.Backing.{all_lines}
 use Rattle.afs_num.specs.declared.types.Key.{Key}
 use Rattle.afs_num.specs.declared.types.Head.{Head}
 use Rattle.afs_records.specs.Records.{record_bytes, head_form, volume_form}
@@ -8,30 +8,39 @@ use Rattle.afs_rows.specs.ServerSteps.{server_row, back_timeout_row, wake_row, s
 use Rattle.afs_history.specs.declared.acts.Act.TheVariants as acts
 use Rattle.afs_history.specs.declared.acts.Operand.TheVariants as operands
 use Rattle.afs_history.specs.declared.acts.Written.TheVariants.{Hex}
+use Rattle.afs_history.specs.declared.scripts.Script.{Script}
+use Rattle.afs_history.specs.declared.scripts.SetupLine.TheVariants as setup
+use Rattle.afs_model.specs.FsRows.{call_number}
+use Rattle.afs_num.specs.declared.histories.ReadStatus.{ReadStatus}
+use Rattle.afs_num.specs.declared.messages.Carried.{Carried}
 use Rattle.afs_history.specs.declared.lines.Line.{Line}
 use Rattle.afs_history.specs.declared.lines.Line.TheVariants as lines
-use Rattle.afs_ideal.specs.AccessLists.{rights_of, acl_text, entry_text}
+use Rattle.afs_ideal.specs.AccessLists.{rights_of, acl_text, entry_text, acl_at, entry_at, named_at, line_number_at}
+use Rattle.afs_ideal.specs.AccessLists as access
 use Rattle.afs_ideal.specs.Directories.{directory_bytes, name_bytes, directory_of, names_at, whole_at, count_at, name_at, spelled_at, bytes_below}
-use Rattle.afs_ideal.specs.SetUp.{laid_at, led}
+use Rattle.afs_ideal.specs.SetUp.{acl_laid, laid_at, led}
+use Rattle.afs_ideal.specs.Operations.{Result}
 use Rattle.afs_ideal.specs.VnodeImage.{image}
-use Rattle.afs_law.proofs.Basics.{some_of}
+use Rattle.afs_law.proofs.Basics.{both, same_key-refl, some_of}
+use Rattle.afs_law.proofs.Passing.{sent_right}
+use Rattle.afs_law.proofs.Recent.{sent_before}
 use Rattle.afs_law.proofs.Heard.{ran_heard}
-use Rattle.afs_law.specs.Grants.{GrantOf, until}
+use Rattle.afs_law.specs.Grants.{GrantOf, IsDropped, until}
 use Rattle.afs_num.specs.declared.histories.Actor.{Actor}
 use Rattle.afs_num.specs.declared.types.Node.{Node}
 use Rattle.afs_law.proofs.Worked.{apart_numbers, home, by_lines, stores, alters, answer, begun, entries, file, root, script, six_front}
-use Rattle.afs_law.specs.Breaks.{HasTimeout, HasStopped}
-use Rattle.afs_law.specs.Legal.{IsPromisedBy, Cause, EndsAct, IsResult, Legal, answer_at, code_given}
+use Rattle.afs_law.specs.Breaks.{HasStopped, IsCarried}
+use Rattle.afs_law.specs.Legal.{Brings, IsOfKind, IsOpen, IsPromisedBy, Cause, EndsAct, IsResult, Legal, answer_at, code_given}
 use Rattle.afs_model.specs.Messages.{spelled}
 use Rattle.afs_num.specs.Names.{name_ok}
 use Rattle.afs_num.specs.declared.types.Fid.{Fid}
 use Rattle.afs_rows.specs.ClientRow.{begin_row, client_row}
-use Rattle.afs_rows.specs.Going.{Going, nothing_set, answers, asked, asks_for, gives_back, next, reads, stored_whole}
-use Rattle.afs_rows.specs.Runs.{Cell, Entry, Input, begins, comes_up, gives, moved, nothing, server_waits, sets_stop, start, starts_again, steady, stops, ticks, waits}
+use Rattle.afs_rows.specs.Going.{Going, began, nothing_set, answers, asked, asks_for, gives_back, next, reads, stored_whole}
+use Rattle.afs_rows.specs.Runs.{Cell, Entry, Input, begins, client_starts, client_stops, comes_up, gives, locations, moved, nothing, server_waits, sets_stop, start, starts_again, steady, stops, ticks, waits}
 use Rattle.afs_xdr.specs.Words.{opaque, pad, word, opaque_at, word_at, counted_at}
 use Rattle.afs_law.specs.Ideal.{set_up}
 use Rattle.afs_law.specs.Once.{past_of}
-use Rattle.afs_law.specs.Past.{WasSent, SendsTo, IsCall, server_boot, CalledSince, IsToCome, called_key, Ran, answered_key, code_told, given_message, lines_of, sent_of}
+use Rattle.afs_law.specs.Past.{WasSent, SendsTo, has_sent, is_called, same_key, onto, lines_on, IsCall, server_boot, CalledSince, IsToCome, called_key, Ran, answered_key, code_told, given_message, lines_of, sent_of}
 use Rattle.afs_num.specs.declared.calls.FsCall.{FsCall}
 use Rattle.afs_num.specs.declared.calls.FsCall.TheVariants as calls
 use Rattle.afs_num.specs.declared.histories.Actor.TheVariants as actors
@@ -46,7 +55,7 @@ use Rattle.afs_num.specs.declared.messages.Reply.TheVariants as tell
 use Rattle.afs_num.specs.declared.calls.FsReply.TheVariants as replies
 use Rattle.afs_num.specs.declared.messages.Message.{Message}
 use Rattle.afs_num.specs.declared.types.Node.TheVariants.{Client, Server}
-use Rattle.std.proofs.Common.{arith, ◌<◌, ◌≤◌, ◌≡◌, ◌∙◌, true, false, ℕ, ℤ, List, [], ◌∷◌, ◌++◌, ◌⊎◌, Option, None, Some, ap, sym, subst, refl, inl, inr, negsuc, pos}
+use Rattle.std.proofs.Common.{arith, ◌<◌, ◌≤◌, ◌≡◌, ◌∙◌, true, false, cond, not, nat_eq, Bool, ℕ, ℤ, List, [], ◌∷◌, ◌++◌, ◌⊎◌, Option, None, Some, ap, sym, subst, refl, inl, inr, negsuc, pos}
 use Rattle.std.specs.Fmt.{digits}
 use Rattle.std.specs.Prelude.{⊤, codes, drop, map, take}
 
@@ -180,20 +189,49 @@ owed_ahead : Legal (owes_ahead (entries (start (script 2)) six_front)) (script 2
 unfolding moved begin_row client_row server_row back_timeout_row wake_row start_row record_bytes head_form volume_form spelled opaque pad word laid_at led name_ok directory_bytes name_bytes rights_of image acl_text digits entry_text directory_of names_at opaque_at word_at counted_at whole_at count_at name_at spelled_at bytes_below
 owed_ahead h = h.1.1.1.0.0.0.0.1.cause.0
 
+-- no call among the messages is to this node
+abbrev AreNotTo : Node → List Message → Type 0
+AreNotTo q [] = ⊤
+AreNotTo q (m ∷ ms) = (m.head.to ≡ q → IsCall m.carried → ⊥) × AreNotTo q ms
+
+abbrev NeverTo : Node → List Entry → Type 0
+NeverTo q [] = ⊤
+NeverTo q (e ∷ past) = AreNotTo q e.sent × NeverTo q past
+
+not_to : (q : Node) (k : Key) (user : List ℕ) (call : FsCall) (ms : List Message) → AreNotTo q ms → SendsTo q k user call ms → ⊥
+not_to q k user call [] h x = x
+not_to q k user call (m ∷ ms) h (inl x) = h.0 x.0 (subst IsCall (sym x.1.1) tt)
+not_to q k user call (m ∷ ms) h (inr x) = not_to q k user call ms h.1 x
+
+never_to : (q : Node) (k : Key) (user : List ℕ) (call : FsCall) (past : List Entry) → NeverTo q past → WasSent q k user call past → ⊥
+never_to q k user call [] h x = x
+never_to q k user call (e ∷ past) h (inl x) = not_to q k user call e.sent h.0 x
+never_to q k user call (e ∷ past) h (inr x) = never_to q k user call past h.1 x
+
+one_server : Server 1 ≡ Server 2 → ⊥
+one_server e = absurd cc
+
+no_client : Server 1 ≡ Client 1 → ⊥
+no_client e = absurd cc
+
+two_clients : Client 2 ≡ Client 1 → ⊥
+two_clients e = absurd cc
+
 -- a break is given up by timeouts of before it became owed
 abbrev timeouts_first : List Entry → List Entry
 timeouts_first (a ∷ b ∷ c ∷ d ∷ e ∷ f ∷ es) = a ∷ b ∷ c ∷ e ∷ f ∷ d ∷ es
 timeouts_first es = es
 
-only_owe : (newer base ls : List Line) (l : Line) (c : Node) (what : Option Fid) (n : ℕ) → all_lines is_oweless ls ≡ true → l ∷ ls ≡ newer ++ (lines.Owe (Server 1) c what n ∷ base) → newer ≡ []
-only_owe [] base ls l c what n none e = refl
-only_owe (x ∷ newer) base ls l c what n none e = let rest : ls ≡ newer ++ (lines.Owe (Server 1) c what n ∷ base) = cc in absurd (no_owe ls newer base (Server 1) c what n none rest)
+abbrev quit_ahead_history : List Entry
+quit_ahead_history = timeouts_first (entries (start (script 2)) (begins 1 (acts.Open (operands.Fid file)) ∷ gives 1 steady ∷ begins 2 (acts.Close (operands.Fid file) (Hex (codes "def"))) ∷ gives 3 steady ∷ server_waits 1 (Client 1) ∷ server_waits 1 (Client 1) ∷ server_waits 1 (Client 1) ∷ []))
 
-quit_ahead : Legal (timeouts_first (entries (start (script 2)) (begins 1 (acts.Open (operands.Fid file)) ∷ gives 1 steady ∷ begins 2 (acts.Close (operands.Fid file) (Hex (codes "def"))) ∷ gives 3 steady ∷ server_waits 1 (Client 1) ∷ server_waits 1 (Client 1) ∷ server_waits 1 (Client 1) ∷ []))) (script 2) → ⊥
+quit_ahead : Legal quit_ahead_history (script 2) → ⊥
 unfolding moved begin_row client_row server_row back_timeout_row wake_row start_row record_bytes head_form volume_form spelled opaque pad word laid_at led name_ok directory_bytes name_bytes rights_of image acl_text digits entry_text directory_of names_at opaque_at word_at counted_at whole_at count_at name_at spelled_at bytes_below
 quit_ahead h =
-    let g = h.1.1.1.1.1.1.0.0.0.1.0.1 in
-    subst (HasTimeout (Server 1) (Client 1) g.epoch g.number 1) (only_owe g.owe.newer g.owe.base _ _ (Client 1) g.what 1 refl g.owe.split) g.first
+    let g = h.1.1.1.0.0.0.0.1 in
+    let past : List Entry = past_of (set_up (script 2) ∷ []) (take 3 quit_ahead_history) in
+    let none_ : NeverTo (Client 1) past = ((λ e c. no_client e, tt), ((λ e c. c, tt), ((λ e c. no_client e, tt), (tt, tt)))) in
+    never_to (Client 1) (record { node = Server 1; epoch = 1; number = 1 }) g.user g.call past none_ g.sent
 
 -- a promise beside no call, which ends at once: the one before it would seem to be over
 abbrev promises_nothing : List Entry → List Entry
@@ -224,7 +262,7 @@ answers_ahead (e ∷ f ∷ es) = e ∷ answers_ahead (f ∷ es)
 
 answered_ahead : Legal (answers_ahead (entries (start (script 1)) store_front)) (script 1) → ⊥
 unfolding moved begin_row client_row server_row back_timeout_row wake_row start_row record_bytes head_form volume_form spelled opaque pad word laid_at led name_ok directory_bytes name_bytes rights_of image acl_text digits entry_text directory_of names_at opaque_at word_at counted_at whole_at count_at name_at spelled_at bytes_below
-answered_ahead h = ran_heard _ _ (h.1.0.1.1.0 1 1 (refl, tt) refl refl) ((λ x. x), ((λ x. x), ((λ x. x), tt)))
+answered_ahead h = ran_heard _ _ (h.1.0.1.1.0.0 1 1 (refl, tt) refl refl).ran ((λ x. x), ((λ x. x), ((λ x. x), tt)))
 
 -- the server stops behind the change, and answers in the same entry
 abbrev stops_there : Entry → Entry
@@ -378,7 +416,7 @@ old_reply_front = begins 1 (acts.Open (operands.Fid file)) ∷ gives 1 steady �
 read_of_an_old_reply : Legal (alters 4 (instead (lines.Given 2 ∷ shown Fetched ∷ [])) (entries (start (script 1)) old_reply_front)) (script 1) → ⊥
 unfolding moved begin_row client_row server_row back_timeout_row wake_row start_row record_bytes head_form volume_form spelled opaque pad word laid_at led name_ok directory_bytes name_bytes rights_of image acl_text digits entry_text directory_of names_at opaque_at word_at counted_at whole_at count_at name_at spelled_at bytes_below
 read_of_an_old_reply h =
-    let u = h.1.1.1.1.0.0.0.1.0.1.used refl in
+    let u = (h.1.1.1.1.0.0.0.1.0.1.used refl).used in
     elim (subst (λ (m : Message). CalledSince (answered_key m.head) (codes "guest") u.call (past_of (set_up (script 1) ∷ []) (entries (start (script 1)) (take 4 old_reply_front)))) (sym (some_of _ _ u.by)) u.called) [
       | inl x ↦ elim x.1 [ inl y ↦ let e : 2 ≡ 1 = ap (λ (k : Key). k.number) y.0 in absurd (omega (arith, e)) | inr y ↦ y ]
       | inr x ↦ let e : true ≡ false = x.0 in absurd cc
@@ -427,7 +465,7 @@ was_given_another e older m at two x = let no_ : 2 ≡ 1 = sym two ∙ (ap (λ (
 ran_behind_a_later_one : Legal (alters 6 (λ e. record e { sent = refusal_of_one ∷ [] }) (entries (start (script 1)) old_front)) (script 1) → ⊥
 unfolding moved begin_row client_row server_row back_timeout_row wake_row start_row record_bytes head_form volume_form spelled opaque pad word laid_at led name_ok directory_bytes name_bytes rights_of image acl_text digits entry_text directory_of names_at opaque_at word_at counted_at whole_at count_at name_at spelled_at bytes_below
 ran_behind_a_later_one h =
-    elim (ran_one _ (h.1.1.1.1.1.1.0.1.1.0 1 1 (refl, tt) refl refl)) [
+    elim (ran_one _ (h.1.1.1.1.1.1.0.1.1.0.0 1 1 (refl, tt) refl refl).ran) [
       | inl x ↦ x.first.0 ((tt, refl), ((refl, inr (refl, omega arith)), refl))
       | inr y ↦ elim y [
         | inl x ↦ was_given_another _ _ _ refl refl x
@@ -468,7 +506,7 @@ was_in_one e older one x = let no_ : 1 ≡ 2 = some_of 1 2 (sym one ∙ x.up) in
 answered_in_another_boot : Legal (alters 0 to_boot_two (alters 1 (λ e. record e { lines = lines.Given 1 ∷ []; sent = refusal_in_two ∷ [] }) (entries (start (script 1)) (begins 1 (acts.Open (operands.Fid file)) ∷ gives 1 steady ∷ [])))) (script 1) → ⊥
 unfolding moved begin_row client_row server_row back_timeout_row wake_row start_row record_bytes head_form volume_form spelled opaque pad word laid_at led name_ok directory_bytes name_bytes rights_of image acl_text digits entry_text directory_of names_at opaque_at word_at counted_at whole_at count_at name_at spelled_at bytes_below
 answered_in_another_boot h =
-    elim (ran_in_two _ (h.1.0.1.1.0 1 1 (refl, tt) refl refl)) [
+    elim (ran_in_two _ (h.1.0.1.1.0.0 1 1 (refl, tt) refl refl).ran) [
       | inl x ↦ was_in_one _ _ refl x
       | inr y ↦ elim y [ inl x ↦ was_in_one _ _ refl x | inr z ↦ elim z [ inl x ↦ was_in_one _ _ refl x | inr w ↦ w ] ]
     ]
@@ -528,18 +566,7 @@ sent_in_another_name h = let e : actors.Node (Client 1) ≡ actors.Node (Client 
 
 dead_at_once : Legal (alters 1 (instead (lines.Timeout (Client 1) (Server 1) 1 1 3 ∷ lines.Answer (Client 1) (record { 0 = negsuc 0 }) ∷ [])) (entries (start (script 1)) (begins 1 (acts.Open (operands.Fid file)) ∷ waits 1 ∷ []))) (script 1) → ⊥
 unfolding moved begin_row client_row server_row back_timeout_row wake_row start_row record_bytes head_form volume_form spelled opaque pad word laid_at led name_ok directory_bytes name_bytes rights_of image acl_text digits entry_text directory_of names_at opaque_at word_at counted_at whole_at count_at name_at spelled_at bytes_below
-dead_at_once h =
-    let g = h.1.0.0.0.1.0.1 in
-    elim g.cause [
-      | inl x ↦ let e : None ≡ Some x.reply = x.by in absurd cc
-      | inr y ↦ elim y [
-        | inl x ↦ let e : negsuc 0 ≡ pos x.number = x.is in absurd cc
-        | inr z ↦ elim z [
-          | inl x ↦ x.first
-          | inr x ↦ let e : negsuc 0 ≡ pos 0 = x.is in absurd cc
-        ]
-      ]
-    ]
+dead_at_once h = elim h.1.0.0.0.0.1.below [ inl x ↦ let e : 3 ≡ 1 = x in absurd (omega (arith, e)) | inr x ↦ x.1.1 ]
 
 -- ---- who promises
 
@@ -663,7 +690,7 @@ changed_twice h = h.1.1.1.1.1.0.0.0.1.0.1.alone (past_of [] (drop 1 (take 5 chan
 
 timed_out_beside_a_reply : Legal (alters 2 (instead (lines.Given 2 ∷ lines.Timeout (Client 1) (Server 1) 1 1 1 ∷ [])) (entries (start (script 1)) open_front)) (script 1) → ⊥
 unfolding moved begin_row client_row server_row back_timeout_row wake_row start_row record_bytes head_form volume_form spelled opaque pad word laid_at led name_ok directory_bytes name_bytes rights_of image acl_text digits entry_text directory_of names_at opaque_at word_at counted_at whole_at count_at name_at spelled_at bytes_below
-timed_out_beside_a_reply h = let e : true ≡ false = h.1.1.0.0.0.1.0.1.0.0 in absurd cc
+timed_out_beside_a_reply h = let e : true ≡ false = h.1.1.0.0.0.1.0.0.1.0.0 in absurd cc
 
 -- ---- a server that is up begins again
 
@@ -676,34 +703,6 @@ begun_when_up h = let e : Some 1 ≡ None = h.0.1.0.1.0.0 in absurd cc
 
 -- ---- timeouts count of the node to which the call was sent
 
--- no call among the messages is to this node
-abbrev AreNotTo : Node → List Message → Type 0
-AreNotTo q [] = ⊤
-AreNotTo q (m ∷ ms) = (m.head.to ≡ q → IsCall m.carried → ⊥) × AreNotTo q ms
-
-abbrev NeverTo : Node → List Entry → Type 0
-NeverTo q [] = ⊤
-NeverTo q (e ∷ past) = AreNotTo q e.sent × NeverTo q past
-
-not_to : (q : Node) (k : Key) (user : List ℕ) (call : FsCall) (ms : List Message) → AreNotTo q ms → SendsTo q k user call ms → ⊥
-not_to q k user call [] h x = x
-not_to q k user call (m ∷ ms) h (inl x) = h.0 x.0 (subst IsCall (sym x.1.1) tt)
-not_to q k user call (m ∷ ms) h (inr x) = not_to q k user call ms h.1 x
-
-never_to : (q : Node) (k : Key) (user : List ℕ) (call : FsCall) (past : List Entry) → NeverTo q past → WasSent q k user call past → ⊥
-never_to q k user call [] h x = x
-never_to q k user call (e ∷ past) h (inl x) = not_to q k user call e.sent h.0 x
-never_to q k user call (e ∷ past) h (inr x) = never_to q k user call past h.1 x
-
-one_server : Server 1 ≡ Server 2 → ⊥
-one_server e = absurd cc
-
-no_client : Server 1 ≡ Client 1 → ⊥
-no_client e = absurd cc
-
-two_clients : Client 2 ≡ Client 1 → ⊥
-two_clients e = absurd cc
-
 -- a client's act is dead by timeouts of a server that it asked nothing
 abbrev of_two : Line → Line
 of_two (lines.Timeout c q e n k) = lines.Timeout c (Server 2) e n k
@@ -712,46 +711,28 @@ of_two l = l
 abbrev dead_history : List Entry
 dead_history = map (by_lines of_two) (entries (start (script 1)) (begins 1 (acts.Open (operands.Fid file)) ∷ waits 1 ∷ waits 1 ∷ waits 1 ∷ []))
 
-abbrev dead_past : List Entry
-dead_past = past_of (set_up (script 1) ∷ []) (take 3 dead_history)
-
 dead_of_another_server : Legal dead_history (script 1) → ⊥
 unfolding moved begin_row client_row server_row back_timeout_row wake_row start_row record_bytes head_form volume_form spelled opaque pad word laid_at led name_ok directory_bytes name_bytes rights_of image acl_text digits entry_text directory_of names_at opaque_at word_at counted_at whole_at count_at name_at spelled_at bytes_below
 dead_of_another_server h =
-    let g = h.1.1.1.0.0.0.1.0.1 in
-    elim g.cause [
-      | inl x ↦ let e : None ≡ Some x.reply = x.by in absurd cc
-      | inr y ↦ elim y [
-        | inl x ↦ let e : negsuc 0 ≡ pos x.number = x.is in absurd cc
-        | inr z ↦ elim z [
-          | inl x ↦ elim x.third [
-            | inl t ↦
-                let none_ : NeverTo (Server 2) dead_past = ((λ e c. one_server e, tt), ((λ e c. one_server e, tt), ((λ e c. one_server e, tt), (tt, tt)))) in
-                let k : Key = record { node = Client 1; epoch = x.epoch; number = x.number } in
-                never_to (Server 2) k (codes "guest") x.call dead_past none_ (subst (λ (q : Node). WasSent q k (codes "guest") x.call dead_past) (sym t.1.0) x.to)
-            | inr none ↦ none
-          ]
-          | inr x ↦ let e : negsuc 0 ≡ pos 0 = x.is in absurd cc
-        ]
-      ]
-    ]
+    let g = h.1.0.0.0.0.1 in
+    let past : List Entry = past_of (set_up (script 1) ∷ []) (take 1 dead_history) in
+    let none_ : NeverTo (Server 2) past = ((λ e c. one_server e, tt), (tt, tt)) in
+    never_to (Server 2) (record { node = Client 1; epoch = 1; number = 1 }) g.user g.call past none_ g.sent
 
 -- a server gives a break up, and its call went to another client
 abbrev sent_to_two : Entry → Entry
 sent_to_two e = record e { sent = map (λ (m : Message). record m { head = record m.head { to = Client 2 } }) e.sent }
 
-abbrev quit_history : List Entry
-quit_history = alters 3 sent_to_two (alters 4 sent_to_two (alters 5 sent_to_two (entries (start (script 2)) (begins 1 (acts.Open (operands.Fid file)) ∷ gives 1 steady ∷ begins 2 (acts.Close (operands.Fid file) (Hex (codes "def"))) ∷ gives 3 steady ∷ server_waits 1 (Client 1) ∷ server_waits 1 (Client 1) ∷ server_waits 1 (Client 1) ∷ []))))
+abbrev of_client_two : Line → Line
+of_client_two (lines.Timeout s c e n k) = lines.Timeout s (Client 2) e n k
+of_client_two l = l
 
-abbrev quit_past : List Entry
-quit_past = past_of (set_up (script 2) ∷ []) (take 6 quit_history)
+abbrev to_two : Entry → Entry
+to_two e = sent_to_two (by_lines of_client_two e)
 
-quit_for_another_client : Legal quit_history (script 2) → ⊥
+quit_for_another_client : Legal (alters 3 sent_to_two (alters 4 to_two (alters 5 to_two (alters 6 to_two (entries (start (script 2)) (begins 1 (acts.Open (operands.Fid file)) ∷ gives 1 steady ∷ begins 2 (acts.Close (operands.Fid file) (Hex (codes "def"))) ∷ gives 3 steady ∷ server_waits 1 (Client 1) ∷ server_waits 1 (Client 1) ∷ server_waits 1 (Client 1) ∷ [])))))) (script 2) → ⊥
 unfolding moved begin_row client_row server_row back_timeout_row wake_row start_row record_bytes head_form volume_form spelled opaque pad word laid_at led name_ok directory_bytes name_bytes rights_of image acl_text digits entry_text directory_of names_at opaque_at word_at counted_at whole_at count_at name_at spelled_at bytes_below
-quit_for_another_client h =
-    let g = h.1.1.1.1.1.1.0.0.0.1.0.1 in
-    let none_ : NeverTo (Client 1) quit_past = ((λ e c. two_clients e, tt), ((λ e c. two_clients e, tt), ((λ e c. two_clients e, tt), ((λ e c. no_client e, tt), ((λ e c. c, tt), ((λ e c. no_client e, tt), (tt, tt))))))) in
-    never_to (Client 1) (record { node = Server 1; epoch = g.epoch; number = g.number }) g.user g.call quit_past none_ g.called
+quit_for_another_client h = elim h.1.1.1.1.1.1.0.0.0.1.0.1.third [ inl t ↦ two_clients t.1.0 | inr none ↦ none ]
 
 -- ---- a call is one by its header too
 
@@ -884,7 +865,7 @@ stored_fetch e older m at fetch x = let no_ : 130 ≡ 133 = sym fetch ∙ (ap (�
 answered_as_a_store : Legal (alters 1 (λ e. record e { sent = map (λ (m : Message). record m { head = record m.head { opcode = 133 } }) e.sent }) (entries (start (script 1)) (begins 1 (acts.Open (operands.Fid file)) ∷ gives 1 steady ∷ []))) (script 1) → ⊥
 unfolding moved begin_row client_row server_row back_timeout_row wake_row start_row record_bytes head_form volume_form spelled opaque pad word laid_at led name_ok directory_bytes name_bytes rights_of image acl_text digits entry_text directory_of names_at opaque_at word_at counted_at whole_at count_at name_at spelled_at bytes_below
 answered_as_a_store h =
-    elim (ran_store _ (h.1.0.1.1.0 1 1 (refl, tt) refl refl)) [
+    elim (ran_store _ (h.1.0.1.1.0.0 1 1 (refl, tt) refl refl).ran) [
       | inl x ↦ stored_fetch _ _ _ refl refl x
       | inr y ↦ elim y [ inl x ↦ stored_none _ _ refl x | inr z ↦ elim z [ inl x ↦ stored_none _ _ refl x | inr w ↦ w ] ]
     ]
@@ -957,3 +938,295 @@ settled_by_a_stopped_server h = h.1.1.1.1.1.0.0.0.1.1.0.1.going (inl refl)
 quit_by_a_stopped_server : Legal (alters 6 stops_first (entries (start (script 2)) (changes_file ++ server_waits 1 (Client 1) ∷ server_waits 1 (Client 1) ∷ server_waits 1 (Client 1) ∷ []))) (script 2) → ⊥
 unfolding moved begin_row client_row server_row back_timeout_row wake_row start_row record_bytes head_form volume_form spelled opaque pad word laid_at led name_ok directory_bytes name_bytes rights_of image acl_text digits entry_text directory_of names_at opaque_at word_at counted_at whole_at count_at name_at spelled_at bytes_below
 quit_by_a_stopped_server h = h.1.1.1.1.1.1.0.0.0.1.1.0.1.going (inl refl)
+
+-- ---- a client's call is one call: for its own user, and to one server
+
+-- the same call is sent for another user too, who may do what its own may not
+abbrev for_ann : Message → Message
+for_ann m = record m { carried = carried.Call (codes "ann") (ask.File (calls.FetchData file (pos 0) (pos 2147483647))) }
+
+abbrev sends_besides : (Message → Message) → Entry → Entry
+sends_besides w e = record e { sent = e.sent ++ map w e.sent }
+
+of_another_user : codes "ann" ≡ codes "guest" → ⊥
+of_another_user e = absurd cc
+
+fetched_for_another_user : Legal (alters 0 (sends_besides for_ann) (entries (start (script 1)) (begins 1 (acts.Open (operands.Fid file)) ∷ []))) (script 1) → ⊥
+unfolding moved begin_row client_row server_row back_timeout_row wake_row start_row record_bytes head_form volume_form spelled opaque pad word laid_at led name_ok directory_bytes name_bytes rights_of image acl_text digits entry_text directory_of names_at opaque_at word_at counted_at whole_at count_at name_at spelled_at bytes_below
+fetched_for_another_user h = of_another_user h.0.1.1.1.1.0.0
+
+-- or to another server
+abbrev to_server_two : Message → Message
+to_server_two m = record m { head = record m.head { to = Server 2 } }
+
+asked_two_servers : Legal (alters 0 (sends_besides to_server_two) (entries (start (script 1)) (begins 1 (acts.Open (operands.Fid file)) ∷ []))) (script 1) → ⊥
+unfolding moved begin_row client_row server_row back_timeout_row wake_row start_row record_bytes head_form volume_form spelled opaque pad word laid_at led name_ok directory_bytes name_bytes rights_of image acl_text digits entry_text directory_of names_at opaque_at word_at counted_at whole_at count_at name_at spelled_at bytes_below
+asked_two_servers h = one_server (some_of (Server 1) (Server 2) h.0.1.1.1.1.0.1.1)
+
+-- ---- rights are read by a call that may read them
+
+-- bob may not look the root up, and is told who may
+abbrev hidden : Script
+hidden = record (script 1) { users = record { client = 1; name = codes "bob" } ∷ []; volumes = record { id = home; name = codes "proj"; server = 1; quota = 1000; lines = setup.File (codes "a" ∷ []) (Hex (codes "abc")) ∷ setup.AccessList [] (Hex (codes "1\n0\nann\t127\n")) ∷ [] } ∷ [] }
+
+abbrev hidden_list : List ℕ
+hidden_list = codes "1\n0\nann\t127\n"
+
+-- its reply shows it all the same
+abbrev acl_front : List Input
+acl_front = begins 1 (acts.GetAccessList (operands.Fid root)) ∷ gives 1 steady ∷ []
+
+abbrev shows_list : Entry → Entry
+shows_list e = record e { sent = sent_by (start (script 1)) acl_front }
+
+abbrev hidden_past : List Entry
+hidden_past = past_of (set_up hidden ∷ []) (alters 1 shows_list (entries (start hidden) acl_front))
+
+-- what the cause of that says of the entry that ran the call
+record RanHidden (e : Entry) (older : List Entry) : Type 0 where
+  message : Message
+  given : given_message e.lines (sent_of older) ≡ Some message
+  user : List ℕ
+  call : FsCall
+  carries : message.carried ≡ carried.Call user (ask.File call)
+  code : code_given (answer_at user call older) ≡ pos 0
+
+hidden_none : (e : Entry) (older : List Entry) → given_message e.lines (sent_of older) ≡ None → RanHidden e older → ⊥
+hidden_none e older none x = let no_ : None ≡ Some x.message = sym none ∙ x.given in absurd cc
+
+hidden_not : (e : Entry) (older : List Entry) (m : Message) (user : List ℕ) (call : FsCall) → given_message e.lines (sent_of older) ≡ Some m → m.carried ≡ carried.Call user (ask.File call) → code_given (answer_at user call older) ≡ pos 13 → RanHidden e older → ⊥
+hidden_not e older m user call given is due x =
+    let same : carried.Call user (ask.File call) ≡ carried.Call x.user (ask.File x.call) = sym is ∙ (ap (λ (k : Message). k.carried) (some_of m x.message (sym given ∙ x.given)) ∙ x.carries) in
+    let zero_ : code_given (answer_at user call older) ≡ pos 0 = subst (λ (u : List ℕ). code_given (answer_at u call older) ≡ pos 0) (sym (one_user _ _ _ _ same)) (subst (λ (k : FsCall). code_given (answer_at x.user k older) ≡ pos 0) (sym (one_call _ _ _ _ same)) x.code) in
+    let no_ : pos 13 ≡ pos 0 = sym due ∙ zero_ in absurd cc
+
+hidden_zero : (server : Node) (o : Option Result) (k : Key) (ran ls : List Line) → IsResult server (pos 0) o k ran ls → code_given o ≡ pos 0
+hidden_zero server o k ran ls (inl x) = x.0
+hidden_zero server o k ran ls (inr x) = let no_ : pos 0 ≡ pos 108 = x.0 in absurd cc
+
+shown_without_the_right : Legal (alters 1 shows_list (alters 2 (instead (lines.Given 2 ∷ lines.Read (Client 1) root 1 Fetched (seen.AccessList (codes "1\n0\nann\t127\n")) ∷ [])) (entries (start hidden) (acl_front ++ gives 2 steady ∷ [])))) hidden → ⊥
+unfolding moved begin_row client_row server_row back_timeout_row wake_row start_row record_bytes head_form volume_form spelled opaque pad word laid_at led name_ok directory_bytes name_bytes rights_of image acl_text digits entry_text directory_of names_at opaque_at word_at counted_at whole_at count_at name_at spelled_at bytes_below acl_laid acl_at entry_at access.name_at named_at line_number_at access.count_at
+shown_without_the_right h =
+    let g = h.1.1.0.0.0.1.0.1 in
+    let c = g.cause in
+    let there : Among RanHidden hidden_past = subst (Among RanHidden) (sym c.ran.split) (is_among RanHidden c.ran.newer c.ran.at c.ran.older (record { message = c.ran.message; given = c.ran.given; user = c.user; call = c.call; carries = c.carries; code = hidden_zero g.used.reply.head.from (answer_at c.user c.call c.ran.older) (answered_key g.used.reply.head) c.ran.at.lines (lines.Given 2 ∷ lines_of hidden_past) c.result })) in
+    elim there [
+      | inl x ↦ hidden_not _ _ _ (codes "bob") (calls.FetchAcl root) refl refl refl x
+      | inr y ↦ elim y [ inl x ↦ hidden_none _ _ refl x | inr z ↦ elim z [ inl x ↦ hidden_none _ _ refl x | inr w ↦ w ] ]
+    ]
+
+-- ---- an act that needs no call doesn't die of one
+
+abbrev unknown : Fid
+unknown = record { volume = 7; vnode = 2; unique = 2 }
+
+abbrev asks_the_time : Message
+asks_the_time = record {
+  head = record { half = halves.Call; from = Client 1; to = Server 1; epoch = 1; number = 1; boot = 1; stamp = 0; opcode = 153 };
+  carried = carried.Call (codes "guest") (ask.File calls.GetTime);
+}
+
+abbrev times_out : ℕ → Line
+times_out n = lines.Timeout (Client 1) (Server 1) 1 1 n
+
+abbrev dead_answer : Line
+dead_answer = lines.Answer (Client 1) (record { 0 = negsuc 0 })
+
+abbrev opens_unknown : Going
+opens_unknown = began (locations (script 1)) (acts.Open (operands.Fid unknown))
+
+dead_of_nothing : Legal (step_of (Client 1) (lines.Begin (Client 1) (acts.Open (operands.Fid unknown)) ∷ []) (asks_the_time ∷ []) ∷ step_of (Client 1) (times_out 1 ∷ []) [] ∷ step_of (Client 1) (times_out 2 ∷ []) [] ∷ step_of (Client 1) (times_out 3 ∷ dead_answer ∷ []) [] ∷ []) (script 1) → ⊥
+dead_of_nothing h =
+    let g = h.1.1.1.0.0.0.1.0.1 in
+    elim g.cause [
+      | inl x ↦ let e : None ≡ Some x.reply = x.by in absurd cc
+      | inr y ↦ elim y [
+        | inl x ↦ let e : negsuc 0 ≡ pos x.number = x.is in absurd cc
+        | inr z ↦ elim z [
+          | inl x ↦ subst (λ (a : Going). IsOpen (next a)) (sym (some_of opens_unknown g.act g.runs)) x.unended
+          | inr x ↦ let e : negsuc 0 ≡ pos 0 = x.is in absurd cc
+        ]
+      ]
+    ]
+
+-- ---- timeouts are of a call that was sent
+
+-- the first two of three are told before the call, which is then dead at its first
+dead_at_its_first_timeout : Legal (step_of (Client 1) (times_out 1 ∷ []) [] ∷ step_of (Client 1) (times_out 2 ∷ []) [] ∷ entries (start (script 1)) (begins 1 (acts.Open (operands.Fid file)) ∷ []) ++ step_of (Client 1) (times_out 3 ∷ dead_answer ∷ []) [] ∷ []) (script 1) → ⊥
+unfolding moved begin_row client_row server_row back_timeout_row wake_row start_row record_bytes head_form volume_form spelled opaque pad word laid_at led name_ok directory_bytes name_bytes rights_of image acl_text digits entry_text directory_of names_at opaque_at word_at counted_at whole_at count_at name_at spelled_at bytes_below
+dead_at_its_first_timeout h = elim h.0.0.0.0.1.sent [ inl x ↦ x | inr x ↦ x ]
+
+-- ---- a break is settled or given up by a call that was first sent when it was owed
+
+-- what stands from the entry on which first sent a call of this key
+abbrev first_at : Key → List Entry → Option (List Entry)
+first_at k [] = None
+first_at k (e ∷ past) = cond (has_sent k (sent_of past)) (first_at k past) (cond (has_sent k e.sent) (Some (e ∷ past)) None)
+
+sends_it : (t : Bool) (callee : Node) (k : Key) (user : List ℕ) (call : FsCall) (m : Message) (ms : List Message) → is_called k m.head m.carried ≡ t → (SendsTo callee k user call ms → has_sent k ms ≡ true) → SendsTo callee k user call (m ∷ ms) → cond t true (has_sent k ms) ≡ true
+sends_it true callee k user call m ms e w h = refl
+sends_it false callee k user call m ms e w (inl h) =
+    let yes : is_called k m.head m.carried ≡ true = ap (is_called k m.head) h.1.1 ∙ (ap (λ (l : Key). same_key l k) h.1.0 ∙ same_key-refl k) in let no_ : true ≡ false = sym yes ∙ e in absurd cc
+sends_it false callee k user call m ms e w (inr h) = w h
+
+sends_has : (callee : Node) (k : Key) (user : List ℕ) (call : FsCall) (ms : List Message) → SendsTo callee k user call ms → has_sent k ms ≡ true
+sends_has callee k user call [] h = absurd h
+sends_has callee k user call (m ∷ ms) h = sends_it (is_called k m.head m.carried) callee k user call m ms refl (sends_has callee k user call ms) h
+
+first_is : (k : Key) (newer : List Entry) (at : Entry) (older : List Entry) → has_sent k at.sent ≡ true → has_sent k (sent_of older) ≡ false → first_at k (newer ++ (at ∷ older)) ≡ Some (at ∷ older)
+first_is k [] at older is none = rw (none, is) refl
+first_is k (e ∷ newer) at older is none = rw (sent_before k newer (at ∷ older) (sent_right k (sent_of older) at.sent is)) (first_is k newer at older is none)
+
+carried_first : (s c : Node) (epoch number : ℕ) (what : Option Fid) (n : ℕ) (past : List Entry) → (x : IsCarried s c epoch number what n past) → first_at (record { node = s; epoch = epoch; number = number }) past ≡ Some (x.sent.at ∷ x.sent.older)
+carried_first s c epoch number what n past x =
+    let k : Key = record { node = s; epoch = epoch; number = number } in
+    ap (first_at k) x.sent.split ∙ first_is k x.sent.newer x.sent.at x.sent.older (sends_has c k x.user x.call x.sent.at.sent x.sent.sent) x.sent.first
+
+-- no break of this number is owed
+abbrev is_other_owe : ℕ → Line → Bool
+is_other_owe n (lines.Owe s c w k) = not (nat_eq k n)
+is_other_owe n l = true
+
+no_such_owe : (newer base ls : List Line) (l : Line) (q : Line → Bool) → all_lines q ls ≡ true → ls ≡ newer ++ (l ∷ base) → q l ≡ false → ⊥
+no_such_owe [] base [] l q h e f = absurd cc
+no_such_owe [] base (x ∷ ls) l q h e f = let same : x ≡ l = cc in let yes : q l ≡ true = ap q (sym same) ∙ (both (q x) (all_lines q ls) h).0 in let no_ : true ≡ false = sym yes ∙ f in absurd cc
+no_such_owe (y ∷ newer) base [] l q h e f = absurd cc
+no_such_owe (y ∷ newer) base (x ∷ ls) l q h e f = let rest : ls ≡ newer ++ (l ∷ base) = cc in no_such_owe newer base ls l q (both (q x) (all_lines q ls) h).1 rest f
+
+not_carried : (s c : Node) (epoch number : ℕ) (what : Option Fid) (n : ℕ) (past from : List Entry) → first_at (record { node = s; epoch = epoch; number = number }) past ≡ Some from → all_lines (is_other_owe n) (lines_of from) ≡ true → not (nat_eq n n) ≡ false → IsCarried s c epoch number what n past → ⊥
+not_carried s c epoch number what n past from at none own x =
+    let same : x.sent.at ∷ x.sent.older ≡ from = some_of (x.sent.at ∷ x.sent.older) from (sym (carried_first s c epoch number what n past x) ∙ at) in
+    no_such_owe x.owe.newer x.owe.base (lines_of (x.sent.at ∷ x.sent.older)) (lines.Owe s c what n) (is_other_owe n) (subst (λ (p : List Entry). all_lines (is_other_owe n) (lines_of p) ≡ true) (sym same) none) x.owe.split own
+
+-- a client is called for the first break on its file, drops that and answers; it opens the file again, and a second break becomes owed,
+-- which no call has carried yet
+abbrev two_breaks : List Input
+two_breaks =
+    begins 1 (acts.Open (operands.Fid file)) ∷ gives 1 steady ∷ begins 2 (acts.Close (operands.Fid file) (Hex (codes "def"))) ∷ gives 3 steady ∷ gives 2 steady ∷ gives 4 steady ∷ begins 1 (acts.Open (operands.Fid file)) ∷ gives 6 steady ∷ begins 2 (acts.Close (operands.Fid file) (Hex (codes "xyz"))) ∷ gives 8 steady ∷ []
+
+abbrev also : Line → Entry → Entry
+also l e = record e { lines = e.lines ++ l ∷ [] }
+
+abbrev break_key : Key
+break_key = record { node = Server 1; epoch = 1; number = 1 }
+
+-- the old call is timed out, and with it the second break is given up
+abbrev quit_front : List Input
+quit_front = two_breaks ++ server_waits 1 (Client 1) ∷ server_waits 1 (Client 1) ∷ []
+
+quit_unsent : Legal (alters 12 (also (lines.Quit (Server 1) (Client 1) 2)) (entries (start (script 2)) (quit_front ++ server_waits 1 (Client 1) ∷ []))) (script 2) → ⊥
+unfolding moved begin_row client_row server_row back_timeout_row wake_row start_row record_bytes head_form volume_form spelled opaque pad word laid_at led name_ok directory_bytes name_bytes rights_of image acl_text digits entry_text directory_of names_at opaque_at word_at counted_at whole_at count_at name_at spelled_at bytes_below
+quit_unsent h =
+    let g = h.1.1.1.1.1.1.1.1.1.1.1.1.0.0.0.1.1.0.1 in
+    let past : List Entry = past_of (set_up (script 2) ∷ []) (entries (start (script 2)) quit_front) in
+    let from : List Entry = past_of (set_up (script 2) ∷ []) (take 4 (entries (start (script 2)) two_breaks)) in
+    elim g.third [
+      | inl x ↦ not_there g.epoch g.number g.what past from x.1.1.0 x.1.1.1.0 refl refl g.carried
+      | inr x ↦ x
+    ]
+  where
+    not_there : (epoch number : ℕ) (what : Option Fid) (past from : List Entry) → 1 ≡ epoch → 1 ≡ number → first_at break_key past ≡ Some from → all_lines (is_other_owe 2) (lines_of from) ≡ true → IsCarried (Server 1) (Client 1) epoch number what 2 past → ⊥
+    not_there epoch number what past from e n at none x =
+        not_carried (Server 1) (Client 1) 1 1 what 2 past from at none refl (subst (λ (i : ℕ). IsCarried (Server 1) (Client 1) i 1 what 2 past) (sym e) (subst (λ (i : ℕ). IsCarried (Server 1) (Client 1) epoch i what 2 past) (sym n) x))
+
+-- the answer to the old call settles the second break too
+settled_unsent : Legal (alters 10 (also (lines.Settle (Server 1) (Client 1) 2)) (entries (start (script 2)) (two_breaks ++ gives 5 steady ∷ []))) (script 2) → ⊥
+unfolding moved begin_row client_row server_row back_timeout_row wake_row start_row record_bytes head_form volume_form spelled opaque pad word laid_at led name_ok directory_bytes name_bytes rights_of image acl_text digits entry_text directory_of names_at opaque_at word_at counted_at whole_at count_at name_at spelled_at bytes_below
+settled_unsent h =
+    let g = h.1.1.1.1.1.1.1.1.1.1.0.0.0.1.1.0.1 in
+    let past : List Entry = past_of (set_up (script 2) ∷ []) (entries (start (script 2)) two_breaks) in
+    let from : List Entry = past_of (set_up (script 2) ∷ []) (take 4 (entries (start (script 2)) two_breaks)) in
+    not_carried (Server 1) (Client 1) 1 1 g.what 2 past from refl refl refl (subst (λ (m : Message). IsCarried (Server 1) (Client 1) m.head.epoch m.head.number g.what 2 past) (sym (some_of _ g.reply g.by)) g.back.carried)
+
+-- ---- what is shown came to the client
+
+abbrev status : ReadStatus
+status = record { kind = 1; link_count = 1; length = 3; mode = 420 }
+
+abbrev stat_front : List Input
+stat_front = begins 1 (acts.Stat (operands.Fid file)) ∷ gives 1 steady ∷ gives 2 steady ∷ []
+
+-- a client that only ever looked at a file shows what is in it, from its cache
+read_what_was_only_looked_at : Legal (entries (start (script 1)) stat_front ++ step_of (Client 1) (begun 1 ∷ shown Cached ∷ answer 1 ∷ []) [] ∷ []) (script 1) → ⊥
+unfolding moved begin_row client_row server_row back_timeout_row wake_row start_row record_bytes head_form volume_form spelled opaque pad word laid_at led name_ok directory_bytes name_bytes rights_of image acl_text digits entry_text directory_of names_at opaque_at word_at counted_at whole_at count_at name_at spelled_at bytes_below
+read_what_was_only_looked_at h =
+    elim h.1.1.1.0.0.0.1.0.1.brought [
+      | inl x ↦ x.1.1
+      | inr y ↦ elim y [
+        | inl x ↦ let e : seen.Status status ≡ seen.Contents (bodies.File (codes "abc")) = x.1.1.1 in absurd cc
+        | inr x ↦ x
+      ]
+    ]
+
+-- or by the reply that brings its status
+fetched_by_a_status : Legal (alters 2 (instead (lines.Given 2 ∷ shown Fetched ∷ [])) (entries (start (script 1)) stat_front)) (script 1) → ⊥
+unfolding moved begin_row client_row server_row back_timeout_row wake_row start_row record_bytes head_form volume_form spelled opaque pad word laid_at led name_ok directory_bytes name_bytes rights_of image acl_text digits entry_text directory_of names_at opaque_at word_at counted_at whole_at count_at name_at spelled_at bytes_below
+fetched_by_a_status h =
+    let u = h.1.1.0.0.0.1.0.1.used refl in
+    let past : List Entry = past_of (set_up (script 1) ∷ []) (entries (start (script 1)) (take 2 stat_front)) in
+    elim (subst (λ (m : Message). CalledSince (answered_key m.head) (codes "guest") u.used.call past) (sym (some_of _ _ u.used.by)) u.used.called) [
+      | inl x ↦ let e : actors.Node (Server 1) ≡ actors.Node (Client 1) = x.0 in absurd cc
+      | inr x ↦ elim x.1 [
+        | inl y ↦ elim y.1 [
+          | inl z ↦ subst (λ (k : FsCall). Brings k file (seen.Contents (bodies.File (codes "abc")))) (sym (one_call _ _ _ _ z.1)) u.of
+          | inr z ↦ z
+        ]
+        | inr y ↦ let e : true ≡ false = y.0 in absurd cc
+      ]
+    ]
+
+-- what was promised before a crash is dropped by it
+gave_none : (e f : Entry) (older rest : List Entry) (ls : List Line) (m : Message) → e ≡ f → f.lines ≡ ls → ((sent : List Message) → given_message ls sent ≡ None) → given_message e.lines (sent_of older) ≡ Some m → ⊥
+gave_none e f older rest ls m same is none given = let no_ : None ≡ Some m = sym (none (sent_of older)) ∙ (ap (λ (x : List Line). given_message x (sent_of older)) (sym is) ∙ (ap (λ (x : Entry). given_message x.lines (sent_of older)) (sym same) ∙ given)) in absurd cc
+
+entry_first : (a b : Entry) (p q : List Entry) → a ∷ p ≡ b ∷ q → a ≡ b
+entry_first a b p q e = cc
+
+entry_rest : (a b : Entry) (p q : List Entry) → a ∷ p ≡ b ∷ q → p ≡ q
+entry_rest a b p q e = cc
+
+crash_since : (server : Node) (a b : Entry) (rest newer : List Entry) (at : Entry) (older : List Entry) (m : Message) (base : List Line) → a ∷ (b ∷ rest) ≡ newer ++ (at ∷ older) → given_message at.lines (sent_of older) ≡ Some m → a.lines ≡ lines.Restart (Client 1) 2 ∷ [] → b.lines ≡ lines.Crash (Client 1) ∷ [] → IsDropped server (Client 1) file (lines_on base newer)
+crash_since server a b rest [] at older m base split given up down = absurd (gave_none at a older rest _ m (sym (entry_first a at (b ∷ rest) older split)) up (λ s. refl) given)
+crash_since server a b rest (x ∷ []) at older m base split given up down = absurd (gave_none at b older rest _ m (sym (entry_first b at rest older (entry_rest a x (b ∷ rest) (at ∷ older) split))) down (λ s. refl) given)
+crash_since server a b rest (x ∷ y ∷ newer) at older m base split given up down =
+    let rest_ : b ∷ rest ≡ y ∷ (newer ++ (at ∷ older)) = entry_rest a x (b ∷ rest) (y ∷ (newer ++ (at ∷ older))) split in
+    subst (λ (e : Entry). IsDropped server (Client 1) file (onto (onto (lines_on base newer) y.lines) e.lines)) (entry_first a x (b ∷ rest) (y ∷ (newer ++ (at ∷ older))) split)
+    (subst (λ (ls : List Line). IsDropped server (Client 1) file (onto (onto (lines_on base newer) y.lines) ls)) (sym up)
+    (subst (λ (e : Entry). IsDropped server (Client 1) file (lines.Restart (Client 1) 2 ∷ onto (lines_on base newer) e.lines)) (entry_first b y rest (newer ++ (at ∷ older)) rest_)
+    (subst (λ (ls : List Line). IsDropped server (Client 1) file (lines.Restart (Client 1) 2 ∷ onto (lines_on base newer) ls)) (sym down) (inl refl))))
+
+-- a client reads from its cache what it had before it crashed
+read_over_a_crash : Legal (entries (start (script 1)) (stat_front ++ client_stops 1 ∷ client_starts 1 ∷ []) ++ step_of (Client 1) (lines.Begin (Client 1) (acts.Stat (operands.Fid file)) ∷ lines.Read (Client 1) file 1 Cached (seen.Status status) ∷ answer 1 ∷ []) [] ∷ []) (script 1) → ⊥
+unfolding moved begin_row client_row server_row back_timeout_row wake_row start_row record_bytes head_form volume_form spelled opaque pad word laid_at led name_ok directory_bytes name_bytes rights_of image acl_text digits entry_text directory_of names_at opaque_at word_at counted_at whole_at count_at name_at spelled_at bytes_below
+read_over_a_crash h =
+    let g = h.1.1.1.1.1.0.0.0.1.0.1 in
+    g.kept (crash_since g.grant.server _ _ _ g.grant.ran.newer g.grant.ran.at g.grant.ran.older g.grant.ran.message (onto [] g.grant.after) g.grant.ran.split g.grant.ran.given refl refl)
+
+-- ---- a reply is of its call's kind
+
+abbrev tells_the_time : Entry → Entry
+tells_the_time e = record e { sent = map (λ (m : Message). record m { carried = carried.Reply (tell.File (replies.GetTime 0 0)) }) e.sent }
+
+record RanTime (e : Entry) (older : List Entry) : Type 0 where
+  message : Message
+  given : given_message e.lines (sent_of older) ≡ Some message
+  kind : IsOfKind message.carried (carried.Reply (tell.File (replies.GetTime 0 0)))
+
+time_none : (e : Entry) (older : List Entry) → given_message e.lines (sent_of older) ≡ None → RanTime e older → ⊥
+time_none e older none x = let no_ : None ≡ Some x.message = sym none ∙ x.given in absurd cc
+
+time_fetch : (e : Entry) (older : List Entry) (m : Message) (user : List ℕ) (call : FsCall) → given_message e.lines (sent_of older) ≡ Some m → m.carried ≡ carried.Call user (ask.File call) → call_number call ≡ 130 → RanTime e older → ⊥
+time_fetch e older m user call given is fetch x =
+    let kind : 153 ≡ call_number call = subst (λ (c : Carried). IsOfKind c (carried.Reply (tell.File (replies.GetTime 0 0)))) (ap (λ (k : Message). k.carried) (some_of x.message m (sym x.given ∙ given)) ∙ is) x.kind in
+    let no_ : 153 ≡ 130 = kind ∙ fetch in absurd (omega (arith, no_))
+
+answered_by_another_kind : Legal (alters 1 tells_the_time (entries (start (script 1)) (begins 1 (acts.Open (operands.Fid file)) ∷ gives 1 steady ∷ []))) (script 1) → ⊥
+unfolding moved begin_row client_row server_row back_timeout_row wake_row start_row record_bytes head_form volume_form spelled opaque pad word laid_at led name_ok directory_bytes name_bytes rights_of image acl_text digits entry_text directory_of names_at opaque_at word_at counted_at whole_at count_at name_at spelled_at bytes_below
+answered_by_another_kind h =
+    let a = h.1.0.1.1.0.0 1 1 (refl, tt) refl refl in
+    let past : List Entry = past_of (set_up (script 1) ∷ []) (alters 1 tells_the_time (entries (start (script 1)) (begins 1 (acts.Open (operands.Fid file)) ∷ gives 1 steady ∷ []))) in
+    let there : Among RanTime past = subst (Among RanTime) (sym a.ran.split) (is_among RanTime a.ran.newer a.ran.at a.ran.older (record { message = a.ran.message; given = a.ran.given; kind = a.kind })) in
+    elim there [
+      | inl x ↦ time_fetch _ _ _ (codes "guest") (calls.FetchData file (pos 0) (pos 2147483647)) refl refl refl x
+      | inr y ↦ elim y [ inl x ↦ time_none _ _ refl x | inr z ↦ elim z [ inl x ↦ time_none _ _ refl x | inr w ↦ w ] ]
+    ]

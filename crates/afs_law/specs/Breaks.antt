@@ -12,7 +12,7 @@ use Rattle.afs_num.specs.declared.calls.FsCall.{FsCall}
 use Rattle.afs_num.specs.declared.calls.FsCall.TheVariants as calls
 use Rattle.afs_law.specs.Ideal.{clock_of}
 use Rattle.afs_history.specs.declared.lines.Line.{Line}
-use Rattle.afs_law.specs.Past.{server_boot, onto, lines_on, lines_of, sent_of, given_message, IsCallUnder, WasSent, answered_key, called_key, same_key}
+use Rattle.afs_law.specs.Past.{server_boot, onto, lines_on, lines_of, sent_of, given_message, has_sent, HasCode, IsCallUnder, SendsTo, answered_key, called_key, same_key}
 use Rattle.afs_num.specs.declared.types.Half.{Half}
 use Rattle.afs_num.specs.declared.types.Half.TheVariants as halves
 use Rattle.afs_num.specs.declared.types.Head.{Head}
@@ -204,13 +204,6 @@ pub record OweAt (s c : Node) (what : Option Fid) (n : ℕ) (ls : List Line) : T
   pub split : ls ≡ newer ++ (lines.Owe s c what n ∷ base)
   pub up : HasStopped s newer → ⊥
 
--- the client gave up what the break is on; the server hasn't stopped in this entry
-pub record GoodSettle (s c : Node) (n : ℕ) (past : List Entry) (own : List Line) : Type 0 where
-  pub going : HasStopped s own → ⊥
-  pub what : Option Fid
-  pub owe : OweAt s c what n (lines_of past)
-  pub dropped : HasDrop s c what owe.newer
-
 abbrev pub IsNamedIn : Fid → List Fid → Type 0
 IsNamedIn f [] = ⊥
 IsNamedIn f (g ∷ fs) = (g ≡ f) ⊎ IsNamedIn f fs
@@ -224,18 +217,47 @@ CarriesBreak (calls.CallBack fs callbacks) what = NamesIn what fs
 CarriesBreak calls.InitCallBackState what = what ≡ None
 CarriesBreak call what = ⊥
 
--- A call to the client that names what the break is on was timed out for the third time in this entry, in which the server hasn't stopped,
--- and twice before that since the break became owed. The call itself may be older than the break
+-- the past, split at the entry that first sent this call to this callee under this key
+pub record FirstSent (callee : Node) (k : Key) (user : List ℕ) (call : FsCall) (past : List Entry) : Type 0 where
+  pub newer : List Entry
+  pub at : Entry
+  pub older : List Entry
+  pub split : past ≡ newer ++ (at ∷ older)
+  pub sent : SendsTo callee k user call at.sent
+  pub first : has_sent k (sent_of older) ≡ false
+
+-- A call of the server to the client carries the break. It was first sent after that became owed, or in the same entry, for an entry sends
+-- behind its lines; and the server hasn't stopped since
+pub record IsCarried (s c : Node) (epoch number : ℕ) (what : Option Fid) (n : ℕ) (past : List Entry) : Type 0 where
+  pub user : List ℕ
+  pub call : FsCall
+  pub sent : FirstSent c (record { node = s; epoch = epoch; number = number }) user call past
+  pub carries : CarriesBreak call what
+  pub owe : OweAt s c what n (lines_of (sent.at ∷ sent.older))
+  pub up : HasStopped s (lines_on [] sent.newer) → ⊥
+
+-- and since that call was sent the client gave up what the break is on
+pub record IsGivenUp (s c : Node) (epoch number : ℕ) (what : Option Fid) (n : ℕ) (past : List Entry) : Type 0 where
+  pub carried : IsCarried s c epoch number what n past
+  pub dropped : HasDrop s c what (lines_on [] carried.sent.newer)
+
+-- the entry, in which the server hasn't stopped, was given the client's reply to a call that carries the break; and the client gave up what
+-- that is on
+pub record GoodSettle (s c : Node) (n : ℕ) (past : List Entry) (own : List Line) : Type 0 where
+  pub going : HasStopped s own → ⊥
+  pub reply : Message
+  pub by : given_message own (sent_of past) ≡ Some reply
+  pub is : HasCode reply.carried
+  pub to : reply.head.to ≡ s
+  pub from : reply.head.from ≡ c
+  pub what : Option Fid
+  pub back : IsGivenUp s c reply.head.epoch reply.head.number what n past
+
+-- a call to the client that carries the break was timed out for the third time in this entry, in which the server hasn't stopped
 pub record GoodQuit (s c : Node) (n : ℕ) (past : List Entry) (own : List Line) : Type 0 where
   pub going : HasStopped s own → ⊥
-  pub what : Option Fid
-  pub owe : OweAt s c what n (lines_of past)
   pub epoch : ℕ
   pub number : ℕ
   pub third : HasTimeout s c epoch number 3 own
-  pub first : HasTimeout s c epoch number 1 owe.newer
-  pub second : HasTimeout s c epoch number 2 owe.newer
-  pub user : List ℕ
-  pub call : FsCall
-  pub called : WasSent c (record { node = s; epoch = epoch; number = number }) user call past
-  pub carries : CarriesBreak call what
+  pub what : Option Fid
+  pub carried : IsCarried s c epoch number what n past
