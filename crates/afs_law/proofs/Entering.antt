@@ -3,17 +3,17 @@ use Rattle.afs_history.specs.declared.scripts.Script.{Script}
 use Rattle.afs_law.proofs.Changing.{run_each}
 use Rattle.afs_law.proofs.Hearing.{HearsIn, first_hears, moved_hears}
 use Rattle.afs_law.proofs.SettingUp.{AreEntries}
+use Rattle.afs_law.proofs.Lives.{run_lived}
 use Rattle.afs_law.proofs.Members.{run_entries}
 use Rattle.afs_law.proofs.Moving.{EachMove, each_moved}
 use Rattle.afs_law.specs.Ideal.{set_up}
 use Rattle.afs_law.proofs.Truthful.{run_true}
-use Rattle.afs_law.specs.Legal.{IsEntryOf, IsOfKind, WereRun}
+use Rattle.afs_law.specs.Legal.{IsEntryOf, IsLivedBy, WereRun}
 use Rattle.afs_law.specs.Parts.{EachEntry, EachSent, EntriesAreSound}
-use Rattle.afs_law.specs.ServerParts.{IsTrue, IsTruthful}
-use Rattle.afs_num.specs.declared.messages.Carried.{Carried}
+use Rattle.afs_law.specs.ServerParts.{IsTruthful}
 use Rattle.afs_num.specs.declared.messages.Message.{Message}
 use Rattle.afs_rows.specs.Runs.{Cell, Entry, Moved, start}
-use Rattle.std.proofs.Common.{◌≡◌, List, [], ◌∷◌, refl, sym, subst}
+use Rattle.std.proofs.Common.{◌≡◌, List, [], ◌∷◌, refl}
 
 -- no step lays volumes
 
@@ -47,14 +47,14 @@ none_laid = record {
 each_ran : (past : List Entry) (ms : List Message) → EachSent IsTruthful past ms → WereRun past ms
 each_ran past [] h = tt
 each_ran past (m ∷ ms) h = (
-  (λ i j is from to. let t : IsTrue m past = h.0 i j from to is.1 in record { ran = t.ran; kind = subst (λ (x : Carried). IsOfKind x m.carried) (sym t.carries) t.kind }),
+  (λ i j is from to. h.0 i j from to is.1),
   each_ran past ms h.1,
 )
 
-join : (s : Script) (past es : List Entry) → AreEntries s past es → EachEntry (λ past e. e.volumes ≡ []) past es → EachEntry (λ past e. EachSent IsTruthful (e ∷ past) e.sent) past es → EachEntry (λ past e. IsEntryOf s past e × WereRun (e ∷ past) e.sent) past es
-join s past [] a b t = tt
-join s past (e ∷ es) a b t = ((((b.0, a.0.0), a.0.1), each_ran (e ∷ past) e.sent t.0), join s (e ∷ past) es a.1 b.1 t.1)
+join : (s : Script) (past es : List Entry) → AreEntries s past es → EachEntry (λ past e. e.volumes ≡ []) past es → EachEntry (λ past e. IsLivedBy e.actor past e.lines e.sent) past es → EachEntry (λ past e. EachSent IsTruthful (e ∷ past) e.sent) past es → EachEntry (λ past e. IsEntryOf s past e × WereRun (e ∷ past) e.sent) past es
+join s past [] a b l t = tt
+join s past (e ∷ es) a b l t = ((((b.0, a.0.0), (a.0.1, l.0)), each_ran (e ∷ past) e.sent t.0), join s (e ∷ past) es a.1 b.1 l.1 t.1)
 
 pub run_entered : EntriesAreSound
 run_entered s h end r =
-    join s (set_up s ∷ []) h (run_entries s h end r) (run_each HearsIn (λ past e. e.volumes ≡ []) moved_hears (λ c past x k. each_moved HearsIn LaysNone none_laid c past x k) r.inputs (start s) (set_up s ∷ []) h end (first_hears s) r.leads) (run_true s h end r)
+    join s (set_up s ∷ []) h (run_entries s h end r) (run_each HearsIn (λ past e. e.volumes ≡ []) moved_hears (λ c past x k. each_moved HearsIn LaysNone none_laid c past x k) r.inputs (start s) (set_up s ∷ []) h end (first_hears s) r.leads) (run_lived s h end r) (run_true s h end r)

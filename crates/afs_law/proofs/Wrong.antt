@@ -30,7 +30,7 @@ use Rattle.afs_num.specs.declared.histories.Actor.{Actor}
 use Rattle.afs_num.specs.declared.types.Node.{Node}
 use Rattle.afs_law.proofs.Worked.{apart_numbers, home, by_lines, stores, alters, answer, begun, entries, file, root, script, six_front}
 use Rattle.afs_law.specs.Breaks.{HasStopped, IsCarried}
-use Rattle.afs_law.specs.Legal.{Brings, IsOfKind, IsOpen, IsPromisedBy, Cause, EndsAct, IsResult, Legal, answer_at, code_given}
+use Rattle.afs_law.specs.Legal.{Answered, Brings, IsKind, IsOpen, IsPromisedBy, Cause, EndsAct, IsResult, Legal, answer_at, code_given}
 use Rattle.afs_model.specs.Messages.{spelled}
 use Rattle.afs_num.specs.Names.{name_ok}
 use Rattle.afs_num.specs.declared.types.Fid.{Fid}
@@ -71,6 +71,63 @@ no_answer_call call n e = absurd cc
 
 no_gift : (f : Fid) → reads f ≡ gives_back → ⊥
 no_gift f e = absurd cc
+
+-- an entry that is found by a split of the past is one of it
+abbrev Among : (Entry → List Entry → Type 0) → List Entry → Type 0
+Among P [] = ⊥
+Among P (e ∷ past) = P e past ⊎ Among P past
+
+is_among : (P : Entry → List Entry → Type 0) (newer : List Entry) (at : Entry) (older : List Entry) → P at older → Among P (newer ++ (at ∷ older))
+is_among P [] at older x = inl x
+is_among P (e ∷ newer) at older x = inr (is_among P newer at older x)
+
+one_user : (u v : List ℕ) (c d : FsCall) → carried.Call u (ask.File c) ≡ carried.Call v (ask.File d) → u ≡ v
+one_user u v c d e = cc
+
+one_call : (u v : List ℕ) (c d : FsCall) → carried.Call u (ask.File c) ≡ carried.Call v (ask.File d) → c ≡ d
+one_call u v c d e = cc
+
+-- what a server's reply says of the entry that ran its call
+record RanFor (m : Message) (ls : List Line) (e : Entry) (older : List Entry) : Type 0 where
+  message : Message
+  given : given_message e.lines (sent_of older) ≡ Some message
+  user : List ℕ
+  call : FsCall
+  carries : message.carried ≡ carried.Call user (ask.File call)
+  code : ℤ
+  told : code_told m.carried ≡ Some code
+  result : IsResult m.head.from code (answer_at user call older) (answered_key m.head) e.lines ls
+  kind : IsKind call m.carried
+
+ran_for : (m : Message) (past : List Entry) → Answered m past → Among (RanFor m (lines_of past)) past
+ran_for m past a = subst (Among (RanFor m (lines_of past))) (sym a.ran.split) (is_among (RanFor m (lines_of past)) a.ran.newer a.ran.at a.ran.older (record { message = a.ran.message; given = a.ran.given; user = a.user; call = a.call; carries = a.carries; code = a.code; told = a.told; result = a.result; kind = a.kind }))
+
+-- it isn't one that was given nothing
+for_none : (m : Message) (ls : List Line) (e : Entry) (older : List Entry) → given_message e.lines (sent_of older) ≡ None → RanFor m ls e older → ⊥
+for_none m ls e older none x = let no_ : None ≡ Some x.message = sym none ∙ x.given in absurd cc
+
+-- and of one that was given this call it says what is due to that
+for_call : (m : Message) (ls : List Line) (e : Entry) (older : List Entry) (k : Message) (user : List ℕ) (call : FsCall) (code : ℤ) → given_message e.lines (sent_of older) ≡ Some k → k.carried ≡ carried.Call user (ask.File call) → code_told m.carried ≡ Some code → RanFor m ls e older
+    → (IsResult m.head.from code (answer_at user call older) (answered_key m.head) e.lines ls → IsKind call m.carried → ⊥) → ⊥
+for_call m ls e older k user call code given is told x w =
+    let same : carried.Call user (ask.File call) ≡ carried.Call x.user (ask.File x.call) = sym is ∙ (ap (λ (y : Message). y.carried) (some_of k x.message (sym given ∙ x.given)) ∙ x.carries) in
+    let codes_ : x.code ≡ code = some_of x.code code (sym x.told ∙ told) in
+    let by_user : IsResult m.head.from x.code (answer_at user x.call older) (answered_key m.head) e.lines ls = subst (λ (u : List ℕ). IsResult m.head.from x.code (answer_at u x.call older) (answered_key m.head) e.lines ls) (sym (one_user _ _ _ _ same)) x.result in
+    let by_call : IsResult m.head.from x.code (answer_at user call older) (answered_key m.head) e.lines ls = subst (λ (c : FsCall). IsResult m.head.from x.code (answer_at user c older) (answered_key m.head) e.lines ls) (sym (one_call _ _ _ _ same)) by_user in
+    w (subst (λ (n : ℤ). IsResult m.head.from n (answer_at user call older) (answered_key m.head) e.lines ls) codes_ by_call) (subst (λ (c : FsCall). IsKind c m.carried) (sym (one_call _ _ _ _ same)) x.kind)
+
+-- what the last of these inputs makes a node send
+abbrev sent_by : Cell → List Input → List Message
+sent_by c [] = []
+sent_by c (x ∷ []) = (moved c x).entry.sent
+sent_by c (x ∷ y ∷ xs) = sent_by (moved c x).cell (y ∷ xs)
+
+abbrev step_of : Node → List Line → List Message → Entry
+step_of n ls ms = record { actor = actors.Node n; lines = ls; sent = ms; volumes = [] }
+
+-- a client is told what is in a file
+abbrev fetch_front : List Input
+fetch_front = begins 1 (acts.Open (operands.Fid file)) ∷ gives 1 steady ∷ []
 
 -- ---- a store is acknowledged by the reply to its walk: nothing was changed
 
@@ -157,15 +214,21 @@ begun_with_a_reply h =
       ]
     ]
 
--- a grant stands beside a refusal: a read can't rest on it
+-- a server refuses what the ideal operation grants, beside its promise
 abbrev refuses : Entry → Entry
 refuses e = record e { sent = map (λ (m : Message). record m { carried = carried.Refusal (record { 0 = pos 13 }) }) e.sent }
 
-granted_by_a_refusal : Legal (alters 2 (instead (lines.Given 2 ∷ shown Fetched ∷ [])) (alters 1 refuses (entries (start (script 1)) (begins 1 (acts.Open (operands.Fid file)) ∷ gives 1 steady ∷ gives 2 steady ∷ [])))) (script 1) → ⊥
+granted_not : (r : Option Result) (k : Key) (ran ls : List Line) → code_given r ≡ pos 0 → IsResult (Server 1) (pos 13) r k ran ls → ⊥
+granted_not r k ran ls zero (inl x) = let no_ : pos 0 ≡ pos 13 = sym zero ∙ x.0 in absurd cc
+granted_not r k ran ls zero (inr x) = let no_ : pos 13 ≡ pos 108 = x.0 in absurd cc
+
+granted_by_a_refusal : Legal (alters 1 refuses (entries (start (script 1)) fetch_front)) (script 1) → ⊥
 unfolding moved begin_row client_row server_row back_timeout_row wake_row start_row record_bytes head_form volume_form spelled opaque pad word laid_at led name_ok directory_bytes name_bytes rights_of image acl_text digits entry_text directory_of names_at opaque_at word_at counted_at whole_at count_at name_at spelled_at bytes_below
 granted_by_a_refusal h =
-    let g = h.1.1.0.0.0.1.0.1 in
-    let e : pos 13 ≡ pos 0 = of_reply _ _ g.reply _ refl g.by refl g.grant.told in absurd cc
+    elim (ran_for _ _ (h.1.0.1.1.0.0 1 1 (refl, tt) refl refl)) [
+      | inl x ↦ for_call _ _ _ _ _ (codes "guest") (calls.FetchData file (pos 0) (pos 2147483647)) (pos 13) refl refl refl x (λ result kind. granted_not _ _ _ _ refl result)
+      | inr y ↦ elim y [ inl x ↦ for_none _ _ _ _ refl x | inr z ↦ elim z [ inl x ↦ for_none _ _ _ _ refl x | inr w ↦ w ] ]
+    ]
 
 -- ---- where a change may stand
 
@@ -316,7 +379,7 @@ run_in_another_boot h =
       | inr y ↦ y.boots
     ]
 
--- the server stops in a step; the restart tells its store, and a reply of the boot before that there was no room
+-- the server stops in a step; the restart tells its store, and replies for the boot before that there was no room
 abbrev stopped_front : List Input
 stopped_front = begins 1 (acts.Close (operands.Fid file) (Hex (codes "def"))) ∷ sets_stop 1 3 1 ∷ gives 1 steady ∷ starts_again 1 true comes_up ∷ []
 
@@ -329,80 +392,23 @@ roomless = record {
 abbrev says_roomless : Entry → Entry
 says_roomless e = record e { sent = roomless ∷ [] }
 
-abbrev told_roomless : Entry
-told_roomless = record { actor = actors.Node (Client 1); lines = lines.Given 2 ∷ lines.Answer (Client 1) (record { 0 = pos 108 }) ∷ []; sent = []; volumes = [] }
-
--- an entry that is found by a split of the past is one of it
-abbrev Among : (Entry → List Entry → Type 0) → List Entry → Type 0
-Among P [] = ⊥
-Among P (e ∷ past) = P e past ⊎ Among P past
-
-is_among : (P : Entry → List Entry → Type 0) (newer : List Entry) (at : Entry) (older : List Entry) → P at older → Among P (newer ++ (at ∷ older))
-is_among P [] at older x = inl x
-is_among P (e ∷ newer) at older x = inr (is_among P newer at older x)
-
--- what the cause of that refusal says of the entry that ran the call
-record IsRoomless (ls : List Line) (e : Entry) (older : List Entry) : Type 0 where
-  message : Message
-  given : given_message e.lines (sent_of older) ≡ Some message
-  user : List ℕ
-  call : FsCall
-  carries : message.carried ≡ carried.Call user (ask.File call)
-  result : IsResult (Server 1) (pos 108) (answer_at user call older) (record { node = Client 1; epoch = 1; number = 1 }) e.lines ls
-
-one_user : (u v : List ℕ) (c d : FsCall) → carried.Call u (ask.File c) ≡ carried.Call v (ask.File d) → u ≡ v
-one_user u v c d e = cc
-
-one_call : (u v : List ℕ) (c d : FsCall) → carried.Call u (ask.File c) ≡ carried.Call v (ask.File d) → c ≡ d
-one_call u v c d e = cc
-
--- the entry that stopped
-stopped_not : (ls : List Line) (e : Entry) (older : List Entry) (m : Message) → given_message e.lines (sent_of older) ≡ Some m → m.carried ≡ carried.Call (codes "guest") (ask.File (stored_whole file (codes "def"))) → code_given (answer_at (codes "guest") (stored_whole file (codes "def")) older) ≡ pos 0 → HasStopped (Server 1) e.lines → IsRoomless ls e older → ⊥
-stopped_not ls e older m given is zero stop x =
-    let same : carried.Call (codes "guest") (ask.File (stored_whole file (codes "def"))) ≡ carried.Call x.user (ask.File x.call) = sym is ∙ (ap (λ (k : Message). k.carried) (some_of m x.message (sym given ∙ x.given)) ∙ x.carries) in
-    elim x.result [
-      | inl y ↦
-          let told : code_given (answer_at (codes "guest") (stored_whole file (codes "def")) older) ≡ pos 108 = subst (λ (u : List ℕ). code_given (answer_at u (stored_whole file (codes "def")) older) ≡ pos 108) (sym (one_user _ _ _ _ same)) (subst (λ (k : FsCall). code_given (answer_at x.user k older) ≡ pos 108) (sym (one_call _ _ _ _ same)) y.0) in
-          let no_ : pos 0 ≡ pos 108 = sym zero ∙ told in absurd cc
-      | inr y ↦ y.1.1.1 stop
-    ]
-
-none_given : (ls : List Line) (e : Entry) (older : List Entry) → given_message e.lines (sent_of older) ≡ None → IsRoomless ls e older → ⊥
-none_given ls e older none x = let no_ : None ≡ Some x.message = sym none ∙ x.given in absurd cc
-
-abbrev stopped_past : List Entry
-stopped_past = past_of (set_up (script 1) ∷ []) (alters 3 says_roomless (entries (start (script 1)) stopped_front))
-
 abbrev roomless_history : List Entry
-roomless_history = alters 3 says_roomless (entries (start (script 1)) stopped_front) ++ told_roomless ∷ []
+roomless_history = alters 3 says_roomless (entries (start (script 1)) stopped_front)
+
+stopped_not : (r : Option Result) (k : Key) (ran ls : List Line) → code_given r ≡ pos 0 → HasStopped (Server 1) ran → IsResult (Server 1) (pos 108) r k ran ls → ⊥
+stopped_not r k ran ls zero stop (inl x) = let no_ : pos 0 ≡ pos 108 = sym zero ∙ x.0 in absurd cc
+stopped_not r k ran ls zero stop (inr x) = x.1.1.1 stop
 
 no_room_but_stored : Legal roomless_history (script 1) → ⊥
 unfolding moved begin_row client_row server_row back_timeout_row wake_row start_row record_bytes head_form volume_form spelled opaque pad word laid_at led name_ok directory_bytes name_bytes rights_of image acl_text digits entry_text directory_of names_at opaque_at word_at counted_at whole_at count_at name_at spelled_at bytes_below
 no_room_but_stored h =
-    let g = h.1.1.1.1.0.0.0.1.0.1 in
-    elim g.cause [
-      | inl x ↦
-          let c : Cause roomless (pos 108) (asked g.act) stopped_past (lines.Given 2 ∷ []) = subst (λ (m : Message). Cause m (pos 108) (asked g.act) stopped_past (lines.Given 2 ∷ [])) (sym (some_of roomless x.reply x.by)) x.cause in
-          let ls : List Line = lines.Given 2 ∷ lines_of stopped_past in
-          let there : Among (IsRoomless ls) stopped_past = subst (Among (IsRoomless ls)) (sym c.ran.split) (is_among (IsRoomless ls) c.ran.newer c.ran.at c.ran.older (record { message = c.ran.message; given = c.ran.given; user = c.user; call = c.call; carries = c.carries; result = c.result })) in
-          elim there [
-            | inl y ↦ none_given _ _ _ refl y
-            | inr z ↦ elim z [
-              | inl y ↦ stopped_not _ _ _ _ refl refl refl (inl refl) y
-              | inr w ↦ elim w [
-                | inl y ↦ none_given _ _ _ refl y
-                | inr v ↦ elim v [
-                  | inl y ↦ none_given _ _ _ refl y
-                  | inr u ↦ elim u [ inl y ↦ none_given _ _ _ refl y | inr t ↦ t ]
-                ]
-              ]
-            ]
-          ]
+    elim (ran_for _ _ (h.1.1.1.0.1.1.0.0 1 1 (refl, tt) refl refl)) [
+      | inl x ↦ for_none _ _ _ _ refl x
       | inr y ↦ elim y [
-        | inl x ↦ no_answer_call _ x.number (ap next (some_of _ _ g.runs) ∙ x.by)
+        | inl x ↦ for_call _ _ _ _ _ (codes "guest") (stored_whole file (codes "def")) (pos 108) refl refl refl x (λ result kind. stopped_not _ _ _ _ refl (inl refl) result)
         | inr z ↦ elim z [
-          | inl x ↦ let e : pos 108 ≡ negsuc 0 = x.is in absurd cc
-          | inr x ↦ let e : pos 108 ≡ pos 0 = x.is in absurd cc
+          | inl x ↦ for_none _ _ _ _ refl x
+          | inr w ↦ elim w [ inl x ↦ for_none _ _ _ _ refl x | inr v ↦ elim v [ inl x ↦ for_none _ _ _ _ refl x | inr u ↦ u ] ]
         ]
       ]
     ]
@@ -438,10 +444,13 @@ answered_behind_its_read h =
       ]
     ]
 
--- ---- a server runs a dead call behind a later one of its client, in one boot, and refuses it
+-- ---- a server runs a dead call behind a later one of its client, in one boot, and replies to it
 
-abbrev refusal_of_one : Message
-refusal_of_one = record { head = record { half = halves.Reply; from = Server 1; to = Client 1; epoch = 1; number = 1; boot = 1; stamp = 0; opcode = 130 }; carried = carried.Refusal (record { 0 = pos 13 }) }
+abbrev head_of_one : Head
+head_of_one = record { half = halves.Reply; from = Server 1; to = Client 1; epoch = 1; number = 1; boot = 1; stamp = 0; opcode = 130 }
+
+abbrev reply_to_one : List Message
+reply_to_one = sent_by (start (script 1)) fetch_front
 
 abbrev old_front : List Input
 old_front = begins 1 (acts.Open (operands.Fid file)) ∷ waits 1 ∷ waits 1 ∷ waits 1 ∷ begins 1 (acts.Open (operands.Fid file)) ∷ gives 4 steady ∷ gives 1 steady ∷ []
@@ -453,7 +462,7 @@ record RanOne (e : Entry) (older : List Entry) : Type 0 where
   key : called_key message.head ≡ key_of_one 1
   first : IsToCome (Server 1) (key_of_one 1) 1 older
 
-ran_one : (past : List Entry) → Ran refusal_of_one.head past → Among RanOne past
+ran_one : (past : List Entry) → Ran head_of_one past → Among RanOne past
 ran_one past r = subst (Among RanOne) (sym r.split) (is_among RanOne r.newer r.at r.older (record { message = r.message; given = r.given; key = r.key; first = r.first }))
 
 was_given_none : (e : Entry) (older : List Entry) → given_message e.lines (sent_of older) ≡ None → RanOne e older → ⊥
@@ -462,7 +471,7 @@ was_given_none e older none x = let no_ : None ≡ Some x.message = sym none ∙
 was_given_another : (e : Entry) (older : List Entry) (m : Message) → given_message e.lines (sent_of older) ≡ Some m → m.head.number ≡ 2 → RanOne e older → ⊥
 was_given_another e older m at two x = let no_ : 2 ≡ 1 = sym two ∙ (ap (λ (q : Message). q.head.number) (some_of m x.message (sym at ∙ x.given)) ∙ ap (λ (k : Key). k.number) x.key) in absurd (omega (arith, no_))
 
-ran_behind_a_later_one : Legal (alters 6 (λ e. record e { sent = refusal_of_one ∷ [] }) (entries (start (script 1)) old_front)) (script 1) → ⊥
+ran_behind_a_later_one : Legal (alters 6 (λ e. record e { sent = reply_to_one }) (entries (start (script 1)) old_front)) (script 1) → ⊥
 unfolding moved begin_row client_row server_row back_timeout_row wake_row start_row record_bytes head_form volume_form spelled opaque pad word laid_at led name_ok directory_bytes name_bytes rights_of image acl_text digits entry_text directory_of names_at opaque_at word_at counted_at whole_at count_at name_at spelled_at bytes_below
 ran_behind_a_later_one h =
     elim (ran_one _ (h.1.1.1.1.1.1.0.1.1.0.0 1 1 (refl, tt) refl refl).ran) [
@@ -490,20 +499,20 @@ gift_answer = record { head = record { half = halves.Reply; from = Server 1; to 
 
 -- ---- a server that is in one boot answers a call to another
 
-abbrev refusal_in_two : Message
-refusal_in_two = record refusal_of_one { head = record refusal_of_one.head { boot = 2 } }
+abbrev reply_in_two : List Message
+reply_in_two = map (λ (m : Message). record m { head = record m.head { boot = 2 } }) reply_to_one
 
 -- what that says of the entry that ran it
 record RanInTwo (e : Entry) (older : List Entry) : Type 0 where
   up : server_boot (Server 1) (lines_of older) ≡ Some 2
 
-ran_in_two : (past : List Entry) → Ran refusal_in_two.head past → Among RanInTwo past
+ran_in_two : (past : List Entry) → Ran (record head_of_one { boot = 2 }) past → Among RanInTwo past
 ran_in_two past r = subst (Among RanInTwo) (sym r.split) (is_among RanInTwo r.newer r.at r.older (record { up = r.up }))
 
 was_in_one : (e : Entry) (older : List Entry) → server_boot (Server 1) (lines_of older) ≡ Some 1 → RanInTwo e older → ⊥
 was_in_one e older one x = let no_ : 1 ≡ 2 = some_of 1 2 (sym one ∙ x.up) in absurd (omega (arith, no_))
 
-answered_in_another_boot : Legal (alters 0 to_boot_two (alters 1 (λ e. record e { lines = lines.Given 1 ∷ []; sent = refusal_in_two ∷ [] }) (entries (start (script 1)) (begins 1 (acts.Open (operands.Fid file)) ∷ gives 1 steady ∷ [])))) (script 1) → ⊥
+answered_in_another_boot : Legal (alters 0 to_boot_two (alters 1 (λ e. record e { lines = lines.Given 1 ∷ []; sent = reply_in_two }) (entries (start (script 1)) (begins 1 (acts.Open (operands.Fid file)) ∷ gives 1 steady ∷ [])))) (script 1) → ⊥
 unfolding moved begin_row client_row server_row back_timeout_row wake_row start_row record_bytes head_form volume_form spelled opaque pad word laid_at led name_ok directory_bytes name_bytes rights_of image acl_text digits entry_text directory_of names_at opaque_at word_at counted_at whole_at count_at name_at spelled_at bytes_below
 answered_in_another_boot h =
     elim (ran_in_two _ (h.1.0.1.1.0.0 1 1 (refl, tt) refl refl).ran) [
@@ -519,14 +528,6 @@ late_gift_front = begins 1 (acts.Open (operands.Fid file)) ∷ gives 1 steady �
 -- what the client sends and is sent behind the restart
 abbrev asked_anew : List Message → List Message
 asked_anew ms = map (λ (m : Message). record m { head = record m.head { number = 3; boot = 2 } }) ms
-
-abbrev sent_by : Cell → List Input → List Message
-sent_by c [] = []
-sent_by c (x ∷ []) = (moved c x).entry.sent
-sent_by c (x ∷ y ∷ xs) = sent_by (moved c x).cell (y ∷ xs)
-
-abbrev step_of : Node → List Line → List Message → Entry
-step_of n ls ms = record { actor = actors.Node n; lines = ls; sent = ms; volumes = [] }
 
 abbrev late_gift_rest : List Entry
 late_gift_rest =
@@ -668,7 +669,7 @@ in_boot_one l = l
 
 begun_in_the_old_boot : Legal (alters 1 (by_lines in_boot_one) (entries (start (script 1)) (stops 1 ∷ starts_again 1 false comes_up ∷ []))) (script 1) → ⊥
 unfolding moved begin_row client_row server_row back_timeout_row wake_row start_row record_bytes head_form volume_form spelled opaque pad word laid_at led name_ok directory_bytes name_bytes rights_of image acl_text digits entry_text directory_of names_at opaque_at word_at counted_at whole_at count_at name_at spelled_at bytes_below
-begun_in_the_old_boot h = let e : 1 < 1 = h.1.0.1.0.1.0.1 in absurd (omega arith)
+begun_in_the_old_boot h = let e : 1 < 1 = h.1.0.1.0.1.0.0.1 in absurd (omega arith)
 
 -- ---- an act changes things once, were it long over
 
@@ -699,7 +700,7 @@ begins_again = step_of (Server 1) (lines.Restart (Server 1) 2 ∷ lines.Owe (Ser
 
 begun_when_up : Legal (begins_again ∷ []) (script 1) → ⊥
 unfolding moved begin_row client_row server_row back_timeout_row wake_row start_row record_bytes head_form volume_form spelled opaque pad word laid_at led name_ok directory_bytes name_bytes rights_of image acl_text digits entry_text directory_of names_at opaque_at word_at counted_at whole_at count_at name_at spelled_at bytes_below
-begun_when_up h = let e : Some 1 ≡ None = h.0.1.0.1.0.0 in absurd cc
+begun_when_up h = let e : Some 1 ≡ None = h.0.1.0.1.0.0.0 in absurd cc
 
 -- ---- timeouts count of the node to which the call was sent
 
@@ -967,20 +968,20 @@ asked_two_servers h = one_server (some_of (Server 1) (Server 2) h.0.1.1.1.1.0.1.
 
 -- bob may not look the root up, and is told who may
 abbrev hidden : Script
-hidden = record (script 1) { users = record { client = 1; name = codes "bob" } ∷ []; volumes = record { id = home; name = codes "proj"; server = 1; quota = 1000; lines = setup.File (codes "a" ∷ []) (Hex (codes "abc")) ∷ setup.AccessList [] (Hex (codes "1\n0\nann\t127\n")) ∷ [] } ∷ [] }
+hidden = record (script 2) { users = record { client = 1; name = codes "bob" } ∷ []; volumes = record { id = home; name = codes "proj"; server = 1; quota = 1000; lines = setup.File (codes "a" ∷ []) (Hex (codes "abc")) ∷ setup.AccessList [] (Hex (codes "1\n0\nann\t127\n")) ∷ [] } ∷ [] }
 
-abbrev hidden_list : List ℕ
-hidden_list = codes "1\n0\nann\t127\n"
+-- it asks another client, which tells it; no server would
+abbrev asks_two : Entry → Entry
+asks_two e = record e { sent = map (λ (m : Message). record m { head = record m.head { to = Client 2 } }) e.sent }
 
--- its reply shows it all the same
-abbrev acl_front : List Input
-acl_front = begins 1 (acts.GetAccessList (operands.Fid root)) ∷ gives 1 steady ∷ []
+abbrev told_by_two : List Message
+told_by_two = map (λ (m : Message). record m { head = record m.head { from = Client 2 } }) (sent_by (start (script 1)) (begins 1 (acts.GetAccessList (operands.Fid root)) ∷ gives 1 steady ∷ []))
 
-abbrev shows_list : Entry → Entry
-shows_list e = record e { sent = sent_by (start (script 1)) acl_front }
+abbrev hidden_front : List Entry
+hidden_front = alters 0 asks_two (entries (start hidden) (begins 1 (acts.GetAccessList (operands.Fid root)) ∷ [])) ++ step_of (Client 2) (lines.Given 1 ∷ []) told_by_two ∷ []
 
 abbrev hidden_past : List Entry
-hidden_past = past_of (set_up hidden ∷ []) (alters 1 shows_list (entries (start hidden) acl_front))
+hidden_past = past_of (set_up hidden ∷ []) hidden_front
 
 -- what the cause of that says of the entry that ran the call
 record RanHidden (e : Entry) (older : List Entry) : Type 0 where
@@ -1004,7 +1005,7 @@ hidden_zero : (server : Node) (o : Option Result) (k : Key) (ran ls : List Line)
 hidden_zero server o k ran ls (inl x) = x.0
 hidden_zero server o k ran ls (inr x) = let no_ : pos 0 ≡ pos 108 = x.0 in absurd cc
 
-shown_without_the_right : Legal (alters 1 shows_list (alters 2 (instead (lines.Given 2 ∷ lines.Read (Client 1) root 1 Fetched (seen.AccessList (codes "1\n0\nann\t127\n")) ∷ [])) (entries (start hidden) (acl_front ++ gives 2 steady ∷ [])))) hidden → ⊥
+shown_without_the_right : Legal (hidden_front ++ step_of (Client 1) (lines.Given 2 ∷ lines.Read (Client 1) root 1 Fetched (seen.AccessList (codes "1\n0\nann\t127\n")) ∷ []) [] ∷ []) hidden → ⊥
 unfolding moved begin_row client_row server_row back_timeout_row wake_row start_row record_bytes head_form volume_form spelled opaque pad word laid_at led name_ok directory_bytes name_bytes rights_of image acl_text digits entry_text directory_of names_at opaque_at word_at counted_at whole_at count_at name_at spelled_at bytes_below acl_laid acl_at entry_at access.name_at named_at line_number_at access.count_at
 shown_without_the_right h =
     let g = h.1.1.0.0.0.1.0.1 in
@@ -1207,26 +1208,13 @@ read_over_a_crash h =
 abbrev tells_the_time : Entry → Entry
 tells_the_time e = record e { sent = map (λ (m : Message). record m { carried = carried.Reply (tell.File (replies.GetTime 0 0)) }) e.sent }
 
-record RanTime (e : Entry) (older : List Entry) : Type 0 where
-  message : Message
-  given : given_message e.lines (sent_of older) ≡ Some message
-  kind : IsOfKind message.carried (carried.Reply (tell.File (replies.GetTime 0 0)))
+a_fetch_tells_no_time : 153 ≡ 130 → ⊥
+a_fetch_tells_no_time e = absurd (omega (arith, e))
 
-time_none : (e : Entry) (older : List Entry) → given_message e.lines (sent_of older) ≡ None → RanTime e older → ⊥
-time_none e older none x = let no_ : None ≡ Some x.message = sym none ∙ x.given in absurd cc
-
-time_fetch : (e : Entry) (older : List Entry) (m : Message) (user : List ℕ) (call : FsCall) → given_message e.lines (sent_of older) ≡ Some m → m.carried ≡ carried.Call user (ask.File call) → call_number call ≡ 130 → RanTime e older → ⊥
-time_fetch e older m user call given is fetch x =
-    let kind : 153 ≡ call_number call = subst (λ (c : Carried). IsOfKind c (carried.Reply (tell.File (replies.GetTime 0 0)))) (ap (λ (k : Message). k.carried) (some_of x.message m (sym x.given ∙ given)) ∙ is) x.kind in
-    let no_ : 153 ≡ 130 = kind ∙ fetch in absurd (omega (arith, no_))
-
-answered_by_another_kind : Legal (alters 1 tells_the_time (entries (start (script 1)) (begins 1 (acts.Open (operands.Fid file)) ∷ gives 1 steady ∷ []))) (script 1) → ⊥
+answered_by_another_kind : Legal (alters 1 tells_the_time (entries (start (script 1)) fetch_front)) (script 1) → ⊥
 unfolding moved begin_row client_row server_row back_timeout_row wake_row start_row record_bytes head_form volume_form spelled opaque pad word laid_at led name_ok directory_bytes name_bytes rights_of image acl_text digits entry_text directory_of names_at opaque_at word_at counted_at whole_at count_at name_at spelled_at bytes_below
 answered_by_another_kind h =
-    let a = h.1.0.1.1.0.0 1 1 (refl, tt) refl refl in
-    let past : List Entry = past_of (set_up (script 1) ∷ []) (alters 1 tells_the_time (entries (start (script 1)) (begins 1 (acts.Open (operands.Fid file)) ∷ gives 1 steady ∷ []))) in
-    let there : Among RanTime past = subst (Among RanTime) (sym a.ran.split) (is_among RanTime a.ran.newer a.ran.at a.ran.older (record { message = a.ran.message; given = a.ran.given; kind = a.kind })) in
-    elim there [
-      | inl x ↦ time_fetch _ _ _ (codes "guest") (calls.FetchData file (pos 0) (pos 2147483647)) refl refl refl x
-      | inr y ↦ elim y [ inl x ↦ time_none _ _ refl x | inr z ↦ elim z [ inl x ↦ time_none _ _ refl x | inr w ↦ w ] ]
+    elim (ran_for _ _ (h.1.0.1.1.0.0 1 1 (refl, tt) refl refl)) [
+      | inl x ↦ for_call _ _ _ _ _ (codes "guest") (calls.FetchData file (pos 0) (pos 2147483647)) (pos 0) refl refl refl x (λ result kind. a_fetch_tells_no_time kind)
+      | inr y ↦ elim y [ inl x ↦ for_none _ _ _ _ refl x | inr z ↦ elim z [ inl x ↦ for_none _ _ _ _ refl x | inr w ↦ w ] ]
     ]

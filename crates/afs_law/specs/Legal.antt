@@ -20,7 +20,7 @@ use Rattle.afs_rows.specs.Going.{Going, Need, answers, asks_for, next, asked, gi
 use Rattle.afs_law.specs.Grants.{is_promised, read_reply, GrantOf, since, until, IsWithdrawn, IsChangedByOther, IsDropped}
 use Rattle.afs_law.specs.Ideal.{last_version, Unless, set_up, IsLast, WasLast, HasBeen, HasVersion, Accepts, clock_of, user_of, seen, change_in, change_key, call_under, callee_under, volume_after}
 use Rattle.afs_history.specs.declared.lines.Line.{Line}
-use Rattle.afs_law.specs.Past.{WasSent, last_boot, is_new_to_act, called_key, IsCall, IsToCome, is_of_act, lines_of, sent_of, given_message, answered_key, code_told, IsReply, running, has_begun, has_given, Called, CalledSince, IsCallUnder, Ran, server_boot}
+use Rattle.afs_law.specs.Past.{HasBoot, WasSent, is_down, last_boot, is_new_to_act, called_key, IsCall, IsToCome, is_of_act, lines_of, sent_of, given_message, answered_key, code_told, IsReply, running, has_begun, has_given, Called, CalledSince, IsCallUnder, Ran, server_boot}
 use Rattle.afs_rows.specs.Runs.{Entry}
 use Rattle.afs_history.specs.declared.scripts.Script.{Script}
 use Rattle.afs_num.specs.declared.histories.Actor.{Actor}
@@ -531,24 +531,32 @@ IsKind call (carried.Refusal code) = ⊤
 IsKind call (carried.Reply (tell.File reply)) = reply_number reply ≡ call_number call
 IsKind call c = ⊥
 
-abbrev pub IsOfKind : Carried → Carried → Type 0
-IsOfKind (carried.Call user (ask.File call)) c = IsKind call c
-IsOfKind call c = ⊥
-
--- what is sent as a server's reply to a client is that of the entry which ran its call, one before or the one that sends it, and of that
--- call's kind
+-- What is sent as a server's reply to a client is that of the entry which ran its call, one before or the one that sends it. It has the code
+-- of the ideal operation there, and, unless it is a refusal, it is of that call's kind
 pub record Answered (m : Message) (past : List Entry) : Type 0 where
   pub ran : Ran m.head past
-  pub kind : IsOfKind ran.message.carried m.carried
+  pub user : List ℕ
+  pub call : FsCall
+  pub carries : ran.message.carried ≡ carried.Call user (ask.File call)
+  pub code : ℤ
+  pub told : code_told m.carried ≡ Some code
+  pub result : IsResult m.head.from code (answer_at user call ran.older) (answered_key m.head) ran.at.lines (lines_of past)
+  pub kind : IsKind call m.carried
 
 abbrev pub WereRun : List Entry → List Message → Type 0
 WereRun past [] = ⊤
 WereRun past (m ∷ ms) = ((i j : ℕ) → IsReply m → m.head.from ≡ Server i → m.head.to ≡ Client j → Answered m past) × WereRun past ms
 
--- a client's file call is made for its user, and is the one under its key, to the one callee: what is sent again is the same call
+-- where this is a server, it began this boot
+abbrev pub IsBootOf : Node → ℕ → List Line → Type 0
+IsBootOf (Server i) boot ls = HasBoot (Server i) boot ls
+IsBootOf n boot ls = ⊤
+
+-- A client's file call is made for its user, and is the one under its key, to the one callee: what is sent again is the same call. The boot to
+-- which it is sent its server began
 abbrev pub OwnCallOf : Script → Node → Head → List ℕ → FsCall → List Entry → Type 0
 OwnCallOf s (Client j) head user call past =
-    (user ≡ user_of s (Client j)) × ((call_under (called_key head) (sent_of past) ≡ Some (user, call)) × (callee_under (called_key head) (sent_of past) ≡ Some head.to))
+    (user ≡ user_of s (Client j)) × ((call_under (called_key head) (sent_of past) ≡ Some (user, call)) × ((callee_under (called_key head) (sent_of past) ≡ Some head.to) × IsBootOf head.to head.boot (lines_of past)))
 OwnCallOf s n head user call past = ⊤
 
 abbrev pub OwnCall : Script → Head → Carried → List Entry → Type 0
@@ -574,6 +582,25 @@ IsRising l older = ⊤
 abbrev pub AreRising : List Line → List Line → Type 0
 AreRising older [] = ⊤
 AreRising older (l ∷ ls) = IsRising l older × AreRising (l ∷ older) ls
+
+-- ---- clients that stop
+
+-- these lines tell a crash or a restart
+abbrev pub has_crash_or_restart : List Line → Bool
+has_crash_or_restart [] = false
+has_crash_or_restart (lines.Crash n ∷ ls) = true
+has_crash_or_restart (lines.Restart n boot ∷ ls) = true
+has_crash_or_restart (l ∷ ls) = has_crash_or_restart ls
+
+-- An entry of a client that is down is its restart. One of a client that is up is its crash, or tells neither a crash nor a restart. A crash
+-- and a restart are their entry's only line, and send nothing
+abbrev pub IsLived : Node → Bool → List Line → List Message → Type 0
+IsLived c true ls sent = (epoch : ℕ) × ((ls ≡ lines.Restart c epoch ∷ []) × (sent ≡ []))
+IsLived c false ls sent = ((ls ≡ lines.Crash c ∷ []) × (sent ≡ [])) ⊎ (has_crash_or_restart ls ≡ false)
+
+abbrev pub IsLivedBy : Actor → List Entry → List Line → List Message → Type 0
+IsLivedBy (actors.Node (Client j)) past ls sent = IsLived (Client j) (is_down (Client j) (lines_of past)) ls sent
+IsLivedBy who past ls sent = ⊤
 
 -- ---- timeouts
 
@@ -651,10 +678,10 @@ IsOfScript s (actors.Node n) = ⊥
 IsOfScript s actors.Clock = ⊤
 IsOfScript s actors.Nobody = ⊤
 
--- an entry lays no volumes, for the set-up alone does; it is of a node of the script; and a server that begins again was down, and is
--- then in a boot above the last one that it began
+-- An entry lays no volumes, for the set-up alone does; and it is of a node of the script. A server that begins again was down, and is then in
+-- a boot above the last one that it began. A client that is down does nothing but begin again
 abbrev pub IsEntryOf : Script → List Entry → Entry → Type 0
-IsEntryOf s past e = ((e.volumes ≡ []) × IsOfScript s e.actor) × AreRising (lines_of past) e.lines
+IsEntryOf s past e = ((e.volumes ≡ []) × IsOfScript s e.actor) × (AreRising (lines_of past) e.lines × IsLivedBy e.actor past e.lines e.sent)
 
 abbrev pub LegalAfter : Script → List Entry → List Entry → Type 0
 LegalAfter s past [] = ⊤

@@ -179,6 +179,20 @@ last_boot s [] = 1
 last_boot s (lines.Restart n boot ∷ older) = if same_node n s then boot else last_boot s older
 last_boot s (l ∷ older) = last_boot s older
 
+-- the server began this boot: it is the first, or a restart of the server told it
+abbrev pub HasBoot : Node → ℕ → List Line → Type 0
+HasBoot s boot [] = boot ≡ 1
+HasBoot s boot (lines.Restart n b ∷ older) = ((n ≡ s) × (b ≡ boot)) ⊎ HasBoot s boot older
+HasBoot s boot (l ∷ older) = HasBoot s boot older
+
+-- ---- whether a client is down, by its lines, the newest first: it crashed, and didn't begin again since
+
+abbrev pub is_down : Node → List Line → Bool
+is_down c [] = false
+is_down c (lines.Crash n ∷ older) = if same_node n c then true else is_down c older
+is_down c (lines.Restart n epoch ∷ older) = if same_node n c then false else is_down c older
+is_down c (l ∷ older) = is_down c older
+
 -- ---- the entry that ran a call
 
 -- a call to this callee under this key, to this boot

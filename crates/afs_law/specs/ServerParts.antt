@@ -3,7 +3,7 @@ use Rattle.afs_law.specs.Breaks.{GoodQuit, GoodSettle, HasOwe, lines_at, live_gr
 use Rattle.afs_law.specs.Grants.{is_promised}
 use Rattle.afs_law.specs.Ideal.{Accepts, HasVersion, clock_of, set_up, volume_after}
 use Rattle.afs_law.specs.Laws.{IsKept, told_by_restart}
-use Rattle.afs_law.specs.Legal.{GoodCode, GoodGrant, GoodOwe, GoodReadBy, GoodReply, GoodTimeout, IsBrought, IsChanged, IsKind, IsResult, Legal, answer_at, versions_first}
+use Rattle.afs_law.specs.Legal.{Answered, GoodCode, GoodGrant, GoodOwe, GoodReadBy, GoodReply, GoodTimeout, IsBrought, IsChanged, Legal, versions_first}
 use Rattle.afs_law.specs.Once.{past_of}
 use Rattle.afs_law.specs.Parts.{AllLines, EachEntry, EachSent, LineRule}
 use Rattle.afs_law.specs.Past.{HasCode, Ran, answered_key, code_told, lines_of}
@@ -62,23 +62,11 @@ RepliesWait = (s : Script) (history : List Entry) (end : Cell) → RunsTo histor
 
 -- ---- replies
 
--- the reply is that of the entry which ran its call, and tells what the ideal operation made of it there; and if it isn't a refusal it is of that
--- call's kind
-pub record IsTrue (m : Message) (past : List Entry) : Type 0 where
-  pub ran : Ran m.head past
-  pub user : List ℕ
-  pub call : FsCall
-  pub carries : ran.message.carried ≡ carried.Call user (ask.File call)
-  pub code : ℤ
-  pub told : code_told m.carried ≡ Some code
-  pub result : IsResult m.head.from code (answer_at user call ran.older) (answered_key m.head) ran.at.lines (lines_of past)
-  pub kind : IsKind call m.carried
-
--- where it is one of a server to a client
+-- a reply of a server to a client is that of the entry which ran its call, and tells what the ideal operation made of it there
 abbrev pub IsTruthful : List Entry → Message → Type 0
-IsTruthful past m = (i j : ℕ) → m.head.from ≡ Server i → m.head.to ≡ Client j → HasCode m.carried → IsTrue m past
+IsTruthful past m = (i j : ℕ) → m.head.from ≡ Server i → m.head.to ≡ Client j → HasCode m.carried → Answered m past
 
--- so is each reply of a run
+-- so does each reply of a run
 abbrev pub RepliesAreTrue : Type 0
 RepliesAreTrue = (s : Script) (history : List Entry) (end : Cell) → RunsTo history s end → EachEntry (λ past e. EachSent IsTruthful (e ∷ past) e.sent) (set_up s ∷ []) history
 
