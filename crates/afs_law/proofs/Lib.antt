@@ -58,6 +58,8 @@ pub mod Telling
 pub mod Owning
 pub mod Remaining
 pub mod Latest
+pub mod Learning
+pub mod Lives
 pub mod Ascending
 pub mod Sending
 pub mod Gifts

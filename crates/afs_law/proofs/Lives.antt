@@ -25,6 +25,7 @@ use Rattle.afs_num.specs.declared.calls.FsReply.{FsReply}
 use Rattle.afs_num.specs.declared.calls.FsReply.TheVariants as replies
 use Rattle.afs_num.specs.declared.histories.Actor.{Actor}
 use Rattle.afs_num.specs.declared.histories.Actor.TheVariants as actors
+use Rattle.afs_num.specs.declared.histories.Body.TheVariants as bodies
 use Rattle.afs_num.specs.declared.histories.ReadBody.{ReadBody}
 use Rattle.afs_num.specs.declared.histories.ReadBody.TheVariants as seen
 use Rattle.afs_num.specs.declared.histories.ReadSource.TheVariants.{Fetched}
@@ -40,13 +41,13 @@ use Rattle.afs_num.specs.declared.types.Head.{Head}
 use Rattle.afs_num.specs.declared.types.Node.{Node}
 use Rattle.afs_num.specs.declared.types.Node.TheVariants.{Admin, Client, Loc, Server}
 use Rattle.afs_rows.specs.Callbacks.{put}
-use Rattle.afs_rows.specs.ClientRow.{Look, Walked, admits_call, awaits, begin_row, begins_by, behind_batch, body_told, breaks, call_of, calls_again, client_row, counts, dead_code, drop_line, dropped, dropped_after, entries_told, entry_told, gift_of, given, given_up_in, gives_by, gives_up, goes_by, hears, ignores, in_order, is_awaited, is_busy_code, is_older, is_spent, is_trusted, look_at, looked, most_busy, most_reads, read_lines, refuses, runs_carried, status_look, status_told, takes, takes_bulk, takes_bytes, takes_data, takes_entries, takes_entry, takes_given, takes_list, takes_plain, takes_rights, takes_set, takes_shown, takes_status, timeout_row, tries_again, trusted_in, untrusted_in, walked, walks_on, whole, with_statuses}
+use Rattle.afs_rows.specs.ClientRow.{Look, Walked, admits_call, answers_step, awaits, find_cached, is_below, put_entries, put_entry, takes_stored, begin_row, begins_by, behind_batch, body_told, breaks, call_of, calls_again, client_row, counts, dead_code, drop_line, dropped, dropped_after, entries_told, entry_told, gift_of, given, given_up_in, gives_by, gives_up, goes_by, hears, ignores, in_order, is_awaited, is_busy_code, is_older, is_spent, is_trusted, look_at, looked, most_busy, most_reads, read_lines, refuses, runs_carried, status_look, status_told, takes, takes_bulk, takes_bytes, takes_data, takes_entries, takes_entry, takes_given, takes_list, takes_plain, takes_rights, takes_set, takes_shown, takes_status, timeout_row, tries_again, trusted_in, untrusted_in, walked, walks_on, whole, with_statuses}
 use Rattle.afs_rows.specs.Going.{ClientState, Going, Need, answers, began, gives_back, next, with_read}
 use Rattle.afs_rows.specs.Runs.{Armed, Blow, Cell, Entry, Fall, Input, Luck, Moved, Outcome, RunsTo, back_timed, begins, begun_by, begun_by_disk, client_falls, client_moves, client_rises, client_starts, client_stops, comes_up, decided_at, fails_early, fails_midway, given_at, given_to, gives, has_client, has_host, is_full, message_at, moved, nothing, server_armed, server_ends, server_given, server_restarted, server_served, server_stopped, server_timed, server_waits, server_wakes, sets_fail, sets_stop, settled, start, starts_again, stops, struck, ticked, ticks, voided, waited_by, waits, wakes}
 use Rattle.afs_rows.specs.ServerRow.{Begun, device_calls}
 use Rattle.afs_rows.specs.States.{BackCall, CacheEntry, Gift}
 use Rattle.afs_rows.specs.Steps.{Step}
-use Rattle.std.proofs.Common.{zero, suc, ◌≡◌, ◌⊎◌, inl, inr, ℕ, Bool, true, false, cond, List, [], ◌∷◌, ◌++◌, map, Option, Some, None, refl, sym, ap, subst, ◌∙◌, filter, not}
+use Rattle.std.proofs.Common.{zero, suc, ◌+◌, ◌≡◌, ◌⊎◌, inl, inr, ℕ, Bool, true, false, cond, List, [], ◌∷◌, ◌++◌, map, Option, Some, None, refl, sym, ap, subst, ◌∙◌, filter, not}
 use Rattle.std.specs.List.{list_any}
 use Rattle.std.specs.Prelude.{⊤, ◌||◌, ◌&&◌, nat_lt}
 
@@ -90,31 +91,31 @@ plain_alive : (me : Node) (c : ClientState) (place : ℕ) (call : FsCall) → Al
 plain_alive me c place call = dropped_alive me (dropped_after call c.cache) _ refl
 
 entry_alive : (me : Node) (c : ClientState) (clock place : ℕ) (act : Going) (e : CacheEntry) (body : ReadBody) → Alive (takes_entry me c clock place act e body).lines
-entry_alive me c clock place act e body = either_alive (is_trusted clock e) _ _ (walks_alive me c clock (read_lines me place (look_at Fetched e body)) _ _ (λ ls h. h)) refl
+entry_alive me c clock place act e body = either_alive (is_trusted clock e) _ (calls_again me c place act) (walks_alive me c clock (read_lines me place (look_at Fetched e body)) (with_read e.fid body act) (put_entry c.capacity e c.cache) (λ ls h. h)) refl
 
 entries_alive : (me : Node) (c : ClientState) (clock place : ℕ) (act : Going) (es : List CacheEntry) → Alive (takes_entries me c clock place act es).lines
-entries_alive me c clock place act es = either_alive (list_any (λ e. not (is_trusted clock e)) es) _ _ refl (walks_alive me c clock (λ ls. given place (looked me (map status_look es) ls)) _ _ (λ ls h. looked_alive me (map status_look es) ls h))
+entries_alive me c clock place act es = either_alive (list_any (λ e. not (is_trusted clock e)) es) (calls_again me c place act) _ refl (walks_alive me c clock (λ ls. given place (looked me (map status_look es) ls)) (with_statuses es act) (put_entries c.capacity es c.cache) (λ ls h. looked_alive me (map status_look es) ls h))
 
 rights_alive : (me : Node) (c : ClientState) (clock place : ℕ) (act : Going) (f : Fid) (index release : ℕ) (text : List ℕ) → Alive (takes_rights me c clock place act f index release text).lines
 rights_alive me c clock place act f index release text =
-    walks_alive me c clock (λ ls. read_lines me place (record { fid = f; index = index; source = Fetched; body = seen.AccessList text }) (dropped me (filter (is_older f index release) c.cache) ls)) _ _ (λ ls h. dropped_alive me (filter (is_older f index release) c.cache) ls h)
+    walks_alive me c clock (λ ls. read_lines me place (record { fid = f; index = index; source = Fetched; body = seen.AccessList text }) (dropped me (filter (is_older f index release) c.cache) ls)) (with_read f (seen.AccessList text) act) (filter (λ e. not (is_older f index release e)) c.cache) (λ ls h. dropped_alive me (filter (is_older f index release) c.cache) ls h)
 
 bytes_alive : (me : Node) (c : ClientState) (clock place : ℕ) (f : Fid) (status : AfsFetchStatus) (contents : List ℕ) (call : FsCall) → Alive (takes_bytes me c clock place f status contents call).lines
-bytes_alive me c clock place f status contents call = either_alive c.spoiled _ _ (plain_alive me c place call) refl
+bytes_alive me c clock place f status contents call = either_alive c.spoiled (takes_plain me c place call) (takes_stored me c clock place f status.sync_counter (status_told status) (λ body. Some (bodies.File contents))) (plain_alive me c place call) refl
 
 status_alive : (me : Node) (c : ClientState) (clock place : ℕ) (f : Fid) (status : AfsFetchStatus) (call : FsCall) → Alive (takes_status me c clock place f status call).lines
-status_alive me c clock place f status call = either_alive _ _ _ refl (plain_alive me c place call)
+status_alive me c clock place f status call = either_alive (not c.spoiled && is_below clock status.sync_counter (find_cached f c.cache)) (takes_stored me c clock place f status.sync_counter (status_told status) (λ body. body)) (takes_plain me c place call) refl (plain_alive me c place call)
 
 data_alive : (me : Node) (c : ClientState) (clock place : ℕ) (act : Going) (contents : List ℕ) (status : AfsFetchStatus) (callback : AfsCallBack) (sync : AfsVolSync) (call : FsCall) → Alive (takes_data me c clock place act contents status callback sync call).lines
-data_alive me c clock place act contents status callback sync (calls.FetchData f position wanted) = entry_alive me c clock place act _ _
+data_alive me c clock place act contents status callback sync (calls.FetchData f position wanted) = entry_alive me c clock place act (entry_told c.callee f status callback sync (Some (body_told status.file_type contents))) (seen.Contents (body_told status.file_type contents))
 data_alive me c clock place act contents status callback sync call = plain_alive me c place call
 
 shown_alive : (me : Node) (c : ClientState) (clock place : ℕ) (act : Going) (status : AfsFetchStatus) (callback : AfsCallBack) (sync : AfsVolSync) (call : FsCall) → Alive (takes_shown me c clock place act status callback sync call).lines
-shown_alive me c clock place act status callback sync (calls.FetchStatus f) = entry_alive me c clock place act _ _
+shown_alive me c clock place act status callback sync (calls.FetchStatus f) = entry_alive me c clock place act (entry_told c.callee f status callback sync None) (seen.Status (status_told status))
 shown_alive me c clock place act status callback sync call = plain_alive me c place call
 
 list_alive : (me : Node) (c : ClientState) (clock place : ℕ) (act : Going) (text : List ℕ) (status : AfsFetchStatus) (sync : AfsVolSync) (call : FsCall) → Alive (takes_list me c clock place act text status sync call).lines
-list_alive me c clock place act text status sync (calls.FetchAcl f) = rights_alive me c clock place act f _ _ text
+list_alive me c clock place act text status sync (calls.FetchAcl f) = rights_alive me c clock place act f status.sync_counter sync.release text
 list_alive me c clock place act text status sync call = plain_alive me c place call
 
 set_alive : (me : Node) (c : ClientState) (clock place : ℕ) (status : AfsFetchStatus) (call : FsCall) → Alive (takes_set me c clock place status call).lines
@@ -124,7 +125,7 @@ set_alive me c clock place status (calls.StoreStatus f set) = status_alive me c 
 set_alive me c clock place status call = plain_alive me c place call
 
 bulk_alive : (me : Node) (c : ClientState) (clock place : ℕ) (act : Going) (statuses : List AfsFetchStatus) (callbacks : List AfsCallBack) (sync : AfsVolSync) (call : FsCall) → Alive (takes_bulk me c clock place act statuses callbacks sync call).lines
-bulk_alive me c clock place act statuses callbacks sync (calls.BulkStatus fids) = entries_alive me c clock place act _
+bulk_alive me c clock place act statuses callbacks sync (calls.BulkStatus fids) = entries_alive me c clock place act (entries_told c.callee sync fids statuses callbacks)
 bulk_alive me c clock place act statuses callbacks sync call = plain_alive me c place call
 
 given_alive : (me : Node) (c : ClientState) (place : ℕ) (act : Going) (call : FsCall) → Alive (takes_given me c place act call).lines
@@ -143,18 +144,18 @@ takes_alive me c clock place act call replies.GiveUpCallBacks = given_alive me c
 takes_alive me c clock place act call reply = plain_alive me c place call
 
 refuses_alive : (me : Node) (c : ClientState) (place : ℕ) (act : Going) (code : Code) → Alive (refuses me c place act code).lines
-refuses_alive me c place act code = either_alive (is_busy_code code && nat_lt c.busy most_busy) _ _ refl refl
+refuses_alive me c place act code = either_alive (is_busy_code code && nat_lt c.busy most_busy) (calls_again me (record c { busy = c.busy + 1 }) place act) (answers_step me c place code) refl refl
 
 counts_alive : (me : Node) (c : ClientState) (clock place : ℕ) (act : Going) (head : Head) (x : Carried) → Alive (counts me c clock place act head x).lines
 counts_alive me c clock place act head (carried.Call user call) = refl
-counts_alive me c clock place act head (carried.Refusal code) = either_alive (is_spent c act) _ _ refl (refuses_alive me c place act code)
-counts_alive me c clock place act head (carried.Reply (tell.File reply)) = either_alive (is_spent c act) _ _ refl (takes_alive me c clock place act (call_of c act) reply)
+counts_alive me c clock place act head (carried.Refusal code) = either_alive (is_spent c act) (calls_again me c place act) (refuses me c place act code) refl (refuses_alive me c place act code)
+counts_alive me c clock place act head (carried.Reply (tell.File reply)) = either_alive (is_spent c act) (calls_again me c place act) (takes me c clock place act (call_of c act) reply) refl (takes_alive me c clock place act (call_of c act) reply)
 counts_alive me c clock place act head (carried.Reply reply) = refl
 counts_alive me c clock place act head carried.Notice = refl
 
 awaits_alive : (me : Node) (c : ClientState) (clock place : ℕ) (head : Head) (x : Carried) (o : Option Going) → Alive (awaits me c clock place head x o).lines
 awaits_alive me c clock place head x None = refl
-awaits_alive me c clock place head x (Some act) = either_alive (is_awaited c act head) _ _ (counts_alive me c clock place act head x) refl
+awaits_alive me c clock place head x (Some act) = either_alive (is_awaited c act head) (counts me c clock place act head x) (ignores c place) (counts_alive me c clock place act head x) refl
 
 breaks_alive : (me : Node) (c : ClientState) (place : ℕ) (head : Head) (call : FsCall) → Alive (breaks me c place head call).lines
 breaks_alive me c place head (calls.CallBack fs callbacks) = drops_alive me fs
@@ -180,7 +181,7 @@ hears_alive me c clock place head x = awaits_alive me c clock place head x c.run
 
 told_alive : (me : Node) (c : ClientState) (clock place : ℕ) (m : Message) → Alive (client_row me c clock place (Whole m)).lines
 unfolding client_row
-told_alive me c clock place m = either_alive (same_node m.head.to me) _ _ (hears_alive me c clock place m.head m.carried) refl
+told_alive me c clock place m = either_alive (same_node m.head.to me) (hears me c clock place m.head m.carried) (ignores c place) (hears_alive me c clock place m.head m.carried) refl
 
 first_alive : (me : Node) (c : ClientState) (clock : ℕ) (front : List Line → List Line) (act : Going) (need : Need) → IsFront front → Alive (begins_by me c clock front act need).lines
 first_alive me c clock front act gives_back f = gives_alive me (record c { cache = untrusted_in clock c.cache }) (λ ls. front (dropped me (trusted_in clock c.cache) ls)) act (in_order (map gift_of (trusted_in clock c.cache))) (λ ls h. f _ (dropped_alive me (trusted_in clock c.cache) ls h))

@@ -5,6 +5,7 @@ use Rattle.afs_num.specs.declared.types.Key.{Key}
 use Rattle.afs_num.specs.declared.types.Head.{Head}
 use Rattle.afs_records.specs.Records.{record_bytes, head_form, volume_form}
 use Rattle.afs_rows.specs.ServerSteps.{server_row, back_timeout_row, wake_row, start_row}
+use Rattle.afs_history.specs.declared.acts.Act.{Act}
 use Rattle.afs_history.specs.declared.acts.Act.TheVariants as acts
 use Rattle.afs_history.specs.declared.acts.Operand.TheVariants as operands
 use Rattle.afs_history.specs.declared.acts.Written.TheVariants.{Hex}
@@ -116,6 +117,10 @@ for_call m ls e older k user call code given is told x w =
     let by_call : IsResult m.head.from x.code (answer_at user call older) (answered_key m.head) e.lines ls = subst (λ (c : FsCall). IsResult m.head.from x.code (answer_at user c older) (answered_key m.head) e.lines ls) (sym (one_call _ _ _ _ same)) by_user in
     w (subst (λ (n : ℤ). IsResult m.head.from n (answer_at user call older) (answered_key m.head) e.lines ls) codes_ by_call) (subst (λ (c : FsCall). IsKind c m.carried) (sym (one_call _ _ _ _ same)) x.kind)
 
+-- where the ideal operation gives it code 0, no other is due, but for 108 from a server that wasn't interrupted in it
+not_due : (m : Message) (ls : List Line) (e : Entry) (older : List Entry) (k : Message) (user : List ℕ) (call : FsCall) (code : ℤ) → given_message e.lines (sent_of older) ≡ Some k → k.carried ≡ carried.Call user (ask.File call) → code_told m.carried ≡ Some code → code_given (answer_at user call older) ≡ pos 0 → (pos 0 ≡ code → ⊥) → (code ≡ pos 108 → HasStopped m.head.from e.lines) → RanFor m ls e older → ⊥
+not_due m ls e older k user call code given is told zero other stop x = for_call m ls e older k user call code given is told x (λ result kind. elim result [ inl y ↦ other (sym zero ∙ y.0) | inr y ↦ y.1.1.1 (stop y.0) ])
+
 -- what the last of these inputs makes a node send
 abbrev sent_by : Cell → List Input → List Message
 sent_by c [] = []
@@ -218,15 +223,17 @@ begun_with_a_reply h =
 abbrev refuses : Entry → Entry
 refuses e = record e { sent = map (λ (m : Message). record m { carried = carried.Refusal (record { 0 = pos 13 }) }) e.sent }
 
-granted_not : (r : Option Result) (k : Key) (ran ls : List Line) → code_given r ≡ pos 0 → IsResult (Server 1) (pos 13) r k ran ls → ⊥
-granted_not r k ran ls zero (inl x) = let no_ : pos 0 ≡ pos 13 = sym zero ∙ x.0 in absurd cc
-granted_not r k ran ls zero (inr x) = let no_ : pos 13 ≡ pos 108 = x.0 in absurd cc
+no_thirteen : pos 0 ≡ pos 13 → ⊥
+no_thirteen e = absurd cc
+
+thirteen_not : pos 13 ≡ pos 108 → ⊥
+thirteen_not e = absurd cc
 
 granted_by_a_refusal : Legal (alters 1 refuses (entries (start (script 1)) fetch_front)) (script 1) → ⊥
 unfolding moved begin_row client_row server_row back_timeout_row wake_row start_row record_bytes head_form volume_form spelled opaque pad word laid_at led name_ok directory_bytes name_bytes rights_of image acl_text digits entry_text directory_of names_at opaque_at word_at counted_at whole_at count_at name_at spelled_at bytes_below
 granted_by_a_refusal h =
     elim (ran_for _ _ (h.1.0.1.1.0.0 1 1 (refl, tt) refl refl)) [
-      | inl x ↦ for_call _ _ _ _ _ (codes "guest") (calls.FetchData file (pos 0) (pos 2147483647)) (pos 13) refl refl refl x (λ result kind. granted_not _ _ _ _ refl result)
+      | inl x ↦ not_due _ _ _ _ _ (codes "guest") (calls.FetchData file (pos 0) (pos 2147483647)) (pos 13) refl refl refl refl no_thirteen (λ e. absurd (thirteen_not e)) x
       | inr y ↦ elim y [ inl x ↦ for_none _ _ _ _ refl x | inr z ↦ elim z [ inl x ↦ for_none _ _ _ _ refl x | inr w ↦ w ] ]
     ]
 
@@ -350,32 +357,23 @@ run_when_down h =
       | inr y ↦ y.boots
     ]
 
--- a dead store runs behind a later one, which was answered
 abbrev key_of_one : ℕ → Key
 key_of_one n = record { node = Client 1; epoch = 1; number = n }
 
 abbrev to_boot_two : Entry → Entry
 to_boot_two e = record e { sent = map (λ (m : Message). record m { head = record m.head { boot = 2 } }) e.sent }
 
-abbrev late_front : List Input
-late_front = begins 1 (acts.Close (operands.Fid file) (Hex (codes "def"))) ∷ waits 1 ∷ waits 1 ∷ waits 1 ∷ begins 1 (acts.Close (operands.Fid file) (Hex (codes "xyz"))) ∷ gives 4 steady ∷ gives 5 steady ∷ stops 1 ∷ starts_again 1 true comes_up ∷ gives 2 steady ∷ []
-
-changed_behind_a_later_one : Legal (alters 1 to_boot_two (alters 9 (instead (lines.Given 2 ∷ lines.Change (Server 1) (key_of_one 1) 1 ∷ lines.Version (record { fid = file; index = 3; data_version = 3; body = bodies.File (codes "def") }) ∷ [])) (entries (start (script 1)) late_front))) (script 1) → ⊥
-unfolding moved begin_row client_row server_row back_timeout_row wake_row start_row record_bytes head_form volume_form spelled opaque pad word laid_at led name_ok directory_bytes name_bytes rights_of image acl_text digits entry_text directory_of names_at opaque_at word_at counted_at whole_at count_at name_at spelled_at bytes_below
-changed_behind_a_later_one h =
-    let g = h.1.1.1.1.1.1.1.1.1.0.0.0.1.0.1 in
-    elim (g.ideal.latest (key_of_one 2) (inl (refl, refl)) refl) [
-      | inl x ↦ let e : 1 < 1 = x in absurd (omega arith)
-      | inr x ↦ let e : 2 < 1 = x.1 in absurd (omega arith)
-    ]
+-- a server begins again, and a client that doesn't know it asks it in the boot before
+abbrev restarted : List Input
+restarted = stops 1 ∷ starts_again 1 false comes_up ∷ []
 
 -- a server runs a call that is to another boot than its own
-run_in_another_boot : Legal (alters 0 to_boot_two (entries (start (script 1)) (begins 1 (acts.Close (operands.Fid file) (Hex (codes "def"))) ∷ gives 1 steady ∷ []))) (script 1) → ⊥
+run_in_another_boot : Legal (entries (start (script 1)) (restarted ++ begins 1 (acts.Close (operands.Fid file) (Hex (codes "def"))) ∷ []) ++ step_of (Server 1) (lines.Given 2 ∷ lines.Change (Server 1) (key_of_one 1) 1 ∷ lines.Version (record { fid = file; index = 2; data_version = 2; body = bodies.File (codes "def") }) ∷ []) [] ∷ []) (script 1) → ⊥
 unfolding moved begin_row client_row server_row back_timeout_row wake_row start_row record_bytes head_form volume_form spelled opaque pad word laid_at led name_ok directory_bytes name_bytes rights_of image acl_text digits entry_text directory_of names_at opaque_at word_at counted_at whole_at count_at name_at spelled_at bytes_below
 run_in_another_boot h =
-    let g = h.1.0.0.0.1.0.1 in
+    let g = h.1.1.1.0.0.0.1.0.1 in
     elim g.ideal.place [
-      | inl x ↦ let e : 2 ≡ 1 = x.given.1.1 ∙ sym (some_of 1 x.boot x.up) in absurd cc
+      | inl x ↦ let e : 1 ≡ 2 = x.given.1.1 ∙ sym (some_of 2 x.boot x.up) in absurd (omega (arith, e))
       | inr y ↦ y.boots
     ]
 
@@ -395,9 +393,8 @@ says_roomless e = record e { sent = roomless ∷ [] }
 abbrev roomless_history : List Entry
 roomless_history = alters 3 says_roomless (entries (start (script 1)) stopped_front)
 
-stopped_not : (r : Option Result) (k : Key) (ran ls : List Line) → code_given r ≡ pos 0 → HasStopped (Server 1) ran → IsResult (Server 1) (pos 108) r k ran ls → ⊥
-stopped_not r k ran ls zero stop (inl x) = let no_ : pos 0 ≡ pos 108 = sym zero ∙ x.0 in absurd cc
-stopped_not r k ran ls zero stop (inr x) = x.1.1.1 stop
+no_room : pos 0 ≡ pos 108 → ⊥
+no_room e = absurd cc
 
 no_room_but_stored : Legal roomless_history (script 1) → ⊥
 unfolding moved begin_row client_row server_row back_timeout_row wake_row start_row record_bytes head_form volume_form spelled opaque pad word laid_at led name_ok directory_bytes name_bytes rights_of image acl_text digits entry_text directory_of names_at opaque_at word_at counted_at whole_at count_at name_at spelled_at bytes_below
@@ -405,7 +402,7 @@ no_room_but_stored h =
     elim (ran_for _ _ (h.1.1.1.0.1.1.0.0 1 1 (refl, tt) refl refl)) [
       | inl x ↦ for_none _ _ _ _ refl x
       | inr y ↦ elim y [
-        | inl x ↦ for_call _ _ _ _ _ (codes "guest") (stored_whole file (codes "def")) (pos 108) refl refl refl x (λ result kind. stopped_not _ _ _ _ refl (inl refl) result)
+        | inl x ↦ not_due _ _ _ _ _ (codes "guest") (stored_whole file (codes "def")) (pos 108) refl refl refl refl no_room (λ e. inl refl) x
         | inr z ↦ elim z [
           | inl x ↦ for_none _ _ _ _ refl x
           | inr w ↦ elim w [ inl x ↦ for_none _ _ _ _ refl x | inr v ↦ elim v [ inl x ↦ for_none _ _ _ _ refl x | inr u ↦ u ] ]
@@ -499,25 +496,33 @@ gift_answer = record { head = record { half = halves.Reply; from = Server 1; to 
 
 -- ---- a server that is in one boot answers a call to another
 
-abbrev reply_in_two : List Message
-reply_in_two = map (λ (m : Message). record m { head = record m.head { boot = 2 } }) reply_to_one
+-- what its reply says of the entry that ran it
+record RanInOne (e : Entry) (older : List Entry) : Type 0 where
+  message : Message
+  given : given_message e.lines (sent_of older) ≡ Some message
+  up : server_boot (Server 1) (lines_of older) ≡ Some 1
 
--- what that says of the entry that ran it
-record RanInTwo (e : Entry) (older : List Entry) : Type 0 where
-  up : server_boot (Server 1) (lines_of older) ≡ Some 2
+ran_in_one : (past : List Entry) → Ran head_of_one past → Among RanInOne past
+ran_in_one past r = subst (Among RanInOne) (sym r.split) (is_among RanInOne r.newer r.at r.older (record { message = r.message; given = r.given; up = r.up }))
 
-ran_in_two : (past : List Entry) → Ran (record head_of_one { boot = 2 }) past → Among RanInTwo past
-ran_in_two past r = subst (Among RanInTwo) (sym r.split) (is_among RanInTwo r.newer r.at r.older (record { up = r.up }))
+in_one_none : (e : Entry) (older : List Entry) → given_message e.lines (sent_of older) ≡ None → RanInOne e older → ⊥
+in_one_none e older none x = let no_ : None ≡ Some x.message = sym none ∙ x.given in absurd cc
 
-was_in_one : (e : Entry) (older : List Entry) → server_boot (Server 1) (lines_of older) ≡ Some 1 → RanInTwo e older → ⊥
-was_in_one e older one x = let no_ : 1 ≡ 2 = some_of 1 2 (sym one ∙ x.up) in absurd (omega (arith, no_))
+was_in_two : (e : Entry) (older : List Entry) → server_boot (Server 1) (lines_of older) ≡ Some 2 → RanInOne e older → ⊥
+was_in_two e older two x = let no_ : 2 ≡ 1 = some_of 2 1 (sym two ∙ x.up) in absurd (omega (arith, no_))
 
-answered_in_another_boot : Legal (alters 0 to_boot_two (alters 1 (λ e. record e { lines = lines.Given 1 ∷ []; sent = reply_in_two }) (entries (start (script 1)) (begins 1 (acts.Open (operands.Fid file)) ∷ gives 1 steady ∷ [])))) (script 1) → ⊥
+answered_in_another_boot : Legal (entries (start (script 1)) (restarted ++ begins 1 (acts.Open (operands.Fid file)) ∷ []) ++ step_of (Server 1) (lines.Given 2 ∷ []) reply_to_one ∷ []) (script 1) → ⊥
 unfolding moved begin_row client_row server_row back_timeout_row wake_row start_row record_bytes head_form volume_form spelled opaque pad word laid_at led name_ok directory_bytes name_bytes rights_of image acl_text digits entry_text directory_of names_at opaque_at word_at counted_at whole_at count_at name_at spelled_at bytes_below
 answered_in_another_boot h =
-    elim (ran_in_two _ (h.1.0.1.1.0.0 1 1 (refl, tt) refl refl).ran) [
-      | inl x ↦ was_in_one _ _ refl x
-      | inr y ↦ elim y [ inl x ↦ was_in_one _ _ refl x | inr z ↦ elim z [ inl x ↦ was_in_one _ _ refl x | inr w ↦ w ] ]
+    elim (ran_in_one _ (h.1.1.1.0.1.1.0.0 1 1 (refl, tt) refl refl).ran) [
+      | inl x ↦ was_in_two _ _ refl x
+      | inr y ↦ elim y [
+        | inl x ↦ in_one_none _ _ refl x
+        | inr z ↦ elim z [
+          | inl x ↦ in_one_none _ _ refl x
+          | inr w ↦ elim w [ inl x ↦ in_one_none _ _ refl x | inr v ↦ elim v [ inl x ↦ in_one_none _ _ refl x | inr u ↦ u ] ]
+        ]
+      ]
     ]
 
 -- A client gives a promise back by a call that is late: the server began again meanwhile, and the client was promised the file anew.
@@ -962,7 +967,7 @@ to_server_two m = record m { head = record m.head { to = Server 2 } }
 
 asked_two_servers : Legal (alters 0 (sends_besides to_server_two) (entries (start (script 1)) (begins 1 (acts.Open (operands.Fid file)) ∷ []))) (script 1) → ⊥
 unfolding moved begin_row client_row server_row back_timeout_row wake_row start_row record_bytes head_form volume_form spelled opaque pad word laid_at led name_ok directory_bytes name_bytes rights_of image acl_text digits entry_text directory_of names_at opaque_at word_at counted_at whole_at count_at name_at spelled_at bytes_below
-asked_two_servers h = one_server (some_of (Server 1) (Server 2) h.0.1.1.1.1.0.1.1)
+asked_two_servers h = one_server (some_of (Server 1) (Server 2) h.0.1.1.1.1.0.1.1.0)
 
 -- ---- rights are read by a call that may read them
 
@@ -1208,7 +1213,7 @@ read_over_a_crash h =
 abbrev tells_the_time : Entry → Entry
 tells_the_time e = record e { sent = map (λ (m : Message). record m { carried = carried.Reply (tell.File (replies.GetTime 0 0)) }) e.sent }
 
-a_fetch_tells_no_time : 153 ≡ 130 → ⊥
+a_fetch_tells_no_time : ◌≡◌ {A = ℕ} 153 130 → ⊥
 a_fetch_tells_no_time e = absurd (omega (arith, e))
 
 answered_by_another_kind : Legal (alters 1 tells_the_time (entries (start (script 1)) fetch_front)) (script 1) → ⊥
@@ -1218,3 +1223,31 @@ answered_by_another_kind h =
       | inl x ↦ for_call _ _ _ _ _ (codes "guest") (calls.FetchData file (pos 0) (pos 2147483647)) (pos 0) refl refl refl x (λ result kind. a_fetch_tells_no_time kind)
       | inr y ↦ elim y [ inl x ↦ for_none _ _ _ _ refl x | inr z ↦ elim z [ inl x ↦ for_none _ _ _ _ refl x | inr w ↦ w ] ]
     ]
+
+-- ---- a client that is down does nothing but begin again
+
+begin_not : (c : Node) (act : Act) (n : Node) (k : ℕ) (ls : List Line) → lines.Begin c act ∷ ls ≡ lines.Restart n k ∷ [] → ⊥
+begin_not c act n k ls e = absurd cc
+
+restart_not : (n c : Node) (k : ℕ) → lines.Restart n k ∷ [] ≡ lines.Crash c ∷ [] → ⊥
+restart_not n c k e = absurd cc
+
+true_not : true ≡ false → ⊥
+true_not e = absurd cc
+
+-- one that crashed begins an act
+acted_when_down : Legal (entries (start (script 1)) (client_stops 1 ∷ []) ++ entries (start (script 1)) (begins 1 (acts.Open (operands.Fid file)) ∷ [])) (script 1) → ⊥
+unfolding moved begin_row client_row server_row back_timeout_row wake_row start_row record_bytes head_form volume_form spelled opaque pad word laid_at led name_ok directory_bytes name_bytes rights_of image acl_text digits entry_text directory_of names_at opaque_at word_at counted_at whole_at count_at name_at spelled_at bytes_below
+acted_when_down h = begin_not _ _ _ _ _ h.1.0.1.0.1.1.1.0
+
+-- one that is up begins again
+begun_again_when_up : Legal (step_of (Client 1) (lines.Restart (Client 1) 2 ∷ []) [] ∷ []) (script 1) → ⊥
+unfolding moved begin_row client_row server_row back_timeout_row wake_row start_row record_bytes head_form volume_form spelled opaque pad word laid_at led name_ok directory_bytes name_bytes rights_of image acl_text digits entry_text directory_of names_at opaque_at word_at counted_at whole_at count_at name_at spelled_at bytes_below
+begun_again_when_up h = elim h.0.1.0.1.1 [ inl x ↦ restart_not _ _ _ x.0 | inr x ↦ true_not x ]
+
+-- ---- a client calls a server in a boot that this began
+
+-- it calls it in the next one, before that has begun
+called_ahead : Legal (alters 0 to_boot_two (entries (start (script 1)) (begins 1 (acts.Open (operands.Fid file)) ∷ []))) (script 1) → ⊥
+unfolding moved begin_row client_row server_row back_timeout_row wake_row start_row record_bytes head_form volume_form spelled opaque pad word laid_at led name_ok directory_bytes name_bytes rights_of image acl_text digits entry_text directory_of names_at opaque_at word_at counted_at whole_at count_at name_at spelled_at bytes_below
+called_ahead h = let e : 2 ≡ 1 = h.0.1.1.1.0.1.1.1 in absurd (omega (arith, e))
