@@ -295,13 +295,15 @@ pub learnt_kept : IsKept HearsLearnt
 learnt_kept c past x h = (moved_hears c past x h.0, each_moved HearsLearnt (Behind LearntIn) learnt_moves c past x h)
 
 pub learnt_first : (s : Script) → HearsLearnt (start s) (set_up s ∷ [])
-learnt_first s = (first_hears s, record {
-  calls = tt;
-  notices = tt;
-  known = λ j q. first_of (set_up s ∷ []) q;
-  replies = λ j n seat m e. absurd cc;
-  sound = λ i. record { seats = λ n seat m e. absurd cc; kept = λ n seat m e. absurd cc; lower = λ n e k a. a };
-  held = λ i. tt;
-  stood = λ i m clock is. absurd cc;
-})
-
+learnt_first s = (
+  first_hears s,
+  record {
+    calls = tt;
+    notices = tt;
+    known = λ j q. first_of (set_up s ∷ []) q;
+    replies = λ j n seat m e. absurd cc;
+    sound = λ i. record { seats = λ n seat m e. absurd cc; kept = λ n seat m e. absurd cc; lower = λ n e k a. a };
+    held = λ i. tt;
+    stood = λ i m clock is. absurd cc;
+  },
+)

@@ -102,6 +102,7 @@ pub mod Brought
 pub mod Readings
 pub mod Claims
 pub mod Timed
+pub mod Singly
 pub mod Assembled
 pub mod Made
 pub mod Surviving

@@ -959,7 +959,7 @@ of_another_user e = absurd cc
 
 fetched_for_another_user : Legal (alters 0 (sends_besides for_ann) (entries (start (script 1)) (begins 1 (acts.Open (operands.Fid file)) ∷ []))) (script 1) → ⊥
 unfolding moved begin_row client_row server_row back_timeout_row wake_row start_row record_bytes head_form volume_form spelled opaque pad word laid_at led name_ok directory_bytes name_bytes rights_of image acl_text digits entry_text directory_of names_at opaque_at word_at counted_at whole_at count_at name_at spelled_at bytes_below
-fetched_for_another_user h = of_another_user h.0.1.1.1.1.0.0
+fetched_for_another_user h = of_another_user h.0.1.1.1.0.1.0.0
 
 -- or to another server
 abbrev to_server_two : Message → Message
@@ -967,7 +967,7 @@ to_server_two m = record m { head = record m.head { to = Server 2 } }
 
 asked_two_servers : Legal (alters 0 (sends_besides to_server_two) (entries (start (script 1)) (begins 1 (acts.Open (operands.Fid file)) ∷ []))) (script 1) → ⊥
 unfolding moved begin_row client_row server_row back_timeout_row wake_row start_row record_bytes head_form volume_form spelled opaque pad word laid_at led name_ok directory_bytes name_bytes rights_of image acl_text digits entry_text directory_of names_at opaque_at word_at counted_at whole_at count_at name_at spelled_at bytes_below
-asked_two_servers h = one_server (some_of (Server 1) (Server 2) h.0.1.1.1.1.0.1.1.0)
+asked_two_servers h = one_server (some_of (Server 1) (Server 2) h.0.1.1.1.0.1.0.1.1.0)
 
 -- ---- rights are read by a call that may read them
 
@@ -1250,4 +1250,14 @@ begun_again_when_up h = elim h.0.1.0.1.1 [ inl x ↦ restart_not _ _ _ x.0 | inr
 -- it calls it in the next one, before that has begun
 called_ahead : Legal (alters 0 to_boot_two (entries (start (script 1)) (begins 1 (acts.Open (operands.Fid file)) ∷ []))) (script 1) → ⊥
 unfolding moved begin_row client_row server_row back_timeout_row wake_row start_row record_bytes head_form volume_form spelled opaque pad word laid_at led name_ok directory_bytes name_bytes rights_of image acl_text digits entry_text directory_of names_at opaque_at word_at counted_at whole_at count_at name_at spelled_at bytes_below
-called_ahead h = let e : 2 ≡ 1 = h.0.1.1.1.0.1.1.1 in absurd (omega (arith, e))
+called_ahead h = let e : 2 ≡ 1 = h.0.1.1.1.0.0.1.1.1 in absurd (omega (arith, e))
+
+-- ---- a break is owed once in an entry, and ends once
+
+owed_twice : Legal (alters 3 (owes_number 2) (entries (start (script 2)) changes_file)) (script 2) → ⊥
+unfolding moved begin_row client_row server_row back_timeout_row wake_row start_row record_bytes head_form volume_form spelled opaque pad word laid_at led name_ok directory_bytes name_bytes rights_of image acl_text digits entry_text directory_of names_at opaque_at word_at counted_at whole_at count_at name_at spelled_at bytes_below
+owed_twice h = h.1.1.1.0.1.1.1.1.1.1.1.1.0 (inl (refl, (refl, refl)))
+
+settled_twice : Legal (alters 5 (also (lines.Settle (Server 1) (Client 1) 1)) (entries (start (script 2)) (changes_file ++ gives 4 steady ∷ gives 5 steady ∷ []))) (script 2) → ⊥
+unfolding moved begin_row client_row server_row back_timeout_row wake_row start_row record_bytes head_form volume_form spelled opaque pad word laid_at led name_ok directory_bytes name_bytes rights_of image acl_text digits entry_text directory_of names_at opaque_at word_at counted_at whole_at count_at name_at spelled_at bytes_below
+settled_twice h = h.1.1.1.1.1.0.1.1.1.1.1.1.0 (inl (refl, refl))

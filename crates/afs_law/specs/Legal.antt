@@ -15,7 +15,7 @@ use Rattle.afs_num.specs.declared.messages.Carried.{Carried}
 use Rattle.afs_num.specs.declared.messages.Message.{Message}
 use Rattle.afs_ideal.specs.Operations.{Caller, the_user, Result, refused, changes, no_operation, op, code_of, volume_called}
 use Rattle.afs_ideal.specs.Volumes.{Volume, Edit, versions_by}
-use Rattle.afs_law.specs.Breaks.{unbroken_grant, IsNamedIn, AllOwes, HasStopped, HasTimeout, EndedOf, EndedAll, GoodSettle, GoodQuit, live_grant, lines_at, HasOwe, last_number}
+use Rattle.afs_law.specs.Breaks.{unbroken_grant, IsNamedIn, AllOwes, HasEnded, HasStopped, HasTimeout, EndedOf, EndedAll, GoodSettle, GoodQuit, live_grant, lines_at, HasOwe, last_number}
 use Rattle.afs_rows.specs.Going.{Going, Need, answers, asks_for, next, asked, gives_back, reads_rights}
 use Rattle.afs_law.specs.Grants.{is_promised, read_reply, GrantOf, since, until, IsWithdrawn, IsChangedByOther, IsDropped}
 use Rattle.afs_law.specs.Ideal.{last_version, Unless, set_up, IsLast, WasLast, HasBeen, HasVersion, Accepts, clock_of, user_of, seen, change_in, change_key, call_under, callee_under, volume_after}
@@ -180,7 +180,7 @@ abbrev pub IsChanged : Fid → List Version → Type 0
 IsChanged f [] = ⊥
 IsChanged f (v ∷ vs) = (v.fid ≡ f) ⊎ IsChanged f vs
 
--- behind here the server begins again, or its disk fails or has no room for that: these lines end a restart
+-- among these lines, which stand behind in an entry, the server begins again, or its disk fails or has no room for that: the entry is a restart
 abbrev pub EndsBoot : Node → List Line → Type 0
 EndsBoot s [] = ⊥
 EndsBoot s (lines.Restart n boot ∷ next) = (n ≡ s) ⊎ EndsBoot s next
@@ -243,9 +243,9 @@ pub record IdealChange (s : Script) (server : Node) (k : Key) (count : ℕ) (pas
   pub number : count ≡ length (versions_first next)
   pub home : Accepts s id server (own ++ lines_of past)
 
--- While an act runs at the key's node, the server has changed nothing under a key of that act; and no server has under another key of
--- this key's act, were that long over: an act changes things once. Each other client's last grant on one of the fids that change, if it
--- lasts, has a break behind the change
+-- A change is the ideal one, and the only one of its act. `once`: while any act runs at the key's node, this server changed nothing before under
+-- a key of that act. `alone`: no server changed anything before under another key of the act to which this key belongs, were that long over.
+-- `owed`: behind the change stands a break for each other client whose last promise on one of the fids that change lasts
 pub record GoodChange (s : Script) (server : Node) (k : Key) (count : ℕ) (past : List Entry) (own next : List Line) : Type 0 where
   pub ideal : IdealChange s server k count past own next
   pub once : (a : Going) → running s k.node (lines_of past) ≡ Some a → (l : Key) → HasChangeBy server l (lines_of past) → is_of_act k.node l past ≡ true → ⊥
@@ -279,6 +279,17 @@ pub record GoodOwe (s : Script) (server c : Node) (what : Option Fid) (n : ℕ) 
   pub going : HasStopped server own → ⊥
   pub number : last_number server (own ++ lines_of past) < n
   pub cause : IsOwedFor s server c what past own
+
+-- an entry owes a client one break on one thing, and a break is settled or given up once
+abbrev pub IsForOnce : Line → List Entry → List Line → Type 0
+IsForOnce (lines.Owe server c what n) past own = HasOwe server c what own → ⊥
+IsForOnce (lines.Settle server c n) past own = HasEnded server n (own ++ lines_of past) → ⊥
+IsForOnce (lines.Quit server c n) past own = HasEnded server n (own ++ lines_of past) → ⊥
+IsForOnce l past own = ⊤
+
+abbrev pub AreForOnce : List Entry → List Line → List Line → Type 0
+AreForOnce past own [] = ⊤
+AreForOnce past own (l ∷ next) = IsForOnce l past own × AreForOnce past (l ∷ own) next
 
 -- a version stands under its change; that these are not too many is said of the change
 abbrev pub IsUnderChange : List Line → Type 0
@@ -329,9 +340,10 @@ abbrev pub IsChanging : Option Result → Type 0
 IsChanging (Some (changes es shown)) = ⊤
 IsChanging r = ⊥
 
--- The code is that of the ideal operation, and what that changes was told. Or the server had no room for the change: the entry
--- that ran the call tells none under its key, and wasn't interrupted, so that none was told by a restart either. Whether there
--- was room no line tells
+-- A reply's code, where `r` is what the ideal operation makes of its call, `ran` are the lines of the entry that ran the call, and `ls` all lines
+-- so far. It is the code of the ideal operation, and what that changes was told. Or it is 108, for a change: the server had no room. Then the
+-- entry that ran the call tells none under its key, and wasn't interrupted, so that no restart told one either. Whether there was room no line
+-- tells
 abbrev pub IsResult : Node → ℤ → Option Result → Key → List Line → List Line → Type 0
 IsResult server code r k ran ls = ((code_given r ≡ code) × IsTold k r ls) ⊎ ((code ≡ pos 108) × (IsChanging r × ((HasChange k ran → ⊥) × (HasStopped server ran → ⊥))))
 
@@ -352,8 +364,9 @@ pub record Cause (reply : Message) (code : ℤ) (asks_for : FsCall) (past : List
   pub asks : as_asked call ≡ asks_for
   pub result : IsResult reply.head.from code (answer_at user call ran.older) (answered_key reply.head) ran.at.lines (own ++ lines_of past)
 
--- Rights are read without a promise: the act needs them, and the entry was given a reply to its call for them. The read is whole,
--- not older than any that the client has seen, and was the newest at some line since its act began
+-- Rights are read without a promise: the act needs them, and the entry was given a reply with code 0 to its call for them. That is the code of the
+-- ideal operation where the call ran, for the client's user. The read is whole, not older than any that the client has seen, and was the newest
+-- at some line since its act began
 pub record GoodRights (s : Script) (c : Node) (f : Fid) (index : ℕ) (source : ReadSource) (body : ReadBody) (past : List Entry) (own : List Line) : Type 0 where
   pub fetched : source ≡ Fetched
   pub act : Going
@@ -391,7 +404,7 @@ pub record IsCaused (s : Script) (c : Node) (act : Going) (code : ℤ) (past : L
   pub ends : code ≡ pos 0 → EndsAct (next act)
 
 -- the act needs no more, and answers so by its read lines; it began in this entry, which was given nothing, or the entry was
--- given a reply with code 0 to its call, and read what was wanting
+-- given a reply with code 0 to its call, and read what the act still needed
 pub record IsDone (s : Script) (c : Node) (act : Going) (code : ℤ) (past : List Entry) (own : List Line) : Type 0 where
   pub number : ℕ
   pub is : code ≡ pos number
@@ -403,7 +416,7 @@ abbrev pub IsOpen : Need → Type 0
 IsOpen (answers code) = ⊥
 IsOpen need = ⊤
 
--- a call of this very act was timed out for the third time in this entry: it is dead
+-- a call of this very act, which isn't at its end, was timed out for the third time in this entry: it is dead
 pub record IsDead (s : Script) (c : Node) (act : Going) (code : ℤ) (past : List Entry) (own : List Line) : Type 0 where
   pub is : code ≡ negsuc 0
   pub callee : Node
@@ -422,7 +435,7 @@ has_dropped c [] = false
 has_dropped c (lines.Drop m f ∷ own) = if same_node m c then true else has_dropped c own
 has_dropped c (l ∷ own) = has_dropped c own
 
--- the act gives back what its client was promised, and that is nothing: it gives up none in the entry in which it began
+-- the act gives promises back, and is answered in the entry in which it began, where it gave up nothing; what its client was promised no line tells
 pub record HasNothing (c : Node) (act : Going) (code : ℤ) (own : List Line) : Type 0 where
   pub is : code ≡ pos 0
   pub by : next act ≡ gives_back
@@ -685,7 +698,7 @@ IsEntryOf s past e = ((e.volumes ≡ []) × IsOfScript s e.actor) × (AreRising 
 
 abbrev pub LegalAfter : Script → List Entry → List Entry → Type 0
 LegalAfter s past [] = ⊤
-LegalAfter s past (e ∷ es) = ((AreGood s e.actor past [] e.lines × AreGoodSent (e ∷ past) e.sent) × (IsEntryOf s past e × (WereRun (e ∷ past) e.sent × AreOwnCalls s (e ∷ past) e.sent))) × LegalAfter s (e ∷ past) es
+LegalAfter s past (e ∷ es) = ((AreGood s e.actor past [] e.lines × AreGoodSent (e ∷ past) e.sent) × (IsEntryOf s past e × (WereRun (e ∷ past) e.sent × (AreOwnCalls s (e ∷ past) e.sent × AreForOnce past [] e.lines)))) × LegalAfter s (e ∷ past) es
 
 abbrev pub Legal : List Entry → Script → Type 0
 Legal history s = LegalAfter s (set_up s ∷ []) history

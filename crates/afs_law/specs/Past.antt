@@ -208,12 +208,12 @@ IsUnheard s k boot (e ∷ past) = (IsCallUnder s k boot (given_message e.lines (
 abbrev pub IsUpTo : ℕ → ℕ → ℕ → ℕ → Type 0
 IsUpTo epoch number d m = (epoch < d) ⊎ ((epoch ≡ d) × (number ≤ m))
 
--- a call to this callee, to this boot, by the key's node: under this key or a later one
+-- the key's node sends this message to this callee as a call, for this boot, under this key or a later one
 abbrev pub IsCallFrom : Node → Key → ℕ → Option Message → Type 0
 IsCallFrom s k boot None = ⊥
 IsCallFrom s k boot (Some m) = (IsCall m.carried × (m.head.to ≡ s)) × (((m.head.from ≡ k.node) × IsUpTo k.epoch k.number m.head.epoch m.head.number) × (m.head.boot ≡ boot))
 
--- the callee wasn't given it yet in that boot, and no later one of its node
+-- none of these entries was given the callee's call under this key for that boot, or a later one of the key's node: it may still run
 abbrev pub IsToCome : Node → Key → ℕ → List Entry → Type 0
 IsToCome s k boot [] = ⊤
 IsToCome s k boot (e ∷ past) = (IsCallFrom s k boot (given_message e.lines (sent_of past)) → ⊥) × IsToCome s k boot past

@@ -3,7 +3,7 @@ use Rattle.afs_law.specs.Breaks.{GoodQuit, GoodSettle, HasOwe, lines_at, live_gr
 use Rattle.afs_law.specs.Grants.{is_promised}
 use Rattle.afs_law.specs.Ideal.{Accepts, HasVersion, clock_of, set_up, volume_after}
 use Rattle.afs_law.specs.Laws.{IsKept, told_by_restart}
-use Rattle.afs_law.specs.Legal.{Answered, GoodCode, GoodGrant, GoodOwe, GoodReadBy, GoodReply, GoodTimeout, IsBrought, IsChanged, Legal, versions_first}
+use Rattle.afs_law.specs.Legal.{Answered, GoodCode, GoodGrant, GoodOwe, GoodReadBy, GoodReply, GoodTimeout, IsBrought, IsChanged, IsForOnce, Legal, versions_first}
 use Rattle.afs_law.specs.Once.{past_of}
 use Rattle.afs_law.specs.Parts.{AllLines, EachEntry, EachSent, LineRule}
 use Rattle.afs_law.specs.Past.{HasCode, Ran, answered_key, code_told, lines_of}
@@ -50,6 +50,14 @@ IsTimeoutGood who l past own next = ⊤
 -- so is each timeout of a run
 abbrev pub TimeoutsAreGood : Type 0
 TimeoutsAreGood = (s : Script) (history : List Entry) (end : Cell) → RunsTo history s end → AllLines IsTimeoutGood s history
+
+-- a break becomes owed once in its entry, and ends once
+abbrev pub IsBreakOnce : LineRule
+IsBreakOnce who l past own next = IsForOnce l past own
+
+-- so does each of a run
+abbrev pub BreaksAreOnce : Type 0
+BreaksAreOnce = (s : Script) (history : List Entry) (end : Cell) → RunsTo history s end → AllLines IsBreakOnce s history
 
 -- so is each line of a run
 abbrev pub BreaksAreGood : Type 0

@@ -3,7 +3,7 @@
 ghost use Rattle.afs_law.specs.Laws.{AcknowledgedAreKept, AcknowledgedAreMade, AnswersAreRecent, ChangesAreFolded, EffectsAreTold, KeysRunOnce, ReadsAreNewest, RunsAreLegal, RunsAreOne, RunsEndWell, SetUpsAreFirst, StartsAreFolded, VolumesAreTold, PairsAreKnown, TrustedIsGood, RoomlessAreRefused, UnservedAreRefused, CallsRunOnce, RepliesAreCaused, RepliesWereRun, KeptWereRun, DurableAreChanges, GrantsAreKept, BreaksAreOwed, RepliesFollowDrops, UnawaitedAreUntrusted, DeadAreUntrusted};
 ghost use Rattle.afs_law.specs.ClientParts.{AnswersAreDue, AnswersAreGood, CachedAreFetched, ChangesAreAlone, GiftsAreDropped, ReadsAreGood, WaitsAreSilent};
 ghost use Rattle.afs_law.specs.Parts.{ActsAreTold, CallsAreAsked, CallsAreOwn, ChangesAreIdeal, EntriesAreSound, LinesAreInPlace, MessagesAreOwn};
-ghost use Rattle.afs_law.specs.ServerParts.{BreaksAreGood, CachedAreBrought, FallsAreKept, GoodReadsAreLegal, GrantsAreGood, RepliesAreTrue, RepliesWait, TimeoutsAreGood, VersionsAreKept};
+ghost use Rattle.afs_law.specs.ServerParts.{BreaksAreGood, BreaksAreOnce, CachedAreBrought, FallsAreKept, GoodReadsAreLegal, GrantsAreGood, RepliesAreTrue, RepliesWait, TimeoutsAreGood, VersionsAreKept};
 
 /// Every run is legal, of a script for eight servers at most, which have its volumes.
 pub fn runs_are_legal()
@@ -227,6 +227,11 @@ pub fn grants_are_good()
 /// Behind each change its breaks are owed, and each break that becomes owed, is settled or is given up has its cause.
 pub fn breaks_are_good()
     ensures { BreaksAreGood }
+{}
+
+/// A break becomes owed once in its entry, and is settled or given up once.
+pub fn breaks_are_once()
+    ensures { BreaksAreOnce }
 {}
 
 /// Each timeout is of a call that was sent before, and is its first or has the one below it before.
