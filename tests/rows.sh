@@ -101,6 +101,18 @@ row() {
     play "$name" "$script" replay
     if [ -f "$work/row/wire" ]; then wanted "$want" "$work/row/wire" "$error"; fi
     play "$name with --wire" "$script" replay --wire
+    if is_of_files "$script"; then
+        rm -rf "$work/node"
+        mkdir "$work/node"
+        wanted "$want" "$work/row/text" "$error"
+        play "$name over files" "$script" replay --disks "$work/node"
+    fi
+}
+
+# Whether a disk goes down in this script, and one in a file keeps of it what one in memory does. A file keeps all that was
+# written, as a disk in memory does by pick 1.
+is_of_files() {
+    grep -Eq '^(crash|stop|fail) s' "$1" && ! grep -Eq '^stop s[1-8] [0-9]+ [023]$' "$1"
 }
 
 # Writes each input of the table to a file of $work/refusals, and a line with its number, what is told and its name to

@@ -1,9 +1,10 @@
 -- A disk in memory or in a file.
-use Rattle.std.specs.Prelude.{◌≡◌, ◌≤◌, ℕ, List, length, Option, Some, None}
+use Rattle.std.specs.Prelude.{◌≡◌, ◌≤◌, ℕ, List, [], length, Option, Some, None}
 use Rattle.std.proofs.Common.{inl, refl}
 use Rattle.afs_disk.specs.Disk.{Room, Setting}
 use Rattle.afs_disk.specs.declared.host.HostDisk.{HostDisk}
 use Rattle.afs_disk.specs.declared.host.HostDisk.TheVariants.{Memory, File}
+use Rattle.afs_disk.specs.declared.bank.Lend.{Lend}
 use Rattle.afs_disk.specs.declared.bank.Place.{Place}
 use Rattle.afs_disk.specs.declared.bank.Place.TheVariants as places
 use Rattle.afs_disk.specs.Files.{filed_room, untold}
@@ -77,3 +78,17 @@ host_measures (File f) bytes told = untold bytes (length bytes ≡ f.size) told
 abbrev pub host_tells : Place → Type 0
 host_tells places.Memory = Unit {0}
 host_tells (places.Folder path) = ⊥
+
+-- In memory an empty disk that is set to fail nowhere, in a folder one over a file.
+abbrev pub IsLentAt : Place → HostDisk → Type 0
+IsLentAt places.Memory (Memory m) = (m.held.now ≡ []) × ((m.held.kept ≡ []) × ((m.held.unsynced ≡ []) × ((m.past ≡ []) × ((m.failing ≡ []) × (m.calls ≡ 0)))))
+IsLentAt places.Memory (File f) = ⊥
+IsLentAt (places.Folder path) (File f) = Unit {0}
+IsLentAt (places.Folder path) (Memory m) = ⊥
+
+-- a bank of the program tells neither its lends nor the disks that it was given back
+abbrev pub no_lends : Option (List Lend)
+no_lends = None
+
+abbrev pub none_given : Option (List (ℕ × List ℕ))
+none_given = None

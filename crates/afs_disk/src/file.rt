@@ -11,7 +11,7 @@ use afs_num::types::Mem;
 use std::alloc::AllocError;
 use std::fs::File;
 use std::marker::Model;
-use std::os::unix::fs::FileExt;
+use std::os::unix::fs::{FileExt, MetadataExt};
 
 // For how many device calls `room` makes room.
 const ROOM: u64 = 8;
@@ -20,7 +20,8 @@ const ROOM: u64 = 8;
 /// It has no crash of its own: a crash leaves what a read gives.
 ///
 /// After a sync that failed it fails at each call, until the file is opened anew: a system may forget both the error and
-/// what it couldn't write, and a later sync would then succeed over bytes that are lost.
+/// what it couldn't write, and a later sync would then succeed over bytes that are lost. So it does once somebody else has
+/// removed the file, or given it another length.
 #[derive(Drop)]
 pub struct FileDisk {
     file: File,
@@ -46,17 +47,34 @@ fn count(faults: &mut u64)
     *faults = faults.saturating_add(1);
 }
 
+// Whether the file has a name still, and is as long as it was left. A file that was removed would take each write and sync, and
+// be gone with the process.
+fn is_whole(file: &File, len: u64) -> bool {
+    match file.metadata() {
+        Ok(metadata) => metadata.len() == len && metadata.nlink() > 0,
+        Err(_) => false,
+    }
+}
+
 // Counts a device call, and says whether it may be made.
-fn admits(calls: &mut u64, is_lost: bool, faults: &mut u64) -> Result<(), Failed>
+fn admits(
+    file: &File,
+    len: u64,
+    calls: &mut u64,
+    is_lost: &mut bool,
+    faults: &mut u64,
+) -> Result<(), Failed>
     requires { calls.old < last_count }
     ensures counted { calls.new ≡ calls.old + 1 }
-    ensures fails { IsErr result ↔ IsTrue is_lost }
+    ensures fails { IsErr result ↔ IsTrue is_lost.new }
+    ensures lost { IsTrue is_lost.old → IsTrue is_lost.new }
     ensures ok { OnOk result (faults.new ≡ faults.old) }
     ensures err { OnErr result (Rose faults.old faults.new) }
     ensures never_falls { faults.old ≤ faults.new }
 {
     *calls += 1;
-    if is_lost {
+    *is_lost = *is_lost || !is_whole(file, len);
+    if *is_lost {
         count(faults);
         return Err(Failed);
     }
@@ -119,6 +137,25 @@ impl FileDisk {
     {
         self.faults
     }
+
+    // Counts a device call, and says whether it may be made.
+    fn admits(&mut self) -> Result<(), Failed>
+        requires { self.old.calls < last_count }
+        ensures counted { self.new.calls ≡ self.old.calls + 1 }
+        ensures size { self.new.size ≡ self.old.size }
+        ensures limit { self.new.limit ≡ self.old.limit }
+        ensures ok { OnOk result (self.new.faults ≡ self.old.faults) }
+        ensures err { OnErr result (Rose self.old.faults self.new.faults) }
+        ensures never_falls { self.old.faults ≤ self.new.faults }
+    {
+        admits(
+            &self.file,
+            self.len,
+            &mut self.calls,
+            &mut self.is_lost,
+            &mut self.faults,
+        )
+    }
 }
 
 impl Disk for FileDisk {
@@ -167,7 +204,7 @@ impl Disk for FileDisk {
     }
 
     fn read(&mut self, at: u64, buf: &mut [u8]) -> Result<usize, Failed> {
-        admits(&mut self.calls, self.is_lost, &mut self.faults)?;
+        self.admits()?;
         let front = reach(self.len, at, buf.len());
         match read_front(&self.file, at, buf, front) {
             Ok(()) => Ok(front),
@@ -179,7 +216,7 @@ impl Disk for FileDisk {
     }
 
     fn write_at(&mut self, at: u64, bytes: &[u8]) -> Result<(), Failed> {
-        admits(&mut self.calls, self.is_lost, &mut self.faults)?;
+        self.admits()?;
         match self.file.write_all_at(bytes, at) {
             Ok(()) => {
                 self.len = self.len.max(at + bytes.len() as u64);
@@ -194,7 +231,7 @@ impl Disk for FileDisk {
     }
 
     fn cut(&mut self, len: u64) -> Result<(), Failed> {
-        admits(&mut self.calls, self.is_lost, &mut self.faults)?;
+        self.admits()?;
         match self.file.set_len(len) {
             Ok(()) => {
                 self.len = len;
@@ -216,7 +253,7 @@ impl Disk for FileDisk {
     }
 
     fn sync(&mut self) -> Result<(), Failed> {
-        admits(&mut self.calls, self.is_lost, &mut self.faults)?;
+        self.admits()?;
         match self.file.sync_all() {
             Ok(()) => Ok(()),
             Err(_) => {
@@ -227,5 +264,7 @@ impl Disk for FileDisk {
         }
     }
 
-    fn crash(&mut self, _pick: u8) {}
+    fn crash(&mut self, _pick: u8)
+        ensures same { self.new ≡ self.old }
+    {}
 }

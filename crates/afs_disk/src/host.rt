@@ -1,5 +1,8 @@
 // The program's disks: in memory, or files of a folder.
-ghost use Rattle.std.specs.Prelude.{◌≡◌, ◌≤◌, None, IfOk};
+ghost use Rattle.std.specs.Prelude.{◌≡◌, ◌≤◌, ◌+◌, None, IfOk, OnOk, OnErr, IsOk, IsSome, IsErrOf, min};
+ghost use Rattle.afs_disk.specs.Fuses.{last_count};
+ghost use Rattle.afs_disk.specs.Hosts.{IsLentAt, no_lends, none_given};
+ghost use Rattle.afs_disk.specs.Banks.{GivesBack};
 ghost use Rattle.afs_disk.specs.Disk.{Rose};
 ghost use Rattle.afs_disk.specs.Hosts.{host_calls, host_counts, host_faults, host_just, host_leaves, host_left_by, host_limit, host_measures, host_moment, host_picked, host_seen, host_setting, host_shows, host_since, host_size, host_space, host_tells};
 
@@ -11,8 +14,15 @@ use afs_num::devices::Failed;
 use afs_num::sequences::Octets;
 use afs_num::types::Mem;
 use std::alloc::Global;
-use std::fs::File;
+use std::fs;
+use std::fs::{File, Metadata};
+use std::io::ErrorKind;
+use std::os::fd::{AsRawFd, RawFd};
+use std::os::unix::fs::MetadataExt;
 use std::rt::Files;
+
+// The descriptor of the last standard stream.
+const LAST_STREAM: RawFd = 2;
 
 /// A disk that the program lends.
 #[derive(Drop)]
@@ -128,13 +138,51 @@ impl Disk for HostDisk {
 }
 
 /// Lends the program's disks: node n in a folder is the file `node-n` there. It lends none that is in use, here or in
-/// another process. It tells neither its lends nor what it was given back.
+/// another process, and none that stands elsewhere as well: neither a link nor a file that has another name. It tells neither
+/// its lends nor what it was given back.
 #[derive(Drop)]
 pub struct HostBank<'a, R: Files<File = File>> {
     files: &'a R,
     alloc: Global,
     faults: u64,
     lent_faults: u64,
+}
+
+// A file that was found is opened as it is: it is the file that was found, and it has no other name.
+fn opened_there<R: Files<File = File>>(
+    files: &R,
+    path: &str,
+    found: &Metadata,
+) -> Result<File, Failed> {
+    if !found.is_file() {
+        return Err(Failed);
+    }
+    let file = match File::options().read(true).write(true).open(files, path) {
+        Ok(file) => file,
+        Err(_) => return Err(Failed),
+    };
+    match file.metadata() {
+        Ok(opened) if is_own(found, &opened) => Ok(file),
+        Ok(_) | Err(_) => Err(Failed),
+    }
+}
+
+// Whether the file that was opened is the one that was found, under its only name.
+fn is_own(found: &Metadata, opened: &Metadata) -> bool {
+    opened.dev() == found.dev() && opened.ino() == found.ino() && opened.nlink() == 1
+}
+
+// A file where there is none. The system follows no link here.
+fn made<R: Files<File = File>>(files: &R, path: &str) -> Result<File, Failed> {
+    match File::options()
+        .read(true)
+        .write(true)
+        .create_new(true)
+        .open(files, path)
+    {
+        Ok(file) => Ok(file),
+        Err(_) => Err(Failed),
+    }
 }
 
 // The file of a node's disk in a folder. It is made where there is none, and keeps what it holds where there is one.
@@ -145,15 +193,20 @@ fn opened<R: Files<File = File>>(
     node: u32,
 ) -> Result<File, LendFault> {
     let path = format!(in alloc; "{folder}/node-{node}")?;
-    match File::options()
-        .read(true)
-        .write(true)
-        .create(true)
-        .open(files, path.as_str())
-    {
-        Ok(file) => Ok(file),
-        Err(_) => Err(LendFault::Failed),
+    let file = match fs::symlink_metadata(files, path.as_str()) {
+        Ok(found) => opened_there(files, path.as_str(), &found)?,
+        Err(error) if error.kind() == ErrorKind::NotFound => made(files, path.as_str())?,
+        Err(_) => return Err(LendFault::Failed),
+    };
+    Ok(beside_the_streams(file)?)
+}
+
+// A file that took the place of a standard stream would be read and written as one.
+fn beside_the_streams(file: File) -> Result<File, Failed> {
+    if file.as_raw_fd() <= LAST_STREAM {
+        return Err(Failed);
     }
+    Ok(file)
 }
 
 // No other open of the file has it, here or in another process, until it is closed.
@@ -234,7 +287,19 @@ impl<'a, R: Files<File = File>> Bank for HostBank<'a, R> {
 
     ghost tells = { λ b at. host_tells at };
 
-    fn lend(&mut self, place: &Place, node: u32, capacity: u64) -> Result<HostDisk, LendFault> {
+    fn lend(&mut self, place: &Place, node: u32, capacity: u64) -> Result<HostDisk, LendFault>
+        ensures limit { IfOk result (λ disk. host_limit disk ≡ capacity) }
+        ensures unused { IfOk result (λ disk. host_faults disk ≡ 0) }
+        ensures lent { self.new.lent_faults ≡ self.old.lent_faults }
+        ensures told { IfOk result (λ disk. host_tells place.now → IsSome (host_seen disk)) }
+        ensures never_falls { self.old.faults ≤ self.new.faults }
+        ensures cause { IsErrOf result LendFault.Failed → Rose self.old.faults self.new.faults }
+        ensures lends { OnOk result (no_lends ≡ no_lends) }
+        ensures none { OnErr result (no_lends ≡ no_lends) }
+        ensures kind { IfOk result (IsLentAt place.now) }
+        ensures memory { host_tells place.now → IsOk result }
+        ensures quiet { OnOk result (self.new.faults ≡ self.old.faults) }
+    {
         match place {
             Place::Memory => {
                 let failing = Octets::new(self.alloc);
@@ -252,7 +317,15 @@ impl<'a, R: Files<File = File>> Bank for HostBank<'a, R> {
         }
     }
 
-    fn give_back(&mut self, _node: u32, disk: HostDisk) -> Result<(), Failed> {
+    fn give_back(&mut self, _node: u32, disk: HostDisk) -> Result<(), Failed>
+        ensures lent { self.new.lent_faults ≡ min (self.old.lent_faults + host_faults disk) last_count }
+        ensures given { OnOk result (GivesBack _node (host_seen disk) none_given none_given) }
+        ensures kept { OnErr result (none_given ≡ none_given) }
+        ensures never_falls { self.old.faults ≤ self.new.faults }
+        ensures cause { OnErr result (Rose self.old.faults self.new.faults) }
+        ensures taken { IsOk result }
+        ensures quiet { self.new.faults ≡ self.old.faults }
+    {
         self.lent_faults = self.lent_faults.saturating_add(disk.faults());
         Ok(())
     }

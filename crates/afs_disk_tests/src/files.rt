@@ -6,6 +6,7 @@ use afs_num::devices::Failed;
 use afs_num::sequences::Octets;
 use std::alloc::{Allocator, Global};
 use std::fs::{File, Metadata, OpenOptions};
+use std::os::unix::fs::symlink;
 use std::rt::Files;
 use std::test::Fail;
 use std::{fs, io};
@@ -111,6 +112,52 @@ fn what_cannot_be_opened_is_not_lent(rt: HostRuntime) -> Result<(), Fail> {
     let refused = bank.lend(&here, 80, 100).err();
     fs::remove_dir(&rt, "./node-80")?;
     assert_eq!(rt; refused, Some(LendFault::Failed));
+    Ok(())
+}
+
+#[test]
+fn a_file_that_was_removed_is_a_fault(rt: HostRuntime) -> Result<(), Fail> {
+    let alloc = rt.alloc();
+    let mut bank = HostBank::new(&rt, alloc);
+    let mut disk = lent(&mut bank, alloc, 83)?;
+    write_after(&mut disk, 0, b"abcdef")?;
+    fs::remove_file(&rt, "./node-83")?;
+    disk.room(0, 0)?;
+    assert_eq!(rt; disk.sync(), Err(Failed));
+    assert_eq!(rt; disk.faults(), 1);
+    Ok(())
+}
+
+#[test]
+fn a_crash_leaves_what_a_read_gives(rt: HostRuntime) -> Result<(), Fail> {
+    let alloc = rt.alloc();
+    let mut bank = HostBank::new(&rt, alloc);
+    let mut disk = lent(&mut bank, alloc, 84)?;
+    write_after(&mut disk, 0, b"abcdef")?;
+    disk.crash(0);
+    assert_eq!(rt; read_from(&mut disk, 0)?, (6, *b"abcdef"));
+    fs::remove_file(&rt, "./node-84")?;
+    Ok(())
+}
+
+// What a link leads to stays as it is, and so does a file that has another name.
+#[test]
+fn a_file_that_stands_elsewhere_is_not_lent(rt: HostRuntime) -> Result<(), Fail> {
+    let alloc = rt.alloc();
+    let here = folder(alloc, b".")?;
+    let mut bank = HostBank::new(&rt, alloc);
+    fs::write(&rt, "./elsewhere", b"kept")?;
+    symlink(&rt, "elsewhere", "./node-85")?;
+    assert_eq!(rt; bank.lend(&here, 85, 100).err(), Some(LendFault::Failed));
+    fs::remove_file(&rt, "./node-85")?;
+    fs::hard_link(&rt, "./elsewhere", "./node-85")?;
+    assert_eq!(rt; bank.lend(&here, 85, 100).err(), Some(LendFault::Failed));
+    fs::remove_file(&rt, "./node-85")?;
+    assert_eq!(rt;
+        fs::read(&rt, "./elsewhere")?.as_slice(),
+        b"kept".as_slice()
+    );
+    fs::remove_file(&rt, "./elsewhere")?;
     Ok(())
 }
 

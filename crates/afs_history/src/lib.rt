@@ -1,5 +1,4 @@
-//! What users ask of a cell, and what is told of its runs. These types take the place of those in `afs_num` once the nodes are
-//! written with them.
+//! What users ask of a cell, and what is told of its runs: acts, scripts, and the lines of histories.
 #![tactic(auto)]
 
 pub mod acts;

@@ -8,7 +8,7 @@ ghost use Rattle.afs_outside.specs.Outside.{Rose, HasCause, HadAll, IfTooLong, T
 
 use afs_num::sequences::Octets;
 use std::alloc::Global;
-use std::io::{Read, Write};
+use std::io::{ErrorKind, Read, Write};
 
 /// A call to the outside failed.
 #[derive(Clone, Copy, Debug, PartialEq, Eq)]
@@ -153,6 +153,36 @@ pub fn write_all<K: Sink>(sink: &mut K, bytes: &[u8]) -> Result<(), Failed>
     Ok(())
 }
 
+/// One read, made again where a signal interrupted it.
+fn read_through<R: Read>(reader: &mut R, buf: &mut [u8]) -> Result<usize, Failed>
+    ensures bound { ReadsAtMost result buf.new }
+    ensures bytes { ReadConsumes (R.remaining reader.old) (R.remaining reader.new) result buf.new }
+{
+    for _ in 0..u64::MAX {
+        match reader.read(buf) {
+            Ok(n) => return Ok(n),
+            Err(error) if error.kind() == ErrorKind::Interrupted => {}
+            Err(_) => return Err(Failed),
+        }
+    }
+    Err(Failed)
+}
+
+/// One write, made again where a signal interrupted it.
+fn write_through<W: Write>(writer: &mut W, bytes: &[u8]) -> Result<usize, Failed>
+    ensures bound { WritesAtMost result bytes.now }
+    ensures bytes { WriteAppends (W.contents writer.old) (W.contents writer.new) result bytes.now }
+{
+    for _ in 0..u64::MAX {
+        match writer.write(bytes) {
+            Ok(n) => return Ok(n),
+            Err(error) if error.kind() == ErrorKind::Interrupted => {}
+            Err(_) => return Err(Failed),
+        }
+    }
+    Err(Failed)
+}
+
 /// The bytes of a reader, as a standard stream.
 #[derive(Drop)]
 pub struct HostSource<R> {
@@ -175,7 +205,7 @@ impl<R: Read> Source for HostSource<R> {
     ghost faults = { λ s. s.faults };
 
     fn read(&mut self, buf: &mut [u8]) -> Result<usize, Failed> {
-        match self.inner.read(buf) {
+        match read_through(&mut self.inner, buf) {
             Ok(n) => Ok(n),
             Err(_) => {
                 self.faults = self.faults.saturating_add(1);
@@ -207,7 +237,7 @@ impl<W: Write> Sink for HostSink<W> {
     ghost faults = { λ s. s.faults };
 
     fn write(&mut self, bytes: &[u8]) -> Result<usize, Failed> {
-        match self.inner.write(bytes) {
+        match write_through(&mut self.inner, bytes) {
             Ok(n) if n > 0 => Ok(n),
             Ok(_) | Err(_) => {
                 self.faults = self.faults.saturating_add(1);

@@ -1,3 +1,4 @@
+//! The promises of a file server, and the breaks that it owes.
 #![tactic(auto)]
 
 mod by_client;

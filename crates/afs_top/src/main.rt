@@ -7,24 +7,32 @@ pub mod program;
 mod replaying;
 mod scripts;
 pub mod statuses;
+mod streams;
 
 use afs_disk::HostBank;
 use afs_outside::buffered::BufferedSink;
 use afs_outside::outside::{HostSink, HostSource, pass_on};
-use program::run;
+use program::{end_with, run};
+use statuses::Status;
+use std::io::ErrorKind;
 use std::process::ExitCode;
 use std::{env, io};
+use streams::Held;
 
 /// The program over the standard streams. Words that are no text are no form of it.
 fn main(rt: HostRuntime) -> ExitCode {
     let alloc = rt.alloc();
+    let _held = Held::new(&rt);
+    let mut errors = HostSink::new(rt.stderr());
     let words = match words(&rt) {
         Ok(words) => words,
+        Err(error) if error.kind() == ErrorKind::OutOfMemory => {
+            return ExitCode::from(end_with(&mut errors, Status::OutOfMemory).number);
+        }
         Err(_) => Vec::new(alloc),
     };
     let mut source = HostSource::new(rt.reader());
     let mut sink = BufferedSink::new(HostSink::new(rt.stdout()));
-    let mut errors = HostSink::new(rt.stderr());
     let mut bank = HostBank::new(&rt, alloc);
     let ended = run(
         alloc,

@@ -29,6 +29,19 @@ fn put_status<E: Sink>(errors: &mut E, status: Status) -> Result<(), Failed>
     pass_on(errors)
 }
 
+/// The program's end with this status: it is told on the stream of errors, as far as that takes it.
+pub fn end_with<E: Sink>(errors: &mut E, status: Status) -> Ended
+    ensures status { result.status ≡ status }
+    ensures number { result.number ≡ status_number status }
+    ensures told { Shows status (E.held errors.old) (E.held errors.new) (E.faults errors.old) (E.faults errors.new) }
+{
+    let _shown = put_status(errors, status);
+    Ended {
+        status,
+        number: status.number(),
+    }
+}
+
 /// All that the program does: the top call over its streams and the bank of its disks, and then its status on the stream of
 /// errors, as far as that takes it.
 pub fn run<S: Source, K: Sink, E: Sink, B: Bank<D: Drop>>(
@@ -52,9 +65,5 @@ pub fn run<S: Source, K: Sink, E: Sink, B: Bank<D: Drop>>(
     ensures told { Shows result.status (E.held errors.old) (E.held errors.new) (E.faults errors.old) (E.faults errors.new) }
 {
     let status = cell_main(alloc, words, source, sink, bank);
-    let _shown = put_status(errors, status);
-    Ended {
-        status,
-        number: status.number(),
-    }
+    end_with(errors, status)
 }

@@ -1,0 +1,167 @@
+#!/bin/sh
+# The program at its edge: standard streams that are closed, disks of a folder that are no files of their own or are changed by
+# somebody else, and little memory. AFSCELL names the program to test.
+set -eu
+
+cd "$(dirname "$0")/.."
+program=${AFSCELL:-$PWD/crates/afs_top/out/afs_top}
+
+work=$(mktemp -d)
+trap 'rm -rf "$work"' EXIT
+trap 'exit 130' INT
+trap 'exit 143' TERM
+passed=0
+failed=0
+
+# Judges what is true: holds NAME COMMAND..
+holds() {
+    name=$1
+    shift
+    if "$@"; then
+        passed=$((passed + 1))
+    else
+        failed=$((failed + 1))
+        echo "failed: $name"
+    fi
+}
+
+# What the example prints is what its row wants, and the disk of its server is the one that an undisturbed run leaves.
+sed -e '1,/^----$/d' -e '/^---- wire$/,$d' tests/rows/example_open_close.row > "$work/text"
+fresh() {
+    rm -rf "$work/disks"
+    mkdir "$work/disks"
+}
+fresh
+status=0
+"$program" replay --disks "$work/disks" < examples/open_close.afs > "$work/out" || status=$?
+holds 'an undisturbed run' [ "$status" = 0 ]
+holds 'its text' cmp -s "$work/text" "$work/out"
+cp "$work/disks/node-1" "$work/whole"
+
+# A closed stream isn't taken for a disk: the run has the fault of that stream, and its disk is whole, or was never made.
+closed() {
+    name=$1
+    want=$2
+    disk=$3
+    fresh
+    status=0
+    : > "$work/out"
+    case $name in
+    input) "$program" replay --disks "$work/disks" <&- > "$work/out" 2> "$work/err" || status=$? ;;
+    output) "$program" replay --disks "$work/disks" < examples/open_close.afs >&- 2> "$work/err" || status=$? ;;
+    errors) "$program" replay --disks "$work/disks" < examples/open_close.afs > "$work/out" 2>&- || status=$? ;;
+    'input and output') "$program" replay --disks "$work/disks" <&- >&- 2> "$work/err" || status=$? ;;
+    'output and errors') "$program" replay --disks "$work/disks" < examples/open_close.afs >&- 2>&- || status=$? ;;
+    'input and errors') "$program" replay --disks "$work/disks" <&- > "$work/out" 2>&- || status=$? ;;
+    esac
+    holds "closed: $name: status $status, wanted $want" [ "$status" = "$want" ]
+    case $disk in
+    whole) holds "closed: $name: the disk" cmp -s "$work/whole" "$work/disks/node-1" ;;
+    none) holds "closed: $name: no disk" [ ! -e "$work/disks/node-1" ] ;;
+    esac
+}
+closed input 4 none
+closed output 5 whole
+closed errors 0 whole
+holds 'closed: errors: the text' cmp -s "$work/text" "$work/out"
+closed 'input and output' 4 none
+closed 'output and errors' 5 whole
+closed 'input and errors' 4 none
+
+# A disk is a file of its own in its folder. What a link leads to stays as it is.
+refused() {
+    status=0
+    "$program" replay --disks "$work/disks" < examples/open_close.afs > "$work/out" 2> "$work/err" || status=$?
+    holds "$1: status $status, wanted 6" [ "$status" = 6 ]
+    holds "$1: the line" [ "$(cat "$work/err")" = 'disk fault' ]
+    holds "$1: nothing was written" [ ! -s "$work/out" ]
+}
+outside() {
+    fresh
+    printf 'kept outside' > "$work/outside"
+}
+outside
+ln -s "$work/outside" "$work/disks/node-1"
+refused 'a symbolic link'
+holds 'a symbolic link: its file' [ "$(cat "$work/outside")" = 'kept outside' ]
+outside
+ln "$work/outside" "$work/disks/node-1"
+refused 'a second name'
+holds 'a second name: its file' [ "$(cat "$work/outside")" = 'kept outside' ]
+fresh
+ln -s "$work/missing" "$work/disks/node-1"
+refused 'a symbolic link to nothing'
+holds 'a symbolic link to nothing: nothing was made' [ ! -e "$work/missing" ]
+fresh
+mkdir "$work/disks/node-1"
+refused 'a folder in the place of a disk'
+fresh
+mkfifo "$work/disks/node-1"
+refused 'a pipe in the place of a disk'
+fresh
+cp "$work/whole" "$work/disks/node-1"
+status=0
+"$program" replay --disks "$work/disks" < examples/open_close.afs > "$work/out" || status=$?
+holds 'a disk that was there' [ "$status" = 0 ]
+holds 'a disk that was there: its bytes' cmp -s "$work/whole" "$work/disks/node-1"
+
+# While a script is played somebody removes the folder, or cuts the file: the run ends with a fault of the disk, or its history
+# has one. The script is long, and is written into a pipe, so that the run is in its middle.
+long() {
+    printf 'cell 1\nservers 1\nclients 1\nvolume proj s1 100000\nfile proj/a hex:616263\n'
+    awk 'BEGIN { for (i = 0; i < 60000; i++) print "do c1 close proj/a hex:616263" }'
+    echo schedule
+    awk 'BEGIN { for (i = 0; i < 60000; i++) print "act c1\ndrain" }'
+    echo end
+}
+long > "$work/long.afs"
+disturbed() {
+    name=$1
+    shift
+    fresh
+    "$program" replay --disks "$work/disks" < "$work/long.afs" > "$work/out" 2> "$work/err" &
+    running=$!
+    tries=0
+    while [ ! -s "$work/disks/node-1" ] || [ "$(wc -c < "$work/disks/node-1")" -lt 20000 ]; do
+        tries=$((tries + 1))
+        [ "$tries" -lt 3000 ] || break
+        sleep 0.01
+    done
+    "$@"
+    status=0
+    wait "$running" || status=$?
+    if [ "$status" != 6 ] && ! grep -q '^fault s1$' "$work/out"; then
+        failed=$((failed + 1))
+        echo "failed: $name: status $status, and no fault of the disk"
+    else
+        passed=$((passed + 1))
+    fi
+}
+cut_short() { : > "$work/disks/node-1"; }
+disturbed 'a file that was cut' cut_short
+disturbed 'a folder that was removed' rm -r "$work/disks"
+
+# With little memory the program ends well, with status 7, or is not even begun. Words that it had no memory for are not called
+# wrong. Each limit is in kilobytes of address space.
+if (ulimit -v 1000000) 2> /dev/null; then
+    wrong=
+    sevens=0
+    limit=2800
+    while [ "$limit" -le 4600 ]; do
+        status=0
+        (ulimit -v "$limit" && exec "$program" replay < examples/open_close.afs) > "$work/out" 2> "$work/err" || status=$?
+        case $status in
+        0 | 126 | 127 | 139) ;;
+        7) sevens=$((sevens + 1)) ;;
+        *) wrong="$wrong $limit:$status" ;;
+        esac
+        limit=$((limit + 8))
+    done
+    holds "little memory: wrong statuses:$wrong" [ -z "$wrong" ]
+    holds 'little memory: status 7 was met' [ "$sevens" -gt 0 ]
+else
+    echo 'skipped: little memory (the shell sets no limit)'
+fi
+
+echo "$passed passed, $failed failed"
+[ "$failed" -eq 0 ]
