@@ -140,8 +140,16 @@ launch() {
     name=$1
     shift
     status=0
-    TMPDIR=$work/tmp PATH=$work/kit:$PATH "$launcher" "$@" > "$work/out" 2> "$work/err" || status=$?
+    AFSCELL_LOOK=$look TMPDIR=$work/tmp PATH=$work/kit:$PATH "$launcher" "$@" > "$work/out" 2> "$work/err" || status=$?
     judge "$name"
+}
+
+# Runs a row with the variable that asks for a look.
+look=
+by_variable() {
+    look=1
+    "$@"
+    look=
 }
 
 # As launch, where the kit must not be called.
@@ -208,11 +216,12 @@ END
 
 # Gives each row of words to a command, as COMMAND HAS_FORM NAME WORDS..
 each_words() {
+    command=$1
     while IFS= read -r row; do
         has_form=${row%%|*}
         rest=${row#"$has_form"}
         name="words '${rest#|}'"
-        set -- "$1"
+        set --
         while [ -n "$rest" ]; do
             rest=${rest#|}
             set -- "$@" "${rest%%|*}"
@@ -221,8 +230,6 @@ each_words() {
             *) rest= ;;
             esac
         done
-        command=$1
-        shift
         "$command" "$has_form" "$name" "$@" < /dev/null
     done < "$work/words"
 }
@@ -250,7 +257,7 @@ uninstall
 wanted 2
 tells "$usage"
 launch_at_once 'no words, without the program' < /dev/null
-AFSCELL_LOOK=1 launch_at_once 'words of no form, for a look' replay replay < /dev/null
+by_variable launch_at_once 'words of no form, for a look' replay replay < /dev/null
 
 for word in --help -h help; do
     status=0
@@ -271,7 +278,7 @@ tells "afscell: replay reads its script from standard input: $launcher replay < 
 launch_at_once 'a file after replay' replay "$work/a script" < /dev/null
 launch_at_once 'a file after --wire' replay --wire "$work/a script" < /dev/null
 launch_at_once 'a file after the folder of the disks' replay --disks "$work" "$work/a script" < /dev/null
-AFSCELL_LOOK=1 launch_at_once 'a file after replay, for a look' replay "$work/a script" < /dev/null
+by_variable launch_at_once 'a file after replay, for a look' replay "$work/a script" < /dev/null
 wanted 2
 tells "$usage"
 launch_at_once 'a folder after replay' replay "$work" < /dev/null
@@ -304,7 +311,7 @@ without_kit() {
     judge "$name"
 }
 wanted 125
-tells "afscell: the kit's command rt is not on the PATH, and the program isn't built yet"
+tells "afscell: the kit's command rt is not on the PATH, and the program isn't built, or not from the sources as they stand"
 without_kit 'no program and no kit' replay
 wanted 125
 tells "afscell: the kit's command rt is not on the PATH, and a first look is made by the kit"
@@ -527,7 +534,7 @@ wanted 0
 prints "== $work/good" 'a text'
 tells "$not_proved"
 launch 'a look at one file' look "$work/good" < /dev/null
-AFSCELL_LOOK=1 launch 'a look at one file, by both' look "$work/good" < /dev/null
+by_variable launch 'a look at one file, by both' look "$work/good" < /dev/null
 
 rm -f "$work/called"
 wanted 3
@@ -550,19 +557,19 @@ launch 'a look at a file to which the kit has no answer' look "$work/silent" "$w
 wanted 0
 prints 'a text'
 tells "$not_proved"
-AFSCELL_LOOK=1 launch 'a look at the input' replay < "$work/good"
-cat "$work/good" | AFSCELL_LOOK=1 launch 'a look at a stream' replay
+by_variable launch 'a look at the input' replay < "$work/good"
+cat "$work/good" | by_variable launch 'a look at a stream' replay
 wanted 3
 tells "$not_proved" 'script: line 3: Word' '  line 3: "bad  line"' "  Word: $(rule Word) (docs/formats.md has an example)"
-AFSCELL_LOOK=1 launch 'a look at a bad script' replay < "$work/bad"
+by_variable launch 'a look at a bad script' replay < "$work/bad"
 
 # The kit tries the program in another folder, so that of the disks gets its whole path.
 rm -f "$work/called"
 wanted 0
 prints 'a text'
 tells "$not_proved"
-AFSCELL_LOOK=1 launch 'a look with disks' replay --disks=disks --wire < "$work/good"
-AFSCELL_LOOK=1 launch 'a look with disks by their whole path' replay --disks "$work/disks" < "$work/good"
+by_variable launch 'a look with disks' replay --disks=disks --wire < "$work/good"
+by_variable launch 'a look with disks by their whole path' replay --disks "$work/disks" < "$work/good"
 printf 'afs_top: try --cases FOLDER -- replay %s\n' "--wire --disks $top/disks" "--disks $work/disks" > "$work/calls"
 if sed 's/ --cases [^ ]* / --cases FOLDER /' "$work/called" | cmp -s - "$work/calls"; then
     pass
