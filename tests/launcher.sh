@@ -17,6 +17,9 @@ failed=0
 
 usage='usage: afscell replay [--wire] [--disks DIR]'
 look_usage='usage: afscell look [--wire] FILE..'
+# how long it says that a build and a look take
+first_build=$(sed -n "s/^first_build='\(.*\)'$/\1/p" afscell)
+first_look=$(sed -n "s/^first_look='\(.*\)'$/\1/p" afscell)
 
 pass() {
     passed=$((passed + 1))
@@ -329,7 +332,14 @@ for ended in 0 4 5 6 7 8; do
     cat "$work/script" | launch_at_once "the program's status $ended, over a pipe" replay --wire
 done
 
+# The variable that asks for a look does so by 1 alone.
 install 0
+wanted 0
+prints 'words: <replay>' first second
+look=0
+launch_at_once 'a variable that asks for no look' replay < "$work/script"
+look=
+
 wanted 0
 prints 'words: <replay>' second
 { read -r _; launch_at_once 'a file from its second line on' replay; } < "$work/script"
@@ -490,8 +500,8 @@ fi
 # ---- proving and building, by the stand-in of the kit
 
 began() {
-    tells 'afscell: proving and building the program, which takes about an hour on four processors the first time' \
-        "afscell: (to see a script played unproved, in about a minute: $launcher look FILE)"
+    tells "afscell: proving and building the program, which takes $first_build the first time" \
+        "afscell: (to see a script played unproved, in $first_look: $launcher look FILE)"
 }
 uninstall
 : > "$work/tells"
@@ -524,7 +534,7 @@ rm -f "$home/crates/middle/refuse"
 
 # ---- first looks, by the stand-in of the kit
 
-not_proved='afscell: a first look, which takes about a minute: what runs is NOT PROVED'
+not_proved="afscell: a first look, which takes $first_look: what runs is NOT PROVED"
 printf '# prints a text\n' > "$work/good"
 printf '# status 3\n# tells script: line 3: Word\nbad  line\n' > "$work/bad"
 printf '# status 8\n# tells limit\n' > "$work/full"
