@@ -78,13 +78,18 @@ lib)
     if [ -e refuse ]; then echo 'refused: low::first'; exit 1; fi
     ;;
 run)
+    if [ -e refuse ]; then echo 'refused: afs_top::main'; exit 1; fi
     mkdir -p out
     cp '$work/stand_in' out/afs_top
     exec out/afs_top replay
     ;;
 try)
-    if [ -e "\$3/refuse" ] || [ -e refuse ]; then echo 'error: no program' >&2; exit 1; fi
+    if [ -e refuse ]; then echo 'error: no program' >&2; exit 1; fi
     for file in "\$3"/*; do
+        if grep -q '^# never ends' "\$file"; then
+            echo \$\$ > '$work/process'
+            exec sleep 1000
+        fi
         case=\${file##*/}
         if grep -q '^# no answer' "\$file"; then
             echo 'checked: no-answer: the program wrote too much' >&2
@@ -464,23 +469,28 @@ judge_signal() {
     fi
 }
 
-# A signal to the launcher alone, while it runs the program and while it copies a stream: kill_launcher SIGNAL STATUS
+# A signal to the launcher alone, while it runs what never ends: kill_launcher SIGNAL STATUS WORDS..
 kill_launcher() {
+    signal=$1
+    ends=$2
+    shift 2
     rm -f "$work/process"
-    TMPDIR=$work/tmp "$launcher" replay < "$work/bad" > /dev/null 2>&1 &
+    TMPDIR=$work/tmp PATH=$work/kit:$PATH "$launcher" "$@" < "$work/bad" > /dev/null 2>&1 &
     running=$!
     status=0
     if has_begun; then
-        kill "-$1" "$running"
+        kill "-$signal" "$running"
         wait "$running" 2> /dev/null || status=$?
-        judge_signal "the signal $1" "$2"
+        judge_signal "the signal $signal to $1" "$ends"
     else
-        fail "the signal $1: the program doesn't begin"
+        fail "the signal $signal to $1: nothing begins"
         kill "$running"
     fi
 }
-kill_launcher TERM 143
-kill_launcher HUP 129
+kill_launcher TERM 143 replay
+kill_launcher HUP 129 replay
+echo '# never ends' > "$work/endless"
+kill_launcher TERM 143 look "$work/endless"
 
 # As ctrl-C does, the signal goes to all at once. The shell that started it must not have it ignored, which timeout sees to.
 if command -v timeout > /dev/null 2>&1; then
@@ -491,7 +501,7 @@ if command -v timeout > /dev/null 2>&1; then
     rm -f "$work/process"
     echo 0 > "$work/process"
     status=0
-    sleep 3 | TMPDIR=$work/tmp timeout --preserve-status -s INT 1 "$launcher" replay > /dev/null 2>&1 || status=$?
+    sleep 2 | TMPDIR=$work/tmp timeout --preserve-status -s INT 1 "$launcher" replay > /dev/null 2>&1 || status=$?
     if [ "$status" = 130 ] && [ -z "$(ls -A "$work/tmp")" ]; then pass; else fail "the signal INT over a stream: status $status"; fi
 else
     echo 'skipped: the signal INT (there is no timeout)'
@@ -530,7 +540,16 @@ tells 'afscell: proving low, 1 of 3; 2 left; 1 minute so far' 'afscell:   3 of 7
     'so far: 3 of 7 functions checked, 12 s' 'refused: low::first' \
     "afscell: the program was not proved or not built; all that the kit said is in ${program%/*}/afscell.built.log"
 launch 'a proof that is refused' replay < "$work/script"
-rm -f "$home/crates/middle/refuse"
+mv "$home/crates/middle/refuse" "$home/crates/afs_top"
+rm -f "$work/clock"
+wanted 125
+began
+tells 'afscell: proving low, 1 of 3; 2 left; 1 minute so far' 'afscell:   3 of 7 functions' \
+    'afscell: proving middle, 2 of 3; 1 left; 2 minutes so far' 'afscell:   3 of 7 functions' \
+    'afscell: proving afs_top, 3 of 3; 0 left; 3 minutes so far' 'refused: afs_top::main' \
+    "afscell: the program was not proved or not built; all that the kit said is in ${program%/*}/afscell.built.log"
+launch 'a proof of the program that is refused' replay < "$work/script"
+rm -f "$home/crates/afs_top/refuse"
 
 # ---- first looks, by the stand-in of the kit
 
