@@ -98,9 +98,15 @@ same 'an SVG file' "$texts/break_overtakes.svg" "$texts/break_overtakes.text" --
 
 draw "$texts/move.text"
 shows 'the location database, an administrator and two servers' 'client c1' 'loc' 'server s1' 'server s2' 'admin a1' \
-    'move proj s2' '1 GetEntryByName' 'locks proj: stamp 1,' 'fences proj' 'proj is located at s2' 'enables proj' 'deletes proj here'
+    'move proj s2' '1 GetEntryByName' 'locks proj: stamp 1,' 'fences proj' 'proj is located at s2' 'enables proj' \
+    'deletes proj here' 'change: c1'
 draw "$texts/move.text" --order a1,loc,s1
-shows 'the order of nodes' '    admin a1                 loc                      server s1                server s2                client c1'
+head -n 1 "$work/out" | tr -s ' ' > "$work/names"
+if [ "$(cat "$work/names")" = ' admin a1 loc server s1 server s2 client c1' ]; then
+    pass
+else
+    fail 'the order of nodes' "$(cat "$work/names")"
+fi
 
 # A message that is lost, and one that is overtaken: without its line the reply with place 4 is never given.
 draw "$texts/out_of_order.text"
