@@ -140,24 +140,39 @@ judge() {
     fail "$1: status $status, wanted $want"
     diff "$work/want.out" "$work/out" | head -n 10 | sed 's/^/  output: /' || :
     diff "$work/want.err" "$work/err" | head -n 10 | sed 's/^/  error: /' || :
-    ls -A "$work/tmp" | sed 's/^/  left over: /'
+    find "$work/tmp" -mindepth 1 | sed 's/^/  left over: /'
 }
 
-# Runs the launcher of the made folder on standard input, with the stand-in of the kit, and judges it: launch NAME WORDS..
+# the variable that asks for a look, and whether the input is given over a pipe
+look=
+pipe=
+
+# Runs the launcher of the made folder with the stand-in of the kit.
+run_launcher() {
+    AFSCELL_LOOK=$look TMPDIR=$work/tmp PATH=$work/kit:$PATH "$launcher" "$@"
+}
+
+# Runs it on standard input and judges it: launch NAME WORDS..
 launch() {
     name=$1
     shift
     status=0
-    AFSCELL_LOOK=$look TMPDIR=$work/tmp PATH=$work/kit:$PATH "$launcher" "$@" > "$work/out" 2> "$work/err" || status=$?
+    if [ -z "$pipe" ]; then run_launcher "$@"; else cat | run_launcher "$@"; fi > "$work/out" 2> "$work/err" || status=$?
     judge "$name"
 }
 
 # Runs a row with the variable that asks for a look.
-look=
 by_variable() {
     look=1
     "$@"
     look=
+}
+
+# Runs a row with its input over a pipe.
+over_pipe() {
+    pipe=1
+    "$@"
+    pipe=
 }
 
 # As launch, where the kit must not be called.
@@ -334,7 +349,7 @@ for ended in 0 4 5 6 7 8; do
     prints 'words: <replay> <--wire>' first second
     tells 'a line of the program'
     launch_at_once "the program's status $ended" replay --wire < "$work/script"
-    cat "$work/script" | launch_at_once "the program's status $ended, over a pipe" replay --wire
+    over_pipe launch_at_once "the program's status $ended, over a pipe" replay --wire < "$work/script"
 done
 
 # The variable that asks for a look does so by 1 alone.
@@ -355,8 +370,12 @@ launch_at_once 'no input' replay < /dev/null
 # As many bytes as a script may have, which aren't text, and one more pass unchanged; of what is above them nothing is read.
 { printf 'words: <replay>\n'; head -c 16777217 /dev/zero; } > "$work/want.out"
 : > "$work/want.err"
-head -c 16777217 /dev/zero | launch_at_once 'an input at the limit' replay
-yes '' | tr '\n' '\0' | launch_at_once 'an input without an end' replay
+head -c 16777217 /dev/zero > "$work/large"
+launch_at_once 'an input at the limit' replay < "$work/large"
+over_pipe launch_at_once 'an input at the limit, over a pipe' replay < "$work/large"
+over_pipe launch_at_once 'an input without an end, over a pipe' replay < /dev/zero
+launch_at_once 'a device' replay < /dev/zero
+rm -f "$work/large"
 rm -f "$work/want.out"
 
 # The program finds a closed input as the launcher does: the stand-in's cat fails.
@@ -395,7 +414,7 @@ for reason in $reasons; do
     if [ -n "$(rule "$reason")" ]; then pass; else fail "$reason has no rule in docs/formats.md"; fi
     refuses 2 "$reason" '"clients x"'
     launch_at_once "refused: $reason" replay < "$work/bad"
-    cat "$work/bad" | launch_at_once "refused: $reason, over a pipe" replay
+    over_pipe launch_at_once "refused: $reason, over a pipe" replay < "$work/bad"
 done
 
 printf 'cell 1\r\nservers 1 \n\nlast' > "$work/bad"
@@ -409,7 +428,7 @@ refuses 4 Missing '"last"'
 launch_at_once 'refused: a line without a newline' replay < "$work/bad"
 refuses 5 Missing
 launch_at_once 'refused: the line after the last' replay < "$work/bad"
-cat "$work/bad" | launch_at_once 'refused: the line after the last, over a pipe' replay
+over_pipe launch_at_once 'refused: the line after the last, over a pipe' replay < "$work/bad"
 
 hundred=$(printf '%0100d' 0)
 printf '%s\n%s\n' "$hundred$hundred" "$hundred${hundred}1" > "$work/bad"
@@ -524,7 +543,8 @@ tells 'afscell: proving low, 1 of 3; 2 left; 1 minute so far' 'afscell:   3 of 7
     'afscell: proving middle, 2 of 3; 1 left; 2 minutes so far' 'afscell:   3 of 7 functions' \
     'afscell: proving afs_top, 3 of 3; 0 left; 3 minutes so far' 'afscell: proved and built in 4 minutes'
 launch 'proving and building' replay < "$work/script"
-printf 'low: lib\nmiddle: lib\nafs_top: run -- replay\n' | cmp -s - "$work/called" && pass || fail 'how the kit is called'
+printf 'low: lib\nmiddle: lib\nafs_top: run -- replay\n' > "$work/calls"
+if cmp -s "$work/calls" "$work/called"; then pass; else fail "the kit is called by $(cat "$work/called")"; fi
 wanted 0
 prints 'words: <replay>' first second
 launch_at_once 'what was built is run at once' replay < "$work/script"
@@ -587,7 +607,7 @@ wanted 0
 prints 'a text'
 tells "$not_proved"
 by_variable launch 'a look at the input' replay < "$work/good"
-cat "$work/good" | by_variable launch 'a look at a stream' replay
+by_variable over_pipe launch 'a look at a stream' replay < "$work/good"
 wanted 3
 tells "$not_proved" 'script: line 3: Word' '  line 3: "bad  line"' "  Word: $(rule Word) (docs/formats.md has an example)"
 by_variable launch 'a look at a bad script' replay < "$work/bad"
@@ -622,10 +642,9 @@ program_takes() {
     shift 2
     status=0
     "$built" "$@" > "$work/out" 2> "$work/err" || status=$?
-    case $has_form in
-    none) if [ "$status" = 2 ] && [ ! -s "$work/out" ] && [ "$(cat "$work/err")" = "$usage" ]; then pass; else fail "the program and $name"; fi ;;
-    form) if [ "$status" != 2 ]; then pass; else fail "the program and $name"; fi ;;
-    esac
+    taken=form
+    if [ "$status" = 2 ] && [ ! -s "$work/out" ] && [ "$(cat "$work/err")" = "$usage" ]; then taken=none; fi
+    if [ "$taken" = "$has_form" ]; then pass; else fail "the program and $name: status $status"; fi
 }
 
 # what the example prints is what its row wants
@@ -646,7 +665,7 @@ if [ -e crates/afs_top/out/afscell.built ]; then
     wanted 3
     tells 'script: line 3: Word' '  line 3: "clients 1 "' "  Word: $(rule Word) (docs/formats.md has an example)"
     launch_at_once 'the proved program and a bad script' replay < "$work/bad"
-    cat "$work/bad" | launch_at_once 'the proved program and a bad script, over a pipe' replay
+    over_pipe launch_at_once 'the proved program and a bad script, over a pipe' replay < "$work/bad"
 else
     echo "skipped: the proved program (it isn't built)"
 fi
