@@ -466,62 +466,71 @@ cat > "$program" << END
 echo \$\$ > '$work/process'
 exec sleep 1000
 END
-mkfifo "$work/pipe"
+echo '# never ends' > "$work/endless"
 
-# Whether the program has begun, which it is given ten seconds for.
-has_begun() {
+# Waits until there is a file of this name below the folder, a minute at most: comes NAME
+comes() {
     tries=0
-    while [ ! -s "$work/process" ] && [ "$tries" -lt 100 ]; do
+    while [ -z "$(find "$work" -name "$1")" ]; do
         tries=$((tries + 1))
+        [ "$tries" -lt 600 ] || return 1
         sleep 0.1
     done
-    [ -s "$work/process" ]
 }
 
-# After a signal to the launcher both have to be gone, and so has what the launcher kept: judge_signal NAME STATUS
+# After a signal to the launcher it has to be gone, with what it ran and what it kept: judge_signal NAME STATUS
 judge_signal() {
-    if ! kill -0 "$(cat "$work/process")" 2> /dev/null && [ "$status" = "$2" ] && [ -z "$(ls -A "$work/tmp")" ]; then
+    process=$(cat "$work/process" 2> /dev/null || echo none)
+    if [ "$status" = "$2" ] && ! kill -0 "$process" 2> /dev/null && [ -z "$(ls -A "$work/tmp")" ]; then
         pass
     else
         fail "$1: status $status, wanted $2"
-        kill "$(cat "$work/process")" 2> /dev/null || :
+        kill "$process" 2> /dev/null || :
     fi
 }
 
-# A signal to the launcher alone, while it runs what never ends: kill_launcher SIGNAL STATUS WORDS..
-kill_launcher() {
+# Sends a signal to the launcher alone, once a file is there that is made when it runs what never ends; standard input is
+# the launcher's: end_by SIGNAL STATUS FILE WORDS..
+end_by() {
     signal=$1
     ends=$2
-    shift 2
+    file=$3
+    shift 3
     rm -f "$work/process"
-    TMPDIR=$work/tmp PATH=$work/kit:$PATH "$launcher" "$@" < "$work/bad" > /dev/null 2>&1 &
+    TMPDIR=$work/tmp PATH=$work/kit:$PATH "$launcher" "$@" <&9 > /dev/null 2>&1 &
     running=$!
-    status=0
-    if has_begun; then
-        kill "-$signal" "$running"
+    if comes "$file"; then
+        kill -s "$signal" "$running"
+        status=0
         wait "$running" 2> /dev/null || status=$?
         judge_signal "the signal $signal to $1" "$ends"
     else
-        fail "the signal $signal to $1: nothing begins"
-        kill "$running"
+        fail "the signal $signal to $1: nothing runs"
     fi
 }
-kill_launcher TERM 143 replay
-kill_launcher HUP 129 replay
-echo '# never ends' > "$work/endless"
-kill_launcher TERM 143 look "$work/endless"
+exec 9< "$work/bad"
+end_by TERM 143 process replay
+end_by HUP 129 process replay
+end_by TERM 143 process look "$work/endless"
+# a stream of which nothing comes, so that it is still copied
+mkfifo "$work/pipe"
+exec 9<> "$work/pipe"
+end_by TERM 143 input replay
+exec 9<&-
 
-# As ctrl-C does, the signal goes to all at once. The shell that started it must not have it ignored, which timeout sees to.
+# As with ctrl-C, all get the signal at once: the program sends it to its group. The shell lets what runs beside it ignore this
+# signal, so the launcher runs in front, in a group of its own, which timeout makes.
+cat > "$program" << END
+#!/bin/sh
+echo \$\$ > '$work/process'
+kill -s INT 0
+exec sleep 1000
+END
 if command -v timeout > /dev/null 2>&1; then
     rm -f "$work/process"
     status=0
-    TMPDIR=$work/tmp timeout --preserve-status -s INT 1 "$launcher" replay < "$work/bad" > /dev/null 2>&1 || status=$?
-    judge_signal 'the signal INT' 130
-    rm -f "$work/process"
-    echo 0 > "$work/process"
-    status=0
-    sleep 2 | TMPDIR=$work/tmp timeout --preserve-status -s INT 1 "$launcher" replay > /dev/null 2>&1 || status=$?
-    if [ "$status" = 130 ] && [ -z "$(ls -A "$work/tmp")" ]; then pass; else fail "the signal INT over a stream: status $status"; fi
+    TMPDIR=$work/tmp timeout --preserve-status 60 "$launcher" replay < "$work/bad" > /dev/null 2>&1 || status=$?
+    judge_signal 'the signal INT to all' 130
 else
     echo 'skipped: the signal INT (there is no timeout)'
 fi
