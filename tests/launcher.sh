@@ -589,10 +589,13 @@ printf '# status 8\n# tells limit\n' > "$work/full"
 printf '# no answer\n' > "$work/silent"
 
 wanted 0
-prints "== $work/good" 'a text'
+prints 'a text'
 tells "$not_proved"
 launch 'a look at one file' look "$work/good" < /dev/null
 by_variable launch 'a look at one file, by both' look "$work/good" < /dev/null
+wanted 8
+tells "$not_proved" limit
+launch 'a look at one file that does not end with 0' look "$work/full" < /dev/null
 
 rm -f "$work/called"
 wanted 3
