@@ -90,6 +90,7 @@ try)
             echo \$\$ > '$work/process'
             exec sleep 1000
         fi
+        if grep -q '^# stops the kit' "\$file"; then echo stopped >&2; exit 2; fi
         case=\${file##*/}
         if grep -q '^# no answer' "\$file"; then
             echo 'checked: no-answer: the program wrote too much' >&2
@@ -614,6 +615,12 @@ prints "== $work/silent" "== $work/good" 'a text'
 tells "$not_proved" "afscell: $work/silent ended with status 125" 'checked: no-answer: the program wrote too much' \
     "afscell: the kit doesn't know how it ends: case=000001 run=no-answer proved=no"
 launch 'a look at a file to which the kit has no answer' look "$work/silent" "$work/good" < /dev/null
+
+wanted 125
+prints "== $work/good" 'a text' "== $work/stop" "== $work/good"
+tells "$not_proved" "afscell: the kit did not play $work/stop" "afscell: the kit did not play $work/good" 'stopped'
+echo '# stops the kit' > "$work/stop"
+launch 'a look in which the kit stops' look "$work/good" "$work/stop" "$work/good" < /dev/null
 
 wanted 0
 prints 'a text'
