@@ -90,6 +90,7 @@ try)
             echo \$\$ > '$work/process'
             exec sleep 1000
         fi
+        if grep -q '^# stops the kit' "\$file"; then echo stopped >&2; exit 2; fi
         case=\${file##*/}
         if grep -q '^# no answer' "\$file"; then
             echo 'checked: no-answer: the program wrote too much' >&2
@@ -140,24 +141,39 @@ judge() {
     fail "$1: status $status, wanted $want"
     diff "$work/want.out" "$work/out" | head -n 10 | sed 's/^/  output: /' || :
     diff "$work/want.err" "$work/err" | head -n 10 | sed 's/^/  error: /' || :
-    ls -A "$work/tmp" | sed 's/^/  left over: /'
+    find "$work/tmp" -mindepth 1 | sed 's/^/  left over: /'
 }
 
-# Runs the launcher of the made folder on standard input, with the stand-in of the kit, and judges it: launch NAME WORDS..
+# the variable that asks for a look, and whether the input is given over a pipe
+look=
+pipe=
+
+# Runs the launcher of the made folder with the stand-in of the kit.
+run_launcher() {
+    AFSCELL_LOOK=$look TMPDIR=$work/tmp PATH=$work/kit:$PATH "$launcher" "$@"
+}
+
+# Runs it on standard input and judges it: launch NAME WORDS..
 launch() {
     name=$1
     shift
     status=0
-    AFSCELL_LOOK=$look TMPDIR=$work/tmp PATH=$work/kit:$PATH "$launcher" "$@" > "$work/out" 2> "$work/err" || status=$?
+    if [ -z "$pipe" ]; then run_launcher "$@"; else cat | run_launcher "$@"; fi > "$work/out" 2> "$work/err" || status=$?
     judge "$name"
 }
 
 # Runs a row with the variable that asks for a look.
-look=
 by_variable() {
     look=1
     "$@"
     look=
+}
+
+# Runs a row with its input over a pipe.
+over_pipe() {
+    pipe=1
+    "$@"
+    pipe=
 }
 
 # As launch, where the kit must not be called.
@@ -334,7 +350,7 @@ for ended in 0 4 5 6 7 8; do
     prints 'words: <replay> <--wire>' first second
     tells 'a line of the program'
     launch_at_once "the program's status $ended" replay --wire < "$work/script"
-    cat "$work/script" | launch_at_once "the program's status $ended, over a pipe" replay --wire
+    over_pipe launch_at_once "the program's status $ended, over a pipe" replay --wire < "$work/script"
 done
 
 # The variable that asks for a look does so by 1 alone.
@@ -355,8 +371,12 @@ launch_at_once 'no input' replay < /dev/null
 # As many bytes as a script may have, which aren't text, and one more pass unchanged; of what is above them nothing is read.
 { printf 'words: <replay>\n'; head -c 16777217 /dev/zero; } > "$work/want.out"
 : > "$work/want.err"
-head -c 16777217 /dev/zero | launch_at_once 'an input at the limit' replay
-yes '' | tr '\n' '\0' | launch_at_once 'an input without an end' replay
+head -c 16777217 /dev/zero > "$work/large"
+launch_at_once 'an input at the limit' replay < "$work/large"
+over_pipe launch_at_once 'an input at the limit, over a pipe' replay < "$work/large"
+over_pipe launch_at_once 'an input without an end, over a pipe' replay < /dev/zero
+launch_at_once 'a device' replay < /dev/zero
+rm -f "$work/large"
 rm -f "$work/want.out"
 
 # The program finds a closed input as the launcher does: the stand-in's cat fails.
@@ -395,7 +415,7 @@ for reason in $reasons; do
     if [ -n "$(rule "$reason")" ]; then pass; else fail "$reason has no rule in docs/formats.md"; fi
     refuses 2 "$reason" '"clients x"'
     launch_at_once "refused: $reason" replay < "$work/bad"
-    cat "$work/bad" | launch_at_once "refused: $reason, over a pipe" replay
+    over_pipe launch_at_once "refused: $reason, over a pipe" replay < "$work/bad"
 done
 
 printf 'cell 1\r\nservers 1 \n\nlast' > "$work/bad"
@@ -409,7 +429,7 @@ refuses 4 Missing '"last"'
 launch_at_once 'refused: a line without a newline' replay < "$work/bad"
 refuses 5 Missing
 launch_at_once 'refused: the line after the last' replay < "$work/bad"
-cat "$work/bad" | launch_at_once 'refused: the line after the last, over a pipe' replay
+over_pipe launch_at_once 'refused: the line after the last, over a pipe' replay < "$work/bad"
 
 hundred=$(printf '%0100d' 0)
 printf '%s\n%s\n' "$hundred$hundred" "$hundred${hundred}1" > "$work/bad"
@@ -447,62 +467,71 @@ cat > "$program" << END
 echo \$\$ > '$work/process'
 exec sleep 1000
 END
-mkfifo "$work/pipe"
+echo '# never ends' > "$work/endless"
 
-# Whether the program has begun, which it is given ten seconds for.
-has_begun() {
+# Waits until there is a file of this name below the folder, a minute at most: comes NAME
+comes() {
     tries=0
-    while [ ! -s "$work/process" ] && [ "$tries" -lt 100 ]; do
+    while [ -z "$(find "$work" -name "$1")" ]; do
         tries=$((tries + 1))
+        [ "$tries" -lt 600 ] || return 1
         sleep 0.1
     done
-    [ -s "$work/process" ]
 }
 
-# After a signal to the launcher both have to be gone, and so has what the launcher kept: judge_signal NAME STATUS
+# After a signal to the launcher it has to be gone, with what it ran and what it kept: judge_signal NAME STATUS
 judge_signal() {
-    if ! kill -0 "$(cat "$work/process")" 2> /dev/null && [ "$status" = "$2" ] && [ -z "$(ls -A "$work/tmp")" ]; then
+    process=$(cat "$work/process" 2> /dev/null || echo none)
+    if [ "$status" = "$2" ] && ! kill -0 "$process" 2> /dev/null && [ -z "$(ls -A "$work/tmp")" ]; then
         pass
     else
         fail "$1: status $status, wanted $2"
-        kill "$(cat "$work/process")" 2> /dev/null || :
+        kill "$process" 2> /dev/null || :
     fi
 }
 
-# A signal to the launcher alone, while it runs what never ends: kill_launcher SIGNAL STATUS WORDS..
-kill_launcher() {
+# Sends a signal to the launcher alone, once a file is there that is made when it runs what never ends; standard input is
+# the launcher's: end_by SIGNAL STATUS FILE WORDS..
+end_by() {
     signal=$1
     ends=$2
-    shift 2
+    file=$3
+    shift 3
     rm -f "$work/process"
-    TMPDIR=$work/tmp PATH=$work/kit:$PATH "$launcher" "$@" < "$work/bad" > /dev/null 2>&1 &
+    TMPDIR=$work/tmp PATH=$work/kit:$PATH "$launcher" "$@" <&9 > /dev/null 2>&1 &
     running=$!
-    status=0
-    if has_begun; then
-        kill "-$signal" "$running"
+    if comes "$file"; then
+        kill -s "$signal" "$running"
+        status=0
         wait "$running" 2> /dev/null || status=$?
         judge_signal "the signal $signal to $1" "$ends"
     else
-        fail "the signal $signal to $1: nothing begins"
-        kill "$running"
+        fail "the signal $signal to $1: nothing runs"
     fi
 }
-kill_launcher TERM 143 replay
-kill_launcher HUP 129 replay
-echo '# never ends' > "$work/endless"
-kill_launcher TERM 143 look "$work/endless"
+exec 9< "$work/bad"
+end_by TERM 143 process replay
+end_by HUP 129 process replay
+end_by TERM 143 process look "$work/endless"
+# a stream of which nothing comes, so that it is still copied
+mkfifo "$work/pipe"
+exec 9<> "$work/pipe"
+end_by TERM 143 input replay
+exec 9<&-
 
-# As ctrl-C does, the signal goes to all at once. The shell that started it must not have it ignored, which timeout sees to.
+# As with ctrl-C, all get the signal at once: the program sends it to its group. The shell lets what runs beside it ignore this
+# signal, so the launcher runs in front, in a group of its own, which timeout makes.
+cat > "$program" << END
+#!/bin/sh
+echo \$\$ > '$work/process'
+kill -s INT 0
+exec sleep 1000
+END
 if command -v timeout > /dev/null 2>&1; then
     rm -f "$work/process"
     status=0
-    TMPDIR=$work/tmp timeout --preserve-status -s INT 1 "$launcher" replay < "$work/bad" > /dev/null 2>&1 || status=$?
-    judge_signal 'the signal INT' 130
-    rm -f "$work/process"
-    echo 0 > "$work/process"
-    status=0
-    sleep 2 | TMPDIR=$work/tmp timeout --preserve-status -s INT 1 "$launcher" replay > /dev/null 2>&1 || status=$?
-    if [ "$status" = 130 ] && [ -z "$(ls -A "$work/tmp")" ]; then pass; else fail "the signal INT over a stream: status $status"; fi
+    TMPDIR=$work/tmp timeout --preserve-status 60 "$launcher" replay < "$work/bad" > /dev/null 2>&1 || status=$?
+    judge_signal 'the signal INT to all' 130
 else
     echo 'skipped: the signal INT (there is no timeout)'
 fi
@@ -524,7 +553,8 @@ tells 'afscell: proving low, 1 of 3; 2 left; 1 minute so far' 'afscell:   3 of 7
     'afscell: proving middle, 2 of 3; 1 left; 2 minutes so far' 'afscell:   3 of 7 functions' \
     'afscell: proving afs_top, 3 of 3; 0 left; 3 minutes so far' 'afscell: proved and built in 4 minutes'
 launch 'proving and building' replay < "$work/script"
-printf 'low: lib\nmiddle: lib\nafs_top: run -- replay\n' | cmp -s - "$work/called" && pass || fail 'how the kit is called'
+printf 'low: lib\nmiddle: lib\nafs_top: run -- replay\n' > "$work/calls"
+if cmp -s "$work/calls" "$work/called"; then pass; else fail "the kit is called by $(cat "$work/called")"; fi
 wanted 0
 prints 'words: <replay>' first second
 launch_at_once 'what was built is run at once' replay < "$work/script"
@@ -560,10 +590,13 @@ printf '# status 8\n# tells limit\n' > "$work/full"
 printf '# no answer\n' > "$work/silent"
 
 wanted 0
-prints "== $work/good" 'a text'
+prints 'a text'
 tells "$not_proved"
 launch 'a look at one file' look "$work/good" < /dev/null
 by_variable launch 'a look at one file, by both' look "$work/good" < /dev/null
+wanted 8
+tells "$not_proved" limit
+launch 'a look at one file that does not end with 0' look "$work/full" < /dev/null
 
 rm -f "$work/called"
 wanted 3
@@ -583,11 +616,17 @@ tells "$not_proved" "afscell: $work/silent ended with status 125" 'checked: no-a
     "afscell: the kit doesn't know how it ends: case=000001 run=no-answer proved=no"
 launch 'a look at a file to which the kit has no answer' look "$work/silent" "$work/good" < /dev/null
 
+wanted 125
+prints "== $work/good" 'a text' "== $work/stop" "== $work/good"
+tells "$not_proved" "afscell: the kit did not play $work/stop" "afscell: the kit did not play $work/good" 'stopped'
+echo '# stops the kit' > "$work/stop"
+launch 'a look in which the kit stops' look "$work/good" "$work/stop" "$work/good" < /dev/null
+
 wanted 0
 prints 'a text'
 tells "$not_proved"
 by_variable launch 'a look at the input' replay < "$work/good"
-cat "$work/good" | by_variable launch 'a look at a stream' replay
+by_variable over_pipe launch 'a look at a stream' replay < "$work/good"
 wanted 3
 tells "$not_proved" 'script: line 3: Word' '  line 3: "bad  line"' "  Word: $(rule Word) (docs/formats.md has an example)"
 by_variable launch 'a look at a bad script' replay < "$work/bad"
@@ -622,10 +661,9 @@ program_takes() {
     shift 2
     status=0
     "$built" "$@" > "$work/out" 2> "$work/err" || status=$?
-    case $has_form in
-    none) if [ "$status" = 2 ] && [ ! -s "$work/out" ] && [ "$(cat "$work/err")" = "$usage" ]; then pass; else fail "the program and $name"; fi ;;
-    form) if [ "$status" != 2 ]; then pass; else fail "the program and $name"; fi ;;
-    esac
+    taken=form
+    if [ "$status" = 2 ] && [ ! -s "$work/out" ] && [ "$(cat "$work/err")" = "$usage" ]; then taken=none; fi
+    if [ "$taken" = "$has_form" ]; then pass; else fail "the program and $name: status $status"; fi
 }
 
 # what the example prints is what its row wants
@@ -646,7 +684,7 @@ if [ -e crates/afs_top/out/afscell.built ]; then
     wanted 3
     tells 'script: line 3: Word' '  line 3: "clients 1 "' "  Word: $(rule Word) (docs/formats.md has an example)"
     launch_at_once 'the proved program and a bad script' replay < "$work/bad"
-    cat "$work/bad" | launch_at_once 'the proved program and a bad script, over a pipe' replay
+    over_pipe launch_at_once 'the proved program and a bad script, over a pipe' replay < "$work/bad"
 else
     echo "skipped: the proved program (it isn't built)"
 fi
