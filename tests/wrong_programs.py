@@ -110,7 +110,11 @@ def goals_in(text):
 
 def check(crate, room, functions, kept):
     how = {"cwd": room, "stdin": subprocess.DEVNULL, "stdout": subprocess.PIPE, "stderr": subprocess.STDOUT}
-    ran = subprocess.run(command(crate, functions, kept), **how, text=True, errors="replace")
+    for _ in range(2):
+        ran = subprocess.run(command(crate, functions, kept), **how, text=True, errors="replace")
+        if ran.returncode != -signal.SIGKILL:
+            break
+        # It was killed, most likely for memory: once more.
     said = Said(ran.returncode, ran.stdout, {}, [], {})
     for line in ran.stdout.splitlines():
         place, function = PLACE.match(line), FUNCTION.match(line)
