@@ -110,7 +110,11 @@ def goals_in(text):
 
 def check(crate, room, functions, kept):
     how = {"cwd": room, "stdin": subprocess.DEVNULL, "stdout": subprocess.PIPE, "stderr": subprocess.STDOUT}
-    ran = subprocess.run(command(crate, functions, kept), **how, text=True, errors="replace")
+    for _ in range(2):
+        ran = subprocess.run(command(crate, functions, kept), **how, text=True, errors="replace")
+        if ran.returncode != -signal.SIGKILL:
+            break
+        # It was killed, most likely for memory: once more.
     said = Said(ran.returncode, ran.stdout, {}, [], {})
     for line in ran.stdout.splitlines():
         place, function = PLACE.match(line), FUNCTION.match(line)
@@ -139,7 +143,7 @@ class Edit:
     def __init__(self, path):
         self.path = path
         self.crate = os.path.basename(os.path.dirname(path))
-        self.name = f"{self.crate}/{os.path.basename(path).removesuffix('.edit')}"
+        self.name = f"{self.crate}/{os.path.splitext(os.path.basename(path))[0]}"
         self.functions = edits.values(path, "refused")
         self.clauses = edits.values(path, "clause")
 
@@ -265,12 +269,13 @@ def try_all(tried):
                 print(f"{'ok' if is_refused else 'failed'}: {edit.name}: {text} ({time.time() - began:.0f} s)", flush=True)
 
         with concurrent.futures.ThreadPoolExecutor(lanes) as pool:
+            begun = [pool.submit(one, edit) for edit in tried]
             try:
-                for it in [pool.submit(one, edit) for edit in tried]:
+                for it in begun:
                     it.result()
-            except BaseException:
-                pool.shutdown(cancel_futures=True)
-                raise
+            finally:
+                for it in begun:
+                    it.cancel()
     return sum(refused)
 
 
