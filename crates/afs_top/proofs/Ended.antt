@@ -13,7 +13,7 @@ use Rattle.afs_disk.specs.declared.bank.LendFault.TheVariants as lending
 use Rattle.afs_disk.specs.declared.bank.Place.{Place}
 use Rattle.afs_disk.specs.declared.disks.Lent.{Lent}
 use Rattle.afs_law.specs.Cells.{IsOfCell}
-use Rattle.afs_law.specs.Laws.{RunsAreLegal}
+use Rattle.afs_law.specs.Laws.{RunsAreLegal, RunsEndWell}
 use Rattle.afs_outside.specs.Outside.{AppendsFront}
 use Rattle.afs_records.specs.Durable.{Durable}
 use Rattle.afs_rows.specs.Runs.{Cell}
@@ -62,7 +62,7 @@ excused {A} before after never_falls (inr rose) = inr (rose_once before after ro
 
 -- what is known of it
 pub record HasEnded {D : Type 0} (seen : D → Option (List ℕ)) (may_leave : D → List ℕ → Type 0) (faults limit : D → ℕ) (s : Script) (w : WorldState D) : Type 0 where
-  pub law : RunsAreLegal
+  pub law : RunsAreLegal × RunsEndWell
   pub in_cell : IsOfCell s
   pub world : IsWorld seen may_leave faults limit s w
   pub going : w.is_lost ≡ false
@@ -162,7 +162,7 @@ ended {D} seen may_leave faults limit s w fs wire o statuses.Limit taken is foun
 
 -- what is known of a world whose run is no more than begun, and may be lost
 pub record HasWanted {D : Type 0} (seen : D → Option (List ℕ)) (may_leave : D → List ℕ → Type 0) (faults limit : D → ℕ) (s : Script) (w : WorldState D) : Type 0 where
-  pub law : RunsAreLegal
+  pub law : RunsAreLegal × RunsEndWell
   pub in_cell : IsOfCell s
   pub world : IsWorld seen may_leave faults limit s w
 

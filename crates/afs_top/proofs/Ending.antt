@@ -16,7 +16,7 @@ use Rattle.afs_records.specs.Stands.{Stands}
 use Rattle.afs_records.proofs.Forms.{some_is}
 use Rattle.afs_rows.specs.Runs.{Cell}
 use Rattle.afs_law.specs.Cells.{IsOfCell}
-use Rattle.afs_law.specs.Laws.{RunsAreLegal}
+use Rattle.afs_law.specs.Laws.{RunsAreLegal, RunsEndWell}
 use Rattle.afs_text.specs.HistoryText.{history_text}
 use Rattle.afs_text.specs.Telling.{told}
 use Rattle.afs_volstore.specs.Stores.{Store}
@@ -222,29 +222,31 @@ length_told ps [] = refl
 length_told ps (e ∷ es) = ap suc (length_told (drop e.sent ps) es)
 
 -- the history that a world tells is one of its script, and legal
-pub played_legally : {D : Type 0} (seen : D → Option (List ℕ)) (may_leave : D → List ℕ → Type 0) (faults limit : D → ℕ) (law : RunsAreLegal) (s : Script) (w : WorldState D) (counts : Span ℕ) (kept : List Durable) → IsOfCell s → length w.history ≤ most_entries → (p : HasPlayedAll seen may_leave faults limit s w) → RoseBy (own_falls p.inputs) counts → MayKeep p.cell 1 kept → IsPlayed s counts (told w.wire w.history) kept
+pub played_legally : {D : Type 0} (seen : D → Option (List ℕ)) (may_leave : D → List ℕ → Type 0) (faults limit : D → ℕ) (law : RunsAreLegal × RunsEndWell) (s : Script) (w : WorldState D) (counts : Span ℕ) (kept : List Durable) → IsOfCell s → length w.history ≤ most_entries → (p : HasPlayedAll seen may_leave faults limit s w) → RoseBy (own_falls p.inputs) counts → MayKeep p.cell 1 kept → IsPlayed s counts (told w.wire w.history) kept
 played_legally {D} seen may_leave faults limit law s w counts kept in_cell few p failures keep = record {
   end = p.cell;
   is = record { inputs = p.inputs; leads = p.runs.leads; acts = p.played };
   few = omega (arith, length_told w.wire w.history, few);
   failures = failures;
-  legal = law s (told w.wire w.history) p.cell in_cell (record { inputs = p.inputs; leads = p.runs.leads });
+  legal = law.0 s (told w.wire w.history) p.cell in_cell (record { inputs = p.inputs; leads = p.runs.leads });
+  well = law.1 s (told w.wire w.history) p.cell in_cell (record { inputs = p.inputs; leads = p.runs.leads });
   keep = keep;
 }
 
 -- as far as a history may go
-pub played_first : {D : Type 0} (seen : D → Option (List ℕ)) (may_leave : D → List ℕ → Type 0) (faults limit : D → ℕ) (law : RunsAreLegal) (s : Script) (w : WorldState D) (counts : Span ℕ) (kept : List Durable) → IsOfCell s → (p : HasPlayedFirst seen may_leave faults limit s w) → RoseBy (own_falls p.0.inputs) counts → MayKeep p.0.cell 1 kept → IsPlayedFirst s counts (told w.wire w.history) kept
+pub played_first : {D : Type 0} (seen : D → Option (List ℕ)) (may_leave : D → List ℕ → Type 0) (faults limit : D → ℕ) (law : RunsAreLegal × RunsEndWell) (s : Script) (w : WorldState D) (counts : Span ℕ) (kept : List Durable) → IsOfCell s → (p : HasPlayedFirst seen may_leave faults limit s w) → RoseBy (own_falls p.0.inputs) counts → MayKeep p.0.cell 1 kept → IsPlayedFirst s counts (told w.wire w.history) kept
 played_first {D} seen may_leave faults limit law s w counts kept in_cell p failures keep = record {
   end = p.0.cell;
   is = record { inputs = p.0.inputs; leads = p.0.runs.leads; acts = p.0.played };
   full = length_told w.wire w.history ∙ p.1;
   failures = failures;
-  legal = law s (told w.wire w.history) p.0.cell in_cell (record { inputs = p.0.inputs; leads = p.0.runs.leads });
+  legal = law.0 s (told w.wire w.history) p.0.cell in_cell (record { inputs = p.0.inputs; leads = p.0.runs.leads });
+  well = law.1 s (told w.wire w.history) p.0.cell in_cell (record { inputs = p.0.inputs; leads = p.0.runs.leads });
   keep = keep;
 }
 
 -- however far
-pub played_some : {D : Type 0} (seen : D → Option (List ℕ)) (may_leave : D → List ℕ → Type 0) (faults limit : D → ℕ) (law : RunsAreLegal) (s : Script) (w : WorldState D) (counts : Span ℕ) → IsOfCell s → length w.history ≤ most_entries → (p : HasPlayedSome seen may_leave faults limit s w) → RoseBy (own_falls p.inputs) counts → IsPlayedSome s counts (told w.wire w.history)
+pub played_some : {D : Type 0} (seen : D → Option (List ℕ)) (may_leave : D → List ℕ → Type 0) (faults limit : D → ℕ) (law : RunsAreLegal × RunsEndWell) (s : Script) (w : WorldState D) (counts : Span ℕ) → IsOfCell s → length w.history ≤ most_entries → (p : HasPlayedSome seen may_leave faults limit s w) → RoseBy (own_falls p.inputs) counts → IsPlayedSome s counts (told w.wire w.history)
 played_some {D} seen may_leave faults limit law s w counts in_cell few p failures = record {
   inputs = p.inputs;
   end = p.cell;
@@ -252,11 +254,12 @@ played_some {D} seen may_leave faults limit law s w counts in_cell few p failure
   acts = p.played;
   few = omega (arith, length_told w.wire w.history, few);
   failures = failures;
-  legal = law s (told w.wire w.history) p.cell in_cell (record { inputs = p.inputs; leads = p.runs.leads });
+  legal = law.0 s (told w.wire w.history) p.cell in_cell (record { inputs = p.inputs; leads = p.runs.leads });
+  well = law.1 s (told w.wire w.history) p.cell in_cell (record { inputs = p.inputs; leads = p.runs.leads });
 }
 
 -- all was played, and a disk failed behind it
-pub failed_behind : {D : Type 0} (seen : D → Option (List ℕ)) (may_leave : D → List ℕ → Type 0) (faults limit : D → ℕ) (law : RunsAreLegal) (s : Script) (w : WorldState D) (wire : Bool) (o : Outside) → IsOfCell s → length w.history ≤ most_entries → (p : HasPlayedAll seen may_leave faults limit s w) → RoseBy (own_falls p.inputs + 1) o.disk_faults
+pub failed_behind : {D : Type 0} (seen : D → Option (List ℕ)) (may_leave : D → List ℕ → Type 0) (faults limit : D → ℕ) (law : RunsAreLegal × RunsEndWell) (s : Script) (w : WorldState D) (wire : Bool) (o : Outside) → IsOfCell s → length w.history ≤ most_entries → (p : HasPlayedAll seen may_leave faults limit s w) → RoseBy (own_falls p.inputs + 1) o.disk_faults
     → Writes o (history_text wire (told w.wire w.history)) → FailsBehind s wire o
 failed_behind {D} seen may_leave faults limit law s w wire o in_cell few p rose written = record {
   history = told w.wire w.history;
@@ -264,6 +267,7 @@ failed_behind {D} seen may_leave faults limit law s w wire o in_cell few p rose 
   is = record { inputs = p.inputs; leads = p.runs.leads; acts = p.played };
   few = omega (arith, length_told w.wire w.history, few);
   rose = rose;
-  legal = law s (told w.wire w.history) p.cell in_cell (record { inputs = p.inputs; leads = p.runs.leads });
+  legal = law.0 s (told w.wire w.history) p.cell in_cell (record { inputs = p.inputs; leads = p.runs.leads });
+  well = law.1 s (told w.wire w.history) p.cell in_cell (record { inputs = p.inputs; leads = p.runs.leads });
   written = written;
 }

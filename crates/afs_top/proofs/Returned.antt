@@ -6,7 +6,7 @@ use Rattle.afs_history.specs.declared.scripts.Script.{Script}
 use Rattle.afs_disk.specs.Disk.{Rose}
 use Rattle.afs_disk.specs.declared.disks.Lent.{Lent}
 use Rattle.afs_law.specs.Cells.{IsOfCell}
-use Rattle.afs_law.specs.Laws.{RunsAreLegal}
+use Rattle.afs_law.specs.Laws.{RunsAreLegal, RunsEndWell}
 use Rattle.afs_outside.specs.declared.outside.Failed.{Failed}
 use Rattle.afs_text.specs.FinalText.{final_text}
 use Rattle.afs_volstore.specs.Stores.{Store}
@@ -47,7 +47,7 @@ pub record IsOver {D : Type 0} (seen : D → Option (List ℕ)) (may_leave : D �
   pub standing : StandsSince seen may_leave limit w disks
 
 has_ended : {D : Type 0} (seen : D → Option (List ℕ)) (may_leave : D → List ℕ → Type 0) (faults limit : D → ℕ) (wire : Bool) (start : Option (List ℕ)) (count : ℕ) (gone : HistoryTold) (w : WorldState D) (now : Option (List ℕ)) (counted : ℕ) (written : Result (Unit {0}) Failed) (disks : List (Lent D))
-    → RunsAreLegal → IsOfCell w.script → w.is_lost ≡ false → IsWritten seen may_leave faults limit wire start count gone w now counted written → IsOver seen may_leave limit w disks → HasEnded seen may_leave faults limit w.script (whole gone w)
+    → RunsAreLegal × RunsEndWell → IsOfCell w.script → w.is_lost ≡ false → IsWritten seen may_leave faults limit wire start count gone w now counted written → IsOver seen may_leave limit w disks → HasEnded seen may_leave faults limit w.script (whole gone w)
 has_ended {D} seen may_leave faults limit wire start count gone w now counted written disks law in_cell going told over = record {
   law = law;
   in_cell = in_cell;
@@ -60,7 +60,7 @@ gives_of : {D : Type 0} (seen : D → Option (List ℕ)) (disks : List (Lent D))
 gives_of {D} seen disks o (Ok u) all cause = inl all
 gives_of {D} seen disks o (Err f) all cause = inr cause
 
-module _ {D : Type 0} (seen : D → Option (List ℕ)) (may_leave : D → List ℕ → Type 0) (faults limit : D → ℕ) (wire : Bool) (start : Option (List ℕ)) (count : ℕ) (gone : HistoryTold) (w : WorldState D) (now : Option (List ℕ)) (counted : ℕ) (written : Result (Unit {0}) Failed) (disks : List (Lent D)) (o : Outside) (law : RunsAreLegal) (in_cell : IsOfCell w.script)
+module _ {D : Type 0} (seen : D → Option (List ℕ)) (may_leave : D → List ℕ → Type 0) (faults limit : D → ℕ) (wire : Bool) (start : Option (List ℕ)) (count : ℕ) (gone : HistoryTold) (w : WorldState D) (now : Option (List ℕ)) (counted : ℕ) (written : Result (Unit {0}) Failed) (disks : List (Lent D)) (o : Outside) (law : RunsAreLegal × RunsEndWell) (in_cell : IsOfCell w.script)
     (told : IsWritten seen may_leave faults limit wire start count gone w now counted written) where
   -- played to its end, and what its disks keep was read
   pub end_of : (fs : List (Left (Store D) D)) (status result : Status) (taken : Result (Unit {0}) bank.Failed) → w.is_lost ≡ false → IsOver seen may_leave limit w disks → AreFound seen faults limit disks fs

@@ -11,6 +11,7 @@ use Rattle.afs_disk.specs.declared.bank.Lend.{Lend}
 use Rattle.afs_disk.specs.declared.bank.Place.{Place}
 use Rattle.afs_disk.specs.declared.disks.Lent.{Lent}
 use Rattle.afs_grammar.specs.Lines.{script_of}
+use Rattle.afs_law.specs.Laws.{EndsWell}
 use Rattle.afs_law.specs.Legal.{Legal}
 use Rattle.afs_outside.specs.Outside.{AppendsFront, HadAll}
 use Rattle.afs_records.specs.Durable.{Durable}
@@ -74,13 +75,14 @@ LendsAll s place o = o.lends.after ≡ option_map (λ ls. ls ++ lends_of s place
 
 -- A history of the script, played to its end. Its entries are the events of the schedule, one for one, with each drain as its
 -- deliveries. There are no more of them than a history may have. Disks failed by themselves in it no more often than is counted in the
--- call. It is legal. And at its end the servers' disks may keep these.
+-- call. It is legal. At its end the servers hold the ideal volumes, with all that was acknowledged; and their disks may keep these.
 pub record IsPlayed (s : Script) (disk_faults : Span ℕ) (history : List Entry) (kept : List Durable) : Type 0 where
   pub end : Cell
   pub is : IsHistoryOf s history end
   pub few : length history ≤ most_entries
   pub failures : RoseBy (own_falls is.inputs) disk_faults
   pub legal : Legal history s
+  pub well : EndsWell s history end
   pub keep : MayKeep end 1 kept
 
 -- The same of the first events, where there are as many as a history may have, and one is left.
@@ -90,6 +92,7 @@ pub record IsPlayedFirst (s : Script) (disk_faults : Span ℕ) (history : List E
   pub full : length history ≡ most_entries
   pub failures : RoseBy (own_falls is.inputs) disk_faults
   pub legal : Legal history s
+  pub well : EndsWell s history end
   pub keep : MayKeep end 1 kept
 
 -- The script was played to its end. What was written is the text of its history with what the disks keep, all of it or a beginning;
@@ -111,7 +114,7 @@ pub record ReplaysFirst (s : Script) (wire : Bool) (excuse : Type 0) (o : Outsid
   pub given : GivesBack excuse kept o.given.before o.given.after
 
 -- A history of the script's first events, however many. Disks failed by themselves in it no more often than is counted in the call. It
--- is legal.
+-- is legal, and ends well, as one that was played to its end.
 pub record IsPlayedSome (s : Script) (disk_faults : Span ℕ) (history : List Entry) : Type 0 where
   pub inputs : List Input
   pub end : Cell
@@ -120,6 +123,7 @@ pub record IsPlayedSome (s : Script) (disk_faults : Span ℕ) (history : List En
   pub few : length history ≤ most_entries
   pub failures : RoseBy (own_falls inputs) disk_faults
   pub legal : Legal history s
+  pub well : EndsWell s history end
 
 -- Such were played, and the text of their history was written, or where the sink failed, a beginning of it. Nothing of the final part
 -- stands there.
@@ -137,8 +141,8 @@ pub record WritesEntries (wire : Bool) (o : Outside) : Type 0 where
   pub few : length entries ≤ most_entries
   pub written : Writes o (kept_history_text wire sent entries)
 
--- The script was played to its end, and disks failed by themselves in its history less often than is counted in the call. The text of the
--- history was written, without the final part, or where the sink failed, a beginning of it.
+-- The script was played to its end, by a legal history that ends well, and disks failed by themselves in that less often than is counted in
+-- the call. The text of the history was written, without the final part, or where the sink failed, a beginning of it.
 pub record FailsBehind (s : Script) (wire : Bool) (o : Outside) : Type 0 where
   pub history : List Entry
   pub end : Cell
@@ -146,6 +150,7 @@ pub record FailsBehind (s : Script) (wire : Bool) (o : Outside) : Type 0 where
   pub few : length history ≤ most_entries
   pub rose : RoseBy (own_falls is.inputs + 1) o.disk_faults
   pub legal : Legal history s
+  pub well : EndsWell s history end
   pub written : Writes o (history_text wire history)
 
 -- What comes back of disks that were lent and set up, but not played. No disk had failed when it was lent. Where it told its bytes, and

@@ -24,7 +24,7 @@ use afs_cell::{World, set_up};
 use afs_disk::{Bank, Disk, Disks, LendFault, Place};
 use afs_final::{Kept, Left, fault_in, put_final, told_of};
 use afs_history::scripts::Script;
-use afs_law::laws::runs_are_legal;
+use afs_law::laws::{runs_are_legal, runs_end_well};
 use afs_lending::{give_back, give_back_all, lend_all};
 use afs_num::devices::Failed as BankFailed;
 use afs_outside::outside::{Failed, Sink, pass_on};
@@ -133,6 +133,7 @@ fn end<K: Sink, B: Bank<D: Drop>>(
     ensures never_falls { B.faults bank.old ≤ B.faults bank.new }
 {
     runs_are_legal();
+    runs_end_well();
     volumes_are_in_cell();
     let left = match world.read_at_end() {
         Ok(left) => left,
@@ -157,6 +158,7 @@ fn cut<K: Sink, B: Bank<D: Drop>>(
     ensures never_falls { B.faults bank.old ≤ B.faults bank.new }
 {
     runs_are_legal();
+    runs_end_well();
     volumes_are_in_cell();
     let disks = world.end();
     // The status stands already; that the sink failed is counted.
@@ -177,6 +179,7 @@ fn give_in<K: Sink, B: Bank<D: Drop>>(
     ensures never_falls { B.faults bank.old ≤ B.faults bank.new }
 {
     runs_are_legal();
+    runs_end_well();
     volumes_are_in_cell();
     let disks = world.end();
     // The status stands already; that the sink failed is counted.
