@@ -3,11 +3,12 @@
 # written that many entries, and no final part. One act less, and it ends with status 0. The client walks along a path of 500
 # directories with a cache of one entry, so that each act has a call and a reply for each of them.
 # Its last events are delivers of a place to which nothing is sent; a script with a deliver keeps all its messages, so no letting go
-# is tried here. It takes some minutes and 3 GiB, so it is no part of the gate. AFSCELL names another program to test.
+# is tried here. It takes some minutes and 3 GiB, so it is no part of the gate. The program is the one that
+# ./afscell or the gate built; AFSCELL names another one.
 set -eu
 
 cd "$(dirname "$0")/.."
-program=${AFSCELL:-./afscell}
+program=${AFSCELL:-crates/afs_top/out/afs_top}
 work=$(mktemp -d)
 trap 'rm -rf "$work"' EXIT
 trap 'exit 130' INT

@@ -3,11 +3,12 @@
 # run's journal, whole, and behind them nothing or a torn tail, which a server that takes the disk up cuts off. The same run is
 # first played to its end, and tests/journals.py reads both files. A kill takes the program away and not the machine: what was
 # written is still there, so it doesn't show that a sync is one.
-# tests/killed.sh [KILLS [CHANGES]]: so often, 20, in a run of so many changes, 1,000. AFSCELL names another program to test.
+# tests/killed.sh [KILLS [CHANGES]]: so often, 20, in a run of so many changes, 1,000. The program is the one that
+# ./afscell or the gate built; AFSCELL names another one.
 set -eu
 
 cd "$(dirname "$0")/.."
-program=${AFSCELL:-./afscell}
+program=${AFSCELL:-crates/afs_top/out/afs_top}
 kills=${1:-20}
 changes=${2:-1000}
 

@@ -1,10 +1,12 @@
 #!/bin/sh
-# The rows of the launcher: where the proved program is there, it is run at once with the words, the input and the
-# streams that the launcher has, and its status is the launcher's; a first look gives the same, and tells that it is
-# unproved. AFSCELL_LOOK is taken where it is asked for alone.
+# The rows of the launcher. The first ones need neither the kit nor the program: a copy of the launcher runs in a made folder,
+# where small scripts stand for the program and for the kit. They tell what they were given, and end as they are told to.
+# Then come rows of the program, where it is built: it and the launcher agree on words, and the launcher runs it at once. Last,
+# where there is the kit, comes one first look at two files.
 set -eu
 
 cd "$(dirname "$0")/.."
+top=$PWD
 
 work=$(mktemp -d)
 trap 'rm -rf "$work"' EXIT
@@ -13,37 +15,696 @@ trap 'exit 143' TERM
 passed=0
 failed=0
 
-# What the example prints is what its row wants.
-sed -e '1,/^----$/d' -e '/^---- wire$/,$d' tests/rows/example_open_close.row > "$work/text"
-: > "$work/nothing"
-printf 'afscell: a first look: what runs is NOT PROVED\n' > "$work/look"
-{ cat "$work/look"; echo 'usage: afscell replay [--wire] [--disks DIR]'; } > "$work/look_usage"
-echo 'usage: afscell replay [--wire] [--disks DIR]' > "$work/usage"
+usage='usage: afscell replay [--wire] [--disks DIR]'
+look_usage='usage: afscell look [--wire] FILE..'
+# how long it says that a build and a look take
+first_build=$(sed -n "s/^first_build='\(.*\)'$/\1/p" afscell)
+first_look=$(sed -n "s/^first_look='\(.*\)'$/\1/p" afscell)
 
-# Runs the launcher and judges it: launch NAME LOOK STATUS OUTPUT ERROR WORDS..
-launch() {
-    name=$1
-    look=$2
-    want=$3
-    output=$4
-    error=$5
-    shift 5
-    status=0
-    AFSCELL_LOOK=$look ./afscell "$@" < examples/open_close.afs > "$work/out" 2> "$work/err" || status=$?
-    if [ "$status" = "$want" ] && cmp -s "$work/out" "$output" && cmp -s "$work/err" "$error"; then
-        passed=$((passed + 1))
-        return
-    fi
-    failed=$((failed + 1))
-    echo "failed: the launcher: $name: status $status, wanted $want"
-    diff "$output" "$work/out" | head -n 5 | sed 's/^/  output: /' || :
-    diff "$error" "$work/err" | head -n 5 | sed 's/^/  error: /' || :
+pass() {
+    passed=$((passed + 1))
 }
 
-launch 'the proved program' '' 0 "$work/text" "$work/nothing" replay
-launch 'words of no form' 0 2 "$work/nothing" "$work/usage" replay replay
-launch 'a first look' 1 0 "$work/text" "$work/look" replay
-launch 'a first look at words of no form' 1 2 "$work/nothing" "$work/look_usage" replay replay
+fail() {
+    failed=$((failed + 1))
+    echo "failed: the launcher: $1"
+}
+
+# ---- the made folder
+
+home=$work/home
+program=$home/crates/afs_top/out/afs_top
+launcher=$home/afscell
+mkdir -p "$work/kit" "$work/tmp" "$home/docs"
+cp afscell "$home"
+cp docs/formats.md "$home/docs"
+for crate in low middle afs_top; do
+    mkdir -p "$home/crates/$crate/src"
+    echo '// a source' > "$home/crates/$crate/src/lib.rt"
+done
+printf 'afs_top: middle low bytes\nmiddle: low # a comment: low\nlow: bytes\nother: low\n' > "$home/crates.txt"
+
+# The stand-in of the program prints its words and its input. What it tells on standard error and its status are in files.
+cat > "$work/stand_in" << END
+#!/bin/sh
+echo "words:\$(printf ' <%s>' "\$@")"
+cat
+cat '$work/tells' >&2
+exit "\$(cat '$work/status')"
+END
+chmod +x "$work/stand_in"
+
+# Puts the stand-in where the program is, as proved and built: install STATUS [LINE]
+install() {
+    mkdir -p "${program%/*}"
+    cp "$work/stand_in" "$program"
+    : > "${program%/*}/afscell.built"
+    echo "$1" > "$work/status"
+    if [ $# = 2 ]; then echo "$2" > "$work/tells"; else : > "$work/tells"; fi
+}
+
+uninstall() {
+    rm -rf "${program%/*}"
+}
+
+# The stand-in of the kit writes down how it was called. It proves all crates but one that has a file refuse, and builds the
+# stand-in of the program. A case that it tries has its status, and what is told of it, in its comments.
+cat > "$work/kit/rt" << END
+#!/bin/sh
+echo "\${PWD##*/}: \$*" >> '$work/called'
+case \$1 in
+lib)
+    echo 'so far: 3 of 7 functions checked, 12 s'
+    if [ -e refuse ]; then echo 'refused: low::first'; exit 1; fi
+    ;;
+run)
+    if [ -e refuse ]; then echo 'refused: afs_top::main'; exit 1; fi
+    mkdir -p out
+    cp '$work/stand_in' out/afs_top
+    exec out/afs_top replay
+    ;;
+try)
+    if [ -e refuse ]; then echo 'error: no program' >&2; exit 1; fi
+    for file in "\$3"/*; do
+        if grep -q '^# never ends' "\$file"; then
+            echo \$\$ > '$work/process'
+            exec sleep 1000
+        fi
+        if grep -q '^# stops the kit' "\$file"; then echo stopped >&2; exit 2; fi
+        case=\${file##*/}
+        if grep -q '^# no answer' "\$file"; then
+            echo 'checked: no-answer: the program wrote too much' >&2
+            echo "case=\$case run=no-answer proved=no" >&2
+            continue
+        fi
+        status=\$(sed -n 's/^# status //p' "\$file")
+        sed -n 's/^# tells //p' "\$file" >&2
+        echo "== \$case"
+        if [ "\${status:-0}" = 0 ]; then sed -n 's/^# prints //p' "\$file"; fi
+        echo "case=\$case run=ended status=\${status:-0} runners=1 races=unchecked proved=no" >&2
+    done
+    echo 'cases=1 ended=1 fault=0 differs=0 no-answer=0 proved=no' >&2
+    ;;
+esac
+END
+# a clock on which a minute passes from one look to the next
+cat > "$work/kit/date" << END
+#!/bin/sh
+echo . >> '$work/clock'
+echo \$((\$(wc -l < '$work/clock') * 60))
+END
+chmod +x "$work/kit/rt" "$work/kit/date"
+
+# What is wanted: the status, and what is printed and told, of which each argument is a line: wanted STATUS, prints LINE..,
+# tells LINE..
+wanted() {
+    want=$1
+    : > "$work/want.out"
+    : > "$work/want.err"
+}
+
+prints() {
+    printf '%s\n' "$@" >> "$work/want.out"
+}
+
+tells() {
+    printf '%s\n' "$@" >> "$work/want.err"
+}
+
+# Compares what came of a command with what is wanted, and looks whether a file was left over: judge NAME
+judge() {
+    if [ "$status" = "$want" ] && cmp -s "$work/want.out" "$work/out" && cmp -s "$work/want.err" "$work/err" &&
+        [ -z "$(ls -A "$work/tmp")" ]; then
+        pass
+        return
+    fi
+    fail "$1: status $status, wanted $want"
+    diff "$work/want.out" "$work/out" | head -n 10 | sed 's/^/  output: /' || :
+    diff "$work/want.err" "$work/err" | head -n 10 | sed 's/^/  error: /' || :
+    find "$work/tmp" -mindepth 1 | sed 's/^/  left over: /'
+}
+
+# the variable that asks for a look, and whether the input is given over a pipe
+look=
+pipe=
+
+# Runs the launcher of the made folder with the stand-in of the kit.
+run_launcher() {
+    AFSCELL_LOOK=$look TMPDIR=$work/tmp PATH=$work/kit:$PATH "$launcher" "$@"
+}
+
+# Runs it on standard input and judges it: launch NAME WORDS..
+launch() {
+    name=$1
+    shift
+    status=0
+    if [ -z "$pipe" ]; then run_launcher "$@"; else cat | run_launcher "$@"; fi > "$work/out" 2> "$work/err" || status=$?
+    judge "$name"
+}
+
+# Runs a row with the variable that asks for a look.
+by_variable() {
+    look=1
+    "$@"
+    look=
+}
+
+# Runs a row with its input over a pipe.
+over_pipe() {
+    pipe=1
+    "$@"
+    pipe=
+}
+
+# As launch, where the kit must not be called.
+launch_at_once() {
+    rm -f "$work/called"
+    launch "$@"
+    if [ -e "$work/called" ]; then fail "$1: the kit was called: $(cat "$work/called")"; fi
+}
+
+# ---- words
+
+# Rows of words: whether they have a form, and then the words, parted by bars. One of two bytes is no UTF-8.
+cat > "$work/words" << END
+form|replay
+form|replay|--wire
+form|replay|--disks|disks
+form|replay|--disks=disks
+form|replay|--wire|--disks|disks
+form|replay|--disks|disks|--wire
+form|replay|--wire|--disks=disks
+form|replay|--disks=disks|--wire
+form|replay|--disks|disks and more
+form|replay|--disks=a=b
+form|replay|--disks|replay
+form|replay|--disks|$(printf '\303\244')
+none
+none|
+none|Replay
+none|replay|
+none|replay|replay
+none|replay|--
+none|replay|--help
+none|replay|-h
+none|replay|--Wire
+none|replay|-wire
+none|replay|--wire=1
+none|replay|--wire|--wire
+none|replay|--disks
+none|replay|--disks|
+none|replay|--disks=
+none|replay|--disks|--wire
+none|replay|--disks|--wire|--wire
+none|replay|--wire|--disks
+none|replay|--wire|--disks=
+none|replay|--disks=-a
+none|replay|--disks|-a
+none|replay|--disks|disks|--disks|disks
+none|replay|--disks=disks|--disks=disks
+none|replay|--wire|--disks|disks|--wire
+none|replay|--disks|disks|more
+none|replay|--wire|replay
+none|replay|--disks|$(printf 'a\355\240\200')
+none|replay|--disks=$(printf '\377')
+none|replay|--disks|$(printf '\364\220\200\200')
+none|--wire
+none|--wire|replay
+none|--disks|disks|replay
+none|run
+none|gen|1
+none|help|replay
+none|--help|replay
+none|-h|-h
+END
+
+# Gives each row of words to a command, as COMMAND HAS_FORM NAME WORDS..
+each_words() {
+    command=$1
+    while IFS= read -r row; do
+        has_form=${row%%|*}
+        rest=${row#"$has_form"}
+        name="words '${rest#|}'"
+        set --
+        while [ -n "$rest" ]; do
+            rest=${rest#|}
+            set -- "$@" "${rest%%|*}"
+            case $rest in
+            *'|'*) rest=\|${rest#*|} ;;
+            *) rest= ;;
+            esac
+        done
+        "$command" "$has_form" "$name" "$@" < /dev/null
+    done < "$work/words"
+}
+
+# Words that have a form are the program's; others are refused at once.
+launcher_takes() {
+    has_form=$1
+    shift
+    if [ "$has_form" = none ]; then
+        wanted 2
+        tells "$usage"
+        launch_at_once "$@"
+        return
+    fi
+    name=$1
+    shift
+    wanted 0
+    prints "words:$(printf ' <%s>' "$@")"
+    launch_at_once "$name" "$@"
+}
+install 0
+each_words launcher_takes
+# without the program too, and for a look
+uninstall
+wanted 2
+tells "$usage"
+launch_at_once 'no words, without the program' < /dev/null
+by_variable launch_at_once 'words of no form, for a look' replay replay < /dev/null
+
+for word in --help -h help; do
+    status=0
+    rm -f "$work/called"
+    PATH=$work/kit:$PATH "$launcher" "$word" > "$work/out" 2> "$work/err" < /dev/null || status=$?
+    if [ "$status" = 0 ] && [ ! -s "$work/err" ] && [ ! -e "$work/called" ] && [ "$(head -n 1 "$work/out")" = "$usage" ] &&
+        grep -qF 'afscell look [--wire] FILE..' "$work/out" && grep -qF 'replay < ' "$work/out"; then
+        pass
+    else
+        fail "$word: status $status"
+    fi
+done
+
+# What one types first: the script's file as a word. A folder is none, and the folder of the disks isn't meant either.
+echo 'cell 1' > "$work/a script"
+wanted 2
+tells "afscell: replay reads its script from standard input: $launcher replay < $work/a script" "$usage"
+launch_at_once 'a file after replay' replay "$work/a script" < /dev/null
+launch_at_once 'a file after --wire' replay --wire "$work/a script" < /dev/null
+launch_at_once 'a file after the folder of the disks' replay --disks "$work" "$work/a script" < /dev/null
+by_variable launch_at_once 'a file after replay, for a look' replay "$work/a script" < /dev/null
+wanted 2
+tells "$usage"
+launch_at_once 'a folder after replay' replay "$work" < /dev/null
+launch_at_once 'a file that is not there after replay' replay "$work/none" < /dev/null
+launch_at_once 'a file as the folder of the disks, twice' replay --disks "$work/a script" --disks "$work/a script" < /dev/null
+launch_at_once 'a file without replay' "$work/a script" < /dev/null
+
+# ---- a look at files that can't be made
+
+wanted 2
+tells "$look_usage"
+launch_at_once 'a look at no file' look < /dev/null
+launch_at_once 'a look with --wire and no file' look --wire < /dev/null
+launch_at_once 'a look with --wire twice' look --wire "$work/a script" --wire < /dev/null
+launch_at_once 'a look with disks' look --disks disks "$work/a script" < /dev/null
+for file in "$work/none" "$work" ''; do
+    wanted 2
+    tells "afscell: $file can't be read"
+    launch_at_once "a look at '$file', that can't be read" look "$work/a script" "$file" < /dev/null
+done
+
+# Where there is no kit, each way that needs it says so.
+mkdir "$work/tools"
+for tool in cat dirname head mkdir mktemp printf rm; do ln -s "$(command -v "$tool")" "$work/tools"; done
+without_kit() {
+    name=$1
+    shift
+    status=0
+    TMPDIR=$work/tmp PATH=$work/tools "$launcher" "$@" > "$work/out" 2> "$work/err" < "$work/a script" || status=$?
+    judge "$name"
+}
+wanted 125
+tells "afscell: the kit's command rt is not on the PATH, and the program isn't built, or not from the sources as they stand"
+without_kit 'no program and no kit' replay
+wanted 125
+tells "afscell: the kit's command rt is not on the PATH, and a first look is made by the kit"
+without_kit 'a look without the kit' look "$work/a script"
+
+# ---- the program that is built: its streams and its status
+
+printf 'first\nsecond\n' > "$work/script"
+for ended in 0 4 5 6 7 8; do
+    install "$ended" 'a line of the program'
+    wanted "$ended"
+    prints 'words: <replay> <--wire>' first second
+    tells 'a line of the program'
+    launch_at_once "the program's status $ended" replay --wire < "$work/script"
+    over_pipe launch_at_once "the program's status $ended, over a pipe" replay --wire < "$work/script"
+done
+
+# The variable that asks for a look does so by 1 alone.
+install 0
+wanted 0
+prints 'words: <replay>' first second
+look=0
+launch_at_once 'a variable that asks for no look' replay < "$work/script"
+look=
+
+wanted 0
+prints 'words: <replay>' second
+{ read -r _; launch_at_once 'a file from its second line on' replay; } < "$work/script"
+wanted 0
+prints 'words: <replay>'
+launch_at_once 'no input' replay < /dev/null
+
+# As many bytes as a script may have, which aren't text, and one more pass unchanged; of what is above them nothing is read.
+{ printf 'words: <replay>\n'; head -c 16777217 /dev/zero; } > "$work/want.out"
+: > "$work/want.err"
+head -c 16777217 /dev/zero > "$work/large"
+launch_at_once 'an input at the limit' replay < "$work/large"
+over_pipe launch_at_once 'an input at the limit, over a pipe' replay < "$work/large"
+over_pipe launch_at_once 'an input without an end, over a pipe' replay < /dev/zero
+launch_at_once 'a device' replay < /dev/zero
+rm -f "$work/large"
+rm -f "$work/want.out"
+
+# The program finds a closed input as the launcher does: the stand-in's cat fails.
+install 4
+status=0
+TMPDIR=$work/tmp "$launcher" replay > "$work/out" 2> "$work/err" <&- || status=$?
+if [ "$status" = 4 ] && [ "$(cat "$work/out")" = 'words: <replay>' ]; then pass; else fail "a closed input: status $status"; fi
+# So with a folder, which can be opened but not read.
+status=0
+TMPDIR=$work/tmp "$launcher" replay > "$work/out" 2> "$work/err" < "$work" || status=$?
+if [ "$status" = 4 ] && [ "$(cat "$work/out")" = 'words: <replay>' ]; then pass; else fail "a folder as input: status $status"; fi
+
+# ---- a script that is refused
+
+# the rule of a reason, as it stands in the document
+rule() {
+    sed -n "s/^| \`$1\` | \([^|]*\) | .*/\1/p" docs/formats.md
+}
+
+# The program refuses a line of the script for a reason, and the launcher tells the line and the rule: refused LINE REASON [TOLD]
+refuses() {
+    install 3 "script: line $1: $2"
+    wanted 3
+    prints 'words: <replay>'
+    cat "$work/bad" >> "$work/want.out"
+    tells "script: line $1: $2"
+    if [ $# = 3 ]; then tells "  line $1: $3"; fi
+    tells "  $2: $(rule "$2") (docs/formats.md has an example)"
+}
+
+# Each reason of the program has a rule.
+printf '# a comment\nclients x\n' > "$work/bad"
+reasons=$(sed -n 's/^reason_word .* = codes "\(.*\)"$/\1/p' crates/afs_top/specs/Statuses.antt)
+if [ "$(echo "$reasons" | wc -l)" -eq 9 ]; then pass; else fail 'the reasons of the program are not nine'; fi
+for reason in $reasons; do
+    if [ -n "$(rule "$reason")" ]; then pass; else fail "$reason has no rule in docs/formats.md"; fi
+    refuses 2 "$reason" '"clients x"'
+    launch_at_once "refused: $reason" replay < "$work/bad"
+    over_pipe launch_at_once "refused: $reason, over a pipe" replay < "$work/bad"
+done
+
+printf 'cell 1\r\nservers 1 \n\nlast' > "$work/bad"
+refuses 1 Number '"cell 1^M"'
+launch_at_once 'refused: a carriage return' replay < "$work/bad"
+refuses 2 Word '"servers 1 "'
+launch_at_once 'refused: a space at the end' replay < "$work/bad"
+refuses 3 Order '""'
+launch_at_once 'refused: an empty line' replay < "$work/bad"
+refuses 4 Missing '"last"'
+launch_at_once 'refused: a line without a newline' replay < "$work/bad"
+refuses 5 Missing
+launch_at_once 'refused: the line after the last' replay < "$work/bad"
+over_pipe launch_at_once 'refused: the line after the last, over a pipe' replay < "$work/bad"
+
+hundred=$(printf '%0100d' 0)
+printf '%s\n%s\n' "$hundred$hundred" "$hundred${hundred}1" > "$work/bad"
+refuses 1 Limit "\"$hundred$hundred\""
+launch_at_once 'refused: a line of 200 bytes' replay < "$work/bad"
+refuses 2 Limit "\"$hundred$hundred\" .."
+launch_at_once 'refused: a line of 201 bytes' replay < "$work/bad"
+
+printf 'first\nsecond\nthird\n' > "$work/bad"
+refuses 2 Order '"third"'
+sed 1d "$work/bad" > "$work/part"
+{ echo 'words: <replay>'; cat "$work/part"; } > "$work/want.out"
+{ read -r _; launch_at_once 'refused: a file from its second line on' replay; } < "$work/bad"
+
+# A line that isn't the program's is not explained.
+for line in 'script: line 0: Word' 'script: line 2' 'script: line 2p: Word' 'another line' 'script: line 2: a Word'; do
+    install 3 "$line"
+    wanted 3
+    prints 'words: <replay>' first second third
+    tells "$line"
+    launch_at_once "refused: '$line'" replay < "$work/bad"
+done
+install 3 'script: line 2: Other'
+wanted 3
+prints 'words: <replay>' first second third
+tells 'script: line 2: Other' '  line 2: "second"'
+launch_at_once 'refused: a reason without a rule' replay < "$work/bad"
+
+# ---- signals
+
+# A program that says which process it is, and never ends.
+install 0
+cat > "$program" << END
+#!/bin/sh
+echo \$\$ > '$work/process'
+exec sleep 1000
+END
+echo '# never ends' > "$work/endless"
+
+# Waits until there is a file of this name below the folder, a minute at most: comes NAME
+comes() {
+    tries=0
+    while [ -z "$(find "$work" -name "$1")" ]; do
+        tries=$((tries + 1))
+        [ "$tries" -lt 600 ] || return 1
+        sleep 0.1
+    done
+}
+
+# After a signal to the launcher it has to be gone, with what it ran and what it kept: judge_signal NAME STATUS
+judge_signal() {
+    process=$(cat "$work/process" 2> /dev/null || echo none)
+    if [ "$status" = "$2" ] && ! kill -0 "$process" 2> /dev/null && [ -z "$(ls -A "$work/tmp")" ]; then
+        pass
+    else
+        fail "$1: status $status, wanted $2"
+        kill "$process" 2> /dev/null || :
+    fi
+}
+
+# Sends a signal to the launcher alone, once a file is there that is made when it runs what never ends; standard input is
+# the launcher's: end_by SIGNAL STATUS FILE WORDS..
+end_by() {
+    signal=$1
+    ends=$2
+    file=$3
+    shift 3
+    rm -f "$work/process"
+    TMPDIR=$work/tmp PATH=$work/kit:$PATH "$launcher" "$@" <&9 > /dev/null 2>&1 &
+    running=$!
+    if comes "$file"; then
+        kill -s "$signal" "$running"
+        status=0
+        wait "$running" 2> /dev/null || status=$?
+        judge_signal "the signal $signal to $1" "$ends"
+    else
+        fail "the signal $signal to $1: nothing runs"
+    fi
+}
+exec 9< "$work/bad"
+end_by TERM 143 process replay
+end_by HUP 129 process replay
+end_by TERM 143 process look "$work/endless"
+# a stream of which nothing comes, so that it is still copied
+mkfifo "$work/pipe"
+exec 9<> "$work/pipe"
+end_by TERM 143 input replay
+exec 9<&-
+
+# As with ctrl-C, all get the signal at once: the program sends it to its group. The shell lets what runs beside it ignore this
+# signal, so the launcher runs in front, in a group of its own, which timeout makes.
+cat > "$program" << END
+#!/bin/sh
+echo \$\$ > '$work/process'
+kill -s INT 0
+exec sleep 1000
+END
+if command -v timeout > /dev/null 2>&1; then
+    rm -f "$work/process"
+    status=0
+    TMPDIR=$work/tmp timeout --preserve-status 60 "$launcher" replay < "$work/bad" > /dev/null 2>&1 || status=$?
+    judge_signal 'the signal INT to all' 130
+else
+    echo 'skipped: the signal INT (there is no timeout)'
+fi
+
+# ---- proving and building, by the stand-in of the kit
+
+began() {
+    tells "afscell: proving and building the program, which takes $first_build the first time" \
+        "afscell: (to see a script played unproved, in $first_look: $launcher look FILE)"
+}
+uninstall
+: > "$work/tells"
+echo 0 > "$work/status"
+rm -f "$work/clock" "$work/called"
+wanted 0
+prints 'words: <replay>' first second
+began
+tells 'afscell: proving low, 1 of 3; 2 left; 1 minute so far' 'afscell:   3 of 7 functions' \
+    'afscell: proving middle, 2 of 3; 1 left; 2 minutes so far' 'afscell:   3 of 7 functions' \
+    'afscell: proving afs_top, 3 of 3; 0 left; 3 minutes so far' 'afscell: proved and built in 4 minutes'
+launch 'proving and building' replay < "$work/script"
+printf 'low: lib\nmiddle: lib\nafs_top: run -- replay\n' > "$work/calls"
+if cmp -s "$work/calls" "$work/called"; then pass; else fail "the kit is called by $(cat "$work/called")"; fi
+wanted 0
+prints 'words: <replay>' first second
+launch_at_once 'what was built is run at once' replay < "$work/script"
+
+# A newer source is proved first. What the kit refuses is told, and there is no program then.
+touch -d '1 minute' "$home/crates/low/src/lib.rt"
+: > "$home/crates/middle/refuse"
+rm -f "$work/clock"
+wanted 125
+began
+tells 'afscell: proving low, 1 of 3; 2 left; 1 minute so far' 'afscell:   3 of 7 functions' \
+    'afscell: proving middle, 2 of 3; 1 left; 2 minutes so far' 'afscell:   3 of 7 functions' \
+    'so far: 3 of 7 functions checked, 12 s' 'refused: low::first' \
+    "afscell: the program was not proved or not built; all that the kit said is in ${program%/*}/afscell.built.log"
+launch 'a proof that is refused' replay < "$work/script"
+mv "$home/crates/middle/refuse" "$home/crates/afs_top"
+rm -f "$work/clock"
+wanted 125
+began
+tells 'afscell: proving low, 1 of 3; 2 left; 1 minute so far' 'afscell:   3 of 7 functions' \
+    'afscell: proving middle, 2 of 3; 1 left; 2 minutes so far' 'afscell:   3 of 7 functions' \
+    'afscell: proving afs_top, 3 of 3; 0 left; 3 minutes so far' 'refused: afs_top::main' \
+    "afscell: the program was not proved or not built; all that the kit said is in ${program%/*}/afscell.built.log"
+launch 'a proof of the program that is refused' replay < "$work/script"
+rm -f "$home/crates/afs_top/refuse"
+
+# ---- first looks, by the stand-in of the kit
+
+not_proved="afscell: a first look, which takes $first_look: what runs is NOT PROVED"
+printf '# prints a text\n' > "$work/good"
+printf '# status 3\n# tells script: line 3: Word\nbad  line\n' > "$work/bad"
+printf '# status 8\n# tells limit\n' > "$work/full"
+printf '# no answer\n' > "$work/silent"
+
+wanted 0
+prints 'a text'
+tells "$not_proved"
+launch 'a look at one file' look "$work/good" < /dev/null
+by_variable launch 'a look at one file, by both' look "$work/good" < /dev/null
+wanted 8
+tells "$not_proved" limit
+launch 'a look at one file that does not end with 0' look "$work/full" < /dev/null
+
+rm -f "$work/called"
+wanted 3
+prints "== $work/good" 'a text' "== $work/bad" "== $work/full" "== $work/good" 'a text'
+tells "$not_proved" "afscell: $work/bad ended with status 3" 'script: line 3: Word' '  line 3: "bad  line"' \
+    "  Word: $(rule Word) (docs/formats.md has an example)" "afscell: $work/full ended with status 8" limit
+launch 'a look at four files' look "$work/good" "$work/bad" --wire "$work/full" "$work/good" < /dev/null
+if [ "$(sed 's/ --cases [^ ]* / --cases FOLDER /' "$work/called")" = 'afs_top: try --cases FOLDER -- replay --wire' ]; then
+    pass
+else
+    fail "a look at four files: the kit is called by $(cat "$work/called")"
+fi
+
+wanted 125
+prints "== $work/silent" "== $work/good" 'a text'
+tells "$not_proved" "afscell: $work/silent ended with status 125" 'checked: no-answer: the program wrote too much' \
+    "afscell: the kit doesn't know how it ends: case=000001 run=no-answer proved=no"
+launch 'a look at a file to which the kit has no answer' look "$work/silent" "$work/good" < /dev/null
+
+wanted 125
+prints "== $work/good" 'a text' "== $work/stop" "== $work/good"
+tells "$not_proved" "afscell: the kit did not play $work/stop" "afscell: the kit did not play $work/good" 'stopped'
+echo '# stops the kit' > "$work/stop"
+launch 'a look in which the kit stops' look "$work/good" "$work/stop" "$work/good" < /dev/null
+
+wanted 0
+prints 'a text'
+tells "$not_proved"
+by_variable launch 'a look at the input' replay < "$work/good"
+by_variable over_pipe launch 'a look at a stream' replay < "$work/good"
+wanted 3
+tells "$not_proved" 'script: line 3: Word' '  line 3: "bad  line"' "  Word: $(rule Word) (docs/formats.md has an example)"
+by_variable launch 'a look at a bad script' replay < "$work/bad"
+
+# The kit tries the program in another folder, so that of the disks gets its whole path.
+rm -f "$work/called"
+wanted 0
+prints 'a text'
+tells "$not_proved"
+by_variable launch 'a look with disks' replay --disks=disks --wire < "$work/good"
+by_variable launch 'a look with disks by their whole path' replay --disks "$work/disks" < "$work/good"
+printf 'afs_top: try --cases FOLDER -- replay %s\n' "--wire --disks $top/disks" "--disks $work/disks" > "$work/calls"
+if sed 's/ --cases [^ ]* / --cases FOLDER /' "$work/called" | cmp -s - "$work/calls"; then
+    pass
+else
+    fail "a look with disks: the kit is called by $(cat "$work/called")"
+fi
+
+: > "$home/crates/afs_top/refuse"
+wanted 125
+tells "$not_proved" 'error: no program' 'afscell: the kit could not try the program'
+launch 'a look at sources that are no program' look "$work/good" < /dev/null
+rm -f "$home/crates/afs_top/refuse"
+
+# ---- the program, where it is built
+
+built=crates/afs_top/out/afs_top
+# The program refuses the same words. Those that have a form may meet a disk fault, where there is no such folder.
+program_takes() {
+    has_form=$1
+    name=$2
+    shift 2
+    status=0
+    "$built" "$@" > "$work/out" 2> "$work/err" || status=$?
+    taken=form
+    if [ "$status" = 2 ] && [ ! -s "$work/out" ] && [ "$(cat "$work/err")" = "$usage" ]; then taken=none; fi
+    if [ "$taken" = "$has_form" ]; then pass; else fail "the program and $name: status $status"; fi
+}
+
+# what the example prints is what its row wants
+sed -e '1,/^----$/d' -e '/^---- wire$/,$d' tests/rows/example_open_close.row > "$work/text"
+if [ -x "$built" ]; then
+    each_words program_takes
+else
+    echo "skipped: the program and its words (it isn't built)"
+fi
+# It runs at once where it is proved: the stand-in of the kit proves nothing here.
+if [ -e crates/afs_top/out/afscell.built ]; then
+    launcher=./afscell
+    : > "$work/kit/refuse"
+    wanted 0
+    cat "$work/text" >> "$work/want.out"
+    launch_at_once 'the proved program' replay < examples/open_close.afs
+    printf 'cell 1\nservers 1\nclients 1 \n' > "$work/bad"
+    wanted 3
+    tells 'script: line 3: Word' '  line 3: "clients 1 "' "  Word: $(rule Word) (docs/formats.md has an example)"
+    launch_at_once 'the proved program and a bad script' replay < "$work/bad"
+    over_pipe launch_at_once 'the proved program and a bad script, over a pipe' replay < "$work/bad"
+else
+    echo "skipped: the proved program (it isn't built)"
+fi
+
+# ---- one first look, where there is the kit
+
+if command -v rt > /dev/null 2>&1; then
+    printf 'cell 1\nservers 1\nclients 1 \n' > "$work/bad"
+    wanted 3
+    prints '== examples/open_close.afs'
+    cat "$work/text" >> "$work/want.out"
+    prints "== $work/bad"
+    tells "$not_proved" "afscell: $work/bad ended with status 3" 'script: line 3: Word' '  line 3: "clients 1 "' \
+        "  Word: $(rule Word) (docs/formats.md has an example)"
+    status=0
+    TMPDIR=$work/tmp ./afscell look examples/open_close.afs "$work/bad" > "$work/out" 2> "$work/err" < /dev/null || status=$?
+    judge 'a first look at two files'
+else
+    echo 'skipped: a first look (there is no kit)'
+fi
 
 echo "$passed passed, $failed failed"
 [ "$failed" -eq 0 ]

@@ -10,11 +10,11 @@
 # sink that fail, disks in a folder, contents at the limit of a close, a directory and a volume that are full, and a
 # script at the limit of its lines. Nothing here writes what is wanted of a row. tests/seeds.sh compares made scripts with
 # a reference program.
-# AFSCELL names another program to test, as the one that the gate built.
+# The program is the one that ./afscell or the gate built; AFSCELL names another one.
 set -eu
 
 cd "$(dirname "$0")/.."
-program=${AFSCELL:-./afscell}
+program=${AFSCELL:-crates/afs_top/out/afs_top}
 
 work=$(mktemp -d)
 trap 'rm -rf "$work"' EXIT
@@ -156,10 +156,10 @@ refusals() {
     ' "$1"
 }
 
-# The program is built before the first row, so that nothing else is told on standard error in a row.
+# A program that isn't there, or doesn't play the smallest script, would fail each row.
 take_apart tests/rows/nothing_to_do.row
 "$program" replay < "$work/row/script" > /dev/null || {
-    echo 'the program was not built, or fails on the smallest script'
+    echo "the program isn't built (./afscell builds it), or it fails on the smallest script"
     echo '0 passed, 1 failed'
     exit 1
 }

@@ -8,11 +8,11 @@
 # It is no part of the gate: the reference program isn't in the repository.
 # A reference program that has a location database asks it for a volume that the script doesn't have, and this one answers 363524 at
 # once: a spoiled script that names another volume in an act may differ so, and in nothing else.
-# AFSCELL names another program to test, as the one that the gate built.
+# The program is the one that ./afscell or the gate built; AFSCELL names another one.
 set -eu
 
 cd "$(dirname "$0")/.."
-program=${AFSCELL:-./afscell}
+program=${AFSCELL:-crates/afs_top/out/afs_top}
 reference=$1
 count=$2
 first=${3:-1}

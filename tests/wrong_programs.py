@@ -1,5 +1,6 @@
 """Tries wrong programs: tests/wrong_programs.sh tells what it does and how it judges."""
 
+import collections
 import concurrent.futures
 import dataclasses
 import functools
@@ -109,7 +110,11 @@ def goals_in(text):
 
 def check(crate, room, functions, kept):
     how = {"cwd": room, "stdin": subprocess.DEVNULL, "stdout": subprocess.PIPE, "stderr": subprocess.STDOUT}
-    ran = subprocess.run(command(crate, functions, kept), **how, text=True, errors="replace")
+    for _ in range(2):
+        ran = subprocess.run(command(crate, functions, kept), **how, text=True, errors="replace")
+        if ran.returncode != -signal.SIGKILL:
+            break
+        # It was killed, most likely for memory: once more.
     said = Said(ran.returncode, ran.stdout, {}, [], {})
     for line in ran.stdout.splitlines():
         place, function = PLACE.match(line), FUNCTION.match(line)
@@ -138,7 +143,7 @@ class Edit:
     def __init__(self, path):
         self.path = path
         self.crate = os.path.basename(os.path.dirname(path))
-        self.name = f"{self.crate}/{os.path.basename(path).removesuffix('.edit')}"
+        self.name = f"{self.crate}/{os.path.splitext(os.path.basename(path))[0]}"
         self.functions = edits.values(path, "refused")
         self.clauses = edits.values(path, "clause")
 
@@ -212,13 +217,23 @@ def every_edit():
     return [Edit(it) for it in sorted(glob.glob(f"{FOLDER}/*/*.edit"))]
 
 
+def in_turn(number):
+    """Twelve of the edits that tell their clause, others for the next number: the first of each crate, then the second, and so on."""
+    settled, found = [it for it in every_edit() if it.clauses], collections.Counter()
+    ranks = {}
+    for it in settled:
+        ranks[it.name] = found[it.crate]
+        found[it.crate] += 1
+    settled.sort(key=lambda it: ranks[it.name])
+    first = number * IN_A_TURN % max(1, len(settled))
+    return (settled[first:] + settled[:first])[:IN_A_TURN]
+
+
 def chosen(words):
-    """The edits of these crates or names, or those of a turn: every so many-th that tells its clause, so that each has its turn."""
-    every = every_edit()
+    """The edits of a turn, of these crates or of these names, or all."""
     if words[:1] == ["--turn"] and len(words) == 2:
-        settled = [it for it in every if it.clauses]
-        turns = max(1, -(-len(settled) // IN_A_TURN))
-        return settled[int(words[1]) % turns :: turns]
+        return in_turn(int(words[1]))
+    every = every_edit()
     for word in words:
         if not any(word in (it.crate, it.name) for it in every):
             raise Stop(f"there are no wrong programs {word}")
@@ -254,12 +269,13 @@ def try_all(tried):
                 print(f"{'ok' if is_refused else 'failed'}: {edit.name}: {text} ({time.time() - began:.0f} s)", flush=True)
 
         with concurrent.futures.ThreadPoolExecutor(lanes) as pool:
+            begun = [pool.submit(one, edit) for edit in tried]
             try:
-                for it in [pool.submit(one, edit) for edit in tried]:
+                for it in begun:
                     it.result()
-            except BaseException:
-                pool.shutdown(cancel_futures=True)
-                raise
+            finally:
+                for it in begun:
+                    it.cancel()
     return sum(refused)
 
 
