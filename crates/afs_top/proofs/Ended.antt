@@ -307,6 +307,7 @@ behind_since s wire o earlier since b = record {
   few = b.few;
   rose = subst (λ (x : Span ℕ). RoseBy (own_falls b.is.inputs + 1) x) (sym since.disk_faults) b.rose;
   legal = b.legal;
+  well = b.well;
   written = writes_since o earlier since (history_text wire b.history) b.written;
 }
 
