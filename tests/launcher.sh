@@ -283,15 +283,16 @@ tells "$usage"
 launch_at_once 'no words, without the program' < /dev/null
 by_variable launch_at_once 'words of no form, for a look' replay replay < /dev/null
 
-for word in --help -h help; do
+for words in --help -h help 'look --help'; do
     status=0
     rm -f "$work/called"
-    PATH=$work/kit:$PATH "$launcher" "$word" > "$work/out" 2> "$work/err" < /dev/null || status=$?
+    # these are words of the command line
+    run_launcher $words > "$work/out" 2> "$work/err" < /dev/null || status=$?
     if [ "$status" = 0 ] && [ ! -s "$work/err" ] && [ ! -e "$work/called" ] && [ "$(head -n 1 "$work/out")" = "$usage" ] &&
         grep -qF 'afscell look [--wire] FILE..' "$work/out" && grep -qF 'replay < ' "$work/out"; then
         pass
     else
-        fail "$word: status $status"
+        fail "$words: status $status"
     fi
 done
 
