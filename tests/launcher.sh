@@ -88,7 +88,7 @@ try)
     for file in "\$3"/*; do
         if grep -q '^# never ends' "\$file"; then
             echo \$\$ > '$work/process'
-            exec sleep 1000
+            exec sleep 100
         fi
         if grep -q '^# stops the kit' "\$file"; then echo stopped >&2; exit 2; fi
         case=\${file##*/}
@@ -283,15 +283,16 @@ tells "$usage"
 launch_at_once 'no words, without the program' < /dev/null
 by_variable launch_at_once 'words of no form, for a look' replay replay < /dev/null
 
-for word in --help -h help; do
+for words in --help -h help 'look --help'; do
     status=0
     rm -f "$work/called"
-    PATH=$work/kit:$PATH "$launcher" "$word" > "$work/out" 2> "$work/err" < /dev/null || status=$?
+    # these are words of the command line
+    run_launcher $words > "$work/out" 2> "$work/err" < /dev/null || status=$?
     if [ "$status" = 0 ] && [ ! -s "$work/err" ] && [ ! -e "$work/called" ] && [ "$(head -n 1 "$work/out")" = "$usage" ] &&
         grep -qF 'afscell look [--wire] FILE..' "$work/out" && grep -qF 'replay < ' "$work/out"; then
         pass
     else
-        fail "$word: status $status"
+        fail "$words: status $status"
     fi
 done
 
@@ -318,7 +319,10 @@ launch_at_once 'a look at no file' look < /dev/null
 launch_at_once 'a look with --wire and no file' look --wire < /dev/null
 launch_at_once 'a look with --wire twice' look --wire "$work/a script" --wire < /dev/null
 launch_at_once 'a look with disks' look --disks disks "$work/a script" < /dev/null
-for file in "$work/none" "$work" ''; do
+wanted 2
+tells "afscell: $work is a folder: name the files in it"
+launch_at_once 'a look at a folder' look "$work/a script" "$work" < /dev/null
+for file in "$work/none" ''; do
     wanted 2
     tells "afscell: $file can't be read"
     launch_at_once "a look at '$file', that can't be read" look "$work/a script" "$file" < /dev/null
@@ -388,6 +392,21 @@ if [ "$status" = 4 ] && [ "$(cat "$work/out")" = 'words: <replay>' ]; then pass;
 status=0
 TMPDIR=$work/tmp "$launcher" replay > "$work/out" 2> "$work/err" < "$work" || status=$?
 if [ "$status" = 4 ] && [ "$(cat "$work/out")" = 'words: <replay>' ]; then pass; else fail "a folder as input: status $status"; fi
+
+# A disk fault, where there is a folder for the disks and where there is none.
+install 6 'disk fault'
+wanted 6
+prints 'words: <replay>' first second
+tells 'disk fault'
+launch_at_once 'a disk fault without a folder' replay < "$work/script"
+wanted 6
+prints "words: <replay> <--disks> <$work/tmp>" first second
+tells 'disk fault'
+launch_at_once 'a disk fault in a folder' replay --disks "$work/tmp" < "$work/script"
+wanted 6
+prints "words: <replay> <--disks=$work/none>" first second
+tells 'disk fault' "afscell: there is no folder $work/none for the disks"
+launch_at_once 'a disk fault where there is no folder' replay "--disks=$work/none" < "$work/script"
 
 # ---- a script that is refused
 
@@ -465,7 +484,7 @@ install 0
 cat > "$program" << END
 #!/bin/sh
 echo \$\$ > '$work/process'
-exec sleep 1000
+exec sleep 100
 END
 echo '# never ends' > "$work/endless"
 
@@ -525,7 +544,7 @@ cat > "$program" << END
 #!/bin/sh
 echo \$\$ > '$work/process'
 kill -s INT 0
-exec sleep 1000
+exec sleep 100
 END
 if command -v timeout > /dev/null 2>&1; then
     rm -f "$work/process"
@@ -587,6 +606,7 @@ not_proved="afscell: a first look, which takes $first_look: what runs is NOT PRO
 printf '# prints a text\n' > "$work/good"
 printf '# status 3\n# tells script: line 3: Word\nbad  line\n' > "$work/bad"
 printf '# status 8\n# tells limit\n' > "$work/full"
+printf '# status 6\n# tells disk fault\n' > "$work/faulty"
 printf '# no answer\n' > "$work/silent"
 
 wanted 0
@@ -630,6 +650,10 @@ by_variable over_pipe launch 'a look at a stream' replay < "$work/good"
 wanted 3
 tells "$not_proved" 'script: line 3: Word' '  line 3: "bad  line"' "  Word: $(rule Word) (docs/formats.md has an example)"
 by_variable launch 'a look at a bad script' replay < "$work/bad"
+
+wanted 6
+tells "$not_proved" 'disk fault' "afscell: there is no folder $work/none for the disks"
+by_variable launch 'a look at a disk fault' replay --disks "$work/none" < "$work/faulty"
 
 # The kit tries the program in another folder, so that of the disks gets its whole path.
 rm -f "$work/called"
