@@ -17,6 +17,10 @@ failed=0
 
 usage='usage: afscell replay [--wire] [--disks DIR]'
 look_usage='usage: afscell look [--wire] FILE..'
+# the second line about words that are refused
+try_help() {
+    echo "try $launcher --help"
+}
 # how long it says that a build and a look take
 first_build=$(sed -n "s/^first_build='\(.*\)'$/\1/p" afscell)
 first_look=$(sed -n "s/^first_look='\(.*\)'$/\1/p" afscell)
@@ -90,6 +94,9 @@ try)
             echo \$\$ > '$work/process'
             exec sleep 1000
         fi
+        if grep -q '^# takes a minute' "\$file"; then
+            until [ -e '$work/past' ]; do sleep 0.1; done
+        fi
         if grep -q '^# stops the kit' "\$file"; then echo stopped >&2; exit 2; fi
         case=\${file##*/}
         if grep -q '^# no answer' "\$file"; then
@@ -107,13 +114,23 @@ try)
     ;;
 esac
 END
+# a sleep in which two half minutes pass at once, while a case takes a minute; the third doesn't pass, and lets the case end
+cat > "$work/kit/sleep" << END
+#!/bin/sh
+if [ "\$1" = 30 ] && [ -e '$work/takes_a_minute' ]; then
+    echo . >> '$work/half_minutes'
+    if [ "\$(wc -l < '$work/half_minutes')" -le 2 ]; then exit; fi
+    : > '$work/past'
+fi
+exec $(command -v sleep) "\$@"
+END
 # a clock on which a minute passes from one look to the next
 cat > "$work/kit/date" << END
 #!/bin/sh
 echo . >> '$work/clock'
 echo \$((\$(wc -l < '$work/clock') * 60))
 END
-chmod +x "$work/kit/rt" "$work/kit/date"
+chmod +x "$work/kit/rt" "$work/kit/date" "$work/kit/sleep"
 
 # What is wanted: the status, and what is printed and told, of which each argument is a line: wanted STATUS, prints LINE..,
 # tells LINE..
@@ -264,7 +281,7 @@ launcher_takes() {
     shift
     if [ "$has_form" = none ]; then
         wanted 2
-        tells "$usage"
+        tells "$usage" "$(try_help)"
         launch_at_once "$@"
         return
     fi
@@ -279,7 +296,7 @@ each_words launcher_takes
 # without the program too, and for a look
 uninstall
 wanted 2
-tells "$usage"
+tells "$usage" "$(try_help)"
 launch_at_once 'no words, without the program' < /dev/null
 by_variable launch_at_once 'words of no form, for a look' replay replay < /dev/null
 
@@ -288,7 +305,8 @@ for word in --help -h help; do
     rm -f "$work/called"
     PATH=$work/kit:$PATH "$launcher" "$word" > "$work/out" 2> "$work/err" < /dev/null || status=$?
     if [ "$status" = 0 ] && [ ! -s "$work/err" ] && [ ! -e "$work/called" ] && [ "$(head -n 1 "$work/out")" = "$usage" ] &&
-        grep -qF 'afscell look [--wire] FILE..' "$work/out" && grep -qF 'replay < ' "$work/out"; then
+        grep -qF 'afscell look [--wire] FILE..' "$work/out" && grep -qF 'replay < ' "$work/out" &&
+        grep -qF 'docs/status.md, how a run ends' "$work/out" && grep -qF 'tools/ladder' "$work/out"; then
         pass
     else
         fail "$word: status $status"
@@ -298,13 +316,13 @@ done
 # What one types first: the script's file as a word. A folder is none, and the folder of the disks isn't meant either.
 echo 'cell 1' > "$work/a script"
 wanted 2
-tells "afscell: replay reads its script from standard input: $launcher replay < $work/a script" "$usage"
+tells "afscell: replay reads its script from standard input: $launcher replay < $work/a script" "$usage" "$(try_help)"
 launch_at_once 'a file after replay' replay "$work/a script" < /dev/null
 launch_at_once 'a file after --wire' replay --wire "$work/a script" < /dev/null
 launch_at_once 'a file after the folder of the disks' replay --disks "$work" "$work/a script" < /dev/null
 by_variable launch_at_once 'a file after replay, for a look' replay "$work/a script" < /dev/null
 wanted 2
-tells "$usage"
+tells "$usage" "$(try_help)"
 launch_at_once 'a folder after replay' replay "$work" < /dev/null
 launch_at_once 'a file that is not there after replay' replay "$work/none" < /dev/null
 launch_at_once 'a file as the folder of the disks, twice' replay --disks "$work/a script" --disks "$work/a script" < /dev/null
@@ -313,7 +331,7 @@ launch_at_once 'a file without replay' "$work/a script" < /dev/null
 # ---- a look at files that can't be made
 
 wanted 2
-tells "$look_usage"
+tells "$look_usage" "$(try_help)"
 launch_at_once 'a look at no file' look < /dev/null
 launch_at_once 'a look with --wire and no file' look --wire < /dev/null
 launch_at_once 'a look with --wire twice' look --wire "$work/a script" --wire < /dev/null
@@ -388,6 +406,44 @@ if [ "$status" = 4 ] && [ "$(cat "$work/out")" = 'words: <replay>' ]; then pass;
 status=0
 TMPDIR=$work/tmp "$launcher" replay > "$work/out" 2> "$work/err" < "$work" || status=$?
 if [ "$status" = 4 ] && [ "$(cat "$work/out")" = 'words: <replay>' ]; then pass; else fail "a folder as input: status $status"; fi
+
+# ---- a disk that failed
+
+# What is wrong with the folder of the disks is told after the program's line: disk_fault TOLD [FOLDER]
+disk_fault() {
+    install 6 'disk fault'
+    folder=${2-$work/disks}
+    wanted 6
+    prints "words: <replay> <--disks> <$folder>" first second
+    tells 'disk fault' "  $1 (docs/status.md)"
+    launch_at_once "a disk fault: $1" replay --disks "$folder" < "$work/script"
+}
+disk_fault "$work/disks is not there: make the folder first"
+disk_fault "$work/script is no folder" "$work/script"
+mkdir "$work/disks"
+disk_fault "nothing wrong is seen now: $work/disks is a folder in which you can write, and $work/disks/node-1 is not there"
+ln -s nothing "$work/disks/node-1"
+disk_fault "$work/disks/node-1 is a symbolic link: the disk has to be a file of its own"
+rm "$work/disks/node-1"
+mkdir "$work/disks/node-1"
+disk_fault "$work/disks/node-1 is no file"
+rmdir "$work/disks/node-1"
+: > "$work/disks/node-1"
+disk_fault "nothing wrong is seen now: $work/disks is a folder in which you can write, and $work/disks/node-1 a file of its own"
+ln "$work/disks/node-1" "$work/disks/other"
+disk_fault "$work/disks/node-1 has a second name: the disk has to be a file of its own"
+rm "$work/disks/other"
+# who may write anywhere can't see this
+if [ "$(id -u)" != 0 ]; then
+    chmod a-w "$work/disks/node-1"
+    disk_fault "$work/disks/node-1 is a file that you can't read and write"
+    chmod a-w "$work/disks"
+    disk_fault "$work/disks is a folder in which you can't write"
+    chmod u+w "$work/disks"
+else
+    echo 'skipped: folders and files without rights (root has all)'
+fi
+rm -rf "$work/disks"
 
 # ---- a script that is refused
 
@@ -598,6 +654,14 @@ wanted 8
 tells "$not_proved" limit
 launch 'a look at one file that does not end with 0' look "$work/full" < /dev/null
 
+printf '# takes a minute\n# prints a text\n' > "$work/takes_a_minute"
+wanted 0
+prints 'a text'
+tells "$not_proved" 'afscell: still building and playing; 30 seconds so far' \
+    'afscell: still building and playing; 60 seconds so far'
+launch 'a look that takes a minute' look "$work/takes_a_minute" < /dev/null
+rm -f "$work/half_minutes" "$work/past" "$work/takes_a_minute"
+
 rm -f "$work/called"
 wanted 3
 prints "== $work/good" 'a text' "== $work/bad" "== $work/full" "== $work/good" 'a text'
@@ -630,6 +694,13 @@ by_variable over_pipe launch 'a look at a stream' replay < "$work/good"
 wanted 3
 tells "$not_proved" 'script: line 3: Word' '  line 3: "bad  line"' "  Word: $(rule Word) (docs/formats.md has an example)"
 by_variable launch 'a look at a bad script' replay < "$work/bad"
+printf '# status 6\n# tells disk fault\n' > "$work/bad"
+wanted 6
+tells "$not_proved" 'disk fault' "  $work/disks is not there: make the folder first (docs/status.md)"
+by_variable launch 'a look whose disk fails' replay --disks "$work/disks" < "$work/bad"
+wanted 6
+tells "$not_proved" 'disk fault'
+by_variable launch 'a look whose disk fails, without a folder' replay < "$work/bad"
 
 # The kit tries the program in another folder, so that of the disks gets its whole path.
 rm -f "$work/called"
@@ -700,7 +771,9 @@ if command -v rt > /dev/null 2>&1; then
     tells "$not_proved" "afscell: $work/bad ended with status 3" 'script: line 3: Word' '  line 3: "clients 1 "' \
         "  Word: $(rule Word) (docs/formats.md has an example)"
     status=0
-    TMPDIR=$work/tmp ./afscell look examples/open_close.afs "$work/bad" > "$work/out" 2> "$work/err" < /dev/null || status=$?
+    TMPDIR=$work/tmp ./afscell look examples/open_close.afs "$work/bad" > "$work/out" 2> "$work/told" < /dev/null || status=$?
+    # how often it tells that it goes on depends on the machine
+    sed '/^afscell: still building and playing; [0-9]* seconds so far$/d' "$work/told" > "$work/err"
     judge 'a first look at two files'
 else
     echo 'skipped: a first look (there is no kit)'
