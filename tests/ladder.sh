@@ -131,7 +131,7 @@ is_xml 'three texts by name in an SVG file'
 # Without a name between them no text may follow another one, whether that is whole or cut.
 cat "$texts/out_of_order.text" "$texts/move.text" > "$work/text"
 refuses 'a text after another one' "$work/text"
-for lines in 5 20; do
+for lines in 5 18; do
     { head -n "$lines" "$texts/out_of_order.text"; cat "$texts/move.text"; } > "$work/text"
     refuses "a text after $lines lines of another one" "$work/text"
 done
@@ -170,7 +170,7 @@ if grep -q 'class="arrow overtaken".*reply' "$work/out"; then fail 'a lost messa
 # However narrow a drawing is, such a message ends beside all lifelines, and its label tells the number.
 for width in 20 30 40 50; do
     draw "$texts/out_of_order.text" --width "$width"
-    shows "a lost message in a drawing of $width signs" '┃ ✗─ 2 '
+    shows "a lost message in a drawing of $width signs" ' ✗─ 2 re'
 done
 
 # No line of a text goes without a trace: the drawing without it is another.
