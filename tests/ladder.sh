@@ -1,7 +1,8 @@
 #!/bin/sh
 # The rows of tools/ladder. Texts in tests/ladder are drawn, and compared with drawings that were read line by line beside their
 # texts; then several of them by name, as a look prints them. Then what a drawing shows of messages that are lost, of reads that
-# are stale, of texts that are cut and of those that are none, and how long one of 2,000 entries may take. This needs Python 3, and neither the kit nor the program.
+# are stale, of texts that are cut and of those that are none, and how long one of 2,000 entries may take. This needs Python 3,
+# and neither the kit nor the program.
 set -eu
 
 cd "$(dirname "$0")/.."
