@@ -1,7 +1,8 @@
 #!/bin/sh
 # The rows of tools/ladder. Texts in tests/ladder are drawn, and compared with drawings that were read line by line beside their
-# texts. Then what a drawing shows of messages that are lost, of texts that are cut and of those that are none, and how long one
-# of 2,000 entries may take. This needs Python 3, and neither the kit nor the program.
+# texts; then several of them by name, as a look prints them. Then what a drawing shows of messages that are lost, of reads that
+# are stale, of texts that are cut and of those that are none, and how long one of 2,000 entries may take. This needs Python 3,
+# and neither the kit nor the program.
 set -eu
 
 cd "$(dirname "$0")/.."
@@ -77,6 +78,15 @@ refuses() {
     fi
 }
 
+# What was drawn last is XML: is_xml NAME
+is_xml() {
+    if python3 -c 'import sys, xml.dom.minidom; xml.dom.minidom.parse(sys.stdin.buffer)' < "$work/out" 2> "$work/err"; then
+        pass
+    else
+        fail "$1" "$(tail -n 1 "$work/err")"
+    fi
+}
+
 # The text of a run in a row's file, without bytes and with them.
 plain_text() {
     sed -e '1,/^----$/d' -e '/^---- wire$/,$d' "tests/rows/$1.row"
@@ -96,6 +106,40 @@ same 'a part of a run' "$texts/break_overtakes_4_15.drawing" "$texts/break_overt
 same 'each line that there is' "$texts/every_line.drawing" "$texts/every_line.text"
 same 'an SVG file' "$texts/break_overtakes.svg" "$texts/break_overtakes.text" --svg
 
+# Texts by name are drawn one after the other, each as it is drawn alone. One of them is that of a script that was refused.
+for name in break_overtakes refused out_of_order; do
+    echo "== examples/$name.afs"
+    if [ -e "$texts/$name.text" ]; then cat "$texts/$name.text"; fi
+done > "$work/texts"
+{
+    echo '== examples/break_overtakes.afs'
+    cat "$texts/break_overtakes.drawing"
+    printf '%s\n' '' '== examples/refused.afs' 'there is no text of a replay' '' '== examples/out_of_order.afs'
+    cat "$texts/out_of_order.drawing"
+} > "$work/drawings"
+same 'three texts by name' "$work/drawings" "$work/texts"
+draw "$work/texts" --from 7
+shows 'texts of which one has no such entry' ' 7  ┃' 'there are no such entries'
+draw "$work/texts" --svg
+shows 'three texts by name in an SVG file' '>== examples/break_overtakes.afs<' '>10 StoreData reply<' '>== examples/refused.afs<' \
+    '>== examples/out_of_order.afs<' '>2 FetchData reply<'
+if [ "$(grep -c '<svg' "$work/out")" = 1 ] && [ "$(grep -c 'class="halo name"' "$work/out")" = 5 ]; then
+    pass
+else
+    fail 'three texts by name in an SVG file' 'they are no one file with five lanes'
+fi
+is_xml 'three texts by name in an SVG file'
+# Without a name between them no text may follow another one, whether that is whole or cut.
+cat "$texts/out_of_order.text" "$texts/move.text" > "$work/text"
+refuses 'a text after another one' "$work/text"
+for lines in 5 18; do
+    { head -n "$lines" "$texts/out_of_order.text"; cat "$texts/move.text"; } > "$work/text"
+    refuses "a text after $lines lines of another one" "$work/text"
+done
+printf '== a\n== b\n' > "$work/text"
+refuses 'names without a text' "$work/text"
+refuses 'texts none of which has such entries' "$work/texts" --from 100
+
 draw "$texts/move.text"
 shows 'the location database, an administrator and two servers' 'client c1' 'loc' 'server s1' 'server s2' 'admin a1' \
     'move proj s2' '1 GetEntryByName' 'locks proj: stamp 1,' 'fences proj' 'proj is located at s2' 'enables proj' \
@@ -108,6 +152,12 @@ else
     fail 'the order of nodes' "$(cat "$work/names")"
 fi
 
+# What is read while the text told of a newer version.
+plain_text holder_that_never_answers > "$work/text"
+draw "$work/text"
+shows 'a stale read' '(cached, stale)'
+if [ "$(grep -c stale "$work/out")" = 1 ]; then pass; else fail 'a stale read' 'another read is marked'; fi
+
 # A message that is lost, and one that is overtaken: without its line the reply with place 4 is never given.
 draw "$texts/out_of_order.text"
 shows 'a lost message' '✗─ 2 FetchData reply ─┤' '✗ never given'
@@ -117,6 +167,12 @@ shows 'a message that is lost instead' '✗─ 4 FetchData reply ─┤'
 draw "$work/lost" --svg
 shows 'a lost message in an SVG file' 'class="arrow lost"'
 if grep -q 'class="arrow overtaken".*reply' "$work/out"; then fail 'a lost message in an SVG file' 'it is overtaken'; else pass; fi
+
+# However narrow a drawing is, such a message ends beside all lifelines, and its label tells the number.
+for width in 20 30 40 50; do
+    draw "$texts/out_of_order.text" --width "$width"
+    shows "a lost message in a drawing of $width signs" ' ✗─ 2 re'
+done
 
 # No line of a text goes without a trace: the drawing without it is another.
 number=0
@@ -182,11 +238,7 @@ else
     fail 'a width' 'a row is longer'
 fi
 draw "$texts/every_line.text" --svg
-if python3 -c 'import sys, xml.dom.minidom; xml.dom.minidom.parse(sys.stdin.buffer)' < "$work/out" 2> "$work/err"; then
-    pass
-else
-    fail 'an SVG file of each line' "$(tail -n 1 "$work/err")"
-fi
+is_xml 'an SVG file of each line'
 draw "$work/empty" --help
 shows 'help' '--svg' '--width N' '--from N' '--to N' '--order NODES'
 
