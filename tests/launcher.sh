@@ -383,6 +383,13 @@ launch_at_once 'a device' replay < /dev/zero
 rm -f "$work/large"
 rm -f "$work/want.out"
 
+# A file is read where it is: that needs no place for a copy.
+wanted 0
+prints 'words: <replay>' first second
+status=0
+TMPDIR=$work/none "$launcher" replay < "$work/script" > "$work/out" 2> "$work/err" || status=$?
+judge 'a file, where there is no place for a copy'
+
 # The program finds a closed input as the launcher does: the stand-in's cat fails.
 install 4
 status=0
@@ -521,8 +528,12 @@ end_by() {
     running=$!
     if comes "$file"; then
         kill -s "$signal" "$running"
+        # a launcher that doesn't end would keep the tests
+        (sleep 60 && kill -9 "$running") > /dev/null 2>&1 &
+        guard=$!
         status=0
         wait "$running" 2> /dev/null || status=$?
+        kill "$guard" 2> /dev/null || :
         judge_signal "the signal $signal to $1" "$ends"
     else
         fail "the signal $signal to $1: nothing runs"
