@@ -108,7 +108,7 @@ holds 'a disk that was there: its bytes' cmp -s "$work/whole" "$work/disks/node-
 # While a script is played somebody removes the folder, or cuts the file: the run ends with a fault of the disk, or its history
 # has one. The script is long, and is written into a pipe, so that the run is in its middle.
 long() {
-    printf 'cell 1\nservers 1\nclients 1\nvolume proj s1 100000\nfile proj/a hex:616263\n'
+    printf 'cell 1\nservers 1\nclients 1\nvolume proj s1 1000\nfile proj/a hex:616263\n'
     awk 'BEGIN { for (i = 0; i < 60000; i++) print "do c1 close proj/a hex:616263" }'
     echo schedule
     awk 'BEGIN { for (i = 0; i < 60000; i++) print "act c1\ndrain" }'
@@ -142,23 +142,26 @@ disturbed 'a file that was cut' cut_short
 disturbed 'a folder that was removed' rm -r "$work/disks"
 
 # With little memory the program ends well, with status 7, or is not even begun. Words that it had no memory for are not called
-# wrong. Each limit is in kilobytes of address space.
+# wrong. Each limit is in kilobytes of address space, and they rise until the program ends with 0 four times.
 if (ulimit -v 1000000) 2> /dev/null; then
     wrong=
     sevens=0
-    limit=2800
-    while [ "$limit" -le 4600 ]; do
+    ends=0
+    limit=2000
+    while [ "$ends" -lt 4 ] && [ "$limit" -le 40000 ]; do
         status=0
         (ulimit -v "$limit" && exec "$program" replay < examples/open_close.afs) > "$work/out" 2> "$work/err" || status=$?
         case $status in
-        0 | 126 | 127 | 139) ;;
+        0) ends=$((ends + 1)) ;;
         7) sevens=$((sevens + 1)) ;;
+        126 | 127 | 139) ;;
         *) wrong="$wrong $limit:$status" ;;
         esac
-        limit=$((limit + 8))
+        limit=$((limit + 16))
     done
     holds "little memory: wrong statuses:$wrong" [ -z "$wrong" ]
     holds 'little memory: status 7 was met' [ "$sevens" -gt 0 ]
+    holds 'little memory: it was enough at last' [ "$ends" -eq 4 ]
 else
     echo 'skipped: little memory (the shell sets no limit)'
 fi

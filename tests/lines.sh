@@ -1,6 +1,6 @@
 #!/bin/sh
-# Prints the README's table of the crates: lines of code with its contracts, of tests, of definitions and of proofs, and how
-# many edits make a wrong program of it, in the gate and outside. Empty lines count for nothing.
+# Prints the table of docs/sizes.md: of each crate the lines of code with its contracts, of tests, of definitions and of proofs,
+# and how many edits make a wrong program of it, in the gate and outside. Empty lines count for nothing.
 set -eu
 
 cd "$(dirname "$0")/.."

@@ -7,8 +7,9 @@
 #   what is printed
 #   ---- wire, where messages are sent, and what is printed with --wire
 # tests/refusals.table has the inputs that are no script. Then come words that are no form of the program, a source and a
-# sink that fail, disks in a folder, contents at the limit of a close, and a script at the limit of its lines. Nothing here
-# writes what is wanted of a row. tests/seeds.sh compares made scripts with a reference program.
+# sink that fail, disks in a folder, contents at the limit of a close, a directory and a volume that are full, and a
+# script at the limit of its lines. Nothing here writes what is wanted of a row. tests/seeds.sh compares made scripts with
+# a reference program.
 # The program is the one that ./afscell or the gate built; AFSCELL names another one.
 set -eu
 
@@ -256,6 +257,68 @@ filled=$(awk 'BEGIN { for (i = 0; i < 65536; i++) printf "61" }')
 } > "$work/large.text"
 wanted 0 "$work/large.text" ''
 play 'contents at the limit of a close' "$work/large.afs" replay
+
+# What lies in a volume before its last name: its root has $2 files, and $3 directories with 1,024 files each. They are
+# laid in this order, so file i has the vnode 2 * i. Prints the part $1: the lines of set-up, the names of the root, or the
+# vnodes below it.
+crowd() {
+    awk -v part="$1" -v files="$2" -v directories="$3" '
+        function file(i) { return sprintf("%d.%d", 2 * i, i + 1 + (i > files ? directories : 0)) }
+        function directory(i) { return sprintf("%d.%d", 2 * i + 1, files + 1 + i) }
+        function names_from(first, count,  i, names) {
+            for (i = 1; i <= count; i++) names = names sprintf("%sn%04d=%s", i > 1 ? "," : "", i, file(first + i))
+            return names
+        }
+        BEGIN {
+            all = files + 1024 * directories
+            if (part == "script") {
+                for (i = 1; i <= files; i++) printf "file proj/n%04d hex:\n", i
+                for (i = 1; i <= directories; i++) printf "dir proj/d%d\n", i
+                for (i = 0; i < all - files; i++) printf "file proj/d%d/n%04d hex:\n", int(i / 1024) + 1, i % 1024 + 1
+            }
+            if (part == "names") {
+                for (i = 1; i <= directories; i++) printf "d%d=%s,", i, directory(i)
+                printf "%s", names_from(0, files)
+            }
+            if (part == "vnodes") for (i = 1; i <= all; i++) {
+                printf "vnode 536870912.%s 1 1 1 f:\n", file(i)
+                if (i > directories) continue
+                printf "vnode 536870912.%s 2 1 1 d:%s\n", directory(i), names_from(files + 1024 * (i - 1), 1024)
+            }
+        }'
+}
+
+# One more name is made in the root of such a volume, and the next is refused with this code:
+# last_name NAME FILES DIRECTORIES CODE
+last_name() {
+    all=$(($2 + 1024 * $3))
+    new=$((2 * all + 2)).$((all + $3 + 2))
+    names=$(crowd names "$2" "$3")
+    {
+        printf 'cell 1\nservers 1\nclients 1\nvolume proj s1 1000\n'
+        crowd script "$2" "$3"
+        printf 'do c1 make proj/x\ndo c1 make proj/y\nschedule\nact c1\ndrain\nact c1\ndrain\nend\n'
+    } > "$work/crowd.afs"
+    {
+        printf 'entry 1 c1\nbegin c1 make proj/x\nsent 1 c1 s1 call 130 1.1\n'
+        printf 'entry 2 s1\ngiven 1\ngrant s1 c1 536870912.1.1 1 7200\nsent 2 s1 c1 reply 130 1.1 0\n'
+        printf 'entry 3 c1\ngiven 2\nread c1 536870912.1.1 1 fetched d:%s\nsent 3 c1 s1 call 137 1.2\n' "$names"
+        printf 'entry 4 s1\ngiven 3\nchange s1 c1.1.2 2\nversion 536870912.1.1 2 2 d:%s,x=%s\n' "$names" "$new"
+        printf 'version 536870912.%s 1 1 f:\ngrant s1 c1 536870912.%s 1 7200\nsent 4 s1 c1 reply 137 1.2 0\n' "$new" "$new"
+        printf 'entry 5 c1\ngiven 4\ndrop c1 536870912.1.1\nanswer c1 0\n'
+        printf 'entry 6 c1\nbegin c1 make proj/y\nsent 5 c1 s1 call 130 1.3\n'
+        printf 'entry 7 s1\ngiven 5\ngrant s1 c1 536870912.1.1 2 7200\nsent 6 s1 c1 reply 130 1.3 0\n'
+        printf 'entry 8 c1\ngiven 6\nread c1 536870912.1.1 2 fetched d:%s,x=%s\nsent 7 c1 s1 call 137 1.4\n' "$names" "$new"
+        printf 'entry 9 s1\ngiven 7\nsent 8 s1 c1 reply 137 1.4 %s\nentry 10 c1\ngiven 8\nanswer c1 %s\n' "$4" "$4"
+        printf 'final\nvolume s1 536870912 proj 0 0\nvnode 536870912.1.1 2 2 2 d:%s,x=%s\n' "$names" "$new"
+        crowd vnodes "$2" "$3"
+        printf 'vnode 536870912.%s 1 1 1 f:\nend\n' "$new"
+    } > "$work/crowd.text"
+    wanted 0 "$work/crowd.text" ''
+    play "$1" "$work/crowd.afs" replay
+}
+last_name 'a directory of 1,024 names' 1023 0 27
+last_name 'a volume of 4,096 vnodes' 1019 3 108
 
 # At the limit of a script's lines: 199,999 good ones and the end, and one more.
 at_limit() {

@@ -1,60 +1,21 @@
 #!/bin/sh
-# Tries wrong programs: each tests/wrong_programs/CRATE/NAME.edit changes the sources of that crate, and the prover has to
-# refuse it. The gate tries those in crates/CRATE/must-fail, the six to eight that tell most; these have the same form and
-# are tried here, when a crate's code or contracts have changed. It takes about half a minute an edit. With CRATEs it tries
-# theirs alone. All is done in a copy: the repository stays as it is.
+# Tries wrong programs: each tests/wrong_programs/CRATE/NAME.edit changes the code of a function of that crate, and the prover has
+# to refuse that function, by the clause of its contract that the edit is about. The gate tries those in crates/CRATE/must-fail in
+# each run, the few that tell most, and twelve of these; all of a crate are tried by hand when its code has changed.
+#
+# tests/wrong_programs.sh [CRATE | CRATE/NAME ..]   those of these crates or names, or all
+# tests/wrong_programs.sh --turn NUMBER             twelve of them, others for the next number
+#
+# An edit has the form that tests/edits.py reads, with its files named from the crate's folder, and then
+#   refused: FUNCTION   the function that has to be refused, by its path in the crate; there may be more than one
+#   clause: NAME        the clause, or another goal, that has to stay open: what the edit breaks. There may be more than one
+# Each is tried in a copy of its crate, by a check of those functions alone, over the libraries that stand built in
+# crates/*/out/rlib: rt ci and rt check leave them there. Where one is not there, or older than its sources, the status is 2.
+#
+# An edit fails here where it can't be applied or compiled, where the function is accepted or only another one is refused, and where
+# its clause is not among those that stay open. Where it tells no clause, one of the function's contract has to stay open, which
+# what a loop keeps and an overflow are not; such an edit has no turn. Where files of answers are complained of, which may only
+# name what the edit took away, and the clause does not stay open beside them, it is tried once more without these files.
 set -eu
 
-cd "$(dirname "$0")/.."
-
-work=$(mktemp -d)
-trap 'rm -rf "$work"' EXIT
-trap 'exit 130' INT
-trap 'exit 143' TERM
-
-# The crate and those below it, by crates.txt: a name without a folder is a library of the toolchain.
-needed() {
-    [ -d "crates/$1" ] || return 0
-    for below in $(sed -n "s/^$1\( [^:]*\)\{0,1\}:\([^#]*\).*/\2/p" crates.txt); do needed "$below"; done
-    echo "$1"
-}
-
-if [ "$#" -eq 0 ]; then
-    for folder in tests/wrong_programs/*/; do
-        folder=${folder%/}
-        set -- "$@" "${folder##*/}"
-    done
-fi
-
-for crate in "$@"; do
-    if [ ! -d "tests/wrong_programs/$crate" ] || [ ! -d "crates/$crate" ]; then
-        echo "there are no wrong programs for $crate"
-        exit 2
-    fi
-done
-
-mkdir "$work/crates"
-if [ -f HANDLES ]; then cp HANDLES "$work"; fi
-for crate in $(for it in "$@"; do needed "$it"; done | sort -u); do
-    mkdir "$work/crates/$crate"
-    for part in src specs proofs; do
-        if [ -d "crates/$crate/$part" ]; then cp -R "crates/$crate/$part" "$work/crates/$crate"; fi
-    done
-    grep "^$crate[ :]" crates.txt >> "$work/crates.txt"
-done
-for crate in "$@"; do
-    mkdir "$work/crates/$crate/must-fail"
-    cp "tests/wrong_programs/$crate"/*.edit "$work/crates/$crate/must-fail"
-done
-
-status=0
-(cd "$work" && rt must-fail "$@") > "$work/log" 2>&1 || status=$?
-grep '^rt: must-fail' "$work/log" | cut -c1-200 || :
-refused=$(grep -c '^rt: must-fail .*: refused, as it must be' "$work/log" || :)
-all=$(find "$work/crates" -path '*/must-fail/*.edit' | wc -l | tr -d ' ')
-if [ "$refused" != "$all" ]; then
-    tail -n 20 "$work/log"
-    status=1
-fi
-echo "$refused of $all wrong programs were refused"
-exit "$status"
+exec python3 "$(dirname "$0")/wrong_programs.py" "$@"

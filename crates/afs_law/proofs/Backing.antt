@@ -15,10 +15,12 @@ use Rattle.afs_num.specs.declared.types.Node.TheVariants.{Client}
 use Rattle.afs_num.specs.declared.calls.FsCall.{FsCall}
 use Rattle.afs_num.specs.declared.messages.Message.{Message}
 use Rattle.afs_law.proofs.Basics.{both, same_node-refl, Above, Each, IfBack, IfDone, each_more, each_map, if_back, if_done}
-use Rattle.afs_law.proofs.Owing.{CarriedOwe, AllOf, all_map, IsGranted, IsIn, IsNumberIn, AccountedBy, WaitedBy, AllWaitedBy, HeldWaits, IsOwed, CallOut, BackIn, DroppedOwe, IsDone, DoneIn, SeatedIn, BackedIn, Promised, Numbered, Rising, ToClients, is_held}
-use Rattle.afs_law.specs.Breaks.{unbroken_grant, runs_now, returned_in, returned_by, is_entry_of, HasStopped, HasSettled, HasDrop, HasTimeout, last_grant, HasCome, Owes, AllOwes, EndedBy, OweAt, live_grant, is_on, last_number, lines_at, drops_of, fids_given_up, has_answer}
+use Rattle.afs_law.proofs.Owing.{AllOf, all_map, IsGranted, IsIn, IsNumberIn, AccountedBy, WaitedBy, AllWaitedBy, HeldWaits, IsOwed, CallOut, BackIn, DroppedOwe, IsDone, DoneIn, SeatedIn, BackedIn, Promised, Numbered, Rising, ToClients, is_held}
+use Rattle.afs_law.specs.Breaks.{FirstSent, IsCarried, unbroken_grant, runs_now, returned_in, returned_by, is_entry_of, HasStopped, HasSettled, HasDrop, HasTimeout, last_grant, HasCome, Owes, AllOwes, EndedBy, OweAt, live_grant, is_on, last_number, lines_at, drops_of, fids_given_up, has_answer}
 use Rattle.afs_rows.specs.Callbacks.{key_answered, breaks_call}
 use Rattle.afs_law.specs.Legal.{HasChange}
+use Rattle.afs_num.specs.declared.calls.FsCall.{FsCall}
+use Rattle.std.proofs.lemmas.List.{append_assoc}
 use Rattle.afs_history.specs.declared.lines.Line.{Line}
 use Rattle.afs_law.specs.Past.{onto, lines_on, lines_of, called_key, given_message, sent_of}
 use Rattle.afs_rows.specs.Runs.{Entry, Fall}
@@ -258,16 +260,52 @@ owe_over me c what n e past up o = record {
   up = λ x. o.up (stopped_back me e.lines o.newer up x);
 }
 
-pub dropped_over : (me : Node) (j : Node) (e : Entry) (past : List Entry) (o : Owed) → all_lines (is_up me) e.lines ≡ true → DroppedOwe me j (lines_of past) o → DroppedOwe me j (lines_of (e ∷ past)) o
-dropped_over me j e past o up d = record { owe = owe_over me j o.what o.number e past up d.owe; dropped = drop_onto me j o.what e.lines d.owe.newer d.dropped }
+-- the entry that first sent a call, over one entry more
+abbrev pub first_over : (callee : Node) (k : Key) (user : List ℕ) (call : FsCall) (e : Entry) (past : List Entry) → FirstSent callee k user call past → FirstSent callee k user call (e ∷ past)
+first_over callee k user call e past h = record { newer = e ∷ h.newer; at = h.at; older = h.older; split = ap (λ (p : List Entry). e ∷ p) h.split; sent = h.sent; first = h.first }
+
+abbrev pub carried_over : (me j : Node) (epoch number : ℕ) (what : Option Fid) (n : ℕ) (e : Entry) (past : List Entry) → all_lines (is_up me) e.lines ≡ true → IsCarried me j epoch number what n past → IsCarried me j epoch number what n (e ∷ past)
+carried_over me j epoch number what n e past up h = record {
+  user = h.user;
+  call = h.call;
+  sent = first_over j (record { node = me; epoch = epoch; number = number }) h.user h.call e past h.sent;
+  carries = h.carries;
+  owe = h.owe;
+  up = λ x. h.up (stopped_back me e.lines (lines_on [] h.sent.newer) up x);
+}
+
+pub dropped_over : (me : Node) (j : Node) (epoch number : ℕ) (e : Entry) (past : List Entry) (o : Owed) → all_lines (is_up me) e.lines ≡ true → DroppedOwe me j epoch number past o → DroppedOwe me j epoch number (e ∷ past) o
+dropped_over me j epoch number e past o up d = record { carried = carried_over me j epoch number o.what o.number e past up d.carried; dropped = drop_onto me j o.what e.lines (lines_on [] d.carried.sent.newer) d.dropped }
+
+-- what was owed before these entries, in which the server didn't stop, is owed behind them
+stopped_either : (me : Node) (a b : List Line) → HasStopped me (a ++ b) → HasStopped me a ⊎ HasStopped me b
+stopped_either me [] b h = inr h
+stopped_either me (lines.Crash n ∷ a) b (inl e) = inl (inl e)
+stopped_either me (lines.Crash n ∷ a) b (inr h) = elim (stopped_either me a b h) [ inl x ↦ inl (inr x) | inr x ↦ inr x ]
+stopped_either me (lines.Fault n ∷ a) b (inl e) = inl (inl e)
+stopped_either me (lines.Fault n ∷ a) b (inr h) = elim (stopped_either me a b h) [ inl x ↦ inl (inr x) | inr x ↦ inr x ]
+stopped_either me (l ∷ a) b h = stopped_either me a b h
+
+lines_front : (o : List Line) (newer older : List Entry) → lines_on o (newer ++ older) ≡ lines_on [] newer ++ lines_on o older
+lines_front o [] older = refl
+lines_front o (e ∷ newer) older = ap (λ (ls : List Line). onto ls e.lines) (lines_front o newer older) ∙ front_onto (lines_on [] newer) (lines_on o older) e.lines
+
+pub owe_since : (me c : Node) (what : Option Fid) (n : ℕ) (past newer : List Entry) (at : Entry) (older : List Entry) → past ≡ newer ++ (at ∷ older) → (HasStopped me (lines_on [] newer) → ⊥) → OweAt me c what n (lines_of (at ∷ older)) → OweAt me c what n (lines_of past)
+owe_since me c what n past newer at older split up o = record {
+  newer = lines_on [] newer ++ o.newer;
+  base = o.base;
+  split = ap lines_of split ∙ (lines_front [] newer (at ∷ older) ∙ (ap (λ (ls : List Line). lines_on [] newer ++ ls) o.split ∙ sym (append_assoc (lines_on [] newer) o.newer (lines.Owe me c what n ∷ o.base))));
+  up = λ x. elim (stopped_either me (lines_on [] newer) o.newer x) [ inl y ↦ up y | inr y ↦ o.up y ];
+}
 
 pub call_over : (me : Node) (j : Node) (c : BackCall) (last more boot : ℕ) (e : Entry) (past : List Entry) → last ≤ more → all_lines (is_up me) e.lines ≡ true → CallOut me j c last boot past → CallOut me j c more boot (e ∷ past)
 call_over me j c last more boot e past le up h = record {
   number = le_trans h.number le;
   client = h.client;
-  owes = all_map (CarriedOwe me j c.number c.tries boot (lines_of past)) (CarriedOwe me j c.number c.tries boot (lines_of (e ∷ past)))
-      (λ o x. record { owe = owe_over me j o.what o.number e past up x.owe; tries = λ t a b. timeout_onto me j boot c.number t e.lines x.owe.newer (x.tries t a b) }) c.breaks h.owes;
-  sent = inr h.sent;
+  sent = first_over j (record { node = me; epoch = boot; number = c.number }) [] (breaks_call c.breaks) e past h.sent;
+  up = λ x. h.up (stopped_back me e.lines (lines_on [] h.sent.newer) up x);
+  tries = λ t a b. timeout_onto me j boot c.number t e.lines (lines_of past) (h.tries t a b);
+  owes = h.owes;
   carries = h.carries;
 }
 
@@ -286,14 +324,14 @@ back_pass me d e old new last more boot head user call up le pass h = record {
   ];
 }
 
-pub done_pass : (me : Node) (d e : Option Fall) (old new : Node → Option BackCall) (last more boot : ℕ) (past newer : List Entry) (j : Node) (epoch number : ℕ) → (e ≡ None → d ≡ None) → last ≤ more → CallsPass old last new → (e ≡ None → (o : Owed) → DroppedOwe me j (lines_of past) o → DroppedOwe me j (lines_of newer) o)
+pub done_pass : (me : Node) (d e : Option Fall) (old new : Node → Option BackCall) (last more boot : ℕ) (past newer : List Entry) (j : Node) (epoch number : ℕ) → (e ≡ None → d ≡ None) → last ≤ more → CallsPass old last new → (e ≡ None → (o : Owed) → DroppedOwe me j epoch number past o → DroppedOwe me j epoch number newer o)
     → IsDone me d old last boot past j epoch number → IsDone me e new more boot newer j epoch number
 done_pass me d e old new last more boot past newer j epoch number up le pass over h = record {
   booted = h.booted;
   below = λ x y. le_trans (h.below (up x) y) le;
   dropped = λ c x y at q. elim (pass j c at) [
     | inl l ↦ absurd (below_not number last c l (h.below (up x) y) q)
-    | inr z ↦ all_map (DroppedOwe me j (lines_of past)) (DroppedOwe me j (lines_of newer)) (over x) c.breaks (subst (λ (os : List Owed). AllOf (DroppedOwe me j (lines_of past)) os) z.1.1.1 (h.dropped z.0 (up x) y z.1.0 (q ∙ sym z.1.1.0)))
+    | inr z ↦ all_map (DroppedOwe me j epoch number past) (DroppedOwe me j epoch number newer) (over x) c.breaks (subst (λ (os : List Owed). AllOf (DroppedOwe me j epoch number past) os) z.1.1.1 (h.dropped z.0 (up x) y z.1.0 (q ∙ sym z.1.1.0)))
   ];
 }
 
@@ -474,7 +512,7 @@ backed_step me d u b now boot seats after cs cz clock then sent ms e past s h gr
   calls = each_more (IfBack (BackIn me u now.calls now.last_call boot)) sent ms (each_map (IfBack (BackIn me d b.calls b.last_call boot)) (IfBack (BackIn me u now.calls now.last_call boot)) (if_back (BackIn me d b.calls b.last_call boot) (BackIn me u now.calls now.last_call boot)
       (λ head user call x. back_pass me d u b.calls now.calls b.last_call now.last_call boot head user call s.was_up s.last s.calls x)) sent h.calls) backs;
   dones = each_more (IfDone (DoneIn me u now.calls now.last_call boot (e ∷ past))) sent ms (each_map (IfDone (DoneIn me d b.calls b.last_call boot past)) (IfDone (DoneIn me u now.calls now.last_call boot (e ∷ past))) (if_done (DoneIn me d b.calls b.last_call boot past) (DoneIn me u now.calls now.last_call boot (e ∷ past))
-      (λ m x. record { client = x.client; from = x.from; done = λ own. done_pass me d u b.calls now.calls b.last_call now.last_call boot past (e ∷ past) x.client m.head.epoch m.head.number s.was_up s.last s.calls (λ y o z. dropped_over me x.client e past o (s.up y) z) (x.done own) })) sent h.dones) dones;
+      (λ m x. record { client = x.client; from = x.from; done = λ own. done_pass me d u b.calls now.calls b.last_call now.last_call boot past (e ∷ past) x.client m.head.epoch m.head.number s.was_up s.last s.calls (λ y o z. dropped_over me x.client m.head.epoch m.head.number e past o (s.up y) z) (x.done own) })) sent h.dones) dones;
   seated = seated;
 }
 
@@ -484,7 +522,7 @@ seated_over me d u b now boot clock then e past s j m x = record {
   to = x.to;
   from = x.from;
   is_reply = x.is_reply;
-  done = done_pass me d u b.calls now.calls b.last_call now.last_call boot past (e ∷ past) (Client j) m.head.epoch m.head.number s.was_up s.last s.calls (λ y o z. dropped_over me (Client j) e past o (s.up y) z) x.done;
+  done = done_pass me d u b.calls now.calls b.last_call now.last_call boot past (e ∷ past) (Client j) m.head.epoch m.head.number s.was_up s.last s.calls (λ y o z. dropped_over me (Client j) m.head.epoch m.head.number e past o (s.up y) z) x.done;
 }
 
 -- ---- a step that leaves what the server has in memory

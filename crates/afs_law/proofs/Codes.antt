@@ -16,13 +16,15 @@ use Rattle.afs_law.proofs.Origins.{KnownAsked}
 use Rattle.afs_law.proofs.Placing.{run_placed}
 use Rattle.afs_law.proofs.Telling.{IsTold, Tells, key_more}
 use Rattle.afs_law.proofs.Truthful.{Truthful, truthful_first, truthful_kept}
+use Rattle.afs_rows.specs.Going.{asked}
 use Rattle.afs_law.specs.ClientParts.{AnswersAreGood, IsDue, IsDueCode, IsGivenAtOnce, IsReplied}
 use Rattle.afs_law.specs.Cells.{IsOfCell}
 use Rattle.afs_law.specs.Ideal.{change_in, set_up, user_of}
-use Rattle.afs_law.specs.Legal.{GoodCode, HasChange, HasNothing, IsCaused, IsInPlace, IsOfClient, IsResult, IsTold as IsToldOf, answer_at, as_asked}
+use Rattle.afs_law.specs.Legal.{Cause, GoodCode, HasChange, HasNothing, IsCaused, IsInPlace, IsOfClient, IsResult, IsTold as IsToldOf, answer_at, as_asked}
 use Rattle.afs_law.specs.Parts.{EachEntry, EachLine}
-use Rattle.afs_law.specs.Past.{CalledSince, Sends, answered_key, called_key, lines_of, sent_of}
-use Rattle.afs_law.specs.ServerParts.{IsCodeGood, IsKind}
+use Rattle.afs_law.specs.Past.{CalledSince, IsReply, Sends, answered_key, called_key, code_told, given_message, lines_of, sent_of}
+use Rattle.afs_law.specs.ServerParts.{IsCodeGood}
+use Rattle.afs_law.specs.Legal.{IsKind}
 use Rattle.afs_num.specs.declared.calls.FsCall.{FsCall}
 use Rattle.afs_num.specs.declared.histories.Actor.{Actor}
 use Rattle.afs_num.specs.declared.messages.Call.TheVariants as ask
@@ -84,6 +86,37 @@ told_front k r own o h = tt
 result_front : (server : Node) (code : ℤ) (r : Option Result) (k : Key) (ran own o : List Line) → IsResult server code r k ran o → IsResult server code r k ran (own ++ o)
 result_front server code r k ran own o (inl h) = inl (h.0, told_front k r own o h.1)
 result_front server code r k ran own o (inr h) = inr h
+
+-- of a reply with this code to a call that the act asks
+pub cause_by : (s : Script) (c : Cell) (past : List Entry) (own : List Line) (j : ℕ) (act : Going) (m : Message) (code : ℤ) (asks : FsCall) → Truthful s c past → given_message own (sent_of past) ≡ Some m → IsReply m → code_told m.carried ≡ Some code → m.head.to ≡ Client j → CalledSince (answered_key m.head) (user_of s (Client j)) asks past → as_asked asks ≡ asked act
+    → (cause : Cause m code (asked act) past own) × (cause.user ≡ user_of s (Client j))
+cause_by s c past own j act m code asks h by is to_code to called asked_for =
+    let a : KnownAsked s c past = h.0.0.0 in
+    let k : Key = answered_key m.head in
+    let told : sent_of past ≡ c.sent = a.0.hears.told in
+    let each : (T : Message → Type 0) → Each T c.sent → Each T (sent_of past) = λ T all. subst (Each T) (sym told) all in
+    let R : Message → Type 0 = IfReply (IsOfCallee a.0.keys.callees c.clients) in
+    let from : IsServer m.head.from =
+    subst IsServer (sym (of_callee a.0.keys.callees c.clients j m (given_each R own (sent_of past) m by (each R a.0.keys.answers)) is.1 to))
+    (callee_server s a.0.keys.callees c.clients j k (user_of s (Client j)) asks past to called (each _ a.0.keys.calls) (each (IfCall (IsHome s)) h.0.1.1.1)) in
+    let t : Tells m past = given_each (IsTold past) own (sent_of past) m by (each (IsTold past) h.1.sends) from.0 j from.1 to is.1 in
+    let one : Some (t.user, t.call) ≡ Some (user_of s (Client j), asks) =
+    sym (ran_one past j m t.ran t.user t.call t.carries to c.sent a.1.ones told) ∙ called_one j k (user_of s (Client j)) asks c.sent past to called (each (IfCall (IsOne c.sent)) a.1.ones) in
+    let same : (t.user, t.call) ≡ (user_of s (Client j), asks) = some_of (t.user, t.call) (user_of s (Client j), asks) one in
+    let call : t.call ≡ asks = ap (λ (p : List ℕ × FsCall). p.1) same in
+    let codes : t.code ≡ code = some_of t.code code (sym t.told ∙ to_code) in (
+      record {
+        is_reply = is;
+        told = to_code;
+        ran = t.ran;
+        user = t.user;
+        call = t.call;
+        carries = t.carries;
+        asks = ap as_asked call ∙ asked_for;
+        result = result_front m.head.from code (answer_at t.user t.call t.ran.older) k t.ran.at.lines own (lines_of past) (subst (λ (x : ℤ). IsResult m.head.from x (answer_at t.user t.call t.ran.older) k t.ran.at.lines (lines_of past)) codes t.result);
+      },
+      ap (λ (p : List ℕ × FsCall). p.0) same,
+    )
 
 caused_by : (s : Script) (c : Cell) (past : List Entry) (own : List Line) (j : ℕ) (act : Going) (code : ℤ) → Truthful s c past → IsReplied s (Client j) act code past own → IsCaused s (Client j) act code past own
 caused_by s c past own j act code h q =

@@ -7,7 +7,9 @@ use Rattle.afs_ideal.specs.Operations.{volume_changed}
 use Rattle.afs_law.proofs.Acting.{last_key, read_all, walked_reads}
 use Rattle.afs_law.proofs.Sent.{call_is}
 use Rattle.afs_law.proofs.Backing.{all_lines}
-use Rattle.afs_law.proofs.Basics.{a_key, at_put, both, each_at, same_node-refl, some_of}
+use Rattle.afs_law.proofs.Basics.{Each, IfCall, a_key, at_put, both, each_at, same_node-refl, same_node-true, some_of}
+use Rattle.afs_law.proofs.Claims.{KnownBy, callee_is}
+use Rattle.afs_law.proofs.Knowing.{Known}
 use Rattle.afs_law.proofs.Changing.{run_each}
 use Rattle.afs_law.proofs.Choosing.{disk_works, one_from, risen_from, risen_lines, serves_works, starts_works, times_works, wakes_works}
 use Rattle.afs_law.proofs.Words.{IsOpen, is_passing}
@@ -21,14 +23,14 @@ use Rattle.afs_law.proofs.Passing.{sent_either}
 use Rattle.afs_law.proofs.Trying.{GivenWaits, Waits, waits_first, waits_kept}
 use Rattle.afs_law.specs.Breaks.{HasTimeout, IsNamedIn}
 use Rattle.afs_law.specs.Cells.{IsOfCell}
-use Rattle.afs_law.specs.ClientParts.{AnswersAreDue, IsDue, IsDueCode, IsReadBy, IsUse, IsUsed}
+use Rattle.afs_law.specs.ClientParts.{AnswersAreDue, IsDue, IsDueCode, IsUsed}
 use Rattle.afs_law.specs.Grants.{is_promised}
-use Rattle.afs_law.specs.Ideal.{set_up, user_of}
-use Rattle.afs_law.specs.Legal.{EndsAct, HasUsed, IsAtOnce, has_read}
+use Rattle.afs_law.specs.Ideal.{call_under, callee_under, set_up, user_of}
+use Rattle.afs_law.specs.Legal.{Brings, EndsAct, HasUsed, IsAtOnce, IsUse, has_read}
 use Rattle.afs_law.specs.Parts.{EachLine}
-use Rattle.afs_law.specs.ServerParts.{IsKind}
+use Rattle.afs_law.specs.Legal.{IsKind}
 use Rattle.afs_model.specs.FsRows.{call_number, reply_number}
-use Rattle.afs_law.specs.Past.{CalledSince, IsReply, WasSent, answered_key, code_told, given_message, has_begun, lines_of, running, sent_of}
+use Rattle.afs_law.specs.Past.{CalledSince, IsReply, answered_key, code_told, given_message, has_begun, lines_of, running, sent_of}
 use Rattle.afs_model.specs.Calls as pairs
 use Rattle.afs_model.specs.Calls.{Admitted, admitted}
 use Rattle.afs_num.specs.Nodes.{same_node}
@@ -60,11 +62,11 @@ use Rattle.afs_num.specs.declared.types.Node.{Node}
 use Rattle.afs_num.specs.declared.types.Node.TheVariants.{Client, Server}
 use Rattle.afs_rows.specs.Callbacks.{put}
 use Rattle.afs_rows.specs.ClientRow.{Look, Walked, admits_call, awaits, begin_row, begins_by, behind_batch, body_seen, body_told, breaks, call_by, call_of, client_row, counts, dead_code, drop_line, dropped, dropped_after, entries_told, entry_told, find_cached, gift_of, given, given_up_in, gives_by, gives_up, goes_by, hears, ignores, in_order, is_awaited, is_below, is_busy_code, is_older, is_spent, is_trusted, look_at, looked, most_busy, most_reads, put_entries, put_entry, read_lines, reborn, runs_carried, server_at, shown_by, status_look, status_told, stays, takes, takes_bulk, takes_data, takes_entries, takes_entry, takes_given, takes_list, takes_set, takes_shown, takes_status, timeout_line, tries_again, trusted_in, untrusted_in, used_first, walked, walked_at, walked_by, walked_with, walks_on, whole, with_statuses, zero_code}
-use Rattle.afs_rows.specs.Going.{ClientState, Going, Need, answers, asked, asks_for, began, call_for, gives_back, next, reads, reads_rights, reads_status, reads_statuses, with_read}
+use Rattle.afs_rows.specs.Going.{ClientState, Going, Need, answers, asks_for, began, call_for, gives_back, next, reads, reads_rights, reads_status, reads_statuses, with_read}
 use Rattle.afs_rows.specs.Runs.{Cell, Entry, Moved, begun_by_disk, blow_line, locations, message_at, start, user_at}
 use Rattle.afs_rows.specs.States.{CacheEntry, Gift, Location}
 use Rattle.afs_rows.specs.Steps.{Step}
-use Rattle.std.proofs.Common.{zero, suc, ◌+◌, ◌≡◌, ◌≤◌, ℕ, ◌⊎◌, inl, inr, Bool, true, false, cond, List, [], ◌∷◌, ◌++◌, map, Option, Some, None, refl, sym, ap, subst, ◌∙◌, filter, not, pos, ℤ, eq-eqb, eqb-true, ltb-false, arith}
+use Rattle.std.proofs.Common.{zero, suc, ◌≡◌, ◌≤◌, ℕ, ◌⊎◌, inl, inr, Bool, true, false, cond, List, [], ◌∷◌, ◌++◌, map, Option, Some, None, refl, sym, ap, subst, ◌∙◌, filter, not, pos, eq-eqb, eqb-true, ltb-false}
 use Rattle.std.specs.List.{list_any}
 use Rattle.std.specs.Prelude.{⊤, ◌&&◌, ◌||◌, nat_eq, nat_lt}
 
@@ -104,14 +106,14 @@ abbrev pub AreCached : List Look → Type 0
 AreCached [] = ⊤
 AreCached (l ∷ looks) = ((l.source ≡ Cached) × (is_promised l.body ≡ true)) × AreCached looks
 
-cached_use : (s : Script) (c : Node) (f : Fid) (source : ReadSource) (past : List Entry) (own : List Line) (t : Bool) → t ≡ true → source ≡ Cached → IsUsed s t c f source past own
-cached_use s c f source past own true e is = λ z. let no_ : Cached ≡ Fetched = sym is ∙ z in absurd cc
-cached_use s c f source past own false e is = absurd cc
+cached_use : (s : Script) (c : Node) (f : Fid) (source : ReadSource) (body : ReadBody) (past : List Entry) (own : List Line) (t : Bool) → t ≡ true → source ≡ Cached → IsUsed s t c f source body past own
+cached_use s c f source body past own true e is = λ z. let no_ : Cached ≡ Fetched = sym is ∙ z in absurd cc
+cached_use s c f source body past own false e is = absurd cc
 
 looks_due : (s : Script) (n : ℕ) (past : List Entry) (K : List Line → Type 0) → IsSteady n K → (looks : List Look) → AreCached looks → (own ls : List Line) (g : Going) → K own → Runs s n past own g → Rest s n past K (read_all looks g) ls → Due s n past own (looked (Client n) looks ls)
 looks_due s n past K st [] h own ls g k r w = w own k r
 looks_due s n past K st (l ∷ looks) h own ls g k r w = (
-  cached_use s (Client n) l.fid l.source past own (is_promised l.body) h.0.1 h.0.0,
+  cached_use s (Client n) l.fid l.source l.body past own (is_promised l.body) h.0.1 h.0.0,
   looks_due s n past K st looks h.1 (lines.Read (Client n) l.fid l.index l.source l.body ∷ own) ls (with_read l.fid l.body g) (st.reads' own l.fid l.index l.source l.body k) (read_runs s n (own ++ lines_of past) l.fid l.index l.source l.body g r) w,
 )
 
@@ -181,6 +183,7 @@ record IsTold (s : Script) (n place : ℕ) (c : ClientState) (act : Going) (m : 
   reply : IsReply m
   to : m.head.to ≡ Client n
   called : CalledSince (answered_key m.head) (user_of s (Client n)) (call_of c act) past
+  from : callee_under (answered_key m.head) (sent_of past) ≡ Some m.head.from
 
 -- this message was given, and no act begun
 abbrev IsGiven : ℕ → Message → List Entry → List Line → Type 0
@@ -197,10 +200,10 @@ read_steady : (n : ℕ) (m : Message) (past : List Entry) → IsSteady n (IsRead
 read_steady n m past = record { reads' = λ own f index source body k. (k.0, sent_either (same_node (Client n) (Client n)) (has_read (Client n) own) k.1); drops' = λ own f k. k }
 
 now_used : (s : Script) (n place : ℕ) (c : ClientState) (act : Going) (m : Message) (past : List Entry) (own : List Line) → IsTold s n place c act m past → code_told m.carried ≡ Some (pos 0) → IsGiven n m past own → HasUsed s (Client n) past own
-now_used s n place c act m past own q zero_told k = record { reply = m; by = k.0; is_reply = q.reply; told = zero_told; to = q.to; before = k.1; call = call_of c act; called = q.called }
+now_used s n place c act m past own q zero_told k = record { reply = m; by = k.0; is_reply = q.reply; told = zero_told; to = q.to; before = k.1; call = call_of c act; called = q.called; from = q.from }
 
-now_use : (s : Script) (n place : ℕ) (c : ClientState) (act : Going) (m : Message) (past : List Entry) (own : List Line) (f : Fid) → IsReadBy f (call_of c act) → IsTold s n place c act m past → code_told m.carried ≡ Some (pos 0) → IsGiven n m past own → IsUse s (Client n) f past own
-now_use s n place c act m past own f of q zero_told k = record { used = record { reply = m; by = k.0; is_reply = q.reply; told = zero_told; to = q.to; before = k.1; call = call_of c act; called = q.called }; of = of }
+now_use : (s : Script) (n place : ℕ) (c : ClientState) (act : Going) (m : Message) (past : List Entry) (own : List Line) (f : Fid) (body : ReadBody) → Brings (call_of c act) f body → IsTold s n place c act m past → code_told m.carried ≡ Some (pos 0) → IsGiven n m past own → IsUse s (Client n) f body past own
+now_use s n place c act m past own f body of q zero_told k = record { used = record { reply = m; by = k.0; is_reply = q.reply; told = zero_told; to = q.to; before = k.1; call = call_of c act; called = q.called; from = q.from }; of = of }
 
 read_enough : (s : Script) (n place : ℕ) (c : ClientState) (act : Going) (m : Message) (past : List Entry) → IsTold s n place c act m past → code_told m.carried ≡ Some (pos 0) → IsEnough s n past (IsRead n m past)
 read_enough s n place c act m past q zero_told o k = inr (now_used s n place c act m past o q zero_told k.0, k.1)
@@ -217,21 +220,21 @@ ends_due : (s : Script) (n place : ℕ) (c : ClientState) (act : Going) (m : Mes
 ends_due s n place c act m past es code q told w =
     (tt, drops_due s n past (IsGiven n m past) (given_steady n m past) es (lines.Given place ∷ []) (lines.Answer (Client n) code ∷ []) act (q.at, refl) q.runs (λ o k r. (by_reply s n place c act m past code q told w o k r, tt)))
 
-use_by : (s : Script) (c : Node) (f : Fid) (past : List Entry) (own : List Line) (t : Bool) → t ≡ true → IsUse s c f past own → IsUsed s t c f Fetched past own
-use_by s c f past own true e h = λ z. h
-use_by s c f past own false e h = absurd cc
+use_by : (s : Script) (c : Node) (f : Fid) (body : ReadBody) (past : List Entry) (own : List Line) (t : Bool) → t ≡ true → IsUse s c f body past own → IsUsed s t c f Fetched body past own
+use_by s c f body past own true e h = λ z. h
+use_by s c f body past own false e h = absurd cc
 
 has_now : (n : ℕ) (m : Message) (past : List Entry) (place : ℕ) (f : Fid) (index : ℕ) (source : ReadSource) (body : ReadBody) → message_at (sent_of past) place ≡ Some m → IsRead n m past (lines.Read (Client n) f index source body ∷ lines.Given place ∷ [])
 has_now n m past place f index source body at = ((at, refl), ap (λ (t : Bool). cond t true false) (same_node-refl (Client n)))
 
-entry_due : (s : Script) (n clock place : ℕ) (c : ClientState) (act : Going) (m : Message) (past : List Entry) (e : CacheEntry) (body : ReadBody) → is_promised body ≡ true → IsReadBy e.fid (call_of c act) → IsTold s n place c act m past → code_told m.carried ≡ Some (pos 0) → Due s n past [] (takes_entry (Client n) c clock place act e body).lines
+entry_due : (s : Script) (n clock place : ℕ) (c : ClientState) (act : Going) (m : Message) (past : List Entry) (e : CacheEntry) (body : ReadBody) → is_promised body ≡ true → Brings (call_of c act) e.fid body → IsTold s n place c act m past → code_told m.carried ≡ Some (pos 0) → Due s n past [] (takes_entry (Client n) c clock place act e body).lines
 entry_due s n clock place c act m past e body p of q zero_told =
     either_due s n past (is_trusted clock e) _ _
     (walks_due s n past (IsRead n m past) (read_steady n m past) (read_enough s n place c act m past q zero_told) c clock (read_lines (Client n) place (look_at Fetched e body)) (with_read e.fid body act) (put_entry c.capacity e c.cache)
     (λ ls w. (
       tt,
       (
-        use_by s (Client n) e.fid past (lines.Given place ∷ []) (is_promised body) p (now_use s n place c act m past (lines.Given place ∷ []) e.fid of q zero_told (q.at, refl)),
+        use_by s (Client n) e.fid body past (lines.Given place ∷ []) (is_promised body) p (now_use s n place c act m past (lines.Given place ∷ []) e.fid body of q zero_told (q.at, refl)),
         w (lines.Read (Client n) e.fid e.index Fetched body ∷ lines.Given place ∷ []) (has_now n m past place e.fid e.index Fetched body q.at) (read_runs s n (lines_of past) e.fid e.index Fetched body act q.runs),
       ),
     ))) (tt, tt)
@@ -239,7 +242,7 @@ entry_due s n clock place c act m past e body p of q zero_told =
 -- the call reads all of these
 abbrev AreReadBy : FsCall → List CacheEntry → Type 0
 AreReadBy call [] = ⊤
-AreReadBy call (e ∷ es) = IsReadBy e.fid call × AreReadBy call es
+AreReadBy call (e ∷ es) = Brings call e.fid (seen.Status e.status) × AreReadBy call es
 
 told_by_bulk : (server : Node) (sync : AfsVolSync) (all fs : List Fid) (ss : List AfsFetchStatus) (cs : List AfsCallBack) → ((f : Fid) → IsNamedIn f fs → IsNamedIn f all) → AreReadBy (calls.BulkStatus all) (entries_told server sync fs ss cs)
 told_by_bulk server sync all [] ss cs w = tt
@@ -251,7 +254,7 @@ told_by_bulk server sync all (f ∷ fs) (s ∷ ss) (c ∷ cs) w = (w f (inl refl
 statuses_due : (s : Script) (n place : ℕ) (c : ClientState) (act : Going) (m : Message) (past : List Entry) (es : List CacheEntry) (own ls : List Line) (g : Going) → AreReadBy (call_of c act) es → IsTold s n place c act m past → code_told m.carried ≡ Some (pos 0) → IsRead n m past own → Runs s n past own g → Rest s n past (IsRead n m past) (with_statuses es g) ls → Due s n past own (looked (Client n) (map status_look es) ls)
 statuses_due s n place c act m past [] own ls g of q zero_told k r w = w own k r
 statuses_due s n place c act m past (e ∷ es) own ls g of q zero_told k r w = (
-  (λ z. now_use s n place c act m past own e.fid of.0 q zero_told k.0),
+  (λ z. now_use s n place c act m past own e.fid (seen.Status e.status) of.0 q zero_told k.0),
   statuses_due s n place c act m past es (lines.Read (Client n) e.fid e.index Fetched (seen.Status e.status) ∷ own) ls (with_read e.fid (seen.Status e.status) g) of.1 q zero_told ((read_steady n m past).reads' own e.fid e.index Fetched (seen.Status e.status) k) (read_runs s n (own ++ lines_of past) e.fid e.index Fetched (seen.Status e.status) g r) w,
 )
 
@@ -273,7 +276,7 @@ entries_due s n clock place c act m past (e ∷ es) fids need of q zero_told =
     (λ ls w. (
       tt,
       (
-        (λ z. now_use s n place c act m past (lines.Given place ∷ []) e.fid of.0 q zero_told (q.at, refl)),
+        (λ z. now_use s n place c act m past (lines.Given place ∷ []) e.fid (seen.Status e.status) of.0 q zero_told (q.at, refl)),
         statuses_due s n place c act m past es (lines.Read (Client n) e.fid e.index Fetched (seen.Status e.status) ∷ lines.Given place ∷ []) ls (with_read e.fid (seen.Status e.status) act) of.1 q zero_told (has_now n m past place e.fid e.index Fetched (seen.Status e.status) q.at) (read_runs s n (lines_of past) e.fid e.index Fetched (seen.Status e.status) act q.runs) w,
       ),
     )))
@@ -333,11 +336,11 @@ plain_due : (s : Script) (n place : ℕ) (c : ClientState) (act : Going) (m : Me
 plain_due s n place c act m past call q z w = ends_due s n place c act m past (dropped_after call c.cache) zero_code q z w
 
 data_due : (s : Script) (n clock place : ℕ) (c : ClientState) (act : Going) (m : Message) (past : List Entry) (contents : List ℕ) (status : AfsFetchStatus) (callback : AfsCallBack) (sync : AfsVolSync) (call : FsCall) → call_of c act ≡ call → IsAnswered c act m (replies.FetchData contents status callback sync) → IsTold s n place c act m past → code_told m.carried ≡ Some (pos 0) → Due s n past [] (takes_data (Client n) c clock place act contents status callback sync call).lines
-data_due s n clock place c act m past contents status callback sync (calls.FetchData f position wanted) same a q z = entry_due s n clock place c act m past (entry_told c.callee f status callback sync (Some (body_told status.file_type contents))) (seen.Contents (body_told status.file_type contents)) refl (subst (IsReadBy f) (sym same) refl) q z
+data_due s n clock place c act m past contents status callback sync (calls.FetchData f position wanted) same a q z = entry_due s n clock place c act m past (entry_told c.callee f status callback sync (Some (body_told status.file_type contents))) (seen.Contents (body_told status.file_type contents)) refl (subst (λ (k : FsCall). Brings k f (seen.Contents (body_told status.file_type contents))) (sym same) refl) q z
 data_due s n clock place c act m past contents status callback sync call same a q z = plain_due s n place c act m past call q z (other_end c act m (replies.FetchData contents status callback sync) call a same refl)
 
 shown_due : (s : Script) (n clock place : ℕ) (c : ClientState) (act : Going) (m : Message) (past : List Entry) (status : AfsFetchStatus) (callback : AfsCallBack) (sync : AfsVolSync) (call : FsCall) → call_of c act ≡ call → IsAnswered c act m (replies.FetchStatus status callback sync) → IsTold s n place c act m past → code_told m.carried ≡ Some (pos 0) → Due s n past [] (takes_shown (Client n) c clock place act status callback sync call).lines
-shown_due s n clock place c act m past status callback sync (calls.FetchStatus f) same a q z = entry_due s n clock place c act m past (entry_told c.callee f status callback sync None) (seen.Status (status_told status)) refl (subst (IsReadBy f) (sym same) refl) q z
+shown_due s n clock place c act m past status callback sync (calls.FetchStatus f) same a q z = entry_due s n clock place c act m past (entry_told c.callee f status callback sync None) (seen.Status (status_told status)) refl (subst (λ (k : FsCall). Brings k f (seen.Status (status_told status))) (sym same) refl) q z
 shown_due s n clock place c act m past status callback sync call same a q z = plain_due s n place c act m past call q z (other_end c act m (replies.FetchStatus status callback sync) call a same refl)
 
 list_due : (s : Script) (n clock place : ℕ) (c : ClientState) (act : Going) (m : Message) (past : List Entry) (text : List ℕ) (status : AfsFetchStatus) (sync : AfsVolSync) (call : FsCall) → call_of c act ≡ call → IsAnswered c act m (replies.FetchAcl text status sync) → IsTold s n place c act m past → code_told m.carried ≡ Some (pos 0) → Due s n past [] (takes_list (Client n) c clock place act text status sync call).lines
@@ -350,7 +353,7 @@ list_due s n clock place c act m past text status sync (calls.FetchAcl f) same a
     (λ ls w. (
       tt,
       (
-        record { fetched = refl; act = act; runs = q.runs; needs = need; used = record { reply = m; by = q.at; is_reply = q.reply; told = z; to = q.to; before = refl; call = call_of c act; called = q.called }; asks = same ∙ sym (ap call_for need) },
+        record { fetched = refl; act = act; runs = q.runs; needs = need; used = record { reply = m; by = q.at; is_reply = q.reply; told = z; to = q.to; before = refl; call = call_of c act; called = q.called; from = q.from }; asks = same ∙ sym (ap call_for need) },
         drops_due s n past (IsRead n m past) (read_steady n m past) es (lines.Read (Client n) f status.sync_counter Fetched body ∷ lines.Given place ∷ []) ls (with_read f body act) (has_now n m past place f status.sync_counter Fetched body q.at) (read_runs s n (lines_of past) f status.sync_counter Fetched body act q.runs) w,
       ),
     ))
@@ -396,6 +399,7 @@ takes_due s n clock place c act m past call reply same a q z = plain_due s n pla
 
 pub record IsWaiting (s : Script) (n place : ℕ) (c : ClientState) (head : Head) (x : Carried) (past : List Entry) : Type 0 where
   pub asked' : (act : Going) → c.running ≡ Some act → CalledSince (last_key n c) (user_at s n) (call_of c act) past
+  pub callee : (act : Going) → c.running ≡ Some act → callee_under (last_key n c) (sent_of past) ≡ Some c.callee
   pub acts : running s (Client n) (lines_of past) ≡ c.running
   pub at : message_at (sent_of past) place ≡ Some (record { head = head; carried = x })
   pub to : head.to ≡ Client n
@@ -410,7 +414,7 @@ its_key n c act head to e =
     sym (ap (λ (m : Node). a_key m head.epoch head.number) to ∙ (ap (λ (i : ℕ). a_key (Client n) i head.number) (eqb-true head.epoch c.epoch q.0) ∙ ap (λ (i : ℕ). a_key (Client n) c.epoch i) (eqb-true head.number c.last u.0)))
 
 is_told : (s : Script) (n place : ℕ) (c : ClientState) (act : Going) (head : Head) (x : Carried) (past : List Entry) → IsWaiting s n place c head x past → c.running ≡ Some act → is_awaited c act head ≡ true → IsReply (record { head = head; carried = x }) → IsTold s n place c act (record { head = head; carried = x }) past
-is_told s n place c act head x past w r e reply = record { runs = w.acts ∙ r; at = w.at; reply = reply; to = w.to; called = subst (λ (k : Key). CalledSince k (user_at s n) (call_of c act) past) (its_key n c act head w.to e) (w.asked' act r) }
+is_told s n place c act head x past w r e reply = record { runs = w.acts ∙ r; at = w.at; reply = reply; to = w.to; called = subst (λ (k : Key). CalledSince k (user_at s n) (call_of c act) past) (its_key n c act head w.to e) (w.asked' act r); from = subst (λ (k : Key). callee_under k (sent_of past) ≡ Some c.callee) (its_key n c act head w.to e) (w.callee act r) ∙ ap Some (sym (same_node-true head.from c.callee (both (same_node head.from c.callee) _ e).0)) }
 
 counts_due : (s : Script) (n clock place : ℕ) (c : ClientState) (act : Going) (head : Head) (x : Carried) (past : List Entry) → IsWaiting s n place c head x past → c.running ≡ Some act → is_awaited c act head ≡ true → Due s n past [] (counts (Client n) c clock place act head x).lines
 counts_due s n clock place c act head (carried.Call user call) past w r e = (tt, tt)
@@ -513,13 +517,11 @@ dead_due s c past n act es A W r le =
                 epoch = x.epoch;
                 number = x.last;
                 third = k.0;
-                first = W.tried act r 1 (omega arith) (omega arith);
-                second = W.tried act r 2 (omega arith) le;
                 before = k.1;
                 call = call_of x act;
                 asks = call_is x act;
+                unended = W.open' act r;
                 called = A.asked n act r;
-                to = subst (λ (u : List ℕ). WasSent x.callee (last_key n x) u (call_of x act) past) (A.user n) (W.sent act r);
               })));
             },
             tt,
@@ -577,6 +579,11 @@ DueStep s c past m = EachLine (IsDue s) m.entry.actor past [] m.entry.lines
 pub waiting_for : (s : Script) (c : Cell) (past : List Entry) (n place : ℕ) (m : Message) → GivenWaits s c past → message_at c.sent place ≡ Some m → m.head.to ≡ Client n → IsWaiting s n place (c.clients n) m.head m.carried past
 waiting_for s c past n place m h at to = record {
   asked' = λ act r. h.0.0.0.0.1.asked n act r;
+  callee = λ act r.
+      let x : ClientState = c.clients n in
+      let K : Known c past = h.0.0.0.0.0 in
+      let P : Message → Type 0 = IfCall (KnownBy K.keys.callees c.clients) in
+      callee_is K.keys.callees c.clients n (last_key n x) (x.user, call_of x act) (sent_of past) refl (ap (call_under (last_key n x)) K.hears.told ∙ h.0.0.0.0.1.last n act r) (subst (Each P) (sym K.hears.told) K.keys.calls) ∙ ap Some (K.keys.own n);
   acts = h.0.0.0.0.1.acts n;
   at = ap (λ (ms : List Message). message_at ms place) h.0.0.0.0.0.hears.told ∙ at;
   to = to;

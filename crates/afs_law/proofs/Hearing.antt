@@ -93,13 +93,13 @@ ran_here e past m i boot actor given is to own first up = record {
 
 -- ---- what is kept of replies
 
-replies_to : (K M L O : Head → Type 0) → ((h : Head) → K h → M h) → ((h : Head) → L h → O h) → (seats : List Seat) → AreReplies K L seats → AreReplies M O seats
+pub replies_to : (K M L O : Head → Type 0) → ((h : Head) → K h → M h) → ((h : Head) → L h → O h) → (seats : List Seat) → AreReplies K L seats → AreReplies M O seats
 replies_to K M L O w u seats h n seat m e r = answer_over K M L O w u m (h n seat m e r)
 
-sound_to : (K M L O : Head → Type 0) → ((h : Head) → K h → M h) → ((h : Head) → L h → O h) → (x : Memory) → IsSound K L x → IsSound M O x
+pub sound_to : (K M L O : Head → Type 0) → ((h : Head) → K h → M h) → ((h : Head) → L h → O h) → (x : Memory) → IsSound K L x → IsSound M O x
 sound_to K M L O w u x h = record { seats = replies_to K M L O w u x.seats h.seats; kept = replies_to K M L O w u x.kept h.kept; lower = h.lower }
 
-cut_by : (K M : Head → Type 0) → ((h : Head) → K h → M h) → (boot : ℕ) (seats : List Seat) (fall : Fall) → IsCutBy K boot seats fall → IsCutBy M boot seats fall
+pub cut_by : (K M : Head → Type 0) → ((h : Head) → K h → M h) → (boot : ℕ) (seats : List Seat) (fall : Fall) → IsCutBy K boot seats fall → IsCutBy M boot seats fall
 cut_by K M w boot seats (in_step m clock) h = if_call (λ x user call. admitted boot seats x ≡ pairs.runs → K (reply_head boot x)) (λ x user call. admitted boot seats x ≡ pairs.runs → M (reply_head boot x)) (λ x user call f e. w (reply_head boot x) (f e)) m h
 cut_by K M w boot seats at_rest h = tt
 cut_by K M w boot seats in_boot h = tt
@@ -162,7 +162,7 @@ unheard_next : (i : ℕ) (d : Option Fall) (seats : List Seat) (boot : ℕ) (pas
 unheard_next i None seats boot past h j k b is l = h j k b is (inl l)
 unheard_next i (Some fall) seats boot past h j k b is l = h j k b is l
 
-none_more : (ms : List Message) → (ms ++ []) ≡ ms
+pub none_more : (ms : List Message) → (ms ++ []) ≡ ms
 none_more [] = refl
 none_more (m ∷ ms) = ap (λ (x : List Message). m ∷ x) (none_more ms)
 

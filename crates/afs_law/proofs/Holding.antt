@@ -42,7 +42,6 @@ use Rattle.afs_rows.specs.States.{CacheEntry}
 use Rattle.afs_rows.specs.ServerRow.{versioned}
 use Rattle.std.proofs.Common.{◌≡◌, ◌≤◌, ℕ, ◌⊎◌, inl, inr, Bool, true, false, cond, List, [], ◌∷◌, ◌++◌, Option, Some, None, refl, sym, ap, subst, ◌∙◌, arith}
 use Rattle.std.specs.Option.{option_map}
-use Rattle.std.specs.Prelude.{⊤}
 use Rattle.afs_law.proofs.Backing.{entries_same, entry_same}
 
 -- ---- an entry more
@@ -161,6 +160,8 @@ drop_base s c f (lines.Drop m g) a b w (inl h) = inl h
 drop_base s c f (lines.Drop m g) a b w (inr h) = inr (w h)
 drop_base s c f (lines.DropAll m q) a b w (inl h) = inl h
 drop_base s c f (lines.DropAll m q) a b w (inr h) = inr (w h)
+drop_base s c f (lines.Crash n) a b w (inl h) = inl h
+drop_base s c f (lines.Crash n) a b w (inr h) = inr (w h)
 drop_base s c f l a b w h = w h
 
 pub dropped_base : (s c : Node) (f : Fid) (ls a b : List Line) → (IsDropped s c f a → IsDropped s c f b) → IsDropped s c f (onto a ls) → IsDropped s c f (onto b ls)

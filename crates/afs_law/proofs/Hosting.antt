@@ -412,7 +412,7 @@ versioned_ungiven : (vs : List Version) (ls : List Line) (sent : List Message) �
 versioned_ungiven [] ls sent h = h
 versioned_ungiven (v ∷ vs) ls sent h = versioned_ungiven vs ls sent h
 
-before_begins : (K : Head → Type 0) (L : Head → Type 0) (me : Node) (x : ServerState) → IsSound K L (memory_of x) → Each (IsAnswer K L) (replies_of x.backs.held) → Begins K L me x (begun_before x)
+pub before_begins : (K : Head → Type 0) (L : Head → Type 0) (me : Node) (x : ServerState) → IsSound K L (memory_of x) → Each (IsAnswer K L) (replies_of x.backs.held) → Begins K L me x (begun_before x)
 before_begins K L me x s h = record { hosts = λ ls p. still_hosts K L me (memory_of x) ls s p; held = h; ungiven = λ ls sent e. e }
 
 after_begins : (K : Head → Type 0) (L : Head → Type 0) (me : Node) (x : ServerState) (clock : ℕ) (d : Decision) → IsSound K L (memory_of x) → Each (IsAnswer K L) (replies_of x.backs.held) → IsDue K L me x d → Begins K L me x (begun_after me x clock d)
@@ -431,7 +431,7 @@ revived_sound K L x s = record { seats = s.kept; kept = s.kept; lower = λ n e k
 revived_hosts : (K : Head → Type 0) (L : Head → Type 0) (me : Node) (x y : Memory) (ls : List Line) → Hosts K L me x y ls → Hosts K L me x (record { seats = y.kept; kept = y.kept }) ls
 revived_hosts K L me x y ls h = record { changed = h.changed; one = h.one; known = h.known; new = h.new; ran = h.ran; grows = h.grows; stored = h.stored; sound = revived_sound K L y h.sound }
 
-revives_begins : (K : Head → Type 0) (L : Head → Type 0) (me : Node) (x : ServerState) → IsSound K L (memory_of x) → Each (IsAnswer K L) (replies_of x.backs.held) → Begins K L me x (begun_before (revived x))
+pub revives_begins : (K : Head → Type 0) (L : Head → Type 0) (me : Node) (x : ServerState) → IsSound K L (memory_of x) → Each (IsAnswer K L) (replies_of x.backs.held) → Begins K L me x (begun_before (revived x))
 revives_begins K L me x s h = record { hosts = λ ls p. revived_hosts K L me (memory_of x) (memory_of x) ls (still_hosts K L me (memory_of x) ls s p); held = h; ungiven = λ ls sent e. e }
 
 -- the message of an interrupted step

@@ -58,6 +58,8 @@ pub mod Telling
 pub mod Owning
 pub mod Remaining
 pub mod Latest
+pub mod Learning
+pub mod Lives
 pub mod Ascending
 pub mod Sending
 pub mod Gifts
@@ -96,10 +98,15 @@ pub mod Beside
 pub mod Watched
 pub mod Entering
 pub mod Trusted
+pub mod Brought
 pub mod Readings
+pub mod Claims
+pub mod Timed
+pub mod Singly
 pub mod Assembled
 pub mod Made
 pub mod Surviving
+pub mod Ends
 pub mod Worked
 pub mod KeptRuns
 pub mod Wrong

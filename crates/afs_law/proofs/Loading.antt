@@ -4,7 +4,7 @@ use Rattle.afs_law.proofs.Edits.{touches}
 use Rattle.afs_breaks.specs.declared.types.Promise.{Promise}
 use Rattle.afs_breaks.specs.Promises.{is_promise, with_promise, is_hit, owes_from, has_break, without_break}
 use Rattle.afs_law.proofs.Promising.{Owed, hits, staying, with_promises, without_promises, owes_all, risen_as, without_all, ended_call, ended_is}
-use Rattle.std.proofs.Common.{◌≡◌, ◌+◌, ◌≤◌, ◌⊎◌, inl, inr, Bool, true, false, cond, nat_eq, nat_lt, ℕ, zero, suc, List, [], ◌∷◌, ◌++◌, Option, Some, None, refl, sym, ap, subst, ◌∙◌, arith, eqb-true, eq-eqb, ltb-false, append-nil, le_of_eq, ◌<◌}
+use Rattle.std.proofs.Common.{◌≡◌, ◌+◌, ◌≤◌, ◌⊎◌, inl, inr, Bool, true, false, cond, nat_eq, ℕ, zero, suc, List, [], ◌∷◌, ◌++◌, Option, Some, None, refl, sym, ap, subst, ◌∙◌, arith, eqb-true, eq-eqb, append-nil, le_of_eq, ◌<◌}
 use Rattle.std.specs.Prelude.{map, filter, not, ◌&&◌, length}
 use Rattle.std.proofs.Math.Nat.{le_refl, le_trans, eq-or-lt_of_le}
 use Rattle.afs_num.specs.Fids.{same_fid}
@@ -13,19 +13,18 @@ use Rattle.afs_num.specs.declared.types.Fid.{Fid}
 use Rattle.afs_num.specs.declared.types.Key.{Key}
 use Rattle.afs_num.specs.declared.types.Node.{Node}
 use Rattle.afs_num.specs.declared.types.Node.TheVariants.{Client}
-use Rattle.afs_num.specs.declared.calls.FsCall.{FsCall}
 use Rattle.afs_num.specs.declared.messages.Message.{Message}
 use Rattle.afs_ideal.specs.Operations.{Found}
-use Rattle.afs_law.proofs.Backing.{unbroken_back, unbroken_last, owe_over, timeout_onto, Plain, Stepping, all_lines, is_up, is_still, is_oweless, is_unchanging, is_still_to, grant_back_to, settled_onto, stopped_back, front_onto, change_back, no_owe, owes_over, ended_over, calls_same, backed_step, seated_over, plain_step, plain_waits, waits_over, granted_over, owed_over, call_over, backed_plain, promised_over, live_back, numbered_over, zero_back, live_given, before_own, rising_over, rising_back, head_same, tail_same}
+use Rattle.afs_law.proofs.Backing.{unbroken_back, unbroken_last, owe_since, timeout_onto, Plain, Stepping, all_lines, is_up, is_still, is_oweless, is_unchanging, is_still_to, grant_back_to, settled_onto, stopped_back, front_onto, change_back, no_owe, owes_over, ended_over, calls_same, backed_step, seated_over, plain_step, plain_waits, waits_over, granted_over, owed_over, call_over, backed_plain, promised_over, live_back, numbered_over, zero_back, live_given, before_own, rising_over, rising_back, head_same, tail_same}
 use Rattle.afs_law.proofs.Basics.{server_any, both, same_node-true, same_node-refl, same_fid-refl, same_fid-true, Above, Each, IfBack, IfDone, OfReply, each_map, if_back, if_done, some_of}
-use Rattle.afs_law.proofs.Owing.{CarriedOwe, AllOf, all_map, all_both, all_filter, IsGranted, IsIn, IsNumberIn, AccountedBy, WaitedBy, AllWaitedBy, HeldWaits, IsOwed, CallOut, BackIn, DroppedOwe, DoneIn, BackedIn, Promised, IsPromised, promise_to, Numbered, IsClient, Rising, ToClients, is_held}
+use Rattle.afs_law.proofs.Owing.{AllOf, all_map, all_both, all_filter, IsGranted, IsIn, IsNumberIn, AccountedBy, WaitedBy, AllWaitedBy, HeldWaits, IsOwed, CallOut, BackIn, DroppedOwe, DoneIn, BackedIn, Promised, IsPromised, promise_to, Numbered, IsClient, Rising, ToClients, is_held}
 use Rattle.afs_law.proofs.Turning.{IsServing, loaded, in_filter, put_call, kept_in, reply_key}
-use Rattle.afs_law.specs.Breaks.{unbroken_grant, HasSettled, HasTimeout, last_grant, expiry_of, AllOwes, CarriesBreak, GoodQuit, live_grant, HasOwe, last_number, lines_at, drops_of, HasStopped, OweAt}
+use Rattle.afs_law.specs.Breaks.{unbroken_grant, HasSettled, HasTimeout, last_grant, expiry_of, AllOwes, CarriesBreak, GoodSettle, IsCarried, IsGivenUp, live_grant, HasOwe, last_number, lines_at, drops_of, HasStopped, OweAt}
 use Rattle.afs_rows.specs.Callbacks.{is_all, alls, numbers, is_reply_to, key_answered, breaks_call, break_message, owe_line, settle_line, quit_line, settles, quits, retries, still_owed}
 use Rattle.afs_law.specs.Ideal.{clock_of}
 use Rattle.afs_law.specs.Legal.{IsUnbroken, HasRisen, HasChange, AreGood, IsChanged}
 use Rattle.afs_history.specs.declared.lines.Line.{Line}
-use Rattle.afs_law.specs.Past.{onto, lines_of, sent_of, given_message, called_key, IsCallUnder}
+use Rattle.afs_law.specs.Past.{HasCode, onto, lines_of, sent_of, given_message, called_key, IsCallUnder}
 use Rattle.afs_rows.specs.Runs.{Entry, Fall}
 use Rattle.afs_rows.specs.ServerRow.{granted, promise_ticks}
 use Rattle.afs_rows.specs.States.{Seat, BackCall, Held, Backs}
@@ -241,7 +240,7 @@ ends_backed me b boot seats cs clock sent e past n c p h at gone =
       new = λ before after d what k line. absurd (no_owe e.lines before after me d what k p.oweless line);
       gone = λ o x. elim (ends_or_stays o c.breaks b.lists.owed x) [
         | inl y ↦ inl y
-        | inr y ↦ inr (λ l. let z = ending me n o.number (lines_of past) c.breaks b.lists.owed (all_map (CarriedOwe me n c.number c.tries boot (lines_of past)) (IsOwed me n (lines_of past)) (λ w v. v.owe) c.breaks out.owes) y (has_number o b.lists.owed x) in
+        | inr y ↦ inr (λ l. let z = ending me n o.number (lines_of past) c.breaks b.lists.owed (all_map (IsOwed me n (lines_of (out.sent.at ∷ out.sent.older))) (IsOwed me n (lines_of past)) (λ w v. owe_since me n w.what w.number past out.sent.newer out.sent.at out.sent.older out.sent.split out.up v) c.breaks out.owes) y (has_number o b.lists.owed x) in
             subst (λ (m : Node). HasSettled me m o.number (onto l e.lines)) (owed_once me n o.client z.0 o.what o.number (lines_of past) z.1.0 (in_all (λ (u : Owed). IsOwed me u.client (lines_of past) u) o b.lists.owed x (h.owing refl)) h.rising) (gone o.number l z.1.1))
       ];
       held = λ k x. more_held k b.held [] x;
@@ -257,54 +256,63 @@ ends_backed me b boot seats cs clock sent e past n c p h at gone =
     (λ j seat m x y. seated_over me None None b now boot clock clock e past s j m (h.seated j seat m x y)))
 
 -- the lines are good
-settles_by_good : (me : Node) (serving : IsServing me) (t : Bool) (s : Script) (n : Node) (o : Owed) (past : List Entry) (own : List Line) (xs : List Owed) → DroppedOwe me n (lines_of past) o → (HasStopped me own → ⊥) → ((own : List Line) → (HasStopped me own → ⊥) → AreGood s (actors.Node me) past own (map (settle_line me n) xs)) → AreGood s (actors.Node me) past own (map (settle_line me n) (cond t (o ∷ xs) xs))
-settles_by_good me serving true s n o past own xs d up w = ((serving, record { going = up; what = o.what; owe = d.owe; dropped = d.dropped }), w (settle_line me n o ∷ own) up)
-settles_by_good me serving false s n o past own xs d up w = w own up
+pub record IsReplied (me n : Node) (epoch number : ℕ) (past : List Entry) (own : List Line) : Type 0 where
+  pub reply : Message
+  pub by : given_message own (sent_of past) ≡ Some reply
+  pub is : HasCode reply.carried
+  pub to : reply.head.to ≡ me
+  pub from : reply.head.from ≡ n
+  pub epoch' : reply.head.epoch ≡ epoch
+  pub number' : reply.head.number ≡ number
 
-settles_all : (me : Node) (serving : IsServing me) (s : Script) (n : Node) (past : List Entry) (os owed : List Owed) (own : List Line) → AllOf (DroppedOwe me n (lines_of past)) os → (HasStopped me own → ⊥) → AreGood s (actors.Node me) past own (map (settle_line me n) (filter (λ (o : Owed). has_break o.number owed) os))
-settles_all me serving s n past [] owed own h up = tt
-settles_all me serving s n past (o ∷ os) owed own h up = settles_by_good me serving (has_break o.number owed) s n o past own (filter (λ (x : Owed). has_break x.number owed) os) h.0 up (λ x still. settles_all me serving s n past os owed x h.1 still)
+settle_good : (me n : Node) (epoch number : ℕ) (o : Owed) (past : List Entry) (own : List Line) → IsReplied me n epoch number past own → DroppedOwe me n epoch number past o → (HasStopped me own → ⊥) → GoodSettle me n o.number past own
+settle_good me n epoch number o past own r d up = record {
+  going = up;
+  reply = r.reply;
+  by = r.by;
+  is = r.is;
+  to = r.to;
+  from = r.from;
+  what = o.what;
+  back = subst (λ (i : ℕ). IsGivenUp me n i r.reply.head.number o.what o.number past) (sym r.epoch') (subst (λ (i : ℕ). IsGivenUp me n epoch i o.what o.number past) (sym r.number') d);
+}
 
-pub settles_good : (me : Node) → IsServing me → (s : Script) (n : Node) (c : BackCall) (b : Backs) (past : List Entry) (own : List Line) → AllOf (DroppedOwe me n (lines_of past)) c.breaks → (HasStopped me own → ⊥) → AreGood s (actors.Node me) past own (map (settle_line me n) (still_owed c b))
-settles_good me serving s n c b past own h up = settles_all me serving s n past c.breaks b.lists.owed own h up
+replied_still : (me n : Node) (epoch number : ℕ) (past : List Entry) (own : List Line) (q : Node) (k : ℕ) → IsReplied me n epoch number past own → IsReplied me n epoch number past (lines.Settle me q k ∷ own)
+replied_still me n epoch number past own q k r = record { reply = r.reply; by = r.by; is = r.is; to = r.to; from = r.from; epoch' = r.epoch'; number' = r.number' }
 
--- a break that is given up
-record MayQuit (me : Node) (n : Node) (past : List Entry) (boot number most : ℕ) (call : FsCall) (o : Owed) : Type 0 where
-  owe : CarriedOwe me n number most boot (lines_of past) o
-  carries : CarriesBreak call o.what
+settles_by_good : (me : Node) (serving : IsServing me) (t : Bool) (s : Script) (n : Node) (epoch number : ℕ) (o : Owed) (past : List Entry) (own : List Line) (xs : List Owed) → DroppedOwe me n epoch number past o → IsReplied me n epoch number past own → (HasStopped me own → ⊥)
+    → ((own : List Line) → IsReplied me n epoch number past own → (HasStopped me own → ⊥) → AreGood s (actors.Node me) past own (map (settle_line me n) xs)) → AreGood s (actors.Node me) past own (map (settle_line me n) (cond t (o ∷ xs) xs))
+settles_by_good me serving true s n epoch number o past own xs d r up w = ((serving, settle_good me n epoch number o past own r d up), w (settle_line me n o ∷ own) (replied_still me n epoch number past own n o.number r) up)
+settles_by_good me serving false s n epoch number o past own xs d r up w = w own r up
+
+settles_all : (me : Node) (serving : IsServing me) (s : Script) (n : Node) (epoch number : ℕ) (past : List Entry) (os owed : List Owed) (own : List Line) → AllOf (DroppedOwe me n epoch number past) os → IsReplied me n epoch number past own → (HasStopped me own → ⊥) → AreGood s (actors.Node me) past own (map (settle_line me n) (filter (λ (o : Owed). has_break o.number owed) os))
+settles_all me serving s n epoch number past [] owed own h r up = tt
+settles_all me serving s n epoch number past (o ∷ os) owed own h r up = settles_by_good me serving (has_break o.number owed) s n epoch number o past own (filter (λ (x : Owed). has_break x.number owed) os) h.0 r up (λ x z still. settles_all me serving s n epoch number past os owed x h.1 z still)
+
+pub settles_good : (me : Node) → IsServing me → (s : Script) (n : Node) (epoch number : ℕ) (c : BackCall) (b : Backs) (past : List Entry) (own : List Line) → AllOf (DroppedOwe me n epoch number past) c.breaks → IsReplied me n epoch number past own → (HasStopped me own → ⊥) → AreGood s (actors.Node me) past own (map (settle_line me n) (still_owed c b))
+settles_good me serving s n epoch number c b past own h r up = settles_all me serving s n epoch number past c.breaks b.lists.owed own h r up
 
 pub two_all : {A : Type 0} → (P Q R : A → Type 0) → ((x : A) → P x → Q x → R x) → (xs : List A) → AllOf P xs → AllOf Q xs → AllOf R xs
 two_all P Q R w [] h k = tt
 two_all P Q R w (x ∷ xs) h k = (w x h.0 k.0, two_all P Q R w xs h.1 k.1)
 
-quit_good : (me : Node) (n : Node) (boot : ℕ) (c : BackCall) (o : Owed) (past : List Entry) (own : List Line) (last : ℕ) → CallOut me n c last boot past → 2 ≤ c.tries → HasTimeout me n boot c.number 3 own → (HasStopped me own → ⊥) → MayQuit me n past boot c.number c.tries (breaks_call c.breaks) o → GoodQuit me n o.number past own
-quit_good me n boot c o past own last out le third up m = record {
-  going = up;
-  what = o.what;
-  owe = m.owe.owe;
-  epoch = boot;
-  number = c.number;
-  third = third;
-  first = m.owe.tries 1 (omega arith) (omega arith);
-  second = m.owe.tries 2 (omega arith) le;
-  user = [];
-  call = breaks_call c.breaks;
-  called = out.sent;
-  carries = m.carries;
-}
+-- what the call carries
+pub carried_by : (me n : Node) (boot : ℕ) (c : BackCall) (past : List Entry) (last : ℕ) → CallOut me n c last boot past → AllOf (λ (o : Owed). IsCarried me n boot c.number o.what o.number past) c.breaks
+carried_by me n boot c past last out =
+    two_all (IsOwed me n (lines_of (out.sent.at ∷ out.sent.older))) (λ (o : Owed). CarriesBreak (breaks_call c.breaks) o.what) (λ (o : Owed). IsCarried me n boot c.number o.what o.number past)
+    (λ o x y. record { user = []; call = breaks_call c.breaks; sent = out.sent; carries = y; owe = x; up = out.up }) c.breaks out.owes out.carries
 
-quits_by_good : (me : Node) (serving : IsServing me) (t : Bool) (s : Script) (n : Node) (boot last : ℕ) (c : BackCall) (o : Owed) (past : List Entry) (own : List Line) (xs : List Owed) → CallOut me n c last boot past → 2 ≤ c.tries → HasTimeout me n boot c.number 3 own → (HasStopped me own → ⊥) → MayQuit me n past boot c.number c.tries (breaks_call c.breaks) o
-    → ((own : List Line) → HasTimeout me n boot c.number 3 own → (HasStopped me own → ⊥) → AreGood s (actors.Node me) past own (map (quit_line me n) xs)) → AreGood s (actors.Node me) past own (map (quit_line me n) (cond t (o ∷ xs) xs))
-quits_by_good me serving true s n boot last c o past own xs out le third up m w = ((serving, quit_good me n boot c o past own last out le third up m), w (quit_line me n o ∷ own) third up)
-quits_by_good me serving false s n boot last c o past own xs out le third up m w = w own third up
+quits_by_good : (me : Node) (serving : IsServing me) (t : Bool) (s : Script) (n : Node) (boot number : ℕ) (o : Owed) (past : List Entry) (own : List Line) (xs : List Owed) → IsCarried me n boot number o.what o.number past → HasTimeout me n boot number 3 own → (HasStopped me own → ⊥)
+    → ((own : List Line) → HasTimeout me n boot number 3 own → (HasStopped me own → ⊥) → AreGood s (actors.Node me) past own (map (quit_line me n) xs)) → AreGood s (actors.Node me) past own (map (quit_line me n) (cond t (o ∷ xs) xs))
+quits_by_good me serving true s n boot number o past own xs m third up w = ((serving, record { going = up; epoch = boot; number = number; third = third; what = o.what; carried = m }), w (quit_line me n o ∷ own) third up)
+quits_by_good me serving false s n boot number o past own xs m third up w = w own third up
 
-quits_all : (me : Node) (serving : IsServing me) (s : Script) (n : Node) (boot last : ℕ) (c : BackCall) (past : List Entry) (os owed : List Owed) (own : List Line) → CallOut me n c last boot past → 2 ≤ c.tries → HasTimeout me n boot c.number 3 own → (HasStopped me own → ⊥) → AllOf (MayQuit me n past boot c.number c.tries (breaks_call c.breaks)) os → AreGood s (actors.Node me) past own (map (quit_line me n) (filter (λ (o : Owed). has_break o.number owed) os))
-quits_all me serving s n boot last c past [] owed own out le third up h = tt
-quits_all me serving s n boot last c past (o ∷ os) owed own out le third up h = quits_by_good me serving (has_break o.number owed) s n boot last c o past own (filter (λ (x : Owed). has_break x.number owed) os) out le third up h.0 (λ x y still. quits_all me serving s n boot last c past os owed x out le y still h.1)
+quits_all : (me : Node) (serving : IsServing me) (s : Script) (n : Node) (boot number : ℕ) (past : List Entry) (os owed : List Owed) (own : List Line) → AllOf (λ (o : Owed). IsCarried me n boot number o.what o.number past) os → HasTimeout me n boot number 3 own → (HasStopped me own → ⊥) → AreGood s (actors.Node me) past own (map (quit_line me n) (filter (λ (o : Owed). has_break o.number owed) os))
+quits_all me serving s n boot number past [] owed own h third up = tt
+quits_all me serving s n boot number past (o ∷ os) owed own h third up = quits_by_good me serving (has_break o.number owed) s n boot number o past own (filter (λ (x : Owed). has_break x.number owed) os) h.0 third up (λ x y still. quits_all me serving s n boot number past os owed x h.1 y still)
 
-pub quits_good : (me : Node) → IsServing me → (s : Script) (n : Node) (boot last : ℕ) (c : BackCall) (b : Backs) (past : List Entry) → CallOut me n c last boot past → nat_lt c.tries 2 ≡ false → AreGood s (actors.Node me) past (lines.Timeout me n boot c.number 3 ∷ []) (map (quit_line me n) (still_owed c b))
-quits_good me serving s n boot last c b past out e = quits_all me serving s n boot last c past c.breaks b.lists.owed _ out (ltb-false _ _ e) (inl (refl, (refl, (refl, (refl, refl))))) (λ z. z)
-    (two_all (CarriedOwe me n c.number c.tries boot (lines_of past)) (λ (o : Owed). CarriesBreak (breaks_call c.breaks) o.what) (MayQuit me n past boot c.number c.tries (breaks_call c.breaks)) (λ o x y. record { owe = x; carries = y }) c.breaks out.owes out.carries)
+pub quits_good : (me : Node) → IsServing me → (s : Script) (n : Node) (boot last : ℕ) (c : BackCall) (b : Backs) (past : List Entry) → CallOut me n c last boot past → AreGood s (actors.Node me) past (lines.Timeout me n boot c.number 3 ∷ []) (map (quit_line me n) (still_owed c b))
+quits_good me serving s n boot last c b past out = quits_all me serving s n boot c.number past c.breaks b.lists.owed _ (carried_by me n boot c past last out) (inl (refl, (refl, (refl, (refl, refl))))) (λ z. z)
 
 pub settles_backed : (me : Node) (b : Backs) (boot : ℕ) (seats : List Seat) (cs : ℕ → Option Seat) (clock : ℕ) (sent : List Message) (e : Entry) (past : List Entry) (n : Node) (p : ℕ) (c : BackCall) → b.calls n ≡ Some c → e.lines ≡ lines.Given p ∷ map (settle_line me n) (still_owed c b) → BackedIn me None b boot seats cs clock sent past → BackedIn me None (loaded (settles me n c b)) boot seats cs clock sent (e ∷ past)
 settles_backed me b boot seats cs clock sent e past n p c at is h =
@@ -331,14 +339,13 @@ tried me n boot last c e past is h =
     record {
       number = k.number;
       client = k.client;
-      owes = all_map (CarriedOwe me n c.number c.tries boot (lines_of past)) (CarriedOwe me n c.number (c.tries + 1) boot (lines_of (e ∷ past))) (λ o x. record {
-        owe = owe_over me n o.what o.number e past up x.owe;
-        tries = λ t a b. elim (eq-or-lt_of_le b) [
-          | inl q ↦ subst (λ (ls : List Line). HasTimeout me n boot c.number t (onto x.owe.newer ls)) (sym is) (inl (refl, (refl, (refl, (refl, sym q)))))
-          | inr l ↦ timeout_onto me n boot c.number t e.lines x.owe.newer (x.tries t a (omega arith))
-        ];
-      }) c.breaks h.owes;
       sent = k.sent;
+      up = k.up;
+      tries = λ t a b. elim (eq-or-lt_of_le b) [
+        | inl q ↦ subst (λ (ls : List Line). HasTimeout me n boot c.number t (onto (lines_of past) ls)) (sym is) (inl (refl, (refl, (refl, (refl, sym q)))))
+        | inr l ↦ timeout_onto me n boot c.number t e.lines (lines_of past) (h.tries t a (omega arith))
+      ];
+      owes = k.owes;
       carries = k.carries;
     }
 

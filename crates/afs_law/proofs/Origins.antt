@@ -103,6 +103,8 @@ idle_dropped q j f (lines.Drop n g) o h (inl e) = absurd (no_server n j h e.0)
 idle_dropped q j f (lines.Drop n g) o h (inr x) = x
 idle_dropped q j f (lines.DropAll n s) o h (inl e) = absurd (no_server n j h e.0)
 idle_dropped q j f (lines.DropAll n s) o h (inr x) = x
+idle_dropped q j f (lines.Crash n) o h (inl e) = absurd (no_server n j h e)
+idle_dropped q j f (lines.Crash n) o h (inr x) = x
 idle_dropped q j f l o h x = x
 
 idle_timed : (q : Node) (j epoch number count : ℕ) (l : Line) (o : List Line) → is_idle l ≡ true → HasTimeout (Client j) q epoch number count (l ∷ o) → HasTimeout (Client j) q epoch number count o
@@ -148,6 +150,8 @@ other_dropped q i j f (lines.Drop n g) o h ne (inl e) = absurd (no_other n i j h
 other_dropped q i j f (lines.Drop n g) o h ne (inr x) = x
 other_dropped q i j f (lines.DropAll n s) o h ne (inl e) = absurd (no_other n i j h ne e.0)
 other_dropped q i j f (lines.DropAll n s) o h ne (inr x) = x
+other_dropped q i j f (lines.Crash n) o h ne (inl e) = absurd (no_other n i j h ne e)
+other_dropped q i j f (lines.Crash n) o h ne (inr x) = x
 other_dropped q i j f l o h ne x = x
 
 other_timed : (q : Node) (i j epoch number count : ℕ) (l : Line) (o : List Line) → is_of i l ≡ true → (i ≡ j → ⊥) → HasTimeout (Client j) q epoch number count (l ∷ o) → HasTimeout (Client j) q epoch number count o

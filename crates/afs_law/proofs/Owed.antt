@@ -1,5 +1,5 @@
 -- The breaks of each server of a run are good, and its replies wait for them, however many servers a cell has.
-use Rattle.afs_law.proofs.Loading.{clock_back, IsHit, alls_good, all_hits, down_later, filtered, has_owe, hits_hit, is_tickless, numbers_good, quits_good, rise_loaded, settles_good, touched_hit, two_all, owes_tickless, onto_both}
+use Rattle.afs_law.proofs.Loading.{clock_back, IsHit, alls_good, all_hits, down_later, filtered, has_owe, hits_hit, is_tickless, numbers_good, quits_good, rise_loaded, IsReplied, settles_good, touched_hit, two_all, owes_tickless, onto_both}
 use Rattle.afs_breaks.specs.declared.types.Promise.{Promise}
 use Rattle.afs_breaks.specs.Promises.{owes_from}
 use Rattle.afs_history.specs.declared.lines.Line.{Line}
@@ -380,11 +380,11 @@ abbrev Ends : Cell → List Entry → ℕ → ℕ → List Seat → List Line �
 Ends c past i boot seats ls t =
     Pumps (Server i) boot seats (λ j. call_seat (Server i) (c.clients j).seats) c.clock c.sent (of_server (Server i) ls (pumped (Server i) boot t).sent ∷ past) t × Each (IsMessage (Server i)) (pumped (Server i) boot t).sent
 
-ends : (c : Cell) (past : List Entry) (i boot : ℕ) (seats : List Seat) (ls : List Line) (t : Turn) → clock_of (onto (lines_of past) ls) ≡ c.clock → server_boot (Server i) (onto (lines_of past) ls) ≡ Some boot
+ends : (c : Cell) (past : List Entry) (i boot : ℕ) (seats : List Seat) (ls : List Line) (t : Turn) → sent_of past ≡ c.sent → clock_of (onto (lines_of past) ls) ≡ c.clock → server_boot (Server i) (onto (lines_of past) ls) ≡ Some boot
     → Loads (Server i) boot seats (λ j. call_seat (Server i) (c.clients j).seats) c.clock c.sent (of_server (Server i) ls (pumped (Server i) boot t).sent ∷ past) t → Ends c past i boot seats ls t
-ends c past i boot seats ls t time up l =
+ends c past i boot seats ls t told time up l =
     let e : Entry = of_server (Server i) ls (pumped (Server i) boot t).sent in
-    (pumps (Server i) boot seats (λ j. call_seat (Server i) (c.clients j).seats) c.clock c.sent e past t refl refl refl time l.backed l.sends up, pumped_own (Server i) boot seats c.clock (e ∷ past) t (l.backed.clients refl).owed (l.backed.waiting refl) l.own)
+    (pumps (Server i) boot seats (λ j. call_seat (Server i) (c.clients j).seats) c.clock c.sent e past t refl told refl refl time l.backed l.sends up, pumped_own (Server i) boot seats c.clock (e ∷ past) t (l.backed.clients refl).owed (l.backed.waiting refl) l.own)
 
 does_boot : (me : Node) (x : ServerState) (clock place : ℕ) (d : Decision) → (does me x clock place d []).state.lasting.boot ≡ x.lasting.boot
 does_boot me x clock place drops = refl
@@ -406,7 +406,7 @@ served_step s c past i place m B up at to =
     let ls : List Line = (does (Server i) x c.clock place d t.lines).lines in
     let seats : List Seat = (does (Server i) x c.clock place d []).state.seats in
     let cs : ℕ → Option Seat = λ j. call_seat (Server i) (c.clients j).seats in
-    let q : Ends c past i boot seats ls t = ends c past i boot seats ls t (works_stand c past i _ ls B.held.1 (serves_works AnyCall (Server i) x c.clock place m (λ rest. tt))) ((all_same i ls (lines_of past) (serves_standing (Server i) x c.clock place m)).boot ∙ now_up c past i B.held.0.0.0.hears up)
+    let q : Ends c past i boot seats ls t = ends c past i boot seats ls t B.held.0.0.0.hears.told (works_stand c past i _ ls B.held.1 (serves_works AnyCall (Server i) x c.clock place m (λ rest. tt))) ((all_same i ls (lines_of past) (serves_standing (Server i) x c.clock place m)).boot ∙ now_up c past i B.held.0.0.0.hears up)
     (given_loads s c past i place m m.carried B up at to refl (is_file (IsOne c.sent) m (each_at (IfCall (IsOne c.sent)) c.sent place m at B.held.0.0.1.ones))) in
     subst (λ (n : ℕ). (Each (IsMessage (Server i)) (pumped (Server i) n t).sent × BackedIn (Server i) None (pumped (Server i) n t).backs n seats cs c.clock (c.sent ++ (pumped (Server i) n t).sent) (of_server (Server i) ls (pumped (Server i) n t).sent ∷ past)) × AreGoodSent (of_server (Server i) ls (pumped (Server i) n t).sent ∷ past) (pumped (Server i) n t).sent)
     (sym (does_boot (Server i) x c.clock place d)) ((q.1, q.0.backed), q.0.good)
@@ -420,7 +420,7 @@ timed_step s c past i n k B up at =
     let boot : ℕ = x.lasting.boot in
     let cs : ℕ → Option Seat = λ j. call_seat (Server i) (c.clients j).seats in
     let t : Turn = cond (nat_lt k.tries 2) (retries (Server i) boot n k b) (quits (Server i) boot n k b) in
-    let q : Ends c past i boot x.seats t.lines t = ends c past i boot x.seats t.lines t (works_stand c past i _ t.lines B.held.1 (times_works AnyCall (Server i) x c.clock n k)) ((all_same i t.lines (lines_of past) (times_standing (Server i) x c.clock n k)).boot ∙ now_up c past i B.held.0.0.0.hears up)
+    let q : Ends c past i boot x.seats t.lines t = ends c past i boot x.seats t.lines t B.held.0.0.0.hears.told (works_stand c past i _ t.lines B.held.1 (times_works AnyCall (Server i) x c.clock n k)) ((all_same i t.lines (lines_of past) (times_standing (Server i) x c.clock n k)).boot ∙ now_up c past i B.held.0.0.0.hears up)
     (timed_loads (nat_lt k.tries 2) (Server i) refl boot b x.seats cs c.clock c.sent (pumped (Server i) boot t).sent past n k (up_at s c past i B.backed up) at) in
     ((q.1, q.0.backed), q.0.good)
 
@@ -434,7 +434,7 @@ woken_step s c past i B up =
     let cs : ℕ → Option Seat = λ j. call_seat (Server i) (c.clients j).seats in
     let t : Turn = no_turn b in
     let e : Entry = of_server (Server i) [] (pumped (Server i) boot t).sent in
-    let q : Ends c past i boot x.seats [] t = ends c past i boot x.seats [] t B.held.1 (now_up c past i B.held.0.0.0.hears up) (none_loads (Server i) b boot x.seats cs c.clock c.sent e past (up_at s c past i B.backed up) (record { up = refl; still = refl; oweless = refl; unchanging = refl })) in
+    let q : Ends c past i boot x.seats [] t = ends c past i boot x.seats [] t B.held.0.0.0.hears.told B.held.1 (now_up c past i B.held.0.0.0.hears up) (none_loads (Server i) b boot x.seats cs c.clock c.sent e past (up_at s c past i B.backed up) (record { up = refl; still = refl; oweless = refl; unchanging = refl })) in
     ((q.1, q.0.backed), q.0.good)
 
 -- ---- it begins again
@@ -470,7 +470,7 @@ begun_lines q u w me x time (refuses head code) ls h = h
 begun_lines q u w me x time (shows head r) ls h = h
 
 -- the lines of what was found, before others
-disk_lines : (q : Line → Bool) → ((s : Node) (k : Key) (n : ℕ) → q (lines.Change s k n) ≡ true) → ((v : Version) → q (lines.Version v) ≡ true) → (me : Node) (x : ServerState) (after : Bool) (fall : Fall) (ls : List Line) → all_lines q ls ≡ true → all_lines q ((begun_by_disk me x after fall).before ls) ≡ true
+pub disk_lines : (q : Line → Bool) → ((s : Node) (k : Key) (n : ℕ) → q (lines.Change s k n) ≡ true) → ((v : Version) → q (lines.Version v) ≡ true) → (me : Node) (x : ServerState) (after : Bool) (fall : Fall) (ls : List Line) → all_lines q ls ≡ true → all_lines q ((begun_by_disk me x after fall).before ls) ≡ true
 disk_lines q u w me x after at_rest ls h = h
 disk_lines q u w me x false (in_step m time) ls h = h
 disk_lines q u w me x true (in_step m time) ls h = begun_lines q u w me x time (decides me x time (Whole m)) ls h
@@ -541,7 +541,7 @@ started_step s c past i after fall B down =
       sends = record { good = tt; calls = tt; dones = tt };
       own = tt;
     } in
-    let q : Ends c past i boot f.state.lasting.kept ls t = ends c past i boot f.state.lasting.kept ls t time stand loads in
+    let q : Ends c past i boot f.state.lasting.kept ls t = ends c past i boot f.state.lasting.kept ls t B.held.0.0.0.hears.told time stand loads in
     ((q.1, q.0.backed), q.0.good))
 
 -- ---- the lines of a server's step
@@ -619,17 +619,17 @@ does_rules s c past i place m (saves head ch) B up y =
     (subst (λ (t : Turn). EachLine (IsBreakGood s) (actors.Node (Server i)) past [] (saves_lines (Server i) (c.hosts i).state c.clock place m ch t.lines)) (sym (saves_turn_is (Server i) (c.hosts i).state c.clock b m.head ch)) (saves_rules s c past i place m ch B up))
 
 -- its own call is answered
-settles_rules : (t : Bool) (s : Script) (past : List Entry) (own : List Line) (i boot : ℕ) (d : Option Fall) (b x : Backs) (last : ℕ) (head : Head) (k : BackCall) → d ≡ None → x.calls head.from ≡ Some k → IsDone (Server i) d x.calls last boot past head.from head.epoch head.number → is_back_awaited boot k head ≡ t → (HasStopped (Server i) own → ⊥)
+settles_rules : (t : Bool) (s : Script) (past : List Entry) (own : List Line) (i boot : ℕ) (d : Option Fall) (b x : Backs) (last : ℕ) (head : Head) (k : BackCall) → d ≡ None → x.calls head.from ≡ Some k → IsDone (Server i) d x.calls last boot past head.from head.epoch head.number → is_back_awaited boot k head ≡ t → IsReplied (Server i) head.from head.epoch head.number past own → (HasStopped (Server i) own → ⊥)
     → EachLine (IsBreakGood s) (actors.Node (Server i)) past own (cond t (settles (Server i) head.from k b) (no_turn b)).lines
-settles_rules false s past own i boot d b x last head k up at done_ e going = tt
-settles_rules true s past own i boot d b x last head k up at done_ e going =
+settles_rules false s past own i boot d b x last head k up at done_ e given going = tt
+settles_rules true s past own i boot d b x last head k up at done_ e given going =
     let q = both _ _ e in
-    rules_of s (actors.Node (Server i)) past own (map (settle_line (Server i) head.from) (still_owed k b)) (settles_good (Server i) refl s head.from k b past own (done_.dropped k up (eqb-true _ _ q.0) at (eqb-true _ _ (both _ _ q.1).0)) going)
+    rules_of s (actors.Node (Server i)) past own (map (settle_line (Server i) head.from) (still_owed k b)) (settles_good (Server i) refl s head.from head.epoch head.number k b past own (done_.dropped k up (eqb-true _ _ q.0) at (eqb-true _ _ (both _ _ q.1).0)) given going)
 
-settled_rules : (s : Script) (past : List Entry) (own : List Line) (i boot : ℕ) (d : Option Fall) (b x : Backs) (last : ℕ) (head : Head) (o : Option BackCall) → d ≡ None → x.calls head.from ≡ o → IsDone (Server i) d x.calls last boot past head.from head.epoch head.number → (HasStopped (Server i) own → ⊥)
+settled_rules : (s : Script) (past : List Entry) (own : List Line) (i boot : ℕ) (d : Option Fall) (b x : Backs) (last : ℕ) (head : Head) (o : Option BackCall) → d ≡ None → x.calls head.from ≡ o → IsDone (Server i) d x.calls last boot past head.from head.epoch head.number → IsReplied (Server i) head.from head.epoch head.number past own → (HasStopped (Server i) own → ⊥)
     → EachLine (IsBreakGood s) (actors.Node (Server i)) past own (settles_by (Server i) boot head b o).lines
-settled_rules s past own i boot d b x last head None up at done_ going = tt
-settled_rules s past own i boot d b x last head (Some k) up at done_ going = settles_rules (is_back_awaited boot k head) s past own i boot d b x last head k up at done_ refl going
+settled_rules s past own i boot d b x last head None up at done_ given going = tt
+settled_rules s past own i boot d b x last head (Some k) up at done_ given going = settles_rules (is_back_awaited boot k head) s past own i boot d b x last head k up at done_ refl given going
 
 to_rules : (t : Bool) (s : Script) (who : Actor) (past : List Entry) (own : List Line) (b : Backs) (x : Turn) → EachLine (IsBreakGood s) who past own x.lines → EachLine (IsBreakGood s) who past own (cond t x (no_turn b)).lines
 to_rules true s who past own b x h = h
@@ -643,15 +643,24 @@ renewed_rules : (s : Script) (who : Actor) (past : List Entry) (own : List Line)
 renewed_rules s who past own me boot head b None = tt
 renewed_rules s who past own me boot head b (Some k) = renews_rules (is_back_awaited boot k head) s who past own me boot head.from head.boot k b
 
-answered_rules : (s : Script) (c : Cell) (past : List Entry) (i place : ℕ) (head : Head) → (B : Breaks s c past) → (c.hosts i).down ≡ None → head.to ≡ Server i → (d : Message) → d.head ≡ head → DoneIn (Server i) (c.hosts i).down (c.hosts i).state.backs.calls (c.hosts i).state.backs.last_call (c.hosts i).state.lasting.boot past d
+answered_rules : (s : Script) (c : Cell) (past : List Entry) (i place : ℕ) (head : Head) → (B : Breaks s c past) → (c.hosts i).down ≡ None → head.to ≡ Server i → (d : Message) → d.head ≡ head → HasCode d.carried → message_at c.sent place ≡ Some d → DoneIn (Server i) (c.hosts i).down (c.hosts i).state.backs.calls (c.hosts i).state.backs.last_call (c.hosts i).state.lasting.boot past d
     → EachLine (IsBreakGood s) (actors.Node (Server i)) past (lines.Given place ∷ []) (if_to (Server i) head (expired c.clock (c.hosts i).state.backs) (settles_by (Server i) (c.hosts i).state.lasting.boot head (expired c.clock (c.hosts i).state.backs) ((c.hosts i).state.backs.calls head.from))).lines
-answered_rules s c past i place head B up to d same k =
+answered_rules s c past i place head B up to d same code at k =
     let x : ServerState = (c.hosts i).state in
     let b : Backs = expired c.clock x.backs in
     let done_ : IsDone (Server i) (c.hosts i).down x.backs.calls x.backs.last_call x.lasting.boot past head.from head.epoch head.number =
     subst (λ (h : Head). IsDone (Server i) (c.hosts i).down x.backs.calls x.backs.last_call x.lasting.boot past h.from h.epoch h.number) same
     (subst (λ (n : Node). IsDone (Server i) (c.hosts i).down x.backs.calls x.backs.last_call x.lasting.boot past n d.head.epoch d.head.number) (sym k.from) (k.done (ap (λ (h : Head). h.to) same ∙ to))) in
-    to_rules (same_node head.to (Server i)) s (actors.Node (Server i)) past (lines.Given place ∷ []) b (settles_by (Server i) x.lasting.boot head b (x.backs.calls head.from)) (settled_rules s past (lines.Given place ∷ []) i x.lasting.boot (c.hosts i).down b x.backs x.backs.last_call head (x.backs.calls head.from) up refl done_ (λ z. z))
+    let given : IsReplied (Server i) head.from head.epoch head.number past (lines.Given place ∷ []) = record {
+      reply = d;
+      by = ap (λ (ms : List Message). message_at ms place) B.held.0.0.0.hears.told ∙ at;
+      is = code;
+      to = ap (λ (h : Head). h.to) same ∙ to;
+      from = ap (λ (h : Head). h.from) same;
+      epoch' = ap (λ (h : Head). h.epoch) same;
+      number' = ap (λ (h : Head). h.number) same;
+    } in
+    to_rules (same_node head.to (Server i)) s (actors.Node (Server i)) past (lines.Given place ∷ []) b (settles_by (Server i) x.lasting.boot head b (x.backs.calls head.from)) (settled_rules s past (lines.Given place ∷ []) i x.lasting.boot (c.hosts i).down b x.backs x.backs.last_call head (x.backs.calls head.from) up refl done_ given (λ z. z))
 
 done_of : (i : ℕ) (P : Message → Type 0) (m : Message) (y : Carried) → m.carried ≡ y → (OfReply ⊥ y → ⊥) → m.head.to ≡ Server i → IfDone P m → P m
 done_of i P m (carried.Call user call) is answers to h = absurd (answers tt)
@@ -666,10 +675,10 @@ given_rules s c past i place m (carried.Call user (ask.Volume call)) B up at to 
 given_rules s c past i place m (carried.Call user (ask.Location call)) B up at to is f = absurd f
 given_rules s c past i place m (carried.Refusal code) B up at to is f =
     let P : Message → Type 0 = DoneIn (Server i) (c.hosts i).down (c.hosts i).state.backs.calls (c.hosts i).state.backs.last_call (c.hosts i).state.lasting.boot past in
-    (tt, answered_rules s c past i place m.head B up to m refl (done_of i P m (carried.Refusal code) is (λ z. z) to (each_at (IfDone P) c.sent place m at (B.backed.all i).dones)))
+    (tt, answered_rules s c past i place m.head B up to m refl (subst HasCode (sym is) tt) at (done_of i P m (carried.Refusal code) is (λ z. z) to (each_at (IfDone P) c.sent place m at (B.backed.all i).dones)))
 given_rules s c past i place m (carried.Reply reply) B up at to is f =
     let P : Message → Type 0 = DoneIn (Server i) (c.hosts i).down (c.hosts i).state.backs.calls (c.hosts i).state.backs.last_call (c.hosts i).state.lasting.boot past in
-    (tt, answered_rules s c past i place m.head B up to m refl (done_of i P m (carried.Reply reply) is (λ z. z) to (each_at (IfDone P) c.sent place m at (B.backed.all i).dones)))
+    (tt, answered_rules s c past i place m.head B up to m refl (subst HasCode (sym is) tt) at (done_of i P m (carried.Reply reply) is (λ z. z) to (each_at (IfDone P) c.sent place m at (B.backed.all i).dones)))
 given_rules s c past i place m carried.Notice B up at to is f =
     let x : ServerState = (c.hosts i).state in
     let b : Backs = expired c.clock x.backs in
@@ -685,7 +694,7 @@ timed_by true s c past i n k B up at e = (tt, tt)
 timed_by false s c past i n k B up at e =
     let x : ServerState = (c.hosts i).state in
     let b : Backs = expired c.clock x.backs in
-    (tt, rules_of s (actors.Node (Server i)) past (lines.Timeout (Server i) n x.lasting.boot k.number 3 ∷ []) (map (quit_line (Server i) n) (still_owed k b)) (quits_good (Server i) refl s n x.lasting.boot b.last_call k b past ((up_at s c past i B.backed up).outs refl n k at) e))
+    (tt, rules_of s (actors.Node (Server i)) past (lines.Timeout (Server i) n x.lasting.boot k.number 3 ∷ []) (map (quit_line (Server i) n) (still_owed k b)) (quits_good (Server i) refl s n x.lasting.boot b.last_call k b past ((up_at s c past i B.backed up).outs refl n k at)))
 
 timed_rules : (s : Script) (c : Cell) (past : List Entry) (i : ℕ) (n : Node) (k : BackCall) → (B : Breaks s c past) → (c.hosts i).down ≡ None → (c.hosts i).state.backs.calls n ≡ Some k → EachLine (IsBreakGood s) (actors.Node (Server i)) past [] (back_timeout_row (Server i) (c.hosts i).state c.clock n k).lines
 unfolding back_timeout_row

@@ -11,11 +11,11 @@ use Rattle.afs_num.specs.declared.types.Node.TheVariants.{Client}
 use Rattle.afs_num.specs.declared.calls.FsCall.{FsCall}
 use Rattle.afs_num.specs.declared.messages.Message.{Message}
 use Rattle.afs_law.proofs.Basics.{Above, Each, IfBack, IfDone, OfReply}
-use Rattle.afs_law.specs.Breaks.{HasDrop, HasTimeout, unbroken_grant, expiry_of, Owes, AllOwes, EndedBy, OweAt, CarriesBreak, live_grant, last_number, lines_at}
+use Rattle.afs_law.specs.Breaks.{FirstSent, HasStopped, HasTimeout, IsGivenUp, unbroken_grant, expiry_of, Owes, AllOwes, EndedBy, OweAt, CarriesBreak, live_grant, last_number, lines_at}
 use Rattle.afs_rows.specs.Callbacks.{key_answered, breaks_call, is_reply_to}
 use Rattle.afs_law.specs.Legal.{HasChange}
 use Rattle.afs_history.specs.declared.lines.Line.{Line}
-use Rattle.afs_law.specs.Past.{WasSent, onto, lines_of, sent_of, given_message, IsCallUnder}
+use Rattle.afs_law.specs.Past.{onto, lines_on, lines_of, sent_of, given_message, IsCallUnder}
 use Rattle.afs_rows.specs.Runs.{Entry, Fall}
 use Rattle.afs_rows.specs.States.{Seat, BackCall, Held, Backs}
 use Rattle.afs_model.specs.Calls.{call_seat}
@@ -93,21 +93,18 @@ pub record HeldWaits (me : Node) (seats : List Seat) (clock : ℕ) (past : List 
 abbrev pub IsOwed : Node → Node → List Line → Owed → Type 0
 IsOwed me j ls o = OweAt me j o.what o.number ls
 
--- and each timeout of the call that carries it was told since
-pub record CarriedOwe (me : Node) (j : Node) (number most boot : ℕ) (ls : List Line) (o : Owed) : Type 0 where
-  pub owe : IsOwed me j ls o
-  pub tries : (t : ℕ) → 1 ≤ t → t ≤ most → HasTimeout me j boot number t owe.newer
-
 abbrev pub IsClient : Node → Type 0
 IsClient (Client n) = ⊤
 IsClient n = ⊥
 
--- an unanswered call of the server
+-- an unanswered call of the server: it was first sent when its breaks were owed, and each timeout of it was told
 pub record CallOut (me : Node) (j : Node) (c : BackCall) (last boot : ℕ) (past : List Entry) : Type 0 where
   pub number : c.number ≤ last
   pub client : IsClient j
-  pub owes : AllOf (CarriedOwe me j c.number c.tries boot (lines_of past)) c.breaks
-  pub sent : WasSent j (record { node = me; epoch = boot; number = c.number }) [] (breaks_call c.breaks) past
+  pub sent : FirstSent j (record { node = me; epoch = boot; number = c.number }) [] (breaks_call c.breaks) past
+  pub up : HasStopped me (lines_on [] sent.newer) → ⊥
+  pub tries : (t : ℕ) → 1 ≤ t → t ≤ c.tries → HasTimeout me j boot c.number t (lines_of past)
+  pub owes : AllOf (IsOwed me j (lines_of (sent.at ∷ sent.older))) c.breaks
   pub carries : AllOf (λ (o : Owed). CarriesBreak (breaks_call c.breaks) o.what) c.breaks
 
 -- a server's call under way: if it is this server's, and the unanswered one, it carries its breaks
@@ -118,16 +115,15 @@ pub record BackIn (me : Node) (d : Option Fall) (calls : Node → Option BackCal
   pub below : head.from ≡ me → d ≡ None → head.epoch ≡ boot → head.number ≤ last
   pub is : (c : BackCall) → head.from ≡ me → d ≡ None → head.epoch ≡ boot → calls client ≡ Some c → head.number ≡ c.number → call ≡ breaks_call c.breaks
 
--- the client dropped what this break is on
-pub record DroppedOwe (me : Node) (j : Node) (ls : List Line) (o : Owed) : Type 0 where
-  pub owe : OweAt me j o.what o.number ls
-  pub dropped : HasDrop me j o.what owe.newer
+-- the client dropped what this break is on, which the call of this number carries
+abbrev pub DroppedOwe : Node → Node → ℕ → ℕ → List Entry → Owed → Type 0
+DroppedOwe me j boot number past o = IsGivenUp me j boot number o.what o.number past
 
 -- the client was given the server's call of this epoch and number: if that is the unanswered one, it dropped what its breaks are on
 pub record IsDone (me : Node) (d : Option Fall) (calls : Node → Option BackCall) (last boot : ℕ) (past : List Entry) (j : Node) (epoch number : ℕ) : Type 0 where
   pub booted : epoch ≤ boot
   pub below : d ≡ None → epoch ≡ boot → number ≤ last
-  pub dropped : (c : BackCall) → d ≡ None → epoch ≡ boot → calls j ≡ Some c → number ≡ c.number → AllOf (DroppedOwe me j (lines_of past)) c.breaks
+  pub dropped : (c : BackCall) → d ≡ None → epoch ≡ boot → calls j ≡ Some c → number ≡ c.number → AllOf (DroppedOwe me j epoch number past) c.breaks
 
 pub record DoneIn (me : Node) (d : Option Fall) (calls : Node → Option BackCall) (last boot : ℕ) (past : List Entry) (m : Message) : Type 0 where
   pub client : Node

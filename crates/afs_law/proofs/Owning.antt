@@ -9,15 +9,16 @@ use Rattle.afs_law.proofs.Owing.{AllOf, DoneIn, DroppedOwe, IsIn, IsPromised, pr
 use Rattle.afs_law.specs.Ideal.{set_up}
 use Rattle.afs_law.specs.Laws.{BreaksAreOwed, GrantsAreKept, IsHandled, IsOwedIn, IsPromisedIn, RepliesFollowDrops}
 use Rattle.afs_law.specs.Once.{past_of}
-use Rattle.afs_law.specs.Past.{HasCode, lines_of}
+use Rattle.afs_law.specs.Past.{HasCode}
 use Rattle.afs_num.specs.declared.messages.Carried.{Carried}
 use Rattle.afs_num.specs.declared.messages.Carried.TheVariants as carried
 use Rattle.afs_num.specs.declared.messages.Message.{Message}
+use Rattle.afs_num.specs.declared.types.Head.{Head}
 use Rattle.afs_num.specs.declared.types.Fid.{Fid}
 use Rattle.afs_num.specs.declared.types.Node.{Node}
 use Rattle.afs_num.specs.declared.types.Node.TheVariants.{Client, Server}
 use Rattle.afs_rows.specs.Runs.{Cell, Entry, RunsTo, start}
-use Rattle.std.proofs.Common.{◌≡◌, ℕ, inl, inr, List, [], ◌∷◌, Option, refl, sym, ap, subst, ◌∙◌}
+use Rattle.std.proofs.Common.{◌≡◌, ℕ, inl, inr, List, [], ◌∷◌, Option, sym, ap, subst, ◌∙◌}
 use Rattle.std.specs.List.{AllByRecursion}
 
 backs_at : (s : Script) (h : List Entry) (end : Cell) → RunsTo h s end → Breaks s end (past_of (set_up s ∷ []) h)
@@ -53,9 +54,9 @@ done_in i (carried.Refusal code) to X is e h = by_server i to X e h
 done_in i (carried.Reply reply) to X is e h = by_server i to X e h
 done_in i carried.Notice to X is e h = absurd is
 
-handled_all : (i j : ℕ) (past : List Entry) (os : List OwedBreak) → AllOf (DroppedOwe (Server i) (Client j) (lines_of past)) os → AllByRecursion (IsHandled i j past) os
-handled_all i j past [] h = tt
-handled_all i j past (o ∷ os) h = ((record { going = λ z. z; what = o.what; owe = h.0.owe; dropped = h.0.dropped }, refl), handled_all i j past os h.1)
+handled_all : (i j : ℕ) (head : Head) (past : List Entry) (os : List OwedBreak) → AllOf (DroppedOwe (Server i) (Client j) head.epoch head.number past) os → AllByRecursion (IsHandled i j head past) os
+handled_all i j head past [] h = tt
+handled_all i j head past (o ∷ os) h = (h.0, handled_all i j head past os h.1)
 
 pub run_handled : RepliesFollowDrops
 run_handled s h end r i j place m b at code to from up boot call number =
@@ -65,4 +66,4 @@ run_handled s h end r i j place m b at code to from up boot call number =
     let P : Message → Type 0 = DoneIn (Server i) (end.hosts i).down (end.hosts i).state.backs.calls (end.hosts i).state.backs.last_call (end.hosts i).state.lasting.boot past in
     let d : P m = done_in i m.carried m.head.to (P m) code to (each_at (IfDone P) end.sent place m at x.dones) in
     let same : d.client ≡ Client j = sym d.from ∙ from in
-    handled_all i j past b.breaks (subst (λ (q : Node). AllOf (DroppedOwe (Server i) q (lines_of past)) b.breaks) same ((d.done to).dropped b up boot (ap (end.hosts i).state.backs.calls same ∙ call) number))
+    handled_all i j m.head past b.breaks (subst (λ (q : Node). AllOf (DroppedOwe (Server i) q m.head.epoch m.head.number past) b.breaks) same ((d.done to).dropped b up boot (ap (end.hosts i).state.backs.calls same ∙ call) number))

@@ -153,7 +153,7 @@ does_each S i past x clock place (refuses head code) ls h = (refl, calm_each S i
 does_each S i past x clock place (shows head r) ls h = (refl, calm_each S i past _ _ (granted_calm (Server i) head.from (clock + promise_ticks) r.granted ls h))
 does_each S i past x clock place (saves head c) ls h = (refl, (refl, under_each S i past (lines.Change (Server i) (key_of head) (length (made c)) ∷ lines.Given place ∷ []) (made c) _ tt (λ o. calm_each S i past o _ (granted_calm (Server i) head.from (clock + promise_ticks) (granted_in c) ls h))))
 
-serves_each : (S : Script) (i : ℕ) (past : List Entry) (x : ServerState) (clock place : ℕ) (m : Message) → InPlace S i past [] (server_row (Server i) x clock place (Whole m)).lines
+pub serves_each : (S : Script) (i : ℕ) (past : List Entry) (x : ServerState) (clock place : ℕ) (m : Message) → InPlace S i past [] (server_row (Server i) x clock place (Whole m)).lines
 unfolding server_row
 serves_each S i past x clock place m =
     let d : Decision = decides (Server i) x clock (Whole m) in

@@ -3,13 +3,13 @@ use Rattle.afs_history.specs.declared.acts.Act.{Act}
 use Rattle.afs_history.specs.declared.lines.Line.{Line}
 use Rattle.afs_history.specs.declared.lines.Line.TheVariants as lines
 use Rattle.afs_law.proofs.Acting.{is_of}
-use Rattle.afs_law.proofs.Backing.{Plain, all_lines, drop_onto, is_oweless, is_still, is_unchanging, is_up, owe_over, plain_step, seated_over}
+use Rattle.afs_law.proofs.Backing.{Plain, all_lines, drop_onto, is_oweless, is_still, is_unchanging, is_up, carried_over, plain_step, seated_over}
 use Rattle.afs_law.proofs.Basics.{ByServer, Each, IfBack, IfDone, LastSeat, OfCall, OfReply, OfServer, at_seat, both, by_server, each_map, kept_last, of_reply, same_node-true, server_any, some_of}
-use Rattle.afs_law.proofs.Owing.{BackIn, BackedIn, CallOut, CarriedOwe, DoneIn, DroppedOwe, IsDone, SeatedIn}
+use Rattle.afs_law.proofs.Owing.{AllOf, BackIn, BackedIn, CallOut, DoneIn, DroppedOwe, IsDone, SeatedIn}
 use Rattle.afs_law.proofs.Promising.{Owed}
 use Rattle.afs_law.proofs.Seating.{AreSeated, IsReplyOf}
-use Rattle.afs_law.specs.Breaks.{CarriesBreak, HasDrop, IsNamedIn, NamesIn, OweAt}
-use Rattle.afs_law.specs.Past.{lines_of, onto}
+use Rattle.afs_law.specs.Breaks.{CarriesBreak, HasDrop, IsNamedIn, IsCarried, NamesIn}
+use Rattle.afs_law.specs.Past.{lines_on, onto}
 use Rattle.afs_model.specs.Calls as pairs
 use Rattle.afs_model.specs.Calls.{Admitted, admitted, call_seat, call_seated}
 use Rattle.afs_num.specs.Nodes.{same_node}
@@ -47,7 +47,7 @@ use Rattle.std.proofs.Common.{◌≡◌, ℕ, inl, inr, Bool, true, false, cond,
 use Rattle.std.proofs.Math.Nat.{le_refl}
 use Rattle.std.specs.List.{list_any}
 use Rattle.std.specs.Prelude.{◌&&◌, filter, not}
-use Rattle.afs_law.proofs.Loading.{two_all}
+use Rattle.afs_law.proofs.Loading.{carried_by, two_all}
 use Rattle.afs_law.proofs.Turning.{of_reply_any}
 
 -- ---- a step that answers no call
@@ -224,8 +224,10 @@ handled me d b boot seats cs clock sent e past n head user call B k to own up dr
       dropped = λ c x y at q.
           let is : call ≡ breaks_call c.breaks = k.is c own x y (ap b.calls one ∙ at) q in
           let out : CallOut me (Client n) c b.last_call boot past = B.outs x (Client n) c at in
-          two_all (CarriedOwe me (Client n) c.number c.tries boot (lines_of past)) (λ (o : Owed). CarriesBreak (breaks_call c.breaks) o.what) (DroppedOwe me (Client n) (lines_of (e ∷ past)))
-          (λ o z w. let owe : OweAt me (Client n) o.what o.number (lines_of past) = z.owe in record { owe = owe_over me (Client n) o.what o.number e past up owe; dropped = drop o.what owe.newer (subst (λ (u : FsCall). CarriesBreak u o.what) (sym is) w) }) c.breaks out.owes out.carries;
+          subst (λ (k : ℕ). AllOf (DroppedOwe me (Client n) k head.number (e ∷ past)) c.breaks) (sym y)
+          (subst (λ (k : ℕ). AllOf (DroppedOwe me (Client n) boot k (e ∷ past)) c.breaks) (sym q)
+          (two_all (λ (o : Owed). IsCarried me (Client n) boot c.number o.what o.number past) (λ (o : Owed). CarriesBreak (breaks_call c.breaks) o.what) (DroppedOwe me (Client n) boot c.number (e ∷ past))
+          (λ o z w. record { carried = carried_over me (Client n) boot c.number o.what o.number e past up z; dropped = drop o.what (lines_on [] z.sent.newer) (subst (λ (u : FsCall). CarriesBreak u o.what) (sym is) w) }) c.breaks (carried_by me (Client n) boot c past b.last_call out) out.carries));
     }
 
 -- the lines drop each of the fids

@@ -26,7 +26,7 @@ use Rattle.afs_law.proofs.Finding.{IsAmong}
 use Rattle.afs_law.specs.Breaks.{HasStopped}
 use Rattle.afs_law.specs.Ideal.{change_in, change_key, set_up, volume_after}
 use Rattle.afs_law.specs.Legal.{HasChange, IsChanging, IsKey, IsResult, IsTold as IsToldOf, answer_at, code_given}
-use Rattle.afs_law.specs.ServerParts.{IsKind}
+use Rattle.afs_law.specs.Legal.{IsKind}
 use Rattle.afs_law.specs.Past.{HasCode, IsCall, IsToCome, Ran, answered_key, called_key, code_told, given_message, lines_of, onto, sent_of, server_boot}
 use Rattle.afs_model.specs.Calls as pairs
 use Rattle.afs_model.specs.Calls.{Admitted, admitted, call_seat, paired}

@@ -117,7 +117,7 @@ untimed s n st past place none q e k i o h = elim (timeout_of (Client n) q st.li
 pub none_times : (n : ℕ) (c : ClientState) (st : Step ClientState) → IsUntimed n st → Times n c st
 none_times n c st w q e k i o h = inl (w q e k i o h)
 
-given_has : (ls : List Line) (sent : List Message) (m : Message) → given_message ls sent ≡ Some m → has_given ls ≡ true
+pub given_has : (ls : List Line) (sent : List Message) (m : Message) → given_message ls sent ≡ Some m → has_given ls ≡ true
 given_has [] sent m e = absurd cc
 given_has (lines.Given p ∷ ls) sent m e = refl
 given_has (l ∷ ls) sent m e = given_has ls sent m e
@@ -135,7 +135,7 @@ first_begun : (x : ClientState) (n clock : ℕ) (act : Act) (a : Going) (need : 
 first_begun x n clock act a gives_back = gives_begun (record x { cache = untrusted_in clock x.cache }) n act a (trusted_in clock x.cache) (in_order (map gift_of (trusted_in clock x.cache)))
 first_begun x n clock act a need = goes_begun x n act (walked (most_reads a) clock a x.cache) (next (walked (most_reads a) clock a x.cache).act)
 
-row_begun : (x : ClientState) (n clock : ℕ) (act : Act) → has_begun (Client n) (begin_row (Client n) x clock act).lines ≡ true
+pub row_begun : (x : ClientState) (n clock : ℕ) (act : Act) → has_begun (Client n) (begin_row (Client n) x clock act).lines ≡ true
 unfolding begin_row
 row_begun x n clock act = first_begun (record x { busy = 0 }) n clock act (began x.table act) (next (began x.table act))
 

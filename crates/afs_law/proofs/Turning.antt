@@ -17,14 +17,14 @@ use Rattle.afs_num.specs.declared.calls.FsCall.{FsCall}
 use Rattle.afs_num.specs.declared.messages.Carried.{Carried}
 use Rattle.afs_num.specs.declared.messages.Message.{Message}
 use Rattle.afs_law.proofs.Backing.{back_pass, done_pass, CallsPass}
-use Rattle.afs_law.proofs.Basics.{server_any, both, same_node-true, Each, IfBack, IfDone, OfCall, OfReply, OfServer, ByServer, each_more, each_map, if_back, if_done, some_of}
-use Rattle.afs_law.proofs.Owing.{CarriedOwe, AllOf, all_map, all_both, all_filter, IsGranted, IsIn, IsNumberIn, HeldWaits, IsOwed, CallOut, BackIn, DoneIn, BackedIn, IsPromised, promise_to, IsClient, is_held}
+use Rattle.afs_law.proofs.Basics.{server_any, same_key-true, both, same_node-true, Each, IfBack, IfDone, OfCall, OfReply, OfServer, ByServer, each_more, each_map, if_back, if_done, some_of}
+use Rattle.afs_law.proofs.Owing.{AllOf, all_map, all_both, all_filter, IsGranted, IsIn, IsNumberIn, HeldWaits, IsOwed, CallOut, BackIn, DoneIn, BackedIn, IsPromised, promise_to, IsClient, is_held}
 use Rattle.afs_law.specs.Breaks.{HasCome, AllOwes, EndedBy, EndedOf, EndedAll, CarriesBreak, NamesIn}
 use Rattle.afs_rows.specs.Callbacks.{put_at, Turn, Started, expired, is_all, waits_none, is_ready, is_reply_to, key_answered, fids_of, breaks_call, fid_before, call_for, break_message, first_of, is_for, most_breaks, carries_for, started_call, starts_by, starts, replies_of, held_after, given_out, pumped}
 use Rattle.afs_law.specs.Ideal.{clock_of}
 use Rattle.afs_law.specs.Legal.{HasOwnKey, IsOfServer, HasOwnHalf, IsBy, GoodCall, GoodGift, HasChange, GoodReply, AreGoodSent}
 use Rattle.afs_history.specs.declared.lines.Line.{Line}
-use Rattle.afs_law.specs.Past.{SendsTo, WasSent, server_boot, lines_of, sent_of, given_message, answered_key, called_key, IsCallUnder}
+use Rattle.afs_law.specs.Past.{SendsTo, has_sent, is_called, same_key, server_boot, lines_of, sent_of, given_message, answered_key, called_key, IsCallUnder}
 use Rattle.afs_rows.specs.Runs.{Entry}
 use Rattle.afs_rows.specs.States.{Seat, BackCall, Held, Backs}
 use Rattle.afs_num.specs.declared.messages.Carried.TheVariants as carried
@@ -298,7 +298,7 @@ are_carried me (Some f) o ls owed e h k =
     record { owes = all_map (IsPick me o.client ls) (IsOwed me o.client ls) (λ x y. y.owed) os p; carries = all_carried os (all_map (IsPick me o.client ls) IsOnFid (λ x y. y.fid) os p) }
 
 call_more : (me : Node) (j : Node) (c : BackCall) (last more boot : ℕ) (past : List Entry) → last ≤ more → CallOut me j c last boot past → CallOut me j c more boot past
-call_more me j c last more boot past le h = record { client = h.client; number = le_trans h.number le; owes = h.owes; sent = h.sent; carries = h.carries }
+call_more me j c last more boot past le h = record { client = h.client; number = le_trans h.number le; sent = h.sent; up = h.up; tries = h.tries; owes = h.owes; carries = h.carries }
 
 put_by : (t : Bool) (j k : Node) (n c : BackCall) (o : Option BackCall) (X : Type 0) → same_node j k ≡ t → cond t (Some n) o ≡ Some c → (j ≡ k → n ≡ c → X) → (o ≡ Some c → X) → X
 put_by true j k n c o X e at a b = a (same_node-true j k e) (some_of n c at)
@@ -319,11 +319,47 @@ sends_last : (j : Node) (k : Key) (user : List ℕ) (call : FsCall) (a : List Me
 sends_last j k user call [] m h = h
 sends_last j k user call (x ∷ a) m h = inr (sends_last j k user call a m h)
 
-started_backed : (me : Node) (boot : ℕ) (seats : List Seat) (cs : ℕ → Option Seat) (clock : ℕ) (sent : List Message) (past : List Entry) (t : Started) (o : Owed) (x : Option BackCall) → IsBacked me boot seats cs clock sent past t → IsOwed me o.client (lines_of past) o → IsClient o.client
-    → ((c : BackCall) → x ≡ None → SendsTo o.client (record { node = me; epoch = boot; number = c.number }) [] (breaks_call c.breaks) (t.sent ++ break_message me boot o.client (t.backs.known o.client) c ∷ []) → c ≡ started_call t.backs o → WasSent o.client (record { node = me; epoch = boot; number = c.number }) [] (breaks_call c.breaks) past)
-    → IsBacked me boot seats cs clock sent past (starts_by me boot t o x)
-started_backed me boot seats cs clock sent past t o (Some c) h is to was = h
-started_backed me boot seats cs clock sent past t o None h is to was =
+-- it is a server
+abbrev pub IsServing : Node → Type 0
+IsServing me = IsOfServer (actors.Node me) me
+
+-- no call of the server had the number that its next one gets
+of_serving : (n me : Node) (X : Type 0) → n ≡ me → IsServing me → OfServer n X → X
+of_serving n (Server i) X e is h = subst (λ (q : Node). OfServer q X) e h
+of_serving n (Client j) X e is h = absurd is
+of_serving n (Admin j) X e is h = absurd is
+of_serving n Loc X e is h = absurd is
+
+abbrev IsAfter : Node → ℕ → ℕ → Key
+IsAfter me boot last = record { node = me; epoch = boot; number = last + 1 }
+
+none_under : (t : Bool) (me : Node) (boot last : ℕ) (calls' : Node → Option BackCall) (head : Head) (user : List ℕ) (call : FsCall) → IsServing me → same_key (called_key head) (IsAfter me boot last) ≡ t → OfServer head.from (BackIn me None calls' last boot head user call) → t ≡ false
+none_under false me boot last calls' head user call is e h = refl
+none_under true me boot last calls' head user call is e h =
+    let same : called_key head ≡ IsAfter me boot last = same_key-true _ _ e in
+    let own : head.from ≡ me = ap (λ (k : Key). k.node) same in
+    let low : head.number ≤ last = (of_serving head.from me (BackIn me None calls' last boot head user call) own is h).below own refl (ap (λ (k : Key). k.epoch) same) in
+    let high : head.number ≡ last + 1 = ap (λ (k : Key). k.number) same in
+    absurd (omega arith)
+
+call_unsent : (me : Node) (boot last : ℕ) (calls' : Node → Option BackCall) (head : Head) (x : Carried) → IsServing me → OfCall (ByServer (BackIn me None calls' last boot)) head x → is_called (IsAfter me boot last) head x ≡ false
+call_unsent me boot last calls' head (carried.Call user (ask.File call)) is h = none_under (same_key (called_key head) (IsAfter me boot last)) me boot last calls' head user call is refl h
+call_unsent me boot last calls' head (carried.Call user (ask.Volume call)) is h = refl
+call_unsent me boot last calls' head (carried.Call user (ask.Location call)) is h = refl
+call_unsent me boot last calls' head (carried.Refusal code) is h = refl
+call_unsent me boot last calls' head (carried.Reply reply) is h = refl
+call_unsent me boot last calls' head carried.Notice is h = refl
+
+calls_unsent : (me : Node) (boot last : ℕ) (calls' : Node → Option BackCall) (ms more : List Message) → IsServing me → Each (IfBack (BackIn me None calls' last boot)) (ms ++ more) → has_sent (IsAfter me boot last) ms ≡ false
+calls_unsent me boot last calls' [] more is h = refl
+calls_unsent me boot last calls' (m ∷ ms) more is h = rw (call_unsent me boot last calls' m.head m.carried is h.0, calls_unsent me boot last calls' ms more is h.1) refl
+
+started_backed : (me : Node) (boot : ℕ) (seats : List Seat) (cs : ℕ → Option Seat) (clock : ℕ) (sent : List Message) (at : Entry) (older : List Entry) (t : Started) (o : Owed) (x : Option BackCall) → IsServing me → sent_of older ≡ sent → IsBacked me boot seats cs clock sent (at ∷ older) t → IsOwed me o.client (lines_of (at ∷ older)) o → IsClient o.client
+    → ((c : BackCall) → x ≡ None → SendsTo o.client (record { node = me; epoch = boot; number = c.number }) [] (breaks_call c.breaks) (t.sent ++ break_message me boot o.client (t.backs.known o.client) c ∷ []) → c ≡ started_call t.backs o → SendsTo o.client (record { node = me; epoch = boot; number = c.number }) [] (breaks_call c.breaks) at.sent)
+    → IsBacked me boot seats cs clock sent (at ∷ older) (starts_by me boot t o x)
+started_backed me boot seats cs clock sent at older t o (Some c) serving told h is to was = h
+started_backed me boot seats cs clock sent at older t o None serving told h is to was =
+    let past : List Entry = at ∷ older in
     let n : BackCall = started_call t.backs o in
     let last : ℕ = t.backs.last_call in
     let calls' : Node → Option BackCall = put_at o.client (Some n) t.backs.calls in
@@ -340,12 +376,21 @@ started_backed me boot seats cs clock sent past t o None h is to was =
       accounted = h.accounted;
       owing = h.owing;
       waiting = h.waiting;
-      outs = λ y j c at. put_call o.client j n c t.backs.calls (CallOut me j c (last + 1) boot past) at
+      outs = λ y j c at'. put_call o.client j n c t.backs.calls (CallOut me j c (last + 1) boot past) at'
           (λ e q. subst (λ (k : Node). CallOut me k c (last + 1) boot past) e (subst (λ (z : BackCall). CallOut me o.client z (last + 1) boot past) q (record {
             number = le_refl _;
             client = to;
-            owes = all_map (IsOwed me o.client (lines_of past)) (CarriedOwe me o.client n.number n.tries boot (lines_of past)) (λ z w. record { owe = w; tries = λ k a b. absurd (omega arith) }) n.breaks carried_.owes;
-            sent = was n refl (sends_last o.client _ _ _ t.sent m (inl (refl, (refl, refl)))) refl;
+            sent = record {
+              newer = [];
+              at = at;
+              older = older;
+              split = refl;
+              sent = was n refl (sends_last o.client _ _ _ t.sent m (inl (refl, (refl, refl)))) refl;
+              first = subst (λ (ms : List Message). has_sent (IsAfter me boot last) ms ≡ false) (sym told) (calls_unsent me boot last t.backs.calls sent t.sent serving h.calls);
+            };
+            up = λ z. z;
+            tries = λ k a b. absurd (omega arith);
+            owes = carried_.owes;
             carries = carried_.carries;
           })))
           (λ e. call_more me j c last (last + 1) boot past le (h.outs y j c e));
@@ -365,8 +410,8 @@ started_backed me boot seats cs clock sent past t o None h is to was =
       seated = λ j seat k y z. let w = h.seated j seat k y z in record { to = w.to; from = w.from; is_reply = w.is_reply; done = done_pass me None None t.backs.calls calls' last (last + 1) boot past past (Client j) k.head.epoch k.head.number (λ u. u) le pass (λ u v q. q) w.done };
     })
 
-abbrev IsSentBy : Node → ℕ → Started → List Owed → List Entry → Type 0
-IsSentBy me boot t os past = (j : Node) (k : Key) (user : List ℕ) (call : FsCall) → SendsTo j k user call (starts me boot os t).sent → WasSent j k user call past
+abbrev IsSentBy : Node → ℕ → Started → List Owed → List Message → Type 0
+IsSentBy me boot t os ms = (j : Node) (k : Key) (user : List ℕ) (call : FsCall) → SendsTo j k user call (starts me boot os t).sent → SendsTo j k user call ms
 
 sent_by : (me : Node) (boot : ℕ) (t : Started) (o : Owed) (x : Option BackCall) (j : Node) (k : Key) (user : List ℕ) (call : FsCall) → SendsTo j k user call t.sent → SendsTo j k user call (starts_by me boot t o x).sent
 sent_by me boot t o None j k user call h = sends_front j k user call t.sent _ h
@@ -380,12 +425,13 @@ new_sent : (me : Node) (boot : ℕ) (t : Started) (o : Owed) (x : Option BackCal
 new_sent me boot t o None c j k user call e q h = subst (λ (z : BackCall). SendsTo j k user call (t.sent ++ break_message me boot o.client (t.backs.known o.client) z ∷ [])) q h
 new_sent me boot t o (Some x) c j k user call e q h = absurd cc
 
-started_all : (me : Node) (boot : ℕ) (seats : List Seat) (cs : ℕ → Option Seat) (clock : ℕ) (sent : List Message) (past : List Entry) (os : List Owed) (t : Started) → IsBacked me boot seats cs clock sent past t → AllOf (λ (o : Owed). IsOwed me o.client (lines_of past) o) os → AllOf (λ (o : Owed). IsClient o.client) os → IsSentBy me boot t os past → IsBacked me boot seats cs clock sent past (starts me boot os t)
-started_all me boot seats cs clock sent past [] t h is to was = h
-started_all me boot seats cs clock sent past (o ∷ os) t h is to was =
+started_all : (me : Node) (boot : ℕ) (seats : List Seat) (cs : ℕ → Option Seat) (clock : ℕ) (sent : List Message) (at : Entry) (older : List Entry) (os : List Owed) (t : Started) → IsServing me → sent_of older ≡ sent → IsBacked me boot seats cs clock sent (at ∷ older) t
+    → AllOf (λ (o : Owed). IsOwed me o.client (lines_of (at ∷ older)) o) os → AllOf (λ (o : Owed). IsClient o.client) os → IsSentBy me boot t os at.sent → IsBacked me boot seats cs clock sent (at ∷ older) (starts me boot os t)
+started_all me boot seats cs clock sent at older [] t serving told h is to was = h
+started_all me boot seats cs clock sent at older (o ∷ os) t serving told h is to was =
     let x : Option BackCall = t.backs.calls o.client in
     let u : Started = starts_by me boot t o x in
-    started_all me boot seats cs clock sent past os u (started_backed me boot seats cs clock sent past t o x h is.0 to.0 (λ c e y q. was _ _ _ _ (sent_all me boot os u _ _ _ _ (new_sent me boot t o x c _ _ _ _ e q y)))) is.1 to.1 was
+    started_all me boot seats cs clock sent at older os u serving told (started_backed me boot seats cs clock sent at older t o x serving told h is.0 to.0 (λ c e y q. was _ _ _ _ (sent_all me boot os u _ _ _ _ (new_sent me boot t o x c _ _ _ _ e q y)))) is.1 to.1 was
 
 -- ---- the end of a step
 
@@ -443,10 +489,6 @@ pub break_gift : (os : List Owed) (head : Head) (ls : List Line) → GoodGift he
 break_gift [] head ls = tt
 break_gift (o ∷ os) head ls = on_gift o.what (o ∷ os) head ls
 
--- it is a server
-abbrev pub IsServing : Node → Type 0
-IsServing me = IsOfServer (actors.Node me) me
-
 serving_key : (me : Node) (k : Key) (past : List Entry) → IsServing me → HasOwnKey me k past
 serving_key (Server i) k past is = tt
 serving_key (Client j) k past is = absurd is
@@ -467,16 +509,13 @@ pub record Pumps (me : Node) (boot : ℕ) (seats : List Seat) (cs : ℕ → Opti
   pub clients : AllOf (λ (o : Owed). IsClient o.client) t.backs.lists.owed
   pub backed : BackedIn me None (pumped me boot t).backs boot seats cs clock (sent ++ (pumped me boot t).sent) past
 
-was_sent : (e : Entry) (past : List Entry) (j : Node) (k : Key) (user : List ℕ) (call : FsCall) → SendsTo j k user call e.sent → WasSent j k user call (e ∷ past)
-was_sent e past j k user call h = inl h
-
-pub pumps : (me : Node) (boot : ℕ) (seats : List Seat) (cs : ℕ → Option Seat) (clock : ℕ) (sent : List Message) (e : Entry) (past : List Entry) (t : Turn) → IsServing me → e.actor ≡ actors.Node me → e.sent ≡ (pumped me boot t).sent → clock_of (lines_of (e ∷ past)) ≡ clock → BackedIn me None (loaded t) boot seats cs clock sent (e ∷ past) → TurnSends me (loaded t) boot (e ∷ past) t.sent → server_boot me (lines_of (e ∷ past)) ≡ Some boot → Pumps me boot seats cs clock sent (e ∷ past) t
-pumps me boot seats cs clock sent e past t serving by is time h s up =
+pub pumps : (me : Node) (boot : ℕ) (seats : List Seat) (cs : ℕ → Option Seat) (clock : ℕ) (sent : List Message) (e : Entry) (past : List Entry) (t : Turn) → IsServing me → sent_of past ≡ sent → e.actor ≡ actors.Node me → e.sent ≡ (pumped me boot t).sent → clock_of (lines_of (e ∷ past)) ≡ clock → BackedIn me None (loaded t) boot seats cs clock sent (e ∷ past) → TurnSends me (loaded t) boot (e ∷ past) t.sent → server_boot me (lines_of (e ∷ past)) ≡ Some boot → Pumps me boot seats cs clock sent (e ∷ past) t
+pumps me boot seats cs clock sent e past t serving told by is time h s up =
     let q = held_all (HeldWaits me seats clock (e ∷ past)) t.backs.held t.outs (h.waiting refl) in
     record {
       good = calls_good me boot (e ∷ past) t.backs.lists.owed _ serving by (good_more (e ∷ past) t.sent _ s.good (replies_good me (loaded t) boot seats cs clock sent (e ∷ past) (t.outs ++ t.backs.held) h time (all_both (HeldWaits me seats clock (e ∷ past)) t.outs t.backs.held q.1 q.0) up by));
       clients = (h.clients refl).owed;
-      backed = started_all me boot seats cs clock sent (e ∷ past) t.backs.lists.owed _ (released me boot seats cs clock sent (e ∷ past) t h s) (h.owing refl) (h.clients refl).owed (λ j k user call x. was_sent e past j k user call (subst (λ (ms : List Message). SendsTo j k user call ms) (sym is) x));
+      backed = started_all me boot seats cs clock sent e past t.backs.lists.owed _ serving told (released me boot seats cs clock sent (e ∷ past) t h s) (h.owing refl) (h.clients refl).owed (λ j k user call x. subst (λ (ms : List Message). SendsTo j k user call ms) (sym is) x);
     }
 
 pub break_good : (me : Node) (past : List Entry) (boot : ℕ) (n : Node) (known : ℕ) (c : BackCall) → IsServing me → IsBy me past → AreGoodSent past (break_message me boot n known c ∷ [])

@@ -10,10 +10,10 @@ use Rattle.afs_law.proofs.Codes.{HasSent, each_both, since_call}
 use Rattle.afs_law.proofs.Ideals.{of_this}
 use Rattle.afs_law.proofs.KeysOnce.{IsKnown}
 use Rattle.afs_law.specs.Breaks.{IsNamedIn}
-use Rattle.afs_law.specs.ClientParts.{IsDue, IsReadBy, IsUse, IsUsed}
+use Rattle.afs_law.specs.ClientParts.{IsDue, IsUsed}
 use Rattle.afs_law.specs.Grants.{has_fetched, is_promised}
 use Rattle.afs_law.specs.Ideal.{user_of}
-use Rattle.afs_law.specs.Legal.{IsInPlace}
+use Rattle.afs_law.specs.Legal.{Brings, IsInPlace, IsUse}
 use Rattle.afs_law.specs.Parts.{EachLine}
 use Rattle.afs_law.specs.Past.{CalledSince, HasCode, answered_key, given_message, has_given, sent_of}
 use Rattle.afs_num.specs.Fids.{same_fid}
@@ -22,6 +22,7 @@ use Rattle.afs_num.specs.declared.calls.FsCall.{FsCall}
 use Rattle.afs_num.specs.declared.calls.FsCall.TheVariants as calls
 use Rattle.afs_num.specs.declared.histories.Actor.{Actor}
 use Rattle.afs_num.specs.declared.histories.ReadBody.{ReadBody}
+use Rattle.afs_num.specs.declared.histories.ReadBody.TheVariants as seen
 use Rattle.afs_num.specs.declared.histories.ReadSource.TheVariants.{Cached, Fetched}
 use Rattle.afs_num.specs.declared.messages.Message.{Message}
 use Rattle.afs_num.specs.declared.types.Fid.{Fid}
@@ -62,18 +63,19 @@ IsGivenIn sent m own ls = ((given_message own sent ≡ Some m) × (has_given ls 
 pub record IsUseOf (s : Script) (c : Node) (f : Fid) (m : Message) (past : List Entry) : Type 0 where
   pub call : FsCall
   pub called : CalledSince (answered_key m.head) (user_of s c) call past
-  pub of : IsReadBy f call
+  pub body : ReadBody
+  pub of : Brings call f body
 
-use_of : (s : Script) (c : Node) (f : Fid) (m : Message) (past : List Entry) (own ls : List Line) → IsGivenIn (sent_of past) m own ls → IsUse s c f past own → IsUseOf s c f m past
-use_of s c f m past own ls (inl g) u =
+use_of : (s : Script) (c : Node) (f : Fid) (body : ReadBody) (m : Message) (past : List Entry) (own ls : List Line) → IsGivenIn (sent_of past) m own ls → IsUse s c f body past own → IsUseOf s c f m past
+use_of s c f body m past own ls (inl g) u =
     let same : u.used.reply ≡ m = some_of u.used.reply m (sym u.used.by ∙ g.0) in
-    record { call = u.used.call; called = subst (λ (r : Message). CalledSince (answered_key r.head) (user_of s c) u.used.call past) same u.used.called; of = u.of }
-use_of s c f m past own ls (inr g) u = let no_ : None ≡ Some u.used.reply = sym (none_given own (sent_of past) g.0) ∙ u.used.by in absurd cc
+    record { call = u.used.call; called = subst (λ (r : Message). CalledSince (answered_key r.head) (user_of s c) u.used.call past) same u.used.called; body = body; of = u.of }
+use_of s c f body m past own ls (inr g) u = let no_ : None ≡ Some u.used.reply = sym (none_given own (sent_of past) g.0) ∙ u.used.by in absurd cc
 
-read_use : (s : Script) (c n : Node) (f g : Fid) (body : ReadBody) (m : Message) (past : List Entry) (own ls : List Line) (t u v : Bool) → is_promised body ≡ t → same_node n c ≡ u → same_fid g f ≡ v → IsGivenIn (sent_of past) m own ls → IsUsed s (is_promised body) n g Fetched past own → (rest : Bool) → cond (t && (u && v)) true rest ≡ true → (rest ≡ true → IsUseOf s c f m past) → IsUseOf s c f m past
+read_use : (s : Script) (c n : Node) (f g : Fid) (body : ReadBody) (m : Message) (past : List Entry) (own ls : List Line) (t u v : Bool) → is_promised body ≡ t → same_node n c ≡ u → same_fid g f ≡ v → IsGivenIn (sent_of past) m own ls → IsUsed s (is_promised body) n g Fetched body past own → (rest : Bool) → cond (t && (u && v)) true rest ≡ true → (rest ≡ true → IsUseOf s c f m past) → IsUseOf s c f m past
 read_use s c n f g body m past own ls true true true p q r given used rest e w =
-    use_of s c f m past own ls given
-    (subst (λ (x : Node). IsUse s x f past own) (same_node-true n c q) (subst (λ (h : Fid). IsUse s n h past own) (same_fid-true g f r) (subst (λ (b : Bool). IsUsed s b n g Fetched past own) p used refl)))
+    use_of s c f body m past own ls given
+    (subst (λ (x : Node). IsUse s x f body past own) (same_node-true n c q) (subst (λ (h : Fid). IsUse s n h body past own) (same_fid-true g f r) (subst (λ (b : Bool). IsUsed s b n g Fetched body past own) p used refl)))
 read_use s c n f g body m past own ls true true false p q r given used rest e w = w e
 read_use s c n f g body m past own ls true false v p q r given used rest e w = w e
 read_use s c n f g body m past own ls false u v p q r given used rest e w = w e
@@ -99,11 +101,11 @@ named_one f [] x = x
 named_one f (g ∷ fs) (inl e) = inl (ap (λ (h : Fid). h.volume) e)
 named_one f (g ∷ fs) (inr x) = inr (named_one f fs x)
 
-read_asks : (f : Fid) (call : FsCall) → IsReadBy f call → AsksOf call f.volume
-read_asks f (calls.FetchData g position wanted) e = ap (λ (h : Fid). Some h.volume) e
-read_asks f (calls.FetchStatus g) e = ap (λ (h : Fid). Some h.volume) e
-read_asks f (calls.BulkStatus fids) x = named_one f fids x
-read_asks f call x = absurd x
+read_asks : (f : Fid) (call : FsCall) (body : ReadBody) → Brings call f body → AsksOf call f.volume
+read_asks f (calls.FetchData g position wanted) (seen.Contents body) e = ap (λ (h : Fid). Some h.volume) e
+read_asks f (calls.FetchStatus g) (seen.Status status) e = ap (λ (h : Fid). Some h.volume) e
+read_asks f (calls.BulkStatus fids) (seen.Status status) x = named_one f fids x
+read_asks f call body x = absurd x
 
 pub of_home : (s : Script) (callees : Key → Node) (clients : ℕ → ClientState) (j : ℕ) (f : Fid) (m : Message) (past : List Entry) → IsUseOf s (Client j) f m past → HasCode m.carried → m.head.to ≡ Client j → IfReply (IsOfCallee callees clients) m → Each (IfCall (λ h u x. IsKnown callees clients h.to (key_of h))) (sent_of past) → Each (IfCall (IsHome s)) (sent_of past)
     → m.head.from ≡ Server (server_at (locations s) f.volume)
@@ -114,4 +116,4 @@ of_home s callees clients j f m past u code to of known homes =
     let head : Head = x.message.head in
     let from : head.from ≡ Client j = ap (λ (q : Key). q.node) x.key ∙ to in
     let same : head.to ≡ callees k = (of_this K j head x.message.carried (user_of s (Client j)) u.call from x.carries x.holds.0).called ∙ ap callees x.key in
-    of_callee callees clients j m of code to ∙ (sym same ∙ (of_this (IsHome s) j head x.message.carried (user_of s (Client j)) u.call from x.carries x.holds.1).to f.volume (read_asks f u.call u.of))
+    of_callee callees clients j m of code to ∙ (sym same ∙ (of_this (IsHome s) j head x.message.carried (user_of s (Client j)) u.call from x.carries x.holds.1).to f.volume (read_asks f u.call u.body u.of))

@@ -1,11 +1,12 @@
 -- What the facts are said with.
+pub use Rattle.afs_law.specs.Legal.{IsOpen}
 use Rattle.afs_ideal.specs.Directories.{IsDirectory, FitNames}
 use Rattle.afs_ideal.specs.Operations.{is_number, volume_changed}
 use Rattle.afs_ideal.specs.Tables.{AscendsFrom, Table, get}
 use Rattle.afs_ideal.specs.Volumes.{Vnode, Volume}
 use Rattle.afs_law.proofs.Basics.{Above, OfReply, same_fid-true}
 use Rattle.afs_rows.specs.ClientRow.{find_cached}
-use Rattle.afs_rows.specs.Going.{asked, answers, Going, Need, next}
+use Rattle.afs_rows.specs.Going.{asked, Going}
 use Rattle.afs_law.specs.Ideal.{HasBeen, HasVersion, user_of, reach, call_under}
 use Rattle.afs_law.specs.Legal.{IsThere, as_asked}
 use Rattle.afs_history.specs.declared.lines.Line.{Line}
@@ -41,11 +42,6 @@ AreApart (e ∷ cache) = (find_cached e.fid cache ≡ None) × AreApart cache
 
 abbrev pub fids_of_gifts : List Gift → List Fid
 fids_of_gifts gs = map (λ g. g.fid) gs
-
--- the act isn't at its end
-abbrev pub IsOpen : Need → Type 0
-IsOpen (answers code) = ⊥
-IsOpen need = ⊤
 
 -- ---- what was read or stored is known up to this index at most
 

@@ -1,37 +1,47 @@
 -- Histories that are wrong for one reason each: a run, altered in one entry, of which just one condition isn't met.
 use Rattle.afs_law.proofs.Ideals.{at_home}
-use Rattle.afs_law.proofs.Backing.{all_lines, is_oweless, no_owe}
+use Rattle.afs_law.proofs.Backing.{all_lines}
 use Rattle.afs_num.specs.declared.types.Key.{Key}
 use Rattle.afs_num.specs.declared.types.Head.{Head}
 use Rattle.afs_records.specs.Records.{record_bytes, head_form, volume_form}
 use Rattle.afs_rows.specs.ServerSteps.{server_row, back_timeout_row, wake_row, start_row}
+use Rattle.afs_history.specs.declared.acts.Act.{Act}
 use Rattle.afs_history.specs.declared.acts.Act.TheVariants as acts
 use Rattle.afs_history.specs.declared.acts.Operand.TheVariants as operands
 use Rattle.afs_history.specs.declared.acts.Written.TheVariants.{Hex}
+use Rattle.afs_history.specs.declared.scripts.Script.{Script}
+use Rattle.afs_history.specs.declared.scripts.SetupLine.TheVariants as setup
+use Rattle.afs_model.specs.FsRows.{call_number}
+use Rattle.afs_num.specs.declared.histories.ReadStatus.{ReadStatus}
+use Rattle.afs_num.specs.declared.messages.Carried.{Carried}
 use Rattle.afs_history.specs.declared.lines.Line.{Line}
 use Rattle.afs_history.specs.declared.lines.Line.TheVariants as lines
-use Rattle.afs_ideal.specs.AccessLists.{rights_of, acl_text, entry_text}
+use Rattle.afs_ideal.specs.AccessLists.{rights_of, acl_text, entry_text, acl_at, entry_at, named_at, line_number_at}
+use Rattle.afs_ideal.specs.AccessLists as access
 use Rattle.afs_ideal.specs.Directories.{directory_bytes, name_bytes, directory_of, names_at, whole_at, count_at, name_at, spelled_at, bytes_below}
-use Rattle.afs_ideal.specs.SetUp.{laid_at, led}
+use Rattle.afs_ideal.specs.SetUp.{acl_laid, laid_at, led}
+use Rattle.afs_ideal.specs.Operations.{Result}
 use Rattle.afs_ideal.specs.VnodeImage.{image}
-use Rattle.afs_law.proofs.Basics.{some_of}
+use Rattle.afs_law.proofs.Basics.{both, same_key-refl, some_of}
+use Rattle.afs_law.proofs.Passing.{sent_right}
+use Rattle.afs_law.proofs.Recent.{sent_before}
 use Rattle.afs_law.proofs.Heard.{ran_heard}
-use Rattle.afs_law.specs.Grants.{GrantOf, until}
+use Rattle.afs_law.specs.Grants.{GrantOf, IsDropped, until}
 use Rattle.afs_num.specs.declared.histories.Actor.{Actor}
 use Rattle.afs_num.specs.declared.types.Node.{Node}
 use Rattle.afs_law.proofs.Worked.{apart_numbers, home, by_lines, stores, alters, answer, begun, entries, file, root, script, six_front}
-use Rattle.afs_law.specs.Breaks.{HasTimeout, HasStopped}
-use Rattle.afs_law.specs.Legal.{IsPromisedBy, Cause, EndsAct, IsResult, Legal, answer_at, code_given}
+use Rattle.afs_law.specs.Breaks.{HasStopped, IsCarried}
+use Rattle.afs_law.specs.Legal.{Answered, Brings, IsKind, IsOpen, IsPromisedBy, Cause, EndsAct, IsResult, Legal, answer_at, code_given}
 use Rattle.afs_model.specs.Messages.{spelled}
 use Rattle.afs_num.specs.Names.{name_ok}
 use Rattle.afs_num.specs.declared.types.Fid.{Fid}
 use Rattle.afs_rows.specs.ClientRow.{begin_row, client_row}
-use Rattle.afs_rows.specs.Going.{Going, nothing_set, answers, asked, asks_for, gives_back, next, reads, stored_whole}
-use Rattle.afs_rows.specs.Runs.{Cell, Entry, Input, begins, comes_up, gives, moved, nothing, server_waits, sets_stop, start, starts_again, steady, stops, ticks, waits}
+use Rattle.afs_rows.specs.Going.{Going, began, nothing_set, answers, asked, asks_for, gives_back, next, reads, stored_whole}
+use Rattle.afs_rows.specs.Runs.{Cell, Entry, Input, begins, client_starts, client_stops, comes_up, gives, locations, moved, nothing, server_waits, sets_stop, start, starts_again, steady, stops, ticks, waits}
 use Rattle.afs_xdr.specs.Words.{opaque, pad, word, opaque_at, word_at, counted_at}
 use Rattle.afs_law.specs.Ideal.{set_up}
 use Rattle.afs_law.specs.Once.{past_of}
-use Rattle.afs_law.specs.Past.{WasSent, SendsTo, IsCall, server_boot, CalledSince, IsToCome, called_key, Ran, answered_key, code_told, given_message, lines_of, sent_of}
+use Rattle.afs_law.specs.Past.{WasSent, SendsTo, has_sent, is_called, same_key, onto, lines_on, IsCall, server_boot, CalledSince, IsToCome, called_key, Ran, answered_key, code_told, given_message, lines_of, sent_of}
 use Rattle.afs_num.specs.declared.calls.FsCall.{FsCall}
 use Rattle.afs_num.specs.declared.calls.FsCall.TheVariants as calls
 use Rattle.afs_num.specs.declared.histories.Actor.TheVariants as actors
@@ -46,7 +56,7 @@ use Rattle.afs_num.specs.declared.messages.Reply.TheVariants as tell
 use Rattle.afs_num.specs.declared.calls.FsReply.TheVariants as replies
 use Rattle.afs_num.specs.declared.messages.Message.{Message}
 use Rattle.afs_num.specs.declared.types.Node.TheVariants.{Client, Server}
-use Rattle.std.proofs.Common.{arith, ◌<◌, ◌≤◌, ◌≡◌, ◌∙◌, true, false, ℕ, ℤ, List, [], ◌∷◌, ◌++◌, ◌⊎◌, Option, None, Some, ap, sym, subst, refl, inl, inr, negsuc, pos}
+use Rattle.std.proofs.Common.{arith, ◌<◌, ◌≤◌, ◌≡◌, ◌∙◌, true, false, cond, not, nat_eq, Bool, ℕ, ℤ, List, [], ◌∷◌, ◌++◌, ◌⊎◌, Option, None, Some, ap, sym, subst, refl, inl, inr, negsuc, pos}
 use Rattle.std.specs.Fmt.{digits}
 use Rattle.std.specs.Prelude.{⊤, codes, drop, map, take}
 
@@ -62,6 +72,67 @@ no_answer_call call n e = absurd cc
 
 no_gift : (f : Fid) → reads f ≡ gives_back → ⊥
 no_gift f e = absurd cc
+
+-- an entry that is found by a split of the past is one of it
+abbrev Among : (Entry → List Entry → Type 0) → List Entry → Type 0
+Among P [] = ⊥
+Among P (e ∷ past) = P e past ⊎ Among P past
+
+is_among : (P : Entry → List Entry → Type 0) (newer : List Entry) (at : Entry) (older : List Entry) → P at older → Among P (newer ++ (at ∷ older))
+is_among P [] at older x = inl x
+is_among P (e ∷ newer) at older x = inr (is_among P newer at older x)
+
+one_user : (u v : List ℕ) (c d : FsCall) → carried.Call u (ask.File c) ≡ carried.Call v (ask.File d) → u ≡ v
+one_user u v c d e = cc
+
+one_call : (u v : List ℕ) (c d : FsCall) → carried.Call u (ask.File c) ≡ carried.Call v (ask.File d) → c ≡ d
+one_call u v c d e = cc
+
+-- what a server's reply says of the entry that ran its call
+record RanFor (m : Message) (ls : List Line) (e : Entry) (older : List Entry) : Type 0 where
+  message : Message
+  given : given_message e.lines (sent_of older) ≡ Some message
+  user : List ℕ
+  call : FsCall
+  carries : message.carried ≡ carried.Call user (ask.File call)
+  code : ℤ
+  told : code_told m.carried ≡ Some code
+  result : IsResult m.head.from code (answer_at user call older) (answered_key m.head) e.lines ls
+  kind : IsKind call m.carried
+
+ran_for : (m : Message) (past : List Entry) → Answered m past → Among (RanFor m (lines_of past)) past
+ran_for m past a = subst (Among (RanFor m (lines_of past))) (sym a.ran.split) (is_among (RanFor m (lines_of past)) a.ran.newer a.ran.at a.ran.older (record { message = a.ran.message; given = a.ran.given; user = a.user; call = a.call; carries = a.carries; code = a.code; told = a.told; result = a.result; kind = a.kind }))
+
+-- it isn't one that was given nothing
+for_none : (m : Message) (ls : List Line) (e : Entry) (older : List Entry) → given_message e.lines (sent_of older) ≡ None → RanFor m ls e older → ⊥
+for_none m ls e older none x = let no_ : None ≡ Some x.message = sym none ∙ x.given in absurd cc
+
+-- and of one that was given this call it says what is due to that
+for_call : (m : Message) (ls : List Line) (e : Entry) (older : List Entry) (k : Message) (user : List ℕ) (call : FsCall) (code : ℤ) → given_message e.lines (sent_of older) ≡ Some k → k.carried ≡ carried.Call user (ask.File call) → code_told m.carried ≡ Some code → RanFor m ls e older
+    → (IsResult m.head.from code (answer_at user call older) (answered_key m.head) e.lines ls → IsKind call m.carried → ⊥) → ⊥
+for_call m ls e older k user call code given is told x w =
+    let same : carried.Call user (ask.File call) ≡ carried.Call x.user (ask.File x.call) = sym is ∙ (ap (λ (y : Message). y.carried) (some_of k x.message (sym given ∙ x.given)) ∙ x.carries) in
+    let codes_ : x.code ≡ code = some_of x.code code (sym x.told ∙ told) in
+    let by_user : IsResult m.head.from x.code (answer_at user x.call older) (answered_key m.head) e.lines ls = subst (λ (u : List ℕ). IsResult m.head.from x.code (answer_at u x.call older) (answered_key m.head) e.lines ls) (sym (one_user _ _ _ _ same)) x.result in
+    let by_call : IsResult m.head.from x.code (answer_at user call older) (answered_key m.head) e.lines ls = subst (λ (c : FsCall). IsResult m.head.from x.code (answer_at user c older) (answered_key m.head) e.lines ls) (sym (one_call _ _ _ _ same)) by_user in
+    w (subst (λ (n : ℤ). IsResult m.head.from n (answer_at user call older) (answered_key m.head) e.lines ls) codes_ by_call) (subst (λ (c : FsCall). IsKind c m.carried) (sym (one_call _ _ _ _ same)) x.kind)
+
+-- where the ideal operation gives it code 0, no other is due, but for 108 from a server that wasn't interrupted in it
+not_due : (m : Message) (ls : List Line) (e : Entry) (older : List Entry) (k : Message) (user : List ℕ) (call : FsCall) (code : ℤ) → given_message e.lines (sent_of older) ≡ Some k → k.carried ≡ carried.Call user (ask.File call) → code_told m.carried ≡ Some code → code_given (answer_at user call older) ≡ pos 0 → (pos 0 ≡ code → ⊥) → (code ≡ pos 108 → HasStopped m.head.from e.lines) → RanFor m ls e older → ⊥
+not_due m ls e older k user call code given is told zero other stop x = for_call m ls e older k user call code given is told x (λ result kind. elim result [ inl y ↦ other (sym zero ∙ y.0) | inr y ↦ y.1.1.1 (stop y.0) ])
+
+-- what the last of these inputs makes a node send
+abbrev sent_by : Cell → List Input → List Message
+sent_by c [] = []
+sent_by c (x ∷ []) = (moved c x).entry.sent
+sent_by c (x ∷ y ∷ xs) = sent_by (moved c x).cell (y ∷ xs)
+
+abbrev step_of : Node → List Line → List Message → Entry
+step_of n ls ms = record { actor = actors.Node n; lines = ls; sent = ms; volumes = [] }
+
+-- a client is told what is in a file
+abbrev fetch_front : List Input
+fetch_front = begins 1 (acts.Open (operands.Fid file)) ∷ gives 1 steady ∷ []
 
 -- ---- a store is acknowledged by the reply to its walk: nothing was changed
 
@@ -148,15 +219,23 @@ begun_with_a_reply h =
       ]
     ]
 
--- a grant stands beside a refusal: a read can't rest on it
+-- a server refuses what the ideal operation grants, beside its promise
 abbrev refuses : Entry → Entry
 refuses e = record e { sent = map (λ (m : Message). record m { carried = carried.Refusal (record { 0 = pos 13 }) }) e.sent }
 
-granted_by_a_refusal : Legal (alters 2 (instead (lines.Given 2 ∷ shown Fetched ∷ [])) (alters 1 refuses (entries (start (script 1)) (begins 1 (acts.Open (operands.Fid file)) ∷ gives 1 steady ∷ gives 2 steady ∷ [])))) (script 1) → ⊥
+no_thirteen : pos 0 ≡ pos 13 → ⊥
+no_thirteen e = absurd cc
+
+thirteen_not : pos 13 ≡ pos 108 → ⊥
+thirteen_not e = absurd cc
+
+granted_by_a_refusal : Legal (alters 1 refuses (entries (start (script 1)) fetch_front)) (script 1) → ⊥
 unfolding moved begin_row client_row server_row back_timeout_row wake_row start_row record_bytes head_form volume_form spelled opaque pad word laid_at led name_ok directory_bytes name_bytes rights_of image acl_text digits entry_text directory_of names_at opaque_at word_at counted_at whole_at count_at name_at spelled_at bytes_below
 granted_by_a_refusal h =
-    let g = h.1.1.0.0.0.1.0.1 in
-    let e : pos 13 ≡ pos 0 = of_reply _ _ g.reply _ refl g.by refl g.grant.told in absurd cc
+    elim (ran_for _ _ (h.1.0.1.1.0.0 1 1 (refl, tt) refl refl)) [
+      | inl x ↦ not_due _ _ _ _ _ (codes "guest") (calls.FetchData file (pos 0) (pos 2147483647)) (pos 13) refl refl refl refl no_thirteen (λ e. absurd (thirteen_not e)) x
+      | inr y ↦ elim y [ inl x ↦ for_none _ _ _ _ refl x | inr z ↦ elim z [ inl x ↦ for_none _ _ _ _ refl x | inr w ↦ w ] ]
+    ]
 
 -- ---- where a change may stand
 
@@ -180,20 +259,49 @@ owed_ahead : Legal (owes_ahead (entries (start (script 2)) six_front)) (script 2
 unfolding moved begin_row client_row server_row back_timeout_row wake_row start_row record_bytes head_form volume_form spelled opaque pad word laid_at led name_ok directory_bytes name_bytes rights_of image acl_text digits entry_text directory_of names_at opaque_at word_at counted_at whole_at count_at name_at spelled_at bytes_below
 owed_ahead h = h.1.1.1.0.0.0.0.1.cause.0
 
+-- no call among the messages is to this node
+abbrev AreNotTo : Node → List Message → Type 0
+AreNotTo q [] = ⊤
+AreNotTo q (m ∷ ms) = (m.head.to ≡ q → IsCall m.carried → ⊥) × AreNotTo q ms
+
+abbrev NeverTo : Node → List Entry → Type 0
+NeverTo q [] = ⊤
+NeverTo q (e ∷ past) = AreNotTo q e.sent × NeverTo q past
+
+not_to : (q : Node) (k : Key) (user : List ℕ) (call : FsCall) (ms : List Message) → AreNotTo q ms → SendsTo q k user call ms → ⊥
+not_to q k user call [] h x = x
+not_to q k user call (m ∷ ms) h (inl x) = h.0 x.0 (subst IsCall (sym x.1.1) tt)
+not_to q k user call (m ∷ ms) h (inr x) = not_to q k user call ms h.1 x
+
+never_to : (q : Node) (k : Key) (user : List ℕ) (call : FsCall) (past : List Entry) → NeverTo q past → WasSent q k user call past → ⊥
+never_to q k user call [] h x = x
+never_to q k user call (e ∷ past) h (inl x) = not_to q k user call e.sent h.0 x
+never_to q k user call (e ∷ past) h (inr x) = never_to q k user call past h.1 x
+
+one_server : Server 1 ≡ Server 2 → ⊥
+one_server e = absurd cc
+
+no_client : Server 1 ≡ Client 1 → ⊥
+no_client e = absurd cc
+
+two_clients : Client 2 ≡ Client 1 → ⊥
+two_clients e = absurd cc
+
 -- a break is given up by timeouts of before it became owed
 abbrev timeouts_first : List Entry → List Entry
 timeouts_first (a ∷ b ∷ c ∷ d ∷ e ∷ f ∷ es) = a ∷ b ∷ c ∷ e ∷ f ∷ d ∷ es
 timeouts_first es = es
 
-only_owe : (newer base ls : List Line) (l : Line) (c : Node) (what : Option Fid) (n : ℕ) → all_lines is_oweless ls ≡ true → l ∷ ls ≡ newer ++ (lines.Owe (Server 1) c what n ∷ base) → newer ≡ []
-only_owe [] base ls l c what n none e = refl
-only_owe (x ∷ newer) base ls l c what n none e = let rest : ls ≡ newer ++ (lines.Owe (Server 1) c what n ∷ base) = cc in absurd (no_owe ls newer base (Server 1) c what n none rest)
+abbrev quit_ahead_history : List Entry
+quit_ahead_history = timeouts_first (entries (start (script 2)) (begins 1 (acts.Open (operands.Fid file)) ∷ gives 1 steady ∷ begins 2 (acts.Close (operands.Fid file) (Hex (codes "def"))) ∷ gives 3 steady ∷ server_waits 1 (Client 1) ∷ server_waits 1 (Client 1) ∷ server_waits 1 (Client 1) ∷ []))
 
-quit_ahead : Legal (timeouts_first (entries (start (script 2)) (begins 1 (acts.Open (operands.Fid file)) ∷ gives 1 steady ∷ begins 2 (acts.Close (operands.Fid file) (Hex (codes "def"))) ∷ gives 3 steady ∷ server_waits 1 (Client 1) ∷ server_waits 1 (Client 1) ∷ server_waits 1 (Client 1) ∷ []))) (script 2) → ⊥
+quit_ahead : Legal quit_ahead_history (script 2) → ⊥
 unfolding moved begin_row client_row server_row back_timeout_row wake_row start_row record_bytes head_form volume_form spelled opaque pad word laid_at led name_ok directory_bytes name_bytes rights_of image acl_text digits entry_text directory_of names_at opaque_at word_at counted_at whole_at count_at name_at spelled_at bytes_below
 quit_ahead h =
-    let g = h.1.1.1.1.1.1.0.0.0.1.0.1 in
-    subst (HasTimeout (Server 1) (Client 1) g.epoch g.number 1) (only_owe g.owe.newer g.owe.base _ _ (Client 1) g.what 1 refl g.owe.split) g.first
+    let g = h.1.1.1.0.0.0.0.1 in
+    let past : List Entry = past_of (set_up (script 2) ∷ []) (take 3 quit_ahead_history) in
+    let none_ : NeverTo (Client 1) past = ((λ e c. no_client e, tt), ((λ e c. c, tt), ((λ e c. no_client e, tt), (tt, tt)))) in
+    never_to (Client 1) (record { node = Server 1; epoch = 1; number = 1 }) g.user g.call past none_ g.sent
 
 -- a promise beside no call, which ends at once: the one before it would seem to be over
 abbrev promises_nothing : List Entry → List Entry
@@ -224,7 +332,7 @@ answers_ahead (e ∷ f ∷ es) = e ∷ answers_ahead (f ∷ es)
 
 answered_ahead : Legal (answers_ahead (entries (start (script 1)) store_front)) (script 1) → ⊥
 unfolding moved begin_row client_row server_row back_timeout_row wake_row start_row record_bytes head_form volume_form spelled opaque pad word laid_at led name_ok directory_bytes name_bytes rights_of image acl_text digits entry_text directory_of names_at opaque_at word_at counted_at whole_at count_at name_at spelled_at bytes_below
-answered_ahead h = ran_heard _ _ (h.1.0.1.1.0 1 1 (refl, tt) refl refl) ((λ x. x), ((λ x. x), ((λ x. x), tt)))
+answered_ahead h = ran_heard _ _ (h.1.0.1.1.0.0 1 1 (refl, tt) refl refl).ran ((λ x. x), ((λ x. x), ((λ x. x), tt)))
 
 -- the server stops behind the change, and answers in the same entry
 abbrev stops_there : Entry → Entry
@@ -249,36 +357,27 @@ run_when_down h =
       | inr y ↦ y.boots
     ]
 
--- a dead store runs behind a later one, which was answered
 abbrev key_of_one : ℕ → Key
 key_of_one n = record { node = Client 1; epoch = 1; number = n }
 
 abbrev to_boot_two : Entry → Entry
 to_boot_two e = record e { sent = map (λ (m : Message). record m { head = record m.head { boot = 2 } }) e.sent }
 
-abbrev late_front : List Input
-late_front = begins 1 (acts.Close (operands.Fid file) (Hex (codes "def"))) ∷ waits 1 ∷ waits 1 ∷ waits 1 ∷ begins 1 (acts.Close (operands.Fid file) (Hex (codes "xyz"))) ∷ gives 4 steady ∷ gives 5 steady ∷ stops 1 ∷ starts_again 1 true comes_up ∷ gives 2 steady ∷ []
-
-changed_behind_a_later_one : Legal (alters 1 to_boot_two (alters 9 (instead (lines.Given 2 ∷ lines.Change (Server 1) (key_of_one 1) 1 ∷ lines.Version (record { fid = file; index = 3; data_version = 3; body = bodies.File (codes "def") }) ∷ [])) (entries (start (script 1)) late_front))) (script 1) → ⊥
-unfolding moved begin_row client_row server_row back_timeout_row wake_row start_row record_bytes head_form volume_form spelled opaque pad word laid_at led name_ok directory_bytes name_bytes rights_of image acl_text digits entry_text directory_of names_at opaque_at word_at counted_at whole_at count_at name_at spelled_at bytes_below
-changed_behind_a_later_one h =
-    let g = h.1.1.1.1.1.1.1.1.1.0.0.0.1.0.1 in
-    elim (g.ideal.latest (key_of_one 2) (inl (refl, refl)) refl) [
-      | inl x ↦ let e : 1 < 1 = x in absurd (omega arith)
-      | inr x ↦ let e : 2 < 1 = x.1 in absurd (omega arith)
-    ]
+-- a server begins again, and a client that doesn't know it asks it in the boot before
+abbrev restarted : List Input
+restarted = stops 1 ∷ starts_again 1 false comes_up ∷ []
 
 -- a server runs a call that is to another boot than its own
-run_in_another_boot : Legal (alters 0 to_boot_two (entries (start (script 1)) (begins 1 (acts.Close (operands.Fid file) (Hex (codes "def"))) ∷ gives 1 steady ∷ []))) (script 1) → ⊥
+run_in_another_boot : Legal (entries (start (script 1)) (restarted ++ begins 1 (acts.Close (operands.Fid file) (Hex (codes "def"))) ∷ []) ++ step_of (Server 1) (lines.Given 2 ∷ lines.Change (Server 1) (key_of_one 1) 1 ∷ lines.Version (record { fid = file; index = 2; data_version = 2; body = bodies.File (codes "def") }) ∷ []) [] ∷ []) (script 1) → ⊥
 unfolding moved begin_row client_row server_row back_timeout_row wake_row start_row record_bytes head_form volume_form spelled opaque pad word laid_at led name_ok directory_bytes name_bytes rights_of image acl_text digits entry_text directory_of names_at opaque_at word_at counted_at whole_at count_at name_at spelled_at bytes_below
 run_in_another_boot h =
-    let g = h.1.0.0.0.1.0.1 in
+    let g = h.1.1.1.0.0.0.1.0.1 in
     elim g.ideal.place [
-      | inl x ↦ let e : 2 ≡ 1 = x.given.1.1 ∙ sym (some_of 1 x.boot x.up) in absurd cc
+      | inl x ↦ let e : 1 ≡ 2 = x.given.1.1 ∙ sym (some_of 2 x.boot x.up) in absurd (omega (arith, e))
       | inr y ↦ y.boots
     ]
 
--- the server stops in a step; the restart tells its store, and a reply of the boot before that there was no room
+-- the server stops in a step; the restart tells its store, and replies for the boot before that there was no room
 abbrev stopped_front : List Input
 stopped_front = begins 1 (acts.Close (operands.Fid file) (Hex (codes "def"))) ∷ sets_stop 1 3 1 ∷ gives 1 steady ∷ starts_again 1 true comes_up ∷ []
 
@@ -291,80 +390,22 @@ roomless = record {
 abbrev says_roomless : Entry → Entry
 says_roomless e = record e { sent = roomless ∷ [] }
 
-abbrev told_roomless : Entry
-told_roomless = record { actor = actors.Node (Client 1); lines = lines.Given 2 ∷ lines.Answer (Client 1) (record { 0 = pos 108 }) ∷ []; sent = []; volumes = [] }
-
--- an entry that is found by a split of the past is one of it
-abbrev Among : (Entry → List Entry → Type 0) → List Entry → Type 0
-Among P [] = ⊥
-Among P (e ∷ past) = P e past ⊎ Among P past
-
-is_among : (P : Entry → List Entry → Type 0) (newer : List Entry) (at : Entry) (older : List Entry) → P at older → Among P (newer ++ (at ∷ older))
-is_among P [] at older x = inl x
-is_among P (e ∷ newer) at older x = inr (is_among P newer at older x)
-
--- what the cause of that refusal says of the entry that ran the call
-record IsRoomless (ls : List Line) (e : Entry) (older : List Entry) : Type 0 where
-  message : Message
-  given : given_message e.lines (sent_of older) ≡ Some message
-  user : List ℕ
-  call : FsCall
-  carries : message.carried ≡ carried.Call user (ask.File call)
-  result : IsResult (Server 1) (pos 108) (answer_at user call older) (record { node = Client 1; epoch = 1; number = 1 }) e.lines ls
-
-one_user : (u v : List ℕ) (c d : FsCall) → carried.Call u (ask.File c) ≡ carried.Call v (ask.File d) → u ≡ v
-one_user u v c d e = cc
-
-one_call : (u v : List ℕ) (c d : FsCall) → carried.Call u (ask.File c) ≡ carried.Call v (ask.File d) → c ≡ d
-one_call u v c d e = cc
-
--- the entry that stopped
-stopped_not : (ls : List Line) (e : Entry) (older : List Entry) (m : Message) → given_message e.lines (sent_of older) ≡ Some m → m.carried ≡ carried.Call (codes "guest") (ask.File (stored_whole file (codes "def"))) → code_given (answer_at (codes "guest") (stored_whole file (codes "def")) older) ≡ pos 0 → HasStopped (Server 1) e.lines → IsRoomless ls e older → ⊥
-stopped_not ls e older m given is zero stop x =
-    let same : carried.Call (codes "guest") (ask.File (stored_whole file (codes "def"))) ≡ carried.Call x.user (ask.File x.call) = sym is ∙ (ap (λ (k : Message). k.carried) (some_of m x.message (sym given ∙ x.given)) ∙ x.carries) in
-    elim x.result [
-      | inl y ↦
-          let told : code_given (answer_at (codes "guest") (stored_whole file (codes "def")) older) ≡ pos 108 = subst (λ (u : List ℕ). code_given (answer_at u (stored_whole file (codes "def")) older) ≡ pos 108) (sym (one_user _ _ _ _ same)) (subst (λ (k : FsCall). code_given (answer_at x.user k older) ≡ pos 108) (sym (one_call _ _ _ _ same)) y.0) in
-          let no_ : pos 0 ≡ pos 108 = sym zero ∙ told in absurd cc
-      | inr y ↦ y.1.1.1 stop
-    ]
-
-none_given : (ls : List Line) (e : Entry) (older : List Entry) → given_message e.lines (sent_of older) ≡ None → IsRoomless ls e older → ⊥
-none_given ls e older none x = let no_ : None ≡ Some x.message = sym none ∙ x.given in absurd cc
-
-abbrev stopped_past : List Entry
-stopped_past = past_of (set_up (script 1) ∷ []) (alters 3 says_roomless (entries (start (script 1)) stopped_front))
-
 abbrev roomless_history : List Entry
-roomless_history = alters 3 says_roomless (entries (start (script 1)) stopped_front) ++ told_roomless ∷ []
+roomless_history = alters 3 says_roomless (entries (start (script 1)) stopped_front)
+
+no_room : pos 0 ≡ pos 108 → ⊥
+no_room e = absurd cc
 
 no_room_but_stored : Legal roomless_history (script 1) → ⊥
 unfolding moved begin_row client_row server_row back_timeout_row wake_row start_row record_bytes head_form volume_form spelled opaque pad word laid_at led name_ok directory_bytes name_bytes rights_of image acl_text digits entry_text directory_of names_at opaque_at word_at counted_at whole_at count_at name_at spelled_at bytes_below
 no_room_but_stored h =
-    let g = h.1.1.1.1.0.0.0.1.0.1 in
-    elim g.cause [
-      | inl x ↦
-          let c : Cause roomless (pos 108) (asked g.act) stopped_past (lines.Given 2 ∷ []) = subst (λ (m : Message). Cause m (pos 108) (asked g.act) stopped_past (lines.Given 2 ∷ [])) (sym (some_of roomless x.reply x.by)) x.cause in
-          let ls : List Line = lines.Given 2 ∷ lines_of stopped_past in
-          let there : Among (IsRoomless ls) stopped_past = subst (Among (IsRoomless ls)) (sym c.ran.split) (is_among (IsRoomless ls) c.ran.newer c.ran.at c.ran.older (record { message = c.ran.message; given = c.ran.given; user = c.user; call = c.call; carries = c.carries; result = c.result })) in
-          elim there [
-            | inl y ↦ none_given _ _ _ refl y
-            | inr z ↦ elim z [
-              | inl y ↦ stopped_not _ _ _ _ refl refl refl (inl refl) y
-              | inr w ↦ elim w [
-                | inl y ↦ none_given _ _ _ refl y
-                | inr v ↦ elim v [
-                  | inl y ↦ none_given _ _ _ refl y
-                  | inr u ↦ elim u [ inl y ↦ none_given _ _ _ refl y | inr t ↦ t ]
-                ]
-              ]
-            ]
-          ]
+    elim (ran_for _ _ (h.1.1.1.0.1.1.0.0 1 1 (refl, tt) refl refl)) [
+      | inl x ↦ for_none _ _ _ _ refl x
       | inr y ↦ elim y [
-        | inl x ↦ no_answer_call _ x.number (ap next (some_of _ _ g.runs) ∙ x.by)
+        | inl x ↦ not_due _ _ _ _ _ (codes "guest") (stored_whole file (codes "def")) (pos 108) refl refl refl refl no_room (λ e. inl refl) x
         | inr z ↦ elim z [
-          | inl x ↦ let e : pos 108 ≡ negsuc 0 = x.is in absurd cc
-          | inr x ↦ let e : pos 108 ≡ pos 0 = x.is in absurd cc
+          | inl x ↦ for_none _ _ _ _ refl x
+          | inr w ↦ elim w [ inl x ↦ for_none _ _ _ _ refl x | inr v ↦ elim v [ inl x ↦ for_none _ _ _ _ refl x | inr u ↦ u ] ]
         ]
       ]
     ]
@@ -378,7 +419,7 @@ old_reply_front = begins 1 (acts.Open (operands.Fid file)) ∷ gives 1 steady �
 read_of_an_old_reply : Legal (alters 4 (instead (lines.Given 2 ∷ shown Fetched ∷ [])) (entries (start (script 1)) old_reply_front)) (script 1) → ⊥
 unfolding moved begin_row client_row server_row back_timeout_row wake_row start_row record_bytes head_form volume_form spelled opaque pad word laid_at led name_ok directory_bytes name_bytes rights_of image acl_text digits entry_text directory_of names_at opaque_at word_at counted_at whole_at count_at name_at spelled_at bytes_below
 read_of_an_old_reply h =
-    let u = h.1.1.1.1.0.0.0.1.0.1.used refl in
+    let u = (h.1.1.1.1.0.0.0.1.0.1.used refl).used in
     elim (subst (λ (m : Message). CalledSince (answered_key m.head) (codes "guest") u.call (past_of (set_up (script 1) ∷ []) (entries (start (script 1)) (take 4 old_reply_front)))) (sym (some_of _ _ u.by)) u.called) [
       | inl x ↦ elim x.1 [ inl y ↦ let e : 2 ≡ 1 = ap (λ (k : Key). k.number) y.0 in absurd (omega (arith, e)) | inr y ↦ y ]
       | inr x ↦ let e : true ≡ false = x.0 in absurd cc
@@ -400,10 +441,13 @@ answered_behind_its_read h =
       ]
     ]
 
--- ---- a server runs a dead call behind a later one of its client, in one boot, and refuses it
+-- ---- a server runs a dead call behind a later one of its client, in one boot, and replies to it
 
-abbrev refusal_of_one : Message
-refusal_of_one = record { head = record { half = halves.Reply; from = Server 1; to = Client 1; epoch = 1; number = 1; boot = 1; stamp = 0; opcode = 130 }; carried = carried.Refusal (record { 0 = pos 13 }) }
+abbrev head_of_one : Head
+head_of_one = record { half = halves.Reply; from = Server 1; to = Client 1; epoch = 1; number = 1; boot = 1; stamp = 0; opcode = 130 }
+
+abbrev reply_to_one : List Message
+reply_to_one = sent_by (start (script 1)) fetch_front
 
 abbrev old_front : List Input
 old_front = begins 1 (acts.Open (operands.Fid file)) ∷ waits 1 ∷ waits 1 ∷ waits 1 ∷ begins 1 (acts.Open (operands.Fid file)) ∷ gives 4 steady ∷ gives 1 steady ∷ []
@@ -415,7 +459,7 @@ record RanOne (e : Entry) (older : List Entry) : Type 0 where
   key : called_key message.head ≡ key_of_one 1
   first : IsToCome (Server 1) (key_of_one 1) 1 older
 
-ran_one : (past : List Entry) → Ran refusal_of_one.head past → Among RanOne past
+ran_one : (past : List Entry) → Ran head_of_one past → Among RanOne past
 ran_one past r = subst (Among RanOne) (sym r.split) (is_among RanOne r.newer r.at r.older (record { message = r.message; given = r.given; key = r.key; first = r.first }))
 
 was_given_none : (e : Entry) (older : List Entry) → given_message e.lines (sent_of older) ≡ None → RanOne e older → ⊥
@@ -424,10 +468,10 @@ was_given_none e older none x = let no_ : None ≡ Some x.message = sym none ∙
 was_given_another : (e : Entry) (older : List Entry) (m : Message) → given_message e.lines (sent_of older) ≡ Some m → m.head.number ≡ 2 → RanOne e older → ⊥
 was_given_another e older m at two x = let no_ : 2 ≡ 1 = sym two ∙ (ap (λ (q : Message). q.head.number) (some_of m x.message (sym at ∙ x.given)) ∙ ap (λ (k : Key). k.number) x.key) in absurd (omega (arith, no_))
 
-ran_behind_a_later_one : Legal (alters 6 (λ e. record e { sent = refusal_of_one ∷ [] }) (entries (start (script 1)) old_front)) (script 1) → ⊥
+ran_behind_a_later_one : Legal (alters 6 (λ e. record e { sent = reply_to_one }) (entries (start (script 1)) old_front)) (script 1) → ⊥
 unfolding moved begin_row client_row server_row back_timeout_row wake_row start_row record_bytes head_form volume_form spelled opaque pad word laid_at led name_ok directory_bytes name_bytes rights_of image acl_text digits entry_text directory_of names_at opaque_at word_at counted_at whole_at count_at name_at spelled_at bytes_below
 ran_behind_a_later_one h =
-    elim (ran_one _ (h.1.1.1.1.1.1.0.1.1.0 1 1 (refl, tt) refl refl)) [
+    elim (ran_one _ (h.1.1.1.1.1.1.0.1.1.0.0 1 1 (refl, tt) refl refl).ran) [
       | inl x ↦ x.first.0 ((tt, refl), ((refl, inr (refl, omega arith)), refl))
       | inr y ↦ elim y [
         | inl x ↦ was_given_another _ _ _ refl refl x
@@ -452,25 +496,33 @@ gift_answer = record { head = record { half = halves.Reply; from = Server 1; to 
 
 -- ---- a server that is in one boot answers a call to another
 
-abbrev refusal_in_two : Message
-refusal_in_two = record refusal_of_one { head = record refusal_of_one.head { boot = 2 } }
+-- what its reply says of the entry that ran it
+record RanInOne (e : Entry) (older : List Entry) : Type 0 where
+  message : Message
+  given : given_message e.lines (sent_of older) ≡ Some message
+  up : server_boot (Server 1) (lines_of older) ≡ Some 1
 
--- what that says of the entry that ran it
-record RanInTwo (e : Entry) (older : List Entry) : Type 0 where
-  up : server_boot (Server 1) (lines_of older) ≡ Some 2
+ran_in_one : (past : List Entry) → Ran head_of_one past → Among RanInOne past
+ran_in_one past r = subst (Among RanInOne) (sym r.split) (is_among RanInOne r.newer r.at r.older (record { message = r.message; given = r.given; up = r.up }))
 
-ran_in_two : (past : List Entry) → Ran refusal_in_two.head past → Among RanInTwo past
-ran_in_two past r = subst (Among RanInTwo) (sym r.split) (is_among RanInTwo r.newer r.at r.older (record { up = r.up }))
+in_one_none : (e : Entry) (older : List Entry) → given_message e.lines (sent_of older) ≡ None → RanInOne e older → ⊥
+in_one_none e older none x = let no_ : None ≡ Some x.message = sym none ∙ x.given in absurd cc
 
-was_in_one : (e : Entry) (older : List Entry) → server_boot (Server 1) (lines_of older) ≡ Some 1 → RanInTwo e older → ⊥
-was_in_one e older one x = let no_ : 1 ≡ 2 = some_of 1 2 (sym one ∙ x.up) in absurd (omega (arith, no_))
+was_in_two : (e : Entry) (older : List Entry) → server_boot (Server 1) (lines_of older) ≡ Some 2 → RanInOne e older → ⊥
+was_in_two e older two x = let no_ : 2 ≡ 1 = some_of 2 1 (sym two ∙ x.up) in absurd (omega (arith, no_))
 
-answered_in_another_boot : Legal (alters 0 to_boot_two (alters 1 (λ e. record e { lines = lines.Given 1 ∷ []; sent = refusal_in_two ∷ [] }) (entries (start (script 1)) (begins 1 (acts.Open (operands.Fid file)) ∷ gives 1 steady ∷ [])))) (script 1) → ⊥
+answered_in_another_boot : Legal (entries (start (script 1)) (restarted ++ begins 1 (acts.Open (operands.Fid file)) ∷ []) ++ step_of (Server 1) (lines.Given 2 ∷ []) reply_to_one ∷ []) (script 1) → ⊥
 unfolding moved begin_row client_row server_row back_timeout_row wake_row start_row record_bytes head_form volume_form spelled opaque pad word laid_at led name_ok directory_bytes name_bytes rights_of image acl_text digits entry_text directory_of names_at opaque_at word_at counted_at whole_at count_at name_at spelled_at bytes_below
 answered_in_another_boot h =
-    elim (ran_in_two _ (h.1.0.1.1.0 1 1 (refl, tt) refl refl)) [
-      | inl x ↦ was_in_one _ _ refl x
-      | inr y ↦ elim y [ inl x ↦ was_in_one _ _ refl x | inr z ↦ elim z [ inl x ↦ was_in_one _ _ refl x | inr w ↦ w ] ]
+    elim (ran_in_one _ (h.1.1.1.0.1.1.0.0 1 1 (refl, tt) refl refl).ran) [
+      | inl x ↦ was_in_two _ _ refl x
+      | inr y ↦ elim y [
+        | inl x ↦ in_one_none _ _ refl x
+        | inr z ↦ elim z [
+          | inl x ↦ in_one_none _ _ refl x
+          | inr w ↦ elim w [ inl x ↦ in_one_none _ _ refl x | inr v ↦ elim v [ inl x ↦ in_one_none _ _ refl x | inr u ↦ u ] ]
+        ]
+      ]
     ]
 
 -- A client gives a promise back by a call that is late: the server began again meanwhile, and the client was promised the file anew.
@@ -481,14 +533,6 @@ late_gift_front = begins 1 (acts.Open (operands.Fid file)) ∷ gives 1 steady �
 -- what the client sends and is sent behind the restart
 abbrev asked_anew : List Message → List Message
 asked_anew ms = map (λ (m : Message). record m { head = record m.head { number = 3; boot = 2 } }) ms
-
-abbrev sent_by : Cell → List Input → List Message
-sent_by c [] = []
-sent_by c (x ∷ []) = (moved c x).entry.sent
-sent_by c (x ∷ y ∷ xs) = sent_by (moved c x).cell (y ∷ xs)
-
-abbrev step_of : Node → List Line → List Message → Entry
-step_of n ls ms = record { actor = actors.Node n; lines = ls; sent = ms; volumes = [] }
 
 abbrev late_gift_rest : List Entry
 late_gift_rest =
@@ -528,18 +572,7 @@ sent_in_another_name h = let e : actors.Node (Client 1) ≡ actors.Node (Client 
 
 dead_at_once : Legal (alters 1 (instead (lines.Timeout (Client 1) (Server 1) 1 1 3 ∷ lines.Answer (Client 1) (record { 0 = negsuc 0 }) ∷ [])) (entries (start (script 1)) (begins 1 (acts.Open (operands.Fid file)) ∷ waits 1 ∷ []))) (script 1) → ⊥
 unfolding moved begin_row client_row server_row back_timeout_row wake_row start_row record_bytes head_form volume_form spelled opaque pad word laid_at led name_ok directory_bytes name_bytes rights_of image acl_text digits entry_text directory_of names_at opaque_at word_at counted_at whole_at count_at name_at spelled_at bytes_below
-dead_at_once h =
-    let g = h.1.0.0.0.1.0.1 in
-    elim g.cause [
-      | inl x ↦ let e : None ≡ Some x.reply = x.by in absurd cc
-      | inr y ↦ elim y [
-        | inl x ↦ let e : negsuc 0 ≡ pos x.number = x.is in absurd cc
-        | inr z ↦ elim z [
-          | inl x ↦ x.first
-          | inr x ↦ let e : negsuc 0 ≡ pos 0 = x.is in absurd cc
-        ]
-      ]
-    ]
+dead_at_once h = elim h.1.0.0.0.0.1.below [ inl x ↦ let e : 3 ≡ 1 = x in absurd (omega (arith, e)) | inr x ↦ x.1.1 ]
 
 -- ---- who promises
 
@@ -641,7 +674,7 @@ in_boot_one l = l
 
 begun_in_the_old_boot : Legal (alters 1 (by_lines in_boot_one) (entries (start (script 1)) (stops 1 ∷ starts_again 1 false comes_up ∷ []))) (script 1) → ⊥
 unfolding moved begin_row client_row server_row back_timeout_row wake_row start_row record_bytes head_form volume_form spelled opaque pad word laid_at led name_ok directory_bytes name_bytes rights_of image acl_text digits entry_text directory_of names_at opaque_at word_at counted_at whole_at count_at name_at spelled_at bytes_below
-begun_in_the_old_boot h = let e : 1 < 1 = h.1.0.1.0.1.0.1 in absurd (omega arith)
+begun_in_the_old_boot h = let e : 1 < 1 = h.1.0.1.0.1.0.0.1 in absurd (omega arith)
 
 -- ---- an act changes things once, were it long over
 
@@ -663,7 +696,7 @@ changed_twice h = h.1.1.1.1.1.0.0.0.1.0.1.alone (past_of [] (drop 1 (take 5 chan
 
 timed_out_beside_a_reply : Legal (alters 2 (instead (lines.Given 2 ∷ lines.Timeout (Client 1) (Server 1) 1 1 1 ∷ [])) (entries (start (script 1)) open_front)) (script 1) → ⊥
 unfolding moved begin_row client_row server_row back_timeout_row wake_row start_row record_bytes head_form volume_form spelled opaque pad word laid_at led name_ok directory_bytes name_bytes rights_of image acl_text digits entry_text directory_of names_at opaque_at word_at counted_at whole_at count_at name_at spelled_at bytes_below
-timed_out_beside_a_reply h = let e : true ≡ false = h.1.1.0.0.0.1.0.1.0.0 in absurd cc
+timed_out_beside_a_reply h = let e : true ≡ false = h.1.1.0.0.0.1.0.0.1.0.0 in absurd cc
 
 -- ---- a server that is up begins again
 
@@ -672,37 +705,9 @@ begins_again = step_of (Server 1) (lines.Restart (Server 1) 2 ∷ lines.Owe (Ser
 
 begun_when_up : Legal (begins_again ∷ []) (script 1) → ⊥
 unfolding moved begin_row client_row server_row back_timeout_row wake_row start_row record_bytes head_form volume_form spelled opaque pad word laid_at led name_ok directory_bytes name_bytes rights_of image acl_text digits entry_text directory_of names_at opaque_at word_at counted_at whole_at count_at name_at spelled_at bytes_below
-begun_when_up h = let e : Some 1 ≡ None = h.0.1.0.1.0.0 in absurd cc
+begun_when_up h = let e : Some 1 ≡ None = h.0.1.0.1.0.0.0 in absurd cc
 
 -- ---- timeouts count of the node to which the call was sent
-
--- no call among the messages is to this node
-abbrev AreNotTo : Node → List Message → Type 0
-AreNotTo q [] = ⊤
-AreNotTo q (m ∷ ms) = (m.head.to ≡ q → IsCall m.carried → ⊥) × AreNotTo q ms
-
-abbrev NeverTo : Node → List Entry → Type 0
-NeverTo q [] = ⊤
-NeverTo q (e ∷ past) = AreNotTo q e.sent × NeverTo q past
-
-not_to : (q : Node) (k : Key) (user : List ℕ) (call : FsCall) (ms : List Message) → AreNotTo q ms → SendsTo q k user call ms → ⊥
-not_to q k user call [] h x = x
-not_to q k user call (m ∷ ms) h (inl x) = h.0 x.0 (subst IsCall (sym x.1.1) tt)
-not_to q k user call (m ∷ ms) h (inr x) = not_to q k user call ms h.1 x
-
-never_to : (q : Node) (k : Key) (user : List ℕ) (call : FsCall) (past : List Entry) → NeverTo q past → WasSent q k user call past → ⊥
-never_to q k user call [] h x = x
-never_to q k user call (e ∷ past) h (inl x) = not_to q k user call e.sent h.0 x
-never_to q k user call (e ∷ past) h (inr x) = never_to q k user call past h.1 x
-
-one_server : Server 1 ≡ Server 2 → ⊥
-one_server e = absurd cc
-
-no_client : Server 1 ≡ Client 1 → ⊥
-no_client e = absurd cc
-
-two_clients : Client 2 ≡ Client 1 → ⊥
-two_clients e = absurd cc
 
 -- a client's act is dead by timeouts of a server that it asked nothing
 abbrev of_two : Line → Line
@@ -712,46 +717,28 @@ of_two l = l
 abbrev dead_history : List Entry
 dead_history = map (by_lines of_two) (entries (start (script 1)) (begins 1 (acts.Open (operands.Fid file)) ∷ waits 1 ∷ waits 1 ∷ waits 1 ∷ []))
 
-abbrev dead_past : List Entry
-dead_past = past_of (set_up (script 1) ∷ []) (take 3 dead_history)
-
 dead_of_another_server : Legal dead_history (script 1) → ⊥
 unfolding moved begin_row client_row server_row back_timeout_row wake_row start_row record_bytes head_form volume_form spelled opaque pad word laid_at led name_ok directory_bytes name_bytes rights_of image acl_text digits entry_text directory_of names_at opaque_at word_at counted_at whole_at count_at name_at spelled_at bytes_below
 dead_of_another_server h =
-    let g = h.1.1.1.0.0.0.1.0.1 in
-    elim g.cause [
-      | inl x ↦ let e : None ≡ Some x.reply = x.by in absurd cc
-      | inr y ↦ elim y [
-        | inl x ↦ let e : negsuc 0 ≡ pos x.number = x.is in absurd cc
-        | inr z ↦ elim z [
-          | inl x ↦ elim x.third [
-            | inl t ↦
-                let none_ : NeverTo (Server 2) dead_past = ((λ e c. one_server e, tt), ((λ e c. one_server e, tt), ((λ e c. one_server e, tt), (tt, tt)))) in
-                let k : Key = record { node = Client 1; epoch = x.epoch; number = x.number } in
-                never_to (Server 2) k (codes "guest") x.call dead_past none_ (subst (λ (q : Node). WasSent q k (codes "guest") x.call dead_past) (sym t.1.0) x.to)
-            | inr none ↦ none
-          ]
-          | inr x ↦ let e : negsuc 0 ≡ pos 0 = x.is in absurd cc
-        ]
-      ]
-    ]
+    let g = h.1.0.0.0.0.1 in
+    let past : List Entry = past_of (set_up (script 1) ∷ []) (take 1 dead_history) in
+    let none_ : NeverTo (Server 2) past = ((λ e c. one_server e, tt), (tt, tt)) in
+    never_to (Server 2) (record { node = Client 1; epoch = 1; number = 1 }) g.user g.call past none_ g.sent
 
 -- a server gives a break up, and its call went to another client
 abbrev sent_to_two : Entry → Entry
 sent_to_two e = record e { sent = map (λ (m : Message). record m { head = record m.head { to = Client 2 } }) e.sent }
 
-abbrev quit_history : List Entry
-quit_history = alters 3 sent_to_two (alters 4 sent_to_two (alters 5 sent_to_two (entries (start (script 2)) (begins 1 (acts.Open (operands.Fid file)) ∷ gives 1 steady ∷ begins 2 (acts.Close (operands.Fid file) (Hex (codes "def"))) ∷ gives 3 steady ∷ server_waits 1 (Client 1) ∷ server_waits 1 (Client 1) ∷ server_waits 1 (Client 1) ∷ []))))
+abbrev of_client_two : Line → Line
+of_client_two (lines.Timeout s c e n k) = lines.Timeout s (Client 2) e n k
+of_client_two l = l
 
-abbrev quit_past : List Entry
-quit_past = past_of (set_up (script 2) ∷ []) (take 6 quit_history)
+abbrev to_two : Entry → Entry
+to_two e = sent_to_two (by_lines of_client_two e)
 
-quit_for_another_client : Legal quit_history (script 2) → ⊥
+quit_for_another_client : Legal (alters 3 sent_to_two (alters 4 to_two (alters 5 to_two (alters 6 to_two (entries (start (script 2)) (begins 1 (acts.Open (operands.Fid file)) ∷ gives 1 steady ∷ begins 2 (acts.Close (operands.Fid file) (Hex (codes "def"))) ∷ gives 3 steady ∷ server_waits 1 (Client 1) ∷ server_waits 1 (Client 1) ∷ server_waits 1 (Client 1) ∷ [])))))) (script 2) → ⊥
 unfolding moved begin_row client_row server_row back_timeout_row wake_row start_row record_bytes head_form volume_form spelled opaque pad word laid_at led name_ok directory_bytes name_bytes rights_of image acl_text digits entry_text directory_of names_at opaque_at word_at counted_at whole_at count_at name_at spelled_at bytes_below
-quit_for_another_client h =
-    let g = h.1.1.1.1.1.1.0.0.0.1.0.1 in
-    let none_ : NeverTo (Client 1) quit_past = ((λ e c. two_clients e, tt), ((λ e c. two_clients e, tt), ((λ e c. two_clients e, tt), ((λ e c. no_client e, tt), ((λ e c. c, tt), ((λ e c. no_client e, tt), (tt, tt))))))) in
-    never_to (Client 1) (record { node = Server 1; epoch = g.epoch; number = g.number }) g.user g.call quit_past none_ g.called
+quit_for_another_client h = elim h.1.1.1.1.1.1.0.0.0.1.0.1.third [ inl t ↦ two_clients t.1.0 | inr none ↦ none ]
 
 -- ---- a call is one by its header too
 
@@ -884,7 +871,7 @@ stored_fetch e older m at fetch x = let no_ : 130 ≡ 133 = sym fetch ∙ (ap (�
 answered_as_a_store : Legal (alters 1 (λ e. record e { sent = map (λ (m : Message). record m { head = record m.head { opcode = 133 } }) e.sent }) (entries (start (script 1)) (begins 1 (acts.Open (operands.Fid file)) ∷ gives 1 steady ∷ []))) (script 1) → ⊥
 unfolding moved begin_row client_row server_row back_timeout_row wake_row start_row record_bytes head_form volume_form spelled opaque pad word laid_at led name_ok directory_bytes name_bytes rights_of image acl_text digits entry_text directory_of names_at opaque_at word_at counted_at whole_at count_at name_at spelled_at bytes_below
 answered_as_a_store h =
-    elim (ran_store _ (h.1.0.1.1.0 1 1 (refl, tt) refl refl)) [
+    elim (ran_store _ (h.1.0.1.1.0.0 1 1 (refl, tt) refl refl).ran) [
       | inl x ↦ stored_fetch _ _ _ refl refl x
       | inr y ↦ elim y [ inl x ↦ stored_none _ _ refl x | inr z ↦ elim z [ inl x ↦ stored_none _ _ refl x | inr w ↦ w ] ]
     ]
@@ -957,3 +944,320 @@ settled_by_a_stopped_server h = h.1.1.1.1.1.0.0.0.1.1.0.1.going (inl refl)
 quit_by_a_stopped_server : Legal (alters 6 stops_first (entries (start (script 2)) (changes_file ++ server_waits 1 (Client 1) ∷ server_waits 1 (Client 1) ∷ server_waits 1 (Client 1) ∷ []))) (script 2) → ⊥
 unfolding moved begin_row client_row server_row back_timeout_row wake_row start_row record_bytes head_form volume_form spelled opaque pad word laid_at led name_ok directory_bytes name_bytes rights_of image acl_text digits entry_text directory_of names_at opaque_at word_at counted_at whole_at count_at name_at spelled_at bytes_below
 quit_by_a_stopped_server h = h.1.1.1.1.1.1.0.0.0.1.1.0.1.going (inl refl)
+
+-- ---- a client's call is one call: for its own user, and to one server
+
+-- the same call is sent for another user too, who may do what its own may not
+abbrev for_ann : Message → Message
+for_ann m = record m { carried = carried.Call (codes "ann") (ask.File (calls.FetchData file (pos 0) (pos 2147483647))) }
+
+abbrev sends_besides : (Message → Message) → Entry → Entry
+sends_besides w e = record e { sent = e.sent ++ map w e.sent }
+
+of_another_user : codes "ann" ≡ codes "guest" → ⊥
+of_another_user e = absurd cc
+
+fetched_for_another_user : Legal (alters 0 (sends_besides for_ann) (entries (start (script 1)) (begins 1 (acts.Open (operands.Fid file)) ∷ []))) (script 1) → ⊥
+unfolding moved begin_row client_row server_row back_timeout_row wake_row start_row record_bytes head_form volume_form spelled opaque pad word laid_at led name_ok directory_bytes name_bytes rights_of image acl_text digits entry_text directory_of names_at opaque_at word_at counted_at whole_at count_at name_at spelled_at bytes_below
+fetched_for_another_user h = of_another_user h.0.1.1.1.0.1.0.0
+
+-- or to another server
+abbrev to_server_two : Message → Message
+to_server_two m = record m { head = record m.head { to = Server 2 } }
+
+asked_two_servers : Legal (alters 0 (sends_besides to_server_two) (entries (start (script 1)) (begins 1 (acts.Open (operands.Fid file)) ∷ []))) (script 1) → ⊥
+unfolding moved begin_row client_row server_row back_timeout_row wake_row start_row record_bytes head_form volume_form spelled opaque pad word laid_at led name_ok directory_bytes name_bytes rights_of image acl_text digits entry_text directory_of names_at opaque_at word_at counted_at whole_at count_at name_at spelled_at bytes_below
+asked_two_servers h = one_server (some_of (Server 1) (Server 2) h.0.1.1.1.0.1.0.1.1.0)
+
+-- ---- rights are read by a call that may read them
+
+-- bob may not look the root up, and is told who may
+abbrev hidden : Script
+hidden = record (script 2) { users = record { client = 1; name = codes "bob" } ∷ []; volumes = record { id = home; name = codes "proj"; server = 1; quota = 1000; lines = setup.File (codes "a" ∷ []) (Hex (codes "abc")) ∷ setup.AccessList [] (Hex (codes "1\n0\nann\t127\n")) ∷ [] } ∷ [] }
+
+-- it asks another client, which tells it; no server would
+abbrev asks_two : Entry → Entry
+asks_two e = record e { sent = map (λ (m : Message). record m { head = record m.head { to = Client 2 } }) e.sent }
+
+abbrev told_by_two : List Message
+told_by_two = map (λ (m : Message). record m { head = record m.head { from = Client 2 } }) (sent_by (start (script 1)) (begins 1 (acts.GetAccessList (operands.Fid root)) ∷ gives 1 steady ∷ []))
+
+abbrev hidden_front : List Entry
+hidden_front = alters 0 asks_two (entries (start hidden) (begins 1 (acts.GetAccessList (operands.Fid root)) ∷ [])) ++ step_of (Client 2) (lines.Given 1 ∷ []) told_by_two ∷ []
+
+abbrev hidden_past : List Entry
+hidden_past = past_of (set_up hidden ∷ []) hidden_front
+
+-- what the cause of that says of the entry that ran the call
+record RanHidden (e : Entry) (older : List Entry) : Type 0 where
+  message : Message
+  given : given_message e.lines (sent_of older) ≡ Some message
+  user : List ℕ
+  call : FsCall
+  carries : message.carried ≡ carried.Call user (ask.File call)
+  code : code_given (answer_at user call older) ≡ pos 0
+
+hidden_none : (e : Entry) (older : List Entry) → given_message e.lines (sent_of older) ≡ None → RanHidden e older → ⊥
+hidden_none e older none x = let no_ : None ≡ Some x.message = sym none ∙ x.given in absurd cc
+
+hidden_not : (e : Entry) (older : List Entry) (m : Message) (user : List ℕ) (call : FsCall) → given_message e.lines (sent_of older) ≡ Some m → m.carried ≡ carried.Call user (ask.File call) → code_given (answer_at user call older) ≡ pos 13 → RanHidden e older → ⊥
+hidden_not e older m user call given is due x =
+    let same : carried.Call user (ask.File call) ≡ carried.Call x.user (ask.File x.call) = sym is ∙ (ap (λ (k : Message). k.carried) (some_of m x.message (sym given ∙ x.given)) ∙ x.carries) in
+    let zero_ : code_given (answer_at user call older) ≡ pos 0 = subst (λ (u : List ℕ). code_given (answer_at u call older) ≡ pos 0) (sym (one_user _ _ _ _ same)) (subst (λ (k : FsCall). code_given (answer_at x.user k older) ≡ pos 0) (sym (one_call _ _ _ _ same)) x.code) in
+    let no_ : pos 13 ≡ pos 0 = sym due ∙ zero_ in absurd cc
+
+hidden_zero : (server : Node) (o : Option Result) (k : Key) (ran ls : List Line) → IsResult server (pos 0) o k ran ls → code_given o ≡ pos 0
+hidden_zero server o k ran ls (inl x) = x.0
+hidden_zero server o k ran ls (inr x) = let no_ : pos 0 ≡ pos 108 = x.0 in absurd cc
+
+shown_without_the_right : Legal (hidden_front ++ step_of (Client 1) (lines.Given 2 ∷ lines.Read (Client 1) root 1 Fetched (seen.AccessList (codes "1\n0\nann\t127\n")) ∷ []) [] ∷ []) hidden → ⊥
+unfolding moved begin_row client_row server_row back_timeout_row wake_row start_row record_bytes head_form volume_form spelled opaque pad word laid_at led name_ok directory_bytes name_bytes rights_of image acl_text digits entry_text directory_of names_at opaque_at word_at counted_at whole_at count_at name_at spelled_at bytes_below acl_laid acl_at entry_at access.name_at named_at line_number_at access.count_at
+shown_without_the_right h =
+    let g = h.1.1.0.0.0.1.0.1 in
+    let c = g.cause in
+    let there : Among RanHidden hidden_past = subst (Among RanHidden) (sym c.ran.split) (is_among RanHidden c.ran.newer c.ran.at c.ran.older (record { message = c.ran.message; given = c.ran.given; user = c.user; call = c.call; carries = c.carries; code = hidden_zero g.used.reply.head.from (answer_at c.user c.call c.ran.older) (answered_key g.used.reply.head) c.ran.at.lines (lines.Given 2 ∷ lines_of hidden_past) c.result })) in
+    elim there [
+      | inl x ↦ hidden_not _ _ _ (codes "bob") (calls.FetchAcl root) refl refl refl x
+      | inr y ↦ elim y [ inl x ↦ hidden_none _ _ refl x | inr z ↦ elim z [ inl x ↦ hidden_none _ _ refl x | inr w ↦ w ] ]
+    ]
+
+-- ---- an act that needs no call doesn't die of one
+
+abbrev unknown : Fid
+unknown = record { volume = 7; vnode = 2; unique = 2 }
+
+abbrev asks_the_time : Message
+asks_the_time = record {
+  head = record { half = halves.Call; from = Client 1; to = Server 1; epoch = 1; number = 1; boot = 1; stamp = 0; opcode = 153 };
+  carried = carried.Call (codes "guest") (ask.File calls.GetTime);
+}
+
+abbrev times_out : ℕ → Line
+times_out n = lines.Timeout (Client 1) (Server 1) 1 1 n
+
+abbrev dead_answer : Line
+dead_answer = lines.Answer (Client 1) (record { 0 = negsuc 0 })
+
+abbrev opens_unknown : Going
+opens_unknown = began (locations (script 1)) (acts.Open (operands.Fid unknown))
+
+dead_of_nothing : Legal (step_of (Client 1) (lines.Begin (Client 1) (acts.Open (operands.Fid unknown)) ∷ []) (asks_the_time ∷ []) ∷ step_of (Client 1) (times_out 1 ∷ []) [] ∷ step_of (Client 1) (times_out 2 ∷ []) [] ∷ step_of (Client 1) (times_out 3 ∷ dead_answer ∷ []) [] ∷ []) (script 1) → ⊥
+dead_of_nothing h =
+    let g = h.1.1.1.0.0.0.1.0.1 in
+    elim g.cause [
+      | inl x ↦ let e : None ≡ Some x.reply = x.by in absurd cc
+      | inr y ↦ elim y [
+        | inl x ↦ let e : negsuc 0 ≡ pos x.number = x.is in absurd cc
+        | inr z ↦ elim z [
+          | inl x ↦ subst (λ (a : Going). IsOpen (next a)) (sym (some_of opens_unknown g.act g.runs)) x.unended
+          | inr x ↦ let e : negsuc 0 ≡ pos 0 = x.is in absurd cc
+        ]
+      ]
+    ]
+
+-- ---- timeouts are of a call that was sent
+
+-- the first two of three are told before the call, which is then dead at its first
+dead_at_its_first_timeout : Legal (step_of (Client 1) (times_out 1 ∷ []) [] ∷ step_of (Client 1) (times_out 2 ∷ []) [] ∷ entries (start (script 1)) (begins 1 (acts.Open (operands.Fid file)) ∷ []) ++ step_of (Client 1) (times_out 3 ∷ dead_answer ∷ []) [] ∷ []) (script 1) → ⊥
+unfolding moved begin_row client_row server_row back_timeout_row wake_row start_row record_bytes head_form volume_form spelled opaque pad word laid_at led name_ok directory_bytes name_bytes rights_of image acl_text digits entry_text directory_of names_at opaque_at word_at counted_at whole_at count_at name_at spelled_at bytes_below
+dead_at_its_first_timeout h = elim h.0.0.0.0.1.sent [ inl x ↦ x | inr x ↦ x ]
+
+-- ---- a break is settled or given up by a call that was first sent when it was owed
+
+-- what stands from the entry on which first sent a call of this key
+abbrev first_at : Key → List Entry → Option (List Entry)
+first_at k [] = None
+first_at k (e ∷ past) = cond (has_sent k (sent_of past)) (first_at k past) (cond (has_sent k e.sent) (Some (e ∷ past)) None)
+
+sends_it : (t : Bool) (callee : Node) (k : Key) (user : List ℕ) (call : FsCall) (m : Message) (ms : List Message) → is_called k m.head m.carried ≡ t → (SendsTo callee k user call ms → has_sent k ms ≡ true) → SendsTo callee k user call (m ∷ ms) → cond t true (has_sent k ms) ≡ true
+sends_it true callee k user call m ms e w h = refl
+sends_it false callee k user call m ms e w (inl h) =
+    let yes : is_called k m.head m.carried ≡ true = ap (is_called k m.head) h.1.1 ∙ (ap (λ (l : Key). same_key l k) h.1.0 ∙ same_key-refl k) in let no_ : true ≡ false = sym yes ∙ e in absurd cc
+sends_it false callee k user call m ms e w (inr h) = w h
+
+sends_has : (callee : Node) (k : Key) (user : List ℕ) (call : FsCall) (ms : List Message) → SendsTo callee k user call ms → has_sent k ms ≡ true
+sends_has callee k user call [] h = absurd h
+sends_has callee k user call (m ∷ ms) h = sends_it (is_called k m.head m.carried) callee k user call m ms refl (sends_has callee k user call ms) h
+
+first_is : (k : Key) (newer : List Entry) (at : Entry) (older : List Entry) → has_sent k at.sent ≡ true → has_sent k (sent_of older) ≡ false → first_at k (newer ++ (at ∷ older)) ≡ Some (at ∷ older)
+first_is k [] at older is none = rw (none, is) refl
+first_is k (e ∷ newer) at older is none = rw (sent_before k newer (at ∷ older) (sent_right k (sent_of older) at.sent is)) (first_is k newer at older is none)
+
+carried_first : (s c : Node) (epoch number : ℕ) (what : Option Fid) (n : ℕ) (past : List Entry) → (x : IsCarried s c epoch number what n past) → first_at (record { node = s; epoch = epoch; number = number }) past ≡ Some (x.sent.at ∷ x.sent.older)
+carried_first s c epoch number what n past x =
+    let k : Key = record { node = s; epoch = epoch; number = number } in
+    ap (first_at k) x.sent.split ∙ first_is k x.sent.newer x.sent.at x.sent.older (sends_has c k x.user x.call x.sent.at.sent x.sent.sent) x.sent.first
+
+-- no break of this number is owed
+abbrev is_other_owe : ℕ → Line → Bool
+is_other_owe n (lines.Owe s c w k) = not (nat_eq k n)
+is_other_owe n l = true
+
+no_such_owe : (newer base ls : List Line) (l : Line) (q : Line → Bool) → all_lines q ls ≡ true → ls ≡ newer ++ (l ∷ base) → q l ≡ false → ⊥
+no_such_owe [] base [] l q h e f = absurd cc
+no_such_owe [] base (x ∷ ls) l q h e f = let same : x ≡ l = cc in let yes : q l ≡ true = ap q (sym same) ∙ (both (q x) (all_lines q ls) h).0 in let no_ : true ≡ false = sym yes ∙ f in absurd cc
+no_such_owe (y ∷ newer) base [] l q h e f = absurd cc
+no_such_owe (y ∷ newer) base (x ∷ ls) l q h e f = let rest : ls ≡ newer ++ (l ∷ base) = cc in no_such_owe newer base ls l q (both (q x) (all_lines q ls) h).1 rest f
+
+not_carried : (s c : Node) (epoch number : ℕ) (what : Option Fid) (n : ℕ) (past from : List Entry) → first_at (record { node = s; epoch = epoch; number = number }) past ≡ Some from → all_lines (is_other_owe n) (lines_of from) ≡ true → not (nat_eq n n) ≡ false → IsCarried s c epoch number what n past → ⊥
+not_carried s c epoch number what n past from at none own x =
+    let same : x.sent.at ∷ x.sent.older ≡ from = some_of (x.sent.at ∷ x.sent.older) from (sym (carried_first s c epoch number what n past x) ∙ at) in
+    no_such_owe x.owe.newer x.owe.base (lines_of (x.sent.at ∷ x.sent.older)) (lines.Owe s c what n) (is_other_owe n) (subst (λ (p : List Entry). all_lines (is_other_owe n) (lines_of p) ≡ true) (sym same) none) x.owe.split own
+
+-- a client is called for the first break on its file, drops that and answers; it opens the file again, and a second break becomes owed,
+-- which no call has carried yet
+abbrev two_breaks : List Input
+two_breaks =
+    begins 1 (acts.Open (operands.Fid file)) ∷ gives 1 steady ∷ begins 2 (acts.Close (operands.Fid file) (Hex (codes "def"))) ∷ gives 3 steady ∷ gives 2 steady ∷ gives 4 steady ∷ begins 1 (acts.Open (operands.Fid file)) ∷ gives 6 steady ∷ begins 2 (acts.Close (operands.Fid file) (Hex (codes "xyz"))) ∷ gives 8 steady ∷ []
+
+abbrev also : Line → Entry → Entry
+also l e = record e { lines = e.lines ++ l ∷ [] }
+
+abbrev break_key : Key
+break_key = record { node = Server 1; epoch = 1; number = 1 }
+
+-- the old call is timed out, and with it the second break is given up
+abbrev quit_front : List Input
+quit_front = two_breaks ++ server_waits 1 (Client 1) ∷ server_waits 1 (Client 1) ∷ []
+
+quit_unsent : Legal (alters 12 (also (lines.Quit (Server 1) (Client 1) 2)) (entries (start (script 2)) (quit_front ++ server_waits 1 (Client 1) ∷ []))) (script 2) → ⊥
+unfolding moved begin_row client_row server_row back_timeout_row wake_row start_row record_bytes head_form volume_form spelled opaque pad word laid_at led name_ok directory_bytes name_bytes rights_of image acl_text digits entry_text directory_of names_at opaque_at word_at counted_at whole_at count_at name_at spelled_at bytes_below
+quit_unsent h =
+    let g = h.1.1.1.1.1.1.1.1.1.1.1.1.0.0.0.1.1.0.1 in
+    let past : List Entry = past_of (set_up (script 2) ∷ []) (entries (start (script 2)) quit_front) in
+    let from : List Entry = past_of (set_up (script 2) ∷ []) (take 4 (entries (start (script 2)) two_breaks)) in
+    elim g.third [
+      | inl x ↦ not_there g.epoch g.number g.what past from x.1.1.0 x.1.1.1.0 refl refl g.carried
+      | inr x ↦ x
+    ]
+  where
+    not_there : (epoch number : ℕ) (what : Option Fid) (past from : List Entry) → 1 ≡ epoch → 1 ≡ number → first_at break_key past ≡ Some from → all_lines (is_other_owe 2) (lines_of from) ≡ true → IsCarried (Server 1) (Client 1) epoch number what 2 past → ⊥
+    not_there epoch number what past from e n at none x =
+        not_carried (Server 1) (Client 1) 1 1 what 2 past from at none refl (subst (λ (i : ℕ). IsCarried (Server 1) (Client 1) i 1 what 2 past) (sym e) (subst (λ (i : ℕ). IsCarried (Server 1) (Client 1) epoch i what 2 past) (sym n) x))
+
+-- the answer to the old call settles the second break too
+settled_unsent : Legal (alters 10 (also (lines.Settle (Server 1) (Client 1) 2)) (entries (start (script 2)) (two_breaks ++ gives 5 steady ∷ []))) (script 2) → ⊥
+unfolding moved begin_row client_row server_row back_timeout_row wake_row start_row record_bytes head_form volume_form spelled opaque pad word laid_at led name_ok directory_bytes name_bytes rights_of image acl_text digits entry_text directory_of names_at opaque_at word_at counted_at whole_at count_at name_at spelled_at bytes_below
+settled_unsent h =
+    let g = h.1.1.1.1.1.1.1.1.1.1.0.0.0.1.1.0.1 in
+    let past : List Entry = past_of (set_up (script 2) ∷ []) (entries (start (script 2)) two_breaks) in
+    let from : List Entry = past_of (set_up (script 2) ∷ []) (take 4 (entries (start (script 2)) two_breaks)) in
+    not_carried (Server 1) (Client 1) 1 1 g.what 2 past from refl refl refl (subst (λ (m : Message). IsCarried (Server 1) (Client 1) m.head.epoch m.head.number g.what 2 past) (sym (some_of _ g.reply g.by)) g.back.carried)
+
+-- ---- what is shown came to the client
+
+abbrev status : ReadStatus
+status = record { kind = 1; link_count = 1; length = 3; mode = 420 }
+
+abbrev stat_front : List Input
+stat_front = begins 1 (acts.Stat (operands.Fid file)) ∷ gives 1 steady ∷ gives 2 steady ∷ []
+
+-- a client that only ever looked at a file shows what is in it, from its cache
+read_what_was_only_looked_at : Legal (entries (start (script 1)) stat_front ++ step_of (Client 1) (begun 1 ∷ shown Cached ∷ answer 1 ∷ []) [] ∷ []) (script 1) → ⊥
+unfolding moved begin_row client_row server_row back_timeout_row wake_row start_row record_bytes head_form volume_form spelled opaque pad word laid_at led name_ok directory_bytes name_bytes rights_of image acl_text digits entry_text directory_of names_at opaque_at word_at counted_at whole_at count_at name_at spelled_at bytes_below
+read_what_was_only_looked_at h =
+    elim h.1.1.1.0.0.0.1.0.1.brought [
+      | inl x ↦ x.1.1
+      | inr y ↦ elim y [
+        | inl x ↦ let e : seen.Status status ≡ seen.Contents (bodies.File (codes "abc")) = x.1.1.1 in absurd cc
+        | inr x ↦ x
+      ]
+    ]
+
+-- or by the reply that brings its status
+fetched_by_a_status : Legal (alters 2 (instead (lines.Given 2 ∷ shown Fetched ∷ [])) (entries (start (script 1)) stat_front)) (script 1) → ⊥
+unfolding moved begin_row client_row server_row back_timeout_row wake_row start_row record_bytes head_form volume_form spelled opaque pad word laid_at led name_ok directory_bytes name_bytes rights_of image acl_text digits entry_text directory_of names_at opaque_at word_at counted_at whole_at count_at name_at spelled_at bytes_below
+fetched_by_a_status h =
+    let u = h.1.1.0.0.0.1.0.1.used refl in
+    let past : List Entry = past_of (set_up (script 1) ∷ []) (entries (start (script 1)) (take 2 stat_front)) in
+    elim (subst (λ (m : Message). CalledSince (answered_key m.head) (codes "guest") u.used.call past) (sym (some_of _ _ u.used.by)) u.used.called) [
+      | inl x ↦ let e : actors.Node (Server 1) ≡ actors.Node (Client 1) = x.0 in absurd cc
+      | inr x ↦ elim x.1 [
+        | inl y ↦ elim y.1 [
+          | inl z ↦ subst (λ (k : FsCall). Brings k file (seen.Contents (bodies.File (codes "abc")))) (sym (one_call _ _ _ _ z.1)) u.of
+          | inr z ↦ z
+        ]
+        | inr y ↦ let e : true ≡ false = y.0 in absurd cc
+      ]
+    ]
+
+-- what was promised before a crash is dropped by it
+gave_none : (e f : Entry) (older rest : List Entry) (ls : List Line) (m : Message) → e ≡ f → f.lines ≡ ls → ((sent : List Message) → given_message ls sent ≡ None) → given_message e.lines (sent_of older) ≡ Some m → ⊥
+gave_none e f older rest ls m same is none given = let no_ : None ≡ Some m = sym (none (sent_of older)) ∙ (ap (λ (x : List Line). given_message x (sent_of older)) (sym is) ∙ (ap (λ (x : Entry). given_message x.lines (sent_of older)) (sym same) ∙ given)) in absurd cc
+
+entry_first : (a b : Entry) (p q : List Entry) → a ∷ p ≡ b ∷ q → a ≡ b
+entry_first a b p q e = cc
+
+entry_rest : (a b : Entry) (p q : List Entry) → a ∷ p ≡ b ∷ q → p ≡ q
+entry_rest a b p q e = cc
+
+crash_since : (server : Node) (a b : Entry) (rest newer : List Entry) (at : Entry) (older : List Entry) (m : Message) (base : List Line) → a ∷ (b ∷ rest) ≡ newer ++ (at ∷ older) → given_message at.lines (sent_of older) ≡ Some m → a.lines ≡ lines.Restart (Client 1) 2 ∷ [] → b.lines ≡ lines.Crash (Client 1) ∷ [] → IsDropped server (Client 1) file (lines_on base newer)
+crash_since server a b rest [] at older m base split given up down = absurd (gave_none at a older rest _ m (sym (entry_first a at (b ∷ rest) older split)) up (λ s. refl) given)
+crash_since server a b rest (x ∷ []) at older m base split given up down = absurd (gave_none at b older rest _ m (sym (entry_first b at rest older (entry_rest a x (b ∷ rest) (at ∷ older) split))) down (λ s. refl) given)
+crash_since server a b rest (x ∷ y ∷ newer) at older m base split given up down =
+    let rest_ : b ∷ rest ≡ y ∷ (newer ++ (at ∷ older)) = entry_rest a x (b ∷ rest) (y ∷ (newer ++ (at ∷ older))) split in
+    subst (λ (e : Entry). IsDropped server (Client 1) file (onto (onto (lines_on base newer) y.lines) e.lines)) (entry_first a x (b ∷ rest) (y ∷ (newer ++ (at ∷ older))) split)
+    (subst (λ (ls : List Line). IsDropped server (Client 1) file (onto (onto (lines_on base newer) y.lines) ls)) (sym up)
+    (subst (λ (e : Entry). IsDropped server (Client 1) file (lines.Restart (Client 1) 2 ∷ onto (lines_on base newer) e.lines)) (entry_first b y rest (newer ++ (at ∷ older)) rest_)
+    (subst (λ (ls : List Line). IsDropped server (Client 1) file (lines.Restart (Client 1) 2 ∷ onto (lines_on base newer) ls)) (sym down) (inl refl))))
+
+-- a client reads from its cache what it had before it crashed
+read_over_a_crash : Legal (entries (start (script 1)) (stat_front ++ client_stops 1 ∷ client_starts 1 ∷ []) ++ step_of (Client 1) (lines.Begin (Client 1) (acts.Stat (operands.Fid file)) ∷ lines.Read (Client 1) file 1 Cached (seen.Status status) ∷ answer 1 ∷ []) [] ∷ []) (script 1) → ⊥
+unfolding moved begin_row client_row server_row back_timeout_row wake_row start_row record_bytes head_form volume_form spelled opaque pad word laid_at led name_ok directory_bytes name_bytes rights_of image acl_text digits entry_text directory_of names_at opaque_at word_at counted_at whole_at count_at name_at spelled_at bytes_below
+read_over_a_crash h =
+    let g = h.1.1.1.1.1.0.0.0.1.0.1 in
+    g.kept (crash_since g.grant.server _ _ _ g.grant.ran.newer g.grant.ran.at g.grant.ran.older g.grant.ran.message (onto [] g.grant.after) g.grant.ran.split g.grant.ran.given refl refl)
+
+-- ---- a reply is of its call's kind
+
+abbrev tells_the_time : Entry → Entry
+tells_the_time e = record e { sent = map (λ (m : Message). record m { carried = carried.Reply (tell.File (replies.GetTime 0 0)) }) e.sent }
+
+a_fetch_tells_no_time : ◌≡◌ {A = ℕ} 153 130 → ⊥
+a_fetch_tells_no_time e = absurd (omega (arith, e))
+
+answered_by_another_kind : Legal (alters 1 tells_the_time (entries (start (script 1)) fetch_front)) (script 1) → ⊥
+unfolding moved begin_row client_row server_row back_timeout_row wake_row start_row record_bytes head_form volume_form spelled opaque pad word laid_at led name_ok directory_bytes name_bytes rights_of image acl_text digits entry_text directory_of names_at opaque_at word_at counted_at whole_at count_at name_at spelled_at bytes_below
+answered_by_another_kind h =
+    elim (ran_for _ _ (h.1.0.1.1.0.0 1 1 (refl, tt) refl refl)) [
+      | inl x ↦ for_call _ _ _ _ _ (codes "guest") (calls.FetchData file (pos 0) (pos 2147483647)) (pos 0) refl refl refl x (λ result kind. a_fetch_tells_no_time kind)
+      | inr y ↦ elim y [ inl x ↦ for_none _ _ _ _ refl x | inr z ↦ elim z [ inl x ↦ for_none _ _ _ _ refl x | inr w ↦ w ] ]
+    ]
+
+-- ---- a client that is down does nothing but begin again
+
+begin_not : (c : Node) (act : Act) (n : Node) (k : ℕ) (ls : List Line) → lines.Begin c act ∷ ls ≡ lines.Restart n k ∷ [] → ⊥
+begin_not c act n k ls e = absurd cc
+
+restart_not : (n c : Node) (k : ℕ) → lines.Restart n k ∷ [] ≡ lines.Crash c ∷ [] → ⊥
+restart_not n c k e = absurd cc
+
+true_not : true ≡ false → ⊥
+true_not e = absurd cc
+
+-- one that crashed begins an act
+acted_when_down : Legal (entries (start (script 1)) (client_stops 1 ∷ []) ++ entries (start (script 1)) (begins 1 (acts.Open (operands.Fid file)) ∷ [])) (script 1) → ⊥
+unfolding moved begin_row client_row server_row back_timeout_row wake_row start_row record_bytes head_form volume_form spelled opaque pad word laid_at led name_ok directory_bytes name_bytes rights_of image acl_text digits entry_text directory_of names_at opaque_at word_at counted_at whole_at count_at name_at spelled_at bytes_below
+acted_when_down h = begin_not _ _ _ _ _ h.1.0.1.0.1.1.1.0
+
+-- one that is up begins again
+begun_again_when_up : Legal (step_of (Client 1) (lines.Restart (Client 1) 2 ∷ []) [] ∷ []) (script 1) → ⊥
+unfolding moved begin_row client_row server_row back_timeout_row wake_row start_row record_bytes head_form volume_form spelled opaque pad word laid_at led name_ok directory_bytes name_bytes rights_of image acl_text digits entry_text directory_of names_at opaque_at word_at counted_at whole_at count_at name_at spelled_at bytes_below
+begun_again_when_up h = elim h.0.1.0.1.1 [ inl x ↦ restart_not _ _ _ x.0 | inr x ↦ true_not x ]
+
+-- ---- a client calls a server in a boot that this began
+
+-- it calls it in the next one, before that has begun
+called_ahead : Legal (alters 0 to_boot_two (entries (start (script 1)) (begins 1 (acts.Open (operands.Fid file)) ∷ []))) (script 1) → ⊥
+unfolding moved begin_row client_row server_row back_timeout_row wake_row start_row record_bytes head_form volume_form spelled opaque pad word laid_at led name_ok directory_bytes name_bytes rights_of image acl_text digits entry_text directory_of names_at opaque_at word_at counted_at whole_at count_at name_at spelled_at bytes_below
+called_ahead h = let e : 2 ≡ 1 = h.0.1.1.1.0.0.1.1.1 in absurd (omega (arith, e))
+
+-- ---- a break is owed once in an entry, and ends once
+
+owed_twice : Legal (alters 3 (owes_number 2) (entries (start (script 2)) changes_file)) (script 2) → ⊥
+unfolding moved begin_row client_row server_row back_timeout_row wake_row start_row record_bytes head_form volume_form spelled opaque pad word laid_at led name_ok directory_bytes name_bytes rights_of image acl_text digits entry_text directory_of names_at opaque_at word_at counted_at whole_at count_at name_at spelled_at bytes_below
+owed_twice h = h.1.1.1.0.1.1.1.1.1.1.1.1.0 (inl (refl, (refl, refl)))
+
+settled_twice : Legal (alters 5 (also (lines.Settle (Server 1) (Client 1) 1)) (entries (start (script 2)) (changes_file ++ gives 4 steady ∷ gives 5 steady ∷ []))) (script 2) → ⊥
+unfolding moved begin_row client_row server_row back_timeout_row wake_row start_row record_bytes head_form volume_form spelled opaque pad word laid_at led name_ok directory_bytes name_bytes rights_of image acl_text digits entry_text directory_of names_at opaque_at word_at counted_at whole_at count_at name_at spelled_at bytes_below
+settled_twice h = h.1.1.1.1.1.0.1.1.1.1.1.1.0 (inl (refl, refl))

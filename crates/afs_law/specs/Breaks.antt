@@ -10,9 +10,9 @@ use Rattle.afs_num.specs.declared.types.Key.{Key}
 use Rattle.afs_num.specs.declared.types.Node.{Node}
 use Rattle.afs_num.specs.declared.calls.FsCall.{FsCall}
 use Rattle.afs_num.specs.declared.calls.FsCall.TheVariants as calls
-use Rattle.afs_law.specs.Ideal.{clock_of}
+use Rattle.afs_law.specs.Ideal.{Unless, clock_of}
 use Rattle.afs_history.specs.declared.lines.Line.{Line}
-use Rattle.afs_law.specs.Past.{server_boot, onto, lines_on, lines_of, sent_of, given_message, IsCallUnder, WasSent, answered_key, called_key, same_key}
+use Rattle.afs_law.specs.Past.{server_boot, onto, lines_on, lines_of, sent_of, given_message, has_sent, HasCode, IsCallUnder, SendsTo, answered_key, called_key, same_key}
 use Rattle.afs_num.specs.declared.types.Half.{Half}
 use Rattle.afs_num.specs.declared.types.Half.TheVariants as halves
 use Rattle.afs_num.specs.declared.types.Head.{Head}
@@ -39,6 +39,15 @@ HasSettled s c n (lines.Settle q d k ∷ newer) = ((q ≡ s) × ((d ≡ c) × (k
 HasSettled s c n (lines.Quit q d k ∷ newer) = ((q ≡ s) × ((d ≡ c) × (k ≡ n))) ⊎ HasSettled s c n newer
 HasSettled s c n (l ∷ newer) = HasSettled s c n newer
 
+-- the break of this number was settled or given up in the boot in which the server is
+abbrev pub HasEnded : Node → ℕ → List Line → Type 0
+HasEnded s n [] = ⊥
+HasEnded s n (lines.Settle q d k ∷ older) = ((q ≡ s) × (k ≡ n)) ⊎ HasEnded s n older
+HasEnded s n (lines.Quit q d k ∷ older) = ((q ≡ s) × (k ≡ n)) ⊎ HasEnded s n older
+HasEnded s n (lines.Crash m ∷ older) = Unless (same_node m s) (HasEnded s n older)
+HasEnded s n (lines.Fault m ∷ older) = Unless (same_node m s) (HasEnded s n older)
+HasEnded s n (l ∷ older) = HasEnded s n older
+
 -- the client dropped the fid, or all that the server granted; what is owed on all is answered by the latter alone
 abbrev pub HasDrop : Node → Node → Option Fid → List Line → Type 0
 HasDrop s c what [] = ⊥
@@ -54,7 +63,7 @@ HasTimeout s c epoch number count (l ∷ ls) = HasTimeout s c epoch number count
 
 -- ---- by the lines before
 
--- when the last grant on f to the client ends
+-- the clock at which the server's last promise to the client on f ends; none where it made none
 abbrev pub last_grant : Node → Node → Fid → List Line → Option ℕ
 last_grant s c f [] = None
 last_grant s c f (lines.Grant q d g index expiry ∷ older) = cond (same_node q s && (same_node d c && same_fid g f)) (Some expiry) (last_grant s c f older)
@@ -64,7 +73,7 @@ abbrev pub is_on : Fid → Option Fid → Bool
 is_on f None = true
 is_on f (Some g) = same_fid g f
 
--- when the last grant on f to the client ends, unless since then the server stopped, a break of it became owed to the client, or the client
+-- The same, and none too where that promise is over: since then the server stopped, a break of it became owed to the client, or the client
 -- dropped it
 abbrev pub live_grant : Node → Node → Fid → List Line → Option ℕ
 live_grant s c f [] = None
@@ -76,8 +85,8 @@ live_grant s c f (lines.DropAll m q ∷ older) = cond (same_node m c && same_nod
 live_grant s c f (lines.Owe q d w n ∷ older) = cond (same_node q s && (same_node d c && is_on f w)) None (live_grant s c f older)
 live_grant s c f (l ∷ older) = live_grant s c f older
 
--- When the server's last grant on f to the client ends, unless since then the server stopped or a break of it became owed to the client.
--- That the client dropped it is nothing that a server has to know
+-- The same, and none too where since then the server stopped, or a break of it became owed to the client. Drops aren't looked at, for that the
+-- client dropped it is nothing that a server has to know
 abbrev pub unbroken_grant : Node → Node → Fid → List Line → Option ℕ
 unbroken_grant s c f [] = None
 unbroken_grant s c f (lines.Grant q d g index expiry ∷ older) = cond (same_node q s && (same_node d c && same_fid g f)) (Some expiry) (unbroken_grant s c f older)
@@ -114,7 +123,7 @@ abbrev pub is_entry_of : Node → Actor → Bool
 is_entry_of s (actors.Node n) = same_node n s
 is_entry_of s a = false
 
--- whether a message is a call to this callee, to this boot, by the key's node: under this key or a later one
+-- whether the key's node sends this message to this callee as a call, for this boot, under this key or a later one (`IsCallFrom`, as a test)
 abbrev pub is_call : Carried → Bool
 is_call (carried.Call user call) = true
 is_call c = false
@@ -123,7 +132,7 @@ abbrev pub is_call_from : Node → Key → ℕ → Option Message → Bool
 is_call_from s k boot None = false
 is_call_from s k boot (Some m) = (is_call m.carried && same_node m.head.to s) && ((same_node m.head.from k.node && not (pair_below m.head.epoch m.head.number k.epoch k.number)) && nat_eq m.head.boot boot)
 
--- whether the callee wasn't given it yet in that boot, and no later one of its node
+-- whether none of these entries was given it, or a later one of its node, for that boot (`IsToCome`, as a test)
 abbrev pub is_to_come : Node → Key → ℕ → List Entry → Bool
 is_to_come s k boot [] = true
 is_to_come s k boot (e ∷ past) = not (is_call_from s k boot (given_message e.lines (sent_of past))) && is_to_come s k boot past
@@ -144,6 +153,8 @@ abbrev pub returned_in : Node → Entry → Option Message → List Entry → Li
 returned_in s e None past = []
 returned_in s e (Some m) past = returned_by s (is_entry_of s e.actor && (runs_now s m.head past && has_answer (called_key m.head) e.sent)) m.head m.carried
 
+-- All lines of these entries, of whatever node, the newest first; and before those of an entry in which this server runs and answers a call
+-- that gives promises back, a drop of each fid that the call names
 abbrev pub lines_at : Node → List Entry → List Line
 lines_at s [] = []
 lines_at s (e ∷ past) = onto (onto (lines_at s past) (returned_in s e (given_message e.lines (sent_of past)) past)) e.lines
@@ -204,13 +215,6 @@ pub record OweAt (s c : Node) (what : Option Fid) (n : ℕ) (ls : List Line) : T
   pub split : ls ≡ newer ++ (lines.Owe s c what n ∷ base)
   pub up : HasStopped s newer → ⊥
 
--- the client gave up what the break is on; the server hasn't stopped in this entry
-pub record GoodSettle (s c : Node) (n : ℕ) (past : List Entry) (own : List Line) : Type 0 where
-  pub going : HasStopped s own → ⊥
-  pub what : Option Fid
-  pub owe : OweAt s c what n (lines_of past)
-  pub dropped : HasDrop s c what owe.newer
-
 abbrev pub IsNamedIn : Fid → List Fid → Type 0
 IsNamedIn f [] = ⊥
 IsNamedIn f (g ∷ fs) = (g ≡ f) ⊎ IsNamedIn f fs
@@ -224,18 +228,47 @@ CarriesBreak (calls.CallBack fs callbacks) what = NamesIn what fs
 CarriesBreak calls.InitCallBackState what = what ≡ None
 CarriesBreak call what = ⊥
 
--- A call to the client that names what the break is on was timed out for the third time in this entry, in which the server hasn't stopped,
--- and twice before that since the break became owed. The call itself may be older than the break
+-- the past, split at the entry that first sent this call to this callee under this key
+pub record FirstSent (callee : Node) (k : Key) (user : List ℕ) (call : FsCall) (past : List Entry) : Type 0 where
+  pub newer : List Entry
+  pub at : Entry
+  pub older : List Entry
+  pub split : past ≡ newer ++ (at ∷ older)
+  pub sent : SendsTo callee k user call at.sent
+  pub first : has_sent k (sent_of older) ≡ false
+
+-- A call of the server to the client carries the break. It was first sent after that became owed, or in the same entry, for an entry sends
+-- behind its lines; and the server hasn't stopped since
+pub record IsCarried (s c : Node) (epoch number : ℕ) (what : Option Fid) (n : ℕ) (past : List Entry) : Type 0 where
+  pub user : List ℕ
+  pub call : FsCall
+  pub sent : FirstSent c (record { node = s; epoch = epoch; number = number }) user call past
+  pub carries : CarriesBreak call what
+  pub owe : OweAt s c what n (lines_of (sent.at ∷ sent.older))
+  pub up : HasStopped s (lines_on [] sent.newer) → ⊥
+
+-- and since that call was sent the client gave up what the break is on
+pub record IsGivenUp (s c : Node) (epoch number : ℕ) (what : Option Fid) (n : ℕ) (past : List Entry) : Type 0 where
+  pub carried : IsCarried s c epoch number what n past
+  pub dropped : HasDrop s c what (lines_on [] carried.sent.newer)
+
+-- the entry, in which the server hasn't stopped, was given the client's reply to a call that carries the break; and the client gave up what
+-- that is on
+pub record GoodSettle (s c : Node) (n : ℕ) (past : List Entry) (own : List Line) : Type 0 where
+  pub going : HasStopped s own → ⊥
+  pub reply : Message
+  pub by : given_message own (sent_of past) ≡ Some reply
+  pub is : HasCode reply.carried
+  pub to : reply.head.to ≡ s
+  pub from : reply.head.from ≡ c
+  pub what : Option Fid
+  pub back : IsGivenUp s c reply.head.epoch reply.head.number what n past
+
+-- a call to the client that carries the break was timed out for the third time in this entry, in which the server hasn't stopped
 pub record GoodQuit (s c : Node) (n : ℕ) (past : List Entry) (own : List Line) : Type 0 where
   pub going : HasStopped s own → ⊥
-  pub what : Option Fid
-  pub owe : OweAt s c what n (lines_of past)
   pub epoch : ℕ
   pub number : ℕ
   pub third : HasTimeout s c epoch number 3 own
-  pub first : HasTimeout s c epoch number 1 owe.newer
-  pub second : HasTimeout s c epoch number 2 owe.newer
-  pub user : List ℕ
-  pub call : FsCall
-  pub called : WasSent c (record { node = s; epoch = epoch; number = number }) user call past
-  pub carries : CarriesBreak call what
+  pub what : Option Fid
+  pub carried : IsCarried s c epoch number what n past

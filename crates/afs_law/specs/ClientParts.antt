@@ -8,15 +8,14 @@ use Rattle.afs_history.specs.declared.scripts.Script.{Script}
 use Rattle.afs_law.specs.Cells.{IsOfCell}
 use Rattle.afs_law.specs.Grants.{IsDropped, fetch_reply, has_fetched, is_promised}
 use Rattle.afs_law.specs.Ideal.{set_up, user_of}
-use Rattle.afs_law.specs.Legal.{EndsAct, GoodGift, HasChange, HasChangeBy, HasOwnHalf, HasUsed, IsDead, IsDone, as_asked, has_dropped}
+use Rattle.afs_law.specs.Legal.{EndsAct, GoodGift, HasChange, HasChangeBy, HasOwnHalf, HasUsed, IsDead, IsDone, IsKind, IsUse, as_asked, has_dropped}
 use Rattle.afs_law.specs.Once.{past_of}
 use Rattle.afs_law.specs.Parts.{AllLines, EachEntry, EachSent, LineRule, waited_key}
 use Rattle.afs_law.specs.Past.{CalledSince, IsReply, answered_key, code_told, given_message, has_begun, has_sent, is_of_act, lines_of, lines_on, onto, running, sent_of}
-use Rattle.afs_law.specs.Breaks.{IsNamedIn}
-use Rattle.afs_law.specs.ServerParts.{IsCodeGood, IsKind, IsReadGood}
-use Rattle.afs_num.specs.declared.calls.FsCall.TheVariants as calls
+use Rattle.afs_law.specs.ServerParts.{IsCodeGood, IsReadGood}
 use Rattle.afs_num.specs.declared.calls.FsCall.{FsCall}
 use Rattle.afs_num.specs.declared.histories.Actor.TheVariants as actors
+use Rattle.afs_num.specs.declared.histories.ReadBody.{ReadBody}
 use Rattle.afs_num.specs.declared.histories.ReadSource.{ReadSource}
 use Rattle.afs_num.specs.declared.histories.ReadSource.TheVariants.{Fetched}
 use Rattle.afs_num.specs.declared.messages.Message.{Message}
@@ -67,22 +66,10 @@ pub record AreAskedFor (s : Script) (c : Node) (f : Fid) (source : ReadSource) (
   pub used : HasUsed s c past own
   pub asks : used.call ≡ asked act
 
--- a call by which an act reads this object
-abbrev pub IsReadBy : Fid → FsCall → Type 0
-IsReadBy f (calls.FetchData g position wanted) = g ≡ f
-IsReadBy f (calls.FetchStatus g) = g ≡ f
-IsReadBy f (calls.BulkStatus fids) = IsNamedIn f fids
-IsReadBy f call = ⊥
-
--- the entry was given a reply with code 0 to such a call of the running act
-pub record IsUse (s : Script) (c : Node) (f : Fid) (past : List Entry) (own : List Line) : Type 0 where
-  pub used : HasUsed s c past own
-  pub of : IsReadBy f used.call
-
--- what is promised and was fetched just now is of a reply with code 0 to a call of the running act that reads it; rights are such, too
-abbrev pub IsUsed : Script → Bool → Node → Fid → ReadSource → List Entry → List Line → Type 0
-IsUsed s true c f source past own = source ≡ Fetched → IsUse s c f past own
-IsUsed s false c f source past own = AreAskedFor s c f source past own
+-- what is promised and was fetched just now is of a reply with code 0 to a call of the running act that brings just that; rights are such, too
+abbrev pub IsUsed : Script → Bool → Node → Fid → ReadSource → ReadBody → List Entry → List Line → Type 0
+IsUsed s true c f source body past own = source ≡ Fetched → IsUse s c f body past own
+IsUsed s false c f source body past own = AreAskedFor s c f source past own
 
 -- ---- answers
 
@@ -115,7 +102,7 @@ pub record IsDueCode (s : Script) (c : Node) (code : Code) (past : List Entry) (
   pub cause : IsReplied s c act code.0 past own ⊎ (IsDone s c act code.0 past own ⊎ (IsDead s c act code.0 past own ⊎ IsGivenAtOnce s c act code.0 own))
 
 abbrev pub IsDue : Script → LineRule
-IsDue s who (lines.Read c f index source body) past own next = IsUsed s (is_promised body) c f source past own
+IsDue s who (lines.Read c f index source body) past own next = IsUsed s (is_promised body) c f source body past own
 IsDue s who (lines.Answer c code) past own next = IsDueCode s c code past own
 IsDue s who l past own next = ⊤
 

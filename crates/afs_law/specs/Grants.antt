@@ -91,11 +91,12 @@ IsChangedByOther s c f [] = ⊥
 IsChangedByOther s c f (lines.Version v ∷ own) = ((v.fid ≡ f) × IsByOther s c (change_below own)) ⊎ IsChangedByOther s c f own
 IsChangedByOther s c f (l ∷ own) = IsChangedByOther s c f own
 
--- the client gave f up, or all that the server granted
+-- the client gave f up, or all that the server granted; and a crash takes all that it kept
 abbrev pub IsDropped : Node → Node → Fid → List Line → Type 0
 IsDropped s c f [] = ⊥
 IsDropped s c f (lines.Drop m g ∷ newer) = ((m ≡ c) × (g ≡ f)) ⊎ IsDropped s c f newer
 IsDropped s c f (lines.DropAll m q ∷ newer) = ((m ≡ c) × (q ≡ s)) ⊎ IsDropped s c f newer
+IsDropped s c f (lines.Crash n ∷ newer) = (n ≡ c) ⊎ IsDropped s c f newer
 IsDropped s c f (l ∷ newer) = IsDropped s c f newer
 
 -- a break of the grant is outstanding

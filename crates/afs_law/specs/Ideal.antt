@@ -64,6 +64,11 @@ abbrev pub call_under : Key → List Message → Option (List ℕ × FsCall)
 call_under k [] = None
 call_under k (m ∷ ms) = if is_called k m.head m.carried then call_in m.carried else call_under k ms
 
+-- the node to which that was sent first
+abbrev pub callee_under : Key → List Message → Option Node
+callee_under k [] = None
+callee_under k (m ∷ ms) = if is_called k m.head m.carried then Some m.head.to else callee_under k ms
+
 abbrev pub applied_by : Bool → ℕ → List ℕ → FsCall → Option Volume → Option Volume
 applied_by false id user call o = o
 applied_by true id user call None = None
@@ -184,7 +189,7 @@ abbrev pub is_at : ℕ → Node → List VolumeLine → Type 0
 is_at id server [] = ⊥
 is_at id server (v ∷ vs) = ((counts_later v.id vs ≡ false) × ((v.id ≡ id) × (Server v.server ≡ server))) ⊎ is_at id server vs
 
--- The server accepts stores of the volume: at first the script's server does. No line moves a volume yet.
+-- The server accepts stores of the volume: the script's server does, from the first. No line moves a volume yet, so the lines say nothing
 abbrev pub Accepts : Script → ℕ → Node → List Line → Type 0
 Accepts s id server [] = is_at id server s.volumes
 Accepts s id server (l ∷ older) = Accepts s id server older
@@ -216,8 +221,9 @@ raised false index base = base
 abbrev pub is_zero_code : Code → Bool
 is_zero_code code = is_number code.0 0
 
--- What lines, the oldest first, make of it. A version under a key of a call of the client's act is made by that act;
--- `own` tells whether the versions that come are. A read shows its index, and an answer 0 all that the act made.
+-- What an entry's lines, the oldest first, make of it. A version under a key of a call of the client's act is made by that act: `own` tells
+-- whether the last change line was under such a key, and so whether the versions that come are the act's. A read raises what was seen to its
+-- index, and an answer 0 to all that the act made
 abbrev pub reach_over : Node → Fid → List Entry → Bool → Reach → List Line → Reach
 reach_over c f past own r [] = r
 reach_over c f past own r (lines.Begin m act ∷ ls) = reach_over c f past own (record r { made = if same_node m c then 0 else r.made }) ls
@@ -231,6 +237,7 @@ abbrev pub reach : Node → Fid → List Entry → Reach
 reach c f [] = record { made = 0; seen = 0 }
 reach c f (e ∷ past) = reach_over c f past false (reach c f past) e.lines
 
--- the highest index of f that the client has seen, behind the entry's own lines, the newest first
+-- the highest index of f among the client's reads and among what its acts made that were answered 0; here `own` are the lines of the entry
+-- under way, the newest first
 abbrev pub seen : Node → Fid → List Entry → List Line → ℕ
 seen c f past own = (reach_over c f past false (reach c f past) (onto [] own)).seen

@@ -9,7 +9,7 @@ use Rattle.afs_num.specs.declared.types.Key.{Key}
 use Rattle.afs_breaks.specs.declared.types.Promise.{Promise}
 use Rattle.afs_breaks.specs.declared.types.OwedBreak.{OwedBreak}
 use Rattle.afs_rows.specs.Scopes.{is_in_scope}
-use Rattle.afs_law.specs.Breaks.{AllOwes, EndedBy, HasTimeout, Owes, GoodSettle, live_grant, lines_at}
+use Rattle.afs_law.specs.Breaks.{AllOwes, EndedBy, HasTimeout, Owes, IsGivenUp, live_grant, lines_at}
 use Rattle.afs_model.specs.Calls.{admitted, call_seat}
 use Rattle.afs_rows.specs.Going.{stored_whole, ClientState, asked, Going}
 use Rattle.afs_ideal.specs.Operations.{Caller, the_user, Result, refused, reads, changes, no_operation, op, volume_called, volume_changed}
@@ -212,6 +212,21 @@ AcknowledgedAreKept =
     (s : Script) (history before after : List Entry) (e : Entry) (first rest : List Line) (c : Node) (code : Code) (act : Going) (end : Cell) → IsOfCell s → RunsTo history s end → history ≡ before ++ (e ∷ after) → e.lines ≡ first ++ lines.Answer c code ∷ rest
     → running s c (onto [] first ++ lines_of (past_of (set_up s ∷ []) before)) ≡ Some act → IsChangingAct act.act → code.0 ≡ pos 0 → AreMadeAndKept s c act (past_of (set_up s ∷ []) before) (onto [] first) end.hosts (past_of (set_up s ∷ []) history)
 
+-- the same of one history and its end
+abbrev pub KeepsAcknowledged : Script → List Entry → Cell → Type 0
+KeepsAcknowledged s history end =
+    (before after : List Entry) (e : Entry) (first rest : List Line) (c : Node) (code : Code) (act : Going) → history ≡ before ++ (e ∷ after) → e.lines ≡ first ++ lines.Answer c code ∷ rest
+    → running s c (onto [] first ++ lines_of (past_of (set_up s ∷ []) before)) ≡ Some act → IsChangingAct act.act → code.0 ≡ pos 0 → AreMadeAndKept s c act (past_of (set_up s ∷ []) before) (onto [] first) end.hosts (past_of (set_up s ∷ []) history)
+
+-- At its end the servers hold the ideal volumes whose stores they accept, and nothing else; and what was acknowledged is among that
+pub record EndsWell (s : Script) (history : List Entry) (end : Cell) : Type 0 where
+  pub held : AreTold s end (past_of (set_up s ∷ []) history)
+  pub kept : KeepsAcknowledged s history end
+
+-- so does every run of such a script
+abbrev pub RunsEndWell : Type 0
+RunsEndWell = (s : Script) (history : List Entry) (end : Cell) → IsOfCell s → RunsTo history s end → EndsWell s history end
+
 -- Behind a legal history, where a reply is the cause of a client's answer, its server ran the call since the act began
 abbrev pub AnswersAreRecent : Type 0
 AnswersAreRecent =
@@ -338,14 +353,14 @@ abbrev pub BreaksAreOwed : Type 0
 BreaksAreOwed = (s : Script) (history : List Entry) (end : Cell) → RunsTo history s end → (i : ℕ) → AllOwes (Server i) (IsAccounted i (end.hosts i) end.clock) (past_of (set_up s ∷ []) history)
 
 -- the client gave up what this break is on
-abbrev pub IsHandled : ℕ → ℕ → List Entry → OwedBreak → Type 0
-IsHandled i j past o = (g : GoodSettle (Server i) (Client j) o.number past []) × (g.what ≡ o.what)
+abbrev pub IsHandled : ℕ → ℕ → Head → List Entry → OwedBreak → Type 0
+IsHandled i j head past o = IsGivenUp (Server i) (Client j) head.epoch head.number o.what o.number past
 
 -- where a client's reply to the call of its server is under way which that waits for, the client gave up all that the call breaks
 abbrev pub RepliesFollowDrops : Type 0
 RepliesFollowDrops =
     (s : Script) (history : List Entry) (end : Cell) → RunsTo history s end → (i j place : ℕ) (m : Message) (b : BackCall) → message_at end.sent place ≡ Some m → HasCode m.carried → m.head.to ≡ Server i → m.head.from ≡ Client j
-    → (end.hosts i).down ≡ None → m.head.epoch ≡ (end.hosts i).state.lasting.boot → (end.hosts i).state.backs.calls (Client j) ≡ Some b → m.head.number ≡ b.number → AllByRecursion (IsHandled i j (past_of (set_up s ∷ []) history)) b.breaks
+    → (end.hosts i).down ≡ None → m.head.epoch ≡ (end.hosts i).state.lasting.boot → (end.hosts i).state.backs.calls (Client j) ≡ Some b → m.head.number ≡ b.number → AllByRecursion (IsHandled i j m.head (past_of (set_up s ∷ []) history)) b.breaks
 
 -- the client waits for the reply to this call
 pub record IsAwaited (c : ClientState) (head : Head) : Type 0 where

@@ -15,12 +15,12 @@ use Rattle.afs_num.specs.declared.messages.Carried.{Carried}
 use Rattle.afs_num.specs.declared.messages.Message.{Message}
 use Rattle.afs_ideal.specs.Operations.{Caller, the_user, Result, refused, changes, no_operation, op, code_of, volume_called}
 use Rattle.afs_ideal.specs.Volumes.{Volume, Edit, versions_by}
-use Rattle.afs_law.specs.Breaks.{unbroken_grant, IsNamedIn, AllOwes, HasStopped, HasTimeout, EndedOf, EndedAll, GoodSettle, GoodQuit, live_grant, lines_at, HasOwe, last_number}
+use Rattle.afs_law.specs.Breaks.{unbroken_grant, IsNamedIn, AllOwes, HasEnded, HasStopped, HasTimeout, EndedOf, EndedAll, GoodSettle, GoodQuit, live_grant, lines_at, HasOwe, last_number}
 use Rattle.afs_rows.specs.Going.{Going, Need, answers, asks_for, next, asked, gives_back, reads_rights}
 use Rattle.afs_law.specs.Grants.{is_promised, read_reply, GrantOf, since, until, IsWithdrawn, IsChangedByOther, IsDropped}
-use Rattle.afs_law.specs.Ideal.{last_version, Unless, set_up, IsLast, WasLast, HasBeen, HasVersion, Accepts, clock_of, user_of, seen, change_in, change_key, call_under, volume_after}
+use Rattle.afs_law.specs.Ideal.{last_version, Unless, set_up, IsLast, WasLast, HasBeen, HasVersion, Accepts, clock_of, user_of, seen, change_in, change_key, call_under, callee_under, volume_after}
 use Rattle.afs_history.specs.declared.lines.Line.{Line}
-use Rattle.afs_law.specs.Past.{WasSent, last_boot, is_new_to_act, called_key, IsCall, IsToCome, is_of_act, lines_of, sent_of, given_message, answered_key, code_told, IsReply, running, has_begun, has_given, Called, CalledSince, IsCallUnder, Ran, server_boot}
+use Rattle.afs_law.specs.Past.{HasBoot, WasSent, is_down, last_boot, is_new_to_act, called_key, IsCall, IsToCome, is_of_act, lines_of, sent_of, given_message, answered_key, code_told, IsReply, running, has_begun, has_given, Called, CalledSince, IsCallUnder, Ran, server_boot}
 use Rattle.afs_rows.specs.Runs.{Entry}
 use Rattle.afs_history.specs.declared.scripts.Script.{Script}
 use Rattle.afs_num.specs.declared.histories.Actor.{Actor}
@@ -30,11 +30,13 @@ use Rattle.afs_num.specs.declared.histories.Body.TheVariants as bodies
 use Rattle.afs_num.specs.declared.histories.ReadBody.{ReadBody}
 use Rattle.afs_num.specs.declared.histories.ReadBody.TheVariants as shows
 use Rattle.afs_num.specs.declared.histories.ReadSource.{ReadSource}
-use Rattle.afs_num.specs.declared.histories.ReadSource.TheVariants.{Fetched}
+use Rattle.afs_num.specs.declared.histories.ReadSource.TheVariants.{Cached, Fetched}
 use Rattle.afs_num.specs.declared.histories.Version.{Version}
 use Rattle.afs_num.specs.declared.messages.Carried.TheVariants as carried
 use Rattle.afs_num.specs.declared.types.Half.TheVariants as halves
 use Rattle.afs_num.specs.declared.messages.Call.TheVariants as ask
+use Rattle.afs_num.specs.declared.messages.Reply.TheVariants as tell
+use Rattle.afs_model.specs.FsRows.{call_number, reply_number}
 use Rattle.afs_history.specs.declared.lines.Line.TheVariants as lines
 
 -- Which histories are legal: those of which each line is good after all that stands before it.
@@ -58,7 +60,7 @@ has_read c [] = false
 has_read c (lines.Read m f index source body ∷ own) = if same_node m c then true else has_read c own
 has_read c (l ∷ own) = has_read c own
 
--- the entry was given a reply with code 0, to a call that the client sent since its act began, which was in an entry before
+-- the entry was given a reply with code 0, by the callee of a call that the client sent since its act began, which was in an entry before
 pub record HasUsed (s : Script) (c : Node) (past : List Entry) (own : List Line) : Type 0 where
   pub reply : Message
   pub by : given_message own (sent_of past) ≡ Some reply
@@ -68,8 +70,44 @@ pub record HasUsed (s : Script) (c : Node) (past : List Entry) (own : List Line)
   pub before : has_begun c own ≡ false
   pub call : FsCall
   pub called : CalledSince (answered_key reply.head) (user_of s c) call past
+  pub from : callee_under (answered_key reply.head) (sent_of past) ≡ Some reply.head.from
 
 -- ---- reads
+
+-- a call whose reply brings this of the object: its contents, or its status, by itself or among several
+abbrev pub Brings : FsCall → Fid → ReadBody → Type 0
+Brings (calls.FetchData g position wanted) f (shows.Contents body) = g ≡ f
+Brings (calls.FetchStatus g) f (shows.Status status) = g ≡ f
+Brings (calls.BulkStatus fids) f (shows.Status status) = IsNamedIn f fids
+Brings call f body = ⊥
+
+-- the entry was given a reply with code 0 to such a call of the running act
+pub record IsUse (s : Script) (c : Node) (f : Fid) (body : ReadBody) (past : List Entry) (own : List Line) : Type 0 where
+  pub used : HasUsed s c past own
+  pub of : Brings used.call f body
+
+-- a call that makes this the body of the object
+abbrev pub Stores : FsCall → Fid → Body → Type 0
+Stores (calls.StoreData g status position wanted file_length contents) f body = (g ≡ f) × (body ≡ bodies.File contents)
+Stores call f body = ⊥
+
+abbrev pub StoresBy : Option Going → Fid → Body → Type 0
+StoresBy None f body = ⊥
+StoresBy (Some act) f body = Stores (asked act) f body
+
+-- by these lines, the newest first, this body of the object came to the client since it last crashed: by a read that was fetched, or by its
+-- own store, which was answered 0
+abbrev pub HasBrought : Script → Node → Fid → Body → List Line → Type 0
+HasBrought s c f body [] = ⊥
+HasBrought s c f body (lines.Read m g index source shown ∷ older) = ((m ≡ c) × ((g ≡ f) × ((source ≡ Fetched) × (shown ≡ shows.Contents body)))) ⊎ HasBrought s c f body older
+HasBrought s c f body (lines.Answer m code ∷ older) = ((m ≡ c) × ((code.0 ≡ pos 0) × StoresBy (running s c older) f body)) ⊎ HasBrought s c f body older
+HasBrought s c f body (lines.Crash n ∷ older) = Unless (same_node n c) (HasBrought s c f body older)
+HasBrought s c f body (l ∷ older) = HasBrought s c f body older
+
+-- contents that are read from the cache came to the client
+abbrev pub IsBrought : Script → Node → Fid → ReadSource → ReadBody → List Line → Type 0
+IsBrought s c f Cached (shows.Contents body) ls = HasBrought s c f body ls
+IsBrought s c f source body ls = ⊤
 
 -- a version of this index was told, whatever its body
 abbrev pub HasIndex : Fid → ℕ → List Line → Type 0
@@ -87,11 +125,12 @@ Shows f index body past own = HasIndex f index (own ++ lines_of past) × HasBeen
 
 -- a read is whole: it shows a version; it is not older than any that the client has seen; and it is the newest unless its
 -- grant, which lasts, was not given up, and came from a server that accepted stores of the volume, was withdrawn. One that was
--- fetched just now is of a reply to a call of the running act
+-- fetched just now is of a reply to a call of the running act that brings just that, and contents that are cached came to the client before
 pub record GoodRead (s : Script) (c : Node) (f : Fid) (index : ℕ) (source : ReadSource) (body : ReadBody) (past : List Entry) (own : List Line) : Type 0 where
   pub whole : Shows f index body past own
   pub not_older : seen c f past own ≤ index
-  pub used : source ≡ Fetched → HasUsed s c past own
+  pub used : source ≡ Fetched → IsUse s c f body past own
+  pub brought : IsBrought s c f source body (own ++ lines_of past)
   pub reply : Message
   pub by : read_reply c f source past own ≡ Some reply
   pub expiry : ℕ
@@ -101,23 +140,6 @@ pub record GoodRead (s : Script) (c : Node) (f : Fid) (index : ℕ) (source : Re
   pub lasts : clock_of (own ++ lines_of past) < expiry
   pub kept : IsDropped grant.server c f (own ++ since c f expiry reply past grant) → ⊥
   pub newest : IsWithdrawn grant.server c f (own ++ since c f expiry reply past grant) ⊎ IsLast f index (own ++ lines_of past)
-
--- Rights are read without a promise: the act needs them, and the entry was given a reply to its call for them. The read is whole,
--- not older than any that the client has seen, and was the newest at some line since its act began
-pub record GoodRights (s : Script) (c : Node) (f : Fid) (index : ℕ) (source : ReadSource) (body : ReadBody) (past : List Entry) (own : List Line) : Type 0 where
-  pub fetched : source ≡ Fetched
-  pub act : Going
-  pub runs : running s c (own ++ lines_of past) ≡ Some act
-  pub needs : next act ≡ reads_rights f
-  pub used : HasUsed s c past own
-  pub asks : used.call ≡ asked act
-  pub whole : Shows f index body past own
-  pub not_older : seen c f past own ≤ index
-  pub was : WasLast c f index (own ++ lines_of past)
-
-abbrev pub GoodReadBy : Script → Bool → Node → Fid → ℕ → ReadSource → ReadBody → List Entry → List Line → Type 0
-GoodReadBy s true c f index source body past own = GoodRead s c f index source body past own
-GoodReadBy s false c f index source body past own = GoodRights s c f index source body past own
 
 -- ---- changes
 
@@ -158,7 +180,7 @@ abbrev pub IsChanged : Fid → List Version → Type 0
 IsChanged f [] = ⊥
 IsChanged f (v ∷ vs) = (v.fid ≡ f) ⊎ IsChanged f vs
 
--- behind here the server begins again, or its disk fails or has no room for that: these lines end a restart
+-- among these lines, which stand behind in an entry, the server begins again, or its disk fails or has no room for that: the entry is a restart
 abbrev pub EndsBoot : Node → List Line → Type 0
 EndsBoot s [] = ⊥
 EndsBoot s (lines.Restart n boot ∷ next) = (n ≡ s) ⊎ EndsBoot s next
@@ -221,9 +243,9 @@ pub record IdealChange (s : Script) (server : Node) (k : Key) (count : ℕ) (pas
   pub number : count ≡ length (versions_first next)
   pub home : Accepts s id server (own ++ lines_of past)
 
--- While an act runs at the key's node, the server has changed nothing under a key of that act; and no server has under another key of
--- this key's act, were that long over: an act changes things once. Each other client's last grant on one of the fids that change, if it
--- lasts, has a break behind the change
+-- A change is the ideal one, and the only one of its act. `once`: while any act runs at the key's node, this server changed nothing before under
+-- a key of that act. `alone`: no server changed anything before under another key of the act to which this key belongs, were that long over.
+-- `owed`: behind the change stands a break for each other client whose last promise on one of the fids that change lasts
 pub record GoodChange (s : Script) (server : Node) (k : Key) (count : ℕ) (past : List Entry) (own next : List Line) : Type 0 where
   pub ideal : IdealChange s server k count past own next
   pub once : (a : Going) → running s k.node (lines_of past) ≡ Some a → (l : Key) → HasChangeBy server l (lines_of past) → is_of_act k.node l past ≡ true → ⊥
@@ -257,6 +279,17 @@ pub record GoodOwe (s : Script) (server c : Node) (what : Option Fid) (n : ℕ) 
   pub going : HasStopped server own → ⊥
   pub number : last_number server (own ++ lines_of past) < n
   pub cause : IsOwedFor s server c what past own
+
+-- an entry owes a client one break on one thing, and a break is settled or given up once
+abbrev pub IsForOnce : Line → List Entry → List Line → Type 0
+IsForOnce (lines.Owe server c what n) past own = HasOwe server c what own → ⊥
+IsForOnce (lines.Settle server c n) past own = HasEnded server n (own ++ lines_of past) → ⊥
+IsForOnce (lines.Quit server c n) past own = HasEnded server n (own ++ lines_of past) → ⊥
+IsForOnce l past own = ⊤
+
+abbrev pub AreForOnce : List Entry → List Line → List Line → Type 0
+AreForOnce past own [] = ⊤
+AreForOnce past own (l ∷ next) = IsForOnce l past own × AreForOnce past (l ∷ own) next
 
 -- a version stands under its change; that these are not too many is said of the change
 abbrev pub IsUnderChange : List Line → Type 0
@@ -307,9 +340,10 @@ abbrev pub IsChanging : Option Result → Type 0
 IsChanging (Some (changes es shown)) = ⊤
 IsChanging r = ⊥
 
--- The code is that of the ideal operation, and what that changes was told. Or the server had no room for the change: the entry
--- that ran the call tells none under its key, and wasn't interrupted, so that none was told by a restart either. Whether there
--- was room no line tells
+-- A reply's code, where `r` is what the ideal operation makes of its call, `ran` are the lines of the entry that ran the call, and `ls` all lines
+-- so far. It is the code of the ideal operation, and what that changes was told. Or it is 108, for a change: the server had no room. Then the
+-- entry that ran the call tells none under its key, and wasn't interrupted, so that no restart told one either. Whether there was room no line
+-- tells
 abbrev pub IsResult : Node → ℤ → Option Result → Key → List Line → List Line → Type 0
 IsResult server code r k ran ls = ((code_given r ≡ code) × IsTold k r ls) ⊎ ((code ≡ pos 108) × (IsChanging r × ((HasChange k ran → ⊥) × (HasStopped server ran → ⊥))))
 
@@ -329,6 +363,26 @@ pub record Cause (reply : Message) (code : ℤ) (asks_for : FsCall) (past : List
   pub carries : ran.message.carried ≡ carried.Call user (ask.File call)
   pub asks : as_asked call ≡ asks_for
   pub result : IsResult reply.head.from code (answer_at user call ran.older) (answered_key reply.head) ran.at.lines (own ++ lines_of past)
+
+-- Rights are read without a promise: the act needs them, and the entry was given a reply with code 0 to its call for them. That is the code of the
+-- ideal operation where the call ran, for the client's user. The read is whole, not older than any that the client has seen, and was the newest
+-- at some line since its act began
+pub record GoodRights (s : Script) (c : Node) (f : Fid) (index : ℕ) (source : ReadSource) (body : ReadBody) (past : List Entry) (own : List Line) : Type 0 where
+  pub fetched : source ≡ Fetched
+  pub act : Going
+  pub runs : running s c (own ++ lines_of past) ≡ Some act
+  pub needs : next act ≡ reads_rights f
+  pub used : HasUsed s c past own
+  pub asks : used.call ≡ asked act
+  pub whole : Shows f index body past own
+  pub not_older : seen c f past own ≤ index
+  pub was : WasLast c f index (own ++ lines_of past)
+  pub cause : Cause used.reply (pos 0) (asked act) past own
+  pub own_user : cause.user ≡ user_of s c
+
+abbrev pub GoodReadBy : Script → Bool → Node → Fid → ℕ → ReadSource → ReadBody → List Entry → List Line → Type 0
+GoodReadBy s true c f index source body past own = GoodRead s c f index source body past own
+GoodReadBy s false c f index source body past own = GoodRights s c f index source body past own
 
 -- the act ends with what it needs next: where the reply to that has code 0, so has the act. What it reads it goes on behind
 abbrev pub EndsAct : Need → Type 0
@@ -350,28 +404,30 @@ pub record IsCaused (s : Script) (c : Node) (act : Going) (code : ℤ) (past : L
   pub ends : code ≡ pos 0 → EndsAct (next act)
 
 -- the act needs no more, and answers so by its read lines; it began in this entry, which was given nothing, or the entry was
--- given a reply with code 0 to its call, and read what was wanting
+-- given a reply with code 0 to its call, and read what the act still needed
 pub record IsDone (s : Script) (c : Node) (act : Going) (code : ℤ) (past : List Entry) (own : List Line) : Type 0 where
   pub number : ℕ
   pub is : code ≡ pos number
   pub by : next act ≡ answers number
   pub last : IsAtOnce c own ⊎ (HasUsed s c past own × (has_read c own ≡ true))
 
--- a call of this very act was timed out for the third time in this entry, and twice before: it is dead. The timeouts are of the
--- node to which it was sent
+-- the act isn't at its end
+abbrev pub IsOpen : Need → Type 0
+IsOpen (answers code) = ⊥
+IsOpen need = ⊤
+
+-- a call of this very act, which isn't at its end, was timed out for the third time in this entry: it is dead
 pub record IsDead (s : Script) (c : Node) (act : Going) (code : ℤ) (past : List Entry) (own : List Line) : Type 0 where
   pub is : code ≡ negsuc 0
   pub callee : Node
   pub epoch : ℕ
   pub number : ℕ
   pub third : HasTimeout c callee epoch number 3 own
-  pub first : HasTimeout c callee epoch number 1 (lines_of past)
-  pub second : HasTimeout c callee epoch number 2 (lines_of past)
   pub before : has_begun c own ≡ false
   pub call : FsCall
   pub asks : as_asked call ≡ asked act
+  pub unended : IsOpen (next act)
   pub called : CalledSince (record { node = c; epoch = epoch; number = number }) (user_of s c) call past
-  pub to : WasSent callee (record { node = c; epoch = epoch; number = number }) (user_of s c) call past
 
 -- the client gave up a fid by itself
 abbrev pub has_dropped : Node → List Line → Bool
@@ -379,7 +435,7 @@ has_dropped c [] = false
 has_dropped c (lines.Drop m f ∷ own) = if same_node m c then true else has_dropped c own
 has_dropped c (l ∷ own) = has_dropped c own
 
--- the act gives back what its client was promised, and that is nothing: it gives up none in the entry in which it began
+-- the act gives promises back, and is answered in the entry in which it began, where it gave up nothing; what its client was promised no line tells
 pub record HasNothing (c : Node) (act : Going) (code : ℤ) (own : List Line) : Type 0 where
   pub is : code ≡ pos 0
   pub by : next act ≡ gives_back
@@ -482,10 +538,47 @@ abbrev pub AreGoodSent : List Entry → List Message → Type 0
 AreGoodSent past [] = ⊤
 AreGoodSent past (m ∷ ms) = GoodMessage past m × AreGoodSent past ms
 
--- what is sent as a server's reply to a client is that of the entry which ran its call: one before, or the one that sends it
+-- a refusal answers any call, and a reply one of its kind
+abbrev pub IsKind : FsCall → Carried → Type 0
+IsKind call (carried.Refusal code) = ⊤
+IsKind call (carried.Reply (tell.File reply)) = reply_number reply ≡ call_number call
+IsKind call c = ⊥
+
+-- What is sent as a server's reply to a client is that of the entry which ran its call, one before or the one that sends it. It has the code
+-- of the ideal operation there, and, unless it is a refusal, it is of that call's kind
+pub record Answered (m : Message) (past : List Entry) : Type 0 where
+  pub ran : Ran m.head past
+  pub user : List ℕ
+  pub call : FsCall
+  pub carries : ran.message.carried ≡ carried.Call user (ask.File call)
+  pub code : ℤ
+  pub told : code_told m.carried ≡ Some code
+  pub result : IsResult m.head.from code (answer_at user call ran.older) (answered_key m.head) ran.at.lines (lines_of past)
+  pub kind : IsKind call m.carried
+
 abbrev pub WereRun : List Entry → List Message → Type 0
 WereRun past [] = ⊤
-WereRun past (m ∷ ms) = ((i j : ℕ) → IsReply m → m.head.from ≡ Server i → m.head.to ≡ Client j → Ran m.head past) × WereRun past ms
+WereRun past (m ∷ ms) = ((i j : ℕ) → IsReply m → m.head.from ≡ Server i → m.head.to ≡ Client j → Answered m past) × WereRun past ms
+
+-- where this is a server, it began this boot
+abbrev pub IsBootOf : Node → ℕ → List Line → Type 0
+IsBootOf (Server i) boot ls = HasBoot (Server i) boot ls
+IsBootOf n boot ls = ⊤
+
+-- A client's file call is made for its user, and is the one under its key, to the one callee: what is sent again is the same call. The boot to
+-- which it is sent its server began
+abbrev pub OwnCallOf : Script → Node → Head → List ℕ → FsCall → List Entry → Type 0
+OwnCallOf s (Client j) head user call past =
+    (user ≡ user_of s (Client j)) × ((call_under (called_key head) (sent_of past) ≡ Some (user, call)) × ((callee_under (called_key head) (sent_of past) ≡ Some head.to) × IsBootOf head.to head.boot (lines_of past)))
+OwnCallOf s n head user call past = ⊤
+
+abbrev pub OwnCall : Script → Head → Carried → List Entry → Type 0
+OwnCall s head (carried.Call user (ask.File call)) past = OwnCallOf s head.from head user call past
+OwnCall s head c past = ⊤
+
+abbrev pub AreOwnCalls : Script → List Entry → List Message → Type 0
+AreOwnCalls s past [] = ⊤
+AreOwnCalls s past (m ∷ ms) = OwnCall s m.head m.carried past × AreOwnCalls s past ms
 
 -- ---- restarts
 
@@ -502,6 +595,34 @@ IsRising l older = ⊤
 abbrev pub AreRising : List Line → List Line → Type 0
 AreRising older [] = ⊤
 AreRising older (l ∷ ls) = IsRising l older × AreRising (l ∷ older) ls
+
+-- ---- clients that stop
+
+-- these lines tell a crash or a restart
+abbrev pub has_crash_or_restart : List Line → Bool
+has_crash_or_restart [] = false
+has_crash_or_restart (lines.Crash n ∷ ls) = true
+has_crash_or_restart (lines.Restart n boot ∷ ls) = true
+has_crash_or_restart (l ∷ ls) = has_crash_or_restart ls
+
+-- An entry of a client that is down is its restart. One of a client that is up is its crash, or tells neither a crash nor a restart. A crash
+-- and a restart are their entry's only line, and send nothing
+abbrev pub IsLived : Node → Bool → List Line → List Message → Type 0
+IsLived c true ls sent = (epoch : ℕ) × ((ls ≡ lines.Restart c epoch ∷ []) × (sent ≡ []))
+IsLived c false ls sent = ((ls ≡ lines.Crash c ∷ []) × (sent ≡ [])) ⊎ (has_crash_or_restart ls ≡ false)
+
+abbrev pub IsLivedBy : Actor → List Entry → List Line → List Message → Type 0
+IsLivedBy (actors.Node (Client j)) past ls sent = IsLived (Client j) (is_down (Client j) (lines_of past)) ls sent
+IsLivedBy who past ls sent = ⊤
+
+-- ---- timeouts
+
+-- the call of this key was sent to this node before; and this is its first timeout, or the one below it stands in an entry before
+pub record GoodTimeout (n callee : Node) (epoch number count : ℕ) (past : List Entry) : Type 0 where
+  pub user : List ℕ
+  pub call : FsCall
+  pub sent : WasSent callee (record { node = n; epoch = epoch; number = number }) user call past
+  pub below : (count ≡ 1) ⊎ ((k : ℕ) × ((count ≡ k + 1) × HasTimeout n callee epoch number k (lines_of past)))
 
 -- ---- histories
 
@@ -546,12 +667,13 @@ IsInPlace s who (lines.Settle server c n) past own next = IsOfServer who server
 IsInPlace s who (lines.Quit server c n) past own next = IsOfServer who server
 IsInPlace s who lines.Void past own next = who ≡ actors.Nobody
 
--- a line is in its place; and what it grants, changes, reads, answers, owes, settles or gives up is good
+-- a line is in its place; and what it grants, changes, reads, answers, times out, owes, settles or gives up is good
 abbrev pub IsGood : Script → Actor → Line → List Entry → List Line → List Line → Type 0
 IsGood s who (lines.Grant server c f index expiry) past own next = IsInPlace s who (lines.Grant server c f index expiry) past own next × GoodGrant server c f index expiry past own
 IsGood s who (lines.Change server k count) past own next = IsInPlace s who (lines.Change server k count) past own next × GoodChange s server k count past own next
 IsGood s who (lines.Read c f index source body) past own next = IsInPlace s who (lines.Read c f index source body) past own next × GoodReadBy s (is_promised body) c f index source body past own
 IsGood s who (lines.Answer c code) past own next = IsInPlace s who (lines.Answer c code) past own next × GoodCode s c code past own
+IsGood s who (lines.Timeout n callee epoch number count) past own next = IsInPlace s who (lines.Timeout n callee epoch number count) past own next × GoodTimeout n callee epoch number count past
 IsGood s who (lines.Owe server c what n) past own next = IsInPlace s who (lines.Owe server c what n) past own next × GoodOwe s server c what n past own
 IsGood s who (lines.Settle server c n) past own next = IsInPlace s who (lines.Settle server c n) past own next × GoodSettle server c n past own
 IsGood s who (lines.Quit server c n) past own next = IsInPlace s who (lines.Quit server c n) past own next × GoodQuit server c n past own
@@ -569,14 +691,14 @@ IsOfScript s (actors.Node n) = ⊥
 IsOfScript s actors.Clock = ⊤
 IsOfScript s actors.Nobody = ⊤
 
--- an entry lays no volumes, for the set-up alone does; it is of a node of the script; and a server that begins again was down, and is
--- then in a boot above the last one that it began
+-- An entry lays no volumes, for the set-up alone does; and it is of a node of the script. A server that begins again was down, and is then in
+-- a boot above the last one that it began. A client that is down does nothing but begin again
 abbrev pub IsEntryOf : Script → List Entry → Entry → Type 0
-IsEntryOf s past e = ((e.volumes ≡ []) × IsOfScript s e.actor) × AreRising (lines_of past) e.lines
+IsEntryOf s past e = ((e.volumes ≡ []) × IsOfScript s e.actor) × (AreRising (lines_of past) e.lines × IsLivedBy e.actor past e.lines e.sent)
 
 abbrev pub LegalAfter : Script → List Entry → List Entry → Type 0
 LegalAfter s past [] = ⊤
-LegalAfter s past (e ∷ es) = ((AreGood s e.actor past [] e.lines × AreGoodSent (e ∷ past) e.sent) × (IsEntryOf s past e × WereRun (e ∷ past) e.sent)) × LegalAfter s (e ∷ past) es
+LegalAfter s past (e ∷ es) = ((AreGood s e.actor past [] e.lines × AreGoodSent (e ∷ past) e.sent) × (IsEntryOf s past e × (WereRun (e ∷ past) e.sent × (AreOwnCalls s (e ∷ past) e.sent × AreForOnce past [] e.lines)))) × LegalAfter s (e ∷ past) es
 
 abbrev pub Legal : List Entry → Script → Type 0
 Legal history s = LegalAfter s (set_up s ∷ []) history

@@ -5,7 +5,7 @@ use Rattle.afs_history.specs.declared.lines.Line.{Line}
 use Rattle.afs_history.specs.declared.lines.Line.TheVariants as lines
 use Rattle.afs_history.specs.declared.scripts.Script.{Script}
 use Rattle.afs_law.specs.Ideal.{call_under, set_up, user_of}
-use Rattle.afs_law.specs.Legal.{WereRun, GoodCall, IdealChange, IsBy, IsEntryOf, IsInPlace, IsOfServer, as_asked}
+use Rattle.afs_law.specs.Legal.{WereRun, GoodCall, IdealChange, IsBy, IsEntryOf, IsInPlace, IsOfServer, OwnCall, as_asked}
 use Rattle.afs_law.specs.Once.{past_of}
 use Rattle.afs_law.specs.Past.{Called, CalledSince, called_key, is_new_to_act, lines_of, running}
 use Rattle.afs_num.specs.declared.calls.FsCall.{FsCall}
@@ -97,6 +97,14 @@ IsOwn past m = IsBy m.head.from past × GoodCall m.head m.carried past
 -- so are all messages of a run
 abbrev pub MessagesAreOwn : Type 0
 MessagesAreOwn = (s : Script) (history : List Entry) (end : Cell) → RunsTo history s end → EachEntry (λ past e. EachSent IsOwn (e ∷ past) e.sent) (set_up s ∷ []) history
+
+-- a client's file call is made for its user, and is the one under its key, to the one callee
+abbrev pub IsOwnCall : Script → List Entry → Message → Type 0
+IsOwnCall s past m = OwnCall s m.head m.carried past
+
+-- so is each of a run
+abbrev pub CallsAreOwn : Type 0
+CallsAreOwn = (s : Script) (history : List Entry) (end : Cell) → RunsTo history s end → EachEntry (λ past e. EachSent (IsOwnCall s) (e ∷ past) e.sent) (set_up s ∷ []) history
 
 -- ---- changes
 

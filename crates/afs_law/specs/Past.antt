@@ -179,6 +179,20 @@ last_boot s [] = 1
 last_boot s (lines.Restart n boot ∷ older) = if same_node n s then boot else last_boot s older
 last_boot s (l ∷ older) = last_boot s older
 
+-- the server began this boot: it is the first, or a restart of the server told it
+abbrev pub HasBoot : Node → ℕ → List Line → Type 0
+HasBoot s boot [] = boot ≡ 1
+HasBoot s boot (lines.Restart n b ∷ older) = ((n ≡ s) × (b ≡ boot)) ⊎ HasBoot s boot older
+HasBoot s boot (l ∷ older) = HasBoot s boot older
+
+-- ---- whether a client is down, by its lines, the newest first: it crashed, and didn't begin again since
+
+abbrev pub is_down : Node → List Line → Bool
+is_down c [] = false
+is_down c (lines.Crash n ∷ older) = if same_node n c then true else is_down c older
+is_down c (lines.Restart n epoch ∷ older) = if same_node n c then false else is_down c older
+is_down c (l ∷ older) = is_down c older
+
 -- ---- the entry that ran a call
 
 -- a call to this callee under this key, to this boot
@@ -194,12 +208,12 @@ IsUnheard s k boot (e ∷ past) = (IsCallUnder s k boot (given_message e.lines (
 abbrev pub IsUpTo : ℕ → ℕ → ℕ → ℕ → Type 0
 IsUpTo epoch number d m = (epoch < d) ⊎ ((epoch ≡ d) × (number ≤ m))
 
--- a call to this callee, to this boot, by the key's node: under this key or a later one
+-- the key's node sends this message to this callee as a call, for this boot, under this key or a later one
 abbrev pub IsCallFrom : Node → Key → ℕ → Option Message → Type 0
 IsCallFrom s k boot None = ⊥
 IsCallFrom s k boot (Some m) = (IsCall m.carried × (m.head.to ≡ s)) × (((m.head.from ≡ k.node) × IsUpTo k.epoch k.number m.head.epoch m.head.number) × (m.head.boot ≡ boot))
 
--- the callee wasn't given it yet in that boot, and no later one of its node
+-- none of these entries was given the callee's call under this key for that boot, or a later one of the key's node: it may still run
 abbrev pub IsToCome : Node → Key → ℕ → List Entry → Type 0
 IsToCome s k boot [] = ⊤
 IsToCome s k boot (e ∷ past) = (IsCallFrom s k boot (given_message e.lines (sent_of past)) → ⊥) × IsToCome s k boot past

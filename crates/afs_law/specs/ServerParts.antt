@@ -3,18 +3,15 @@ use Rattle.afs_law.specs.Breaks.{GoodQuit, GoodSettle, HasOwe, lines_at, live_gr
 use Rattle.afs_law.specs.Grants.{is_promised}
 use Rattle.afs_law.specs.Ideal.{Accepts, HasVersion, clock_of, set_up, volume_after}
 use Rattle.afs_law.specs.Laws.{IsKept, told_by_restart}
-use Rattle.afs_law.specs.Legal.{GoodCode, GoodGrant, GoodOwe, GoodReadBy, GoodReply, IsChanged, IsResult, Legal, answer_at, versions_first}
+use Rattle.afs_law.specs.Legal.{Answered, GoodCode, GoodGrant, GoodOwe, GoodReadBy, GoodReply, GoodTimeout, IsBrought, IsChanged, IsForOnce, Legal, versions_first}
 use Rattle.afs_law.specs.Once.{past_of}
 use Rattle.afs_law.specs.Parts.{AllLines, EachEntry, EachSent, LineRule}
 use Rattle.afs_law.specs.Past.{HasCode, Ran, answered_key, code_told, lines_of}
-use Rattle.afs_model.specs.FsRows.{call_number, reply_number}
 use Rattle.afs_num.specs.declared.calls.FsCall.{FsCall}
 use Rattle.afs_num.specs.declared.histories.Version.{Version}
 use Rattle.afs_num.specs.declared.messages.Call.TheVariants as ask
-use Rattle.afs_num.specs.declared.messages.Carried.{Carried}
 use Rattle.afs_num.specs.declared.messages.Carried.TheVariants as carried
 use Rattle.afs_num.specs.declared.messages.Message.{Message}
-use Rattle.afs_num.specs.declared.messages.Reply.TheVariants as tell
 use Rattle.afs_num.specs.declared.types.Fid.{Fid}
 use Rattle.afs_num.specs.declared.types.Node.TheVariants.{Client, Server}
 use Rattle.afs_history.specs.declared.lines.Line.TheVariants as lines
@@ -45,6 +42,23 @@ IsBreakGood s who (lines.Settle server c n) past own next = GoodSettle server c 
 IsBreakGood s who (lines.Quit server c n) past own next = GoodQuit server c n past own
 IsBreakGood s who l past own next = ⊤
 
+-- a timeout is of a call that was sent before, and the one below it was told
+abbrev pub IsTimeoutGood : LineRule
+IsTimeoutGood who (lines.Timeout n callee epoch number count) past own next = GoodTimeout n callee epoch number count past
+IsTimeoutGood who l past own next = ⊤
+
+-- so is each timeout of a run
+abbrev pub TimeoutsAreGood : Type 0
+TimeoutsAreGood = (s : Script) (history : List Entry) (end : Cell) → RunsTo history s end → AllLines IsTimeoutGood s history
+
+-- a break becomes owed once in its entry, and ends once
+abbrev pub IsBreakOnce : LineRule
+IsBreakOnce who l past own next = IsForOnce l past own
+
+-- so does each of a run
+abbrev pub BreaksAreOnce : Type 0
+BreaksAreOnce = (s : Script) (history : List Entry) (end : Cell) → RunsTo history s end → AllLines IsBreakOnce s history
+
 -- so is each line of a run
 abbrev pub BreaksAreGood : Type 0
 BreaksAreGood = (s : Script) (history : List Entry) (end : Cell) → RunsTo history s end → AllLines (IsBreakGood s) s history
@@ -56,29 +70,11 @@ RepliesWait = (s : Script) (history : List Entry) (end : Cell) → RunsTo histor
 
 -- ---- replies
 
--- it is of the call's kind
-abbrev pub IsKind : FsCall → Carried → Type 0
-IsKind call (carried.Refusal code) = ⊤
-IsKind call (carried.Reply (tell.File reply)) = reply_number reply ≡ call_number call
-IsKind call c = ⊥
-
--- the reply is that of the entry which ran its call, and tells what the ideal operation made of it there; and if it isn't a refusal it is of that
--- call's kind
-pub record IsTrue (m : Message) (past : List Entry) : Type 0 where
-  pub ran : Ran m.head past
-  pub user : List ℕ
-  pub call : FsCall
-  pub carries : ran.message.carried ≡ carried.Call user (ask.File call)
-  pub code : ℤ
-  pub told : code_told m.carried ≡ Some code
-  pub result : IsResult m.head.from code (answer_at user call ran.older) (answered_key m.head) ran.at.lines (lines_of past)
-  pub kind : IsKind call m.carried
-
--- where it is one of a server to a client
+-- a reply of a server to a client is that of the entry which ran its call, and tells what the ideal operation made of it there
 abbrev pub IsTruthful : List Entry → Message → Type 0
-IsTruthful past m = (i j : ℕ) → m.head.from ≡ Server i → m.head.to ≡ Client j → HasCode m.carried → IsTrue m past
+IsTruthful past m = (i j : ℕ) → m.head.from ≡ Server i → m.head.to ≡ Client j → HasCode m.carried → Answered m past
 
--- so is each reply of a run
+-- so does each reply of a run
 abbrev pub RepliesAreTrue : Type 0
 RepliesAreTrue = (s : Script) (history : List Entry) (end : Cell) → RunsTo history s end → EachEntry (λ past e. EachSent IsTruthful (e ∷ past) e.sent) (set_up s ∷ []) history
 
@@ -96,6 +92,16 @@ VersionsAreKept =
     (s : Script) (history : List Entry) (end : Cell) → RunsTo history s end → (i : ℕ) (v : Version) → Accepts s v.fid.volume (Server i) (lines_of (past_of (set_up s ∷ []) history)) → HasVersion v.fid v.index v.body (lines_of (past_of (set_up s ∷ []) history))
     → IsKept v (end.hosts i).state.lasting.volumes (lines_of (past_of (set_up s ∷ []) history))
     × ((fall : Fall) → (end.hosts i).down ≡ Some fall → IsKept v (begun_by_disk (Server i) (end.hosts i).state true fall).state.lasting.volumes (lines_of (told_by_restart i (end.hosts i) fall ∷ past_of (set_up s ∷ []) history)))
+
+-- ---- what is read from a cache
+
+abbrev pub IsBroughtGood : Script → LineRule
+IsBroughtGood s who (lines.Read c f index source body) past own next = IsBrought s c f source body (own ++ lines_of past)
+IsBroughtGood s who l past own next = ⊤
+
+-- contents that a client of a run reads from its cache came to it since it last crashed
+abbrev pub CachedAreBrought : Type 0
+CachedAreBrought = (s : Script) (history : List Entry) (end : Cell) → RunsTo history s end → AllLines (IsBroughtGood s) s history
 
 -- ---- all of it
 

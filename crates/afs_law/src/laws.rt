@@ -1,9 +1,9 @@
 //! Laws about the runs of a script. Each is the contract of a function that does nothing.
 
-ghost use Rattle.afs_law.specs.Laws.{AcknowledgedAreKept, AcknowledgedAreMade, AnswersAreRecent, ChangesAreFolded, EffectsAreTold, KeysRunOnce, ReadsAreNewest, RunsAreLegal, RunsAreOne, SetUpsAreFirst, StartsAreFolded, VolumesAreTold, PairsAreKnown, TrustedIsGood, RoomlessAreRefused, UnservedAreRefused, CallsRunOnce, RepliesAreCaused, RepliesWereRun, KeptWereRun, DurableAreChanges, GrantsAreKept, BreaksAreOwed, RepliesFollowDrops, UnawaitedAreUntrusted, DeadAreUntrusted};
+ghost use Rattle.afs_law.specs.Laws.{AcknowledgedAreKept, AcknowledgedAreMade, AnswersAreRecent, ChangesAreFolded, EffectsAreTold, KeysRunOnce, ReadsAreNewest, RunsAreLegal, RunsAreOne, RunsEndWell, SetUpsAreFirst, StartsAreFolded, VolumesAreTold, PairsAreKnown, TrustedIsGood, RoomlessAreRefused, UnservedAreRefused, CallsRunOnce, RepliesAreCaused, RepliesWereRun, KeptWereRun, DurableAreChanges, GrantsAreKept, BreaksAreOwed, RepliesFollowDrops, UnawaitedAreUntrusted, DeadAreUntrusted};
 ghost use Rattle.afs_law.specs.ClientParts.{AnswersAreDue, AnswersAreGood, CachedAreFetched, ChangesAreAlone, GiftsAreDropped, ReadsAreGood, WaitsAreSilent};
-ghost use Rattle.afs_law.specs.Parts.{ActsAreTold, CallsAreAsked, ChangesAreIdeal, EntriesAreSound, LinesAreInPlace, MessagesAreOwn};
-ghost use Rattle.afs_law.specs.ServerParts.{BreaksAreGood, FallsAreKept, GoodReadsAreLegal, GrantsAreGood, RepliesAreTrue, RepliesWait, VersionsAreKept};
+ghost use Rattle.afs_law.specs.Parts.{ActsAreTold, CallsAreAsked, CallsAreOwn, ChangesAreIdeal, EntriesAreSound, LinesAreInPlace, MessagesAreOwn};
+ghost use Rattle.afs_law.specs.ServerParts.{BreaksAreGood, BreaksAreOnce, CachedAreBrought, FallsAreKept, GoodReadsAreLegal, GrantsAreGood, RepliesAreTrue, RepliesWait, TimeoutsAreGood, VersionsAreKept};
 
 /// Every run is legal, of a script for eight servers at most, which have its volumes.
 pub fn runs_are_legal()
@@ -29,6 +29,11 @@ pub fn acknowledged_are_made()
 /// changes that were told have made of it, and so does what an interrupted step may have left, with what a restart tells of that.
 pub fn acknowledged_are_kept()
     ensures { AcknowledgedAreKept }
+{}
+
+/// A run of such a script ends with servers that hold the ideal volumes, in which what was acknowledged is kept.
+pub fn runs_end_well()
+    ensures { RunsEndWell }
 {}
 
 /// In a legal history an act is answered by a reply to a call that ran since it began.
@@ -204,6 +209,11 @@ pub fn messages_are_own()
     ensures { MessagesAreOwn }
 {}
 
+/// A client's file call is made for its user, and is the one under its key, to the one callee.
+pub fn calls_are_own()
+    ensures { CallsAreOwn }
+{}
+
 /// Each change is what the ideal cell makes of the call that ran.
 pub fn changes_are_ideal()
     ensures { ChangesAreIdeal }
@@ -217,6 +227,21 @@ pub fn grants_are_good()
 /// Behind each change its breaks are owed, and each break that becomes owed, is settled or is given up has its cause.
 pub fn breaks_are_good()
     ensures { BreaksAreGood }
+{}
+
+/// A break becomes owed once in its entry, and is settled or given up once.
+pub fn breaks_are_once()
+    ensures { BreaksAreOnce }
+{}
+
+/// Each timeout is of a call that was sent before, and is its first or has the one below it before.
+pub fn timeouts_are_good()
+    ensures { TimeoutsAreGood }
+{}
+
+/// Contents that a client reads from its cache came to it since it last crashed: by a read that was fetched, or by its own store.
+pub fn cached_are_brought()
+    ensures { CachedAreBrought }
 {}
 
 /// A server's reply with code 0 waits until no break is open that an entry given its call owes, or, where that changed something, any on all.

@@ -32,8 +32,8 @@ fn put_status<E: Sink>(errors: &mut E, status: Status) -> Result<(), Failed>
 /// The program's end with this status: it is told on the stream of errors, as far as that takes it.
 pub fn end_with<E: Sink>(errors: &mut E, status: Status) -> Ended
     ensures status { result.status ≡ status }
-    ensures number { result.number ≡ status_number status }
-    ensures told { Shows status (E.held errors.old) (E.held errors.new) (E.faults errors.old) (E.faults errors.new) }
+    ensures number { result.number ≡ status_number result.status }
+    ensures told { Shows result.status (E.held errors.old) (E.held errors.new) (E.faults errors.old) (E.faults errors.new) }
 {
     let _shown = put_status(errors, status);
     Ended {

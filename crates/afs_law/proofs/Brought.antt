@@ -1,0 +1,533 @@
+-- What a client shows of a file from its cache came to it since it last crashed, however many servers a cell has.
+use Rattle.afs_history.specs.declared.acts.Act.{Act}
+use Rattle.afs_history.specs.declared.lines.Line.{Line}
+use Rattle.afs_history.specs.declared.lines.Line.TheVariants as lines
+use Rattle.afs_history.specs.declared.scripts.Script.{Script}
+use Rattle.afs_ideal.specs.Operations.{volume_changed}
+use Rattle.afs_law.proofs.Acting.{Acts, begins_acts, falls_acts, given_acts, is_of, rises_acts, waits_acts, who_at}
+use Rattle.afs_law.proofs.Apart.{found_filter, put_found}
+use Rattle.afs_law.proofs.Backing.{all_lines}
+use Rattle.afs_law.proofs.Basics.{at_put, both, found-cached-fid, found-refreshed, same_fid-true, some_of}
+use Rattle.afs_law.proofs.Changing.{run_each}
+use Rattle.afs_law.proofs.Choosing.{disk_works, one_from, risen_from, risen_lines, serves_works, starts_works, times_works, wakes_works}
+use Rattle.afs_law.proofs.Kept.{GivenKept, kept_first, kept_kept, mapped}
+use Rattle.afs_law.proofs.KeysOnce.{IsKnown, any_told, by_key}
+use Rattle.afs_law.proofs.Looking.{AreLooks, walked_looks}
+use Rattle.afs_law.proofs.Moving.{EachMove, IsKept, each_moved}
+use Rattle.afs_law.proofs.Origins.{any_cut, any_message, blow_idle, idle_works, is_idle, of_client, other_node}
+use Rattle.afs_law.proofs.Sent.{call_is}
+use Rattle.afs_law.proofs.Walking.{looked_more, walked_found}
+use Rattle.afs_law.proofs.Words.{AreApart}
+use Rattle.afs_law.specs.Ideal.{Unless, set_up}
+use Rattle.afs_law.specs.Legal.{HasBrought, IsBrought, Stores, StoresBy, as_asked}
+use Rattle.afs_law.specs.Parts.{EachLine}
+use Rattle.afs_law.specs.Past.{lines_of, onto, running}
+use Rattle.afs_law.specs.ServerParts.{CachedAreBrought, IsBroughtGood}
+use Rattle.afs_model.specs.Calls as pairs
+use Rattle.afs_model.specs.Calls.{Admitted, admitted}
+use Rattle.afs_num.specs.Fids.{same_fid}
+use Rattle.afs_num.specs.Nodes.{same_node}
+use Rattle.afs_num.specs.declared.calls.AfsCallBack.{AfsCallBack}
+use Rattle.afs_num.specs.declared.calls.AfsFetchStatus.{AfsFetchStatus}
+use Rattle.afs_num.specs.declared.calls.AfsVolSync.{AfsVolSync}
+use Rattle.afs_num.specs.declared.calls.FsCall.{FsCall}
+use Rattle.afs_num.specs.declared.calls.FsCall.TheVariants as calls
+use Rattle.afs_num.specs.declared.calls.FsReply.{FsReply}
+use Rattle.afs_num.specs.declared.calls.FsReply.TheVariants as replies
+use Rattle.afs_num.specs.declared.histories.Actor.{Actor}
+use Rattle.afs_num.specs.declared.histories.Actor.TheVariants as actors
+use Rattle.afs_num.specs.declared.histories.Body.{Body}
+use Rattle.afs_num.specs.declared.histories.Body.TheVariants as bodies
+use Rattle.afs_num.specs.declared.histories.ReadBody.{ReadBody}
+use Rattle.afs_num.specs.declared.histories.ReadBody.TheVariants as seen
+use Rattle.afs_num.specs.declared.histories.ReadSource.TheVariants.{Cached, Fetched}
+use Rattle.afs_num.specs.declared.histories.ReadStatus.{ReadStatus}
+use Rattle.afs_num.specs.declared.messages.Call.TheVariants as ask
+use Rattle.afs_num.specs.declared.messages.Carried.{Carried}
+use Rattle.afs_num.specs.declared.messages.Carried.TheVariants as carried
+use Rattle.afs_num.specs.declared.messages.Message.{Message}
+use Rattle.afs_num.specs.declared.messages.Received.TheVariants.{Whole}
+use Rattle.afs_num.specs.declared.messages.Reply.TheVariants as tell
+use Rattle.afs_num.specs.declared.types.Code.{Code}
+use Rattle.afs_num.specs.declared.types.Fid.{Fid}
+use Rattle.afs_num.specs.declared.types.Head.{Head}
+use Rattle.afs_num.specs.declared.types.Node.{Node}
+use Rattle.afs_num.specs.declared.types.Node.TheVariants.{Client, Server}
+use Rattle.afs_rows.specs.Callbacks.{put}
+use Rattle.afs_rows.specs.ClientRow.{Look, Walked, admits_call, awaits, begin_row, begins_by, behind_batch, body_kept, body_seen, body_told, breaks, call_of, client_row, counts, dead_code, drop_line, dropped, dropped_after, ended, entries_told, entry_told, find_cached, given, given_up_in, gives_by, gives_up, goes_by, hears, in_order, gift_of, is_awaited, is_below, is_busy_code, is_named, is_older, is_spent, is_trusted, left_after, left_in, look_at, looked, most_busy, most_reads, put_entries, put_entry, read_lines, refreshed, runs_carried, shown_by, status_look, status_told, takes, takes_bulk, takes_data, takes_entries, takes_entry, takes_given, takes_list, takes_set, takes_shown, takes_status, timeout_row, tries_again, trusted_in, untrusted_in, walked, walks_on, whole, with_statuses, zero_code}
+use Rattle.afs_rows.specs.Going.{ClientState, Going, Need, answers, asked, asks_for, began, gives_back, next, reads, reads_rights, reads_status, reads_statuses, with_read}
+use Rattle.afs_rows.specs.Runs.{Cell, Entry, Moved, at_rest, begun_by_disk, blow_line, in_boot, in_step, server_falls, server_moves, server_rises, server_set, server_stays, start, ticked, voided}
+use Rattle.afs_rows.specs.Scopes.{is_in_scope}
+use Rattle.afs_rows.specs.ServerSteps.{back_timeout_row, server_row, wake_row}
+use Rattle.afs_rows.specs.States.{CacheEntry, Gift}
+use Rattle.afs_rows.specs.Steps.{Step}
+use Rattle.std.proofs.Common.{suc, ◌≡◌, ℕ, ◌⊎◌, inl, inr, Bool, true, false, cond, List, [], ◌∷◌, ◌++◌, map, Option, Some, None, refl, sym, ap, subst, ◌∙◌, filter, not, pos, nat_eq, nat_lt}
+use Rattle.std.specs.List.{list_any}
+use Rattle.std.specs.Prelude.{⊤, ◌&&◌}
+
+-- ---- lines
+
+-- none of them is a crash, or a read
+abbrev is_steady : Line → Bool
+is_steady (lines.Crash n) = false
+is_steady l = true
+
+abbrev is_bare : Line → Bool
+is_bare (lines.Crash n) = false
+is_bare (lines.Read n f index source body) = false
+is_bare l = true
+
+bare_line : (l : Line) → is_bare l ≡ true → is_steady l ≡ true
+bare_line (lines.Crash n) h = absurd cc
+bare_line (lines.Read n f index source body) h = refl
+bare_line l h = refl
+
+bare_steady : (ls : List Line) → all_lines is_bare ls ≡ true → all_lines is_steady ls ≡ true
+bare_steady [] h = refl
+bare_steady (l ∷ ls) h = let q = both (is_bare l) (all_lines is_bare ls) h in rw (bare_line l q.0, bare_steady ls q.1) refl
+
+brought_line : (s : Script) (c : Node) (f : Fid) (b : Body) (l : Line) (o : List Line) → is_steady l ≡ true → HasBrought s c f b o → HasBrought s c f b (l ∷ o)
+brought_line s c f b (lines.Crash n) o h k = absurd cc
+brought_line s c f b (lines.Read m g index source body) o h k = inr k
+brought_line s c f b (lines.Answer m code) o h k = inr k
+brought_line s c f b l o h k = k
+
+brought_onto : (s : Script) (c : Node) (f : Fid) (b : Body) (ls o : List Line) → all_lines is_steady ls ≡ true → HasBrought s c f b o → HasBrought s c f b (onto o ls)
+brought_onto s c f b [] o h k = k
+brought_onto s c f b (l ∷ ls) o h k = let q = both (is_steady l) (all_lines is_steady ls) h in brought_onto s c f b ls (l ∷ o) q.1 (brought_line s c f b l o q.0 k)
+
+-- what stands in the cache came to the client
+abbrev pub Had : Script → ℕ → List CacheEntry → List Line → Type 0
+Had s n cache o = (f : Fid) (e : CacheEntry) (b : Body) → find_cached f cache ≡ Some e → e.body ≡ Some b → HasBrought s (Client n) f b o
+
+abbrev Within : List CacheEntry → List CacheEntry → Type 0
+Within a b = (f : Fid) (e : CacheEntry) → find_cached f a ≡ Some e → find_cached f b ≡ Some e
+
+had_onto : (s : Script) (n : ℕ) (cache : List CacheEntry) (ls o : List Line) → all_lines is_steady ls ≡ true → Had s n cache o → Had s n cache (onto o ls)
+had_onto s n cache ls o h k f e b x y = brought_onto s (Client n) f b ls o h (k f e b x y)
+
+abbrev Told : Script → ℕ → List Entry → List Line → List Line → Type 0
+Told s n past own ls = EachLine (IsBroughtGood s) (actors.Node (Client n)) past own ls
+
+bare_good : (s : Script) (who : Actor) (l : Line) (past : List Entry) (own next : List Line) → is_bare l ≡ true → IsBroughtGood s who l past own next
+bare_good s who (lines.Read n f index source body) past own next h = absurd cc
+bare_good s who l past own next h = tt
+
+bare_told : (s : Script) (who : Actor) (past : List Entry) (own ls : List Line) → all_lines is_bare ls ≡ true → EachLine (IsBroughtGood s) who past own ls
+bare_told s who past own [] h = tt
+bare_told s who past own (l ∷ ls) h = let q = both (is_bare l) (all_lines is_bare ls) h in (bare_good s who l past own ls q.0, bare_told s who past (l ∷ own) ls q.1)
+
+-- ---- a step of a client
+
+record Carries (s : Script) (n : ℕ) (past : List Entry) (st : Step ClientState) : Type 0 where
+  told : Told s n past [] st.lines
+  after : Had s n st.state.cache (onto (lines_of past) st.lines)
+
+record IsNow (s : Script) (n : ℕ) (c : ClientState) (past : List Entry) : Type 0 where
+  apart : AreApart c.cache
+  had : Had s n c.cache (lines_of past)
+  runs : running s (Client n) (lines_of past) ≡ c.running
+
+bare_step : (s : Script) (n : ℕ) (c : ClientState) (past : List Entry) (st : Step ClientState) → IsNow s n c past → all_lines is_bare st.lines ≡ true → Within st.state.cache c.cache → Carries s n past st
+bare_step s n c past st N h w = record { told = bare_told s (actors.Node (Client n)) past [] st.lines h; after = had_onto s n st.state.cache st.lines (lines_of past) (bare_steady st.lines h) (λ f e b x y. N.had f e b (w f e x) y) }
+
+either_carries : (t : Bool) (s : Script) (n : ℕ) (past : List Entry) (a b : Step ClientState) → Carries s n past a → Carries s n past b → Carries s n past (cond t a b)
+either_carries true s n past a b h k = h
+either_carries false s n past a b h k = k
+
+within_filter : (p : CacheEntry → Bool) (cache : List CacheEntry) → AreApart cache → Within (filter p cache) cache
+within_filter p cache apart f e found = (found_filter p f cache e apart found).0
+
+dropped_bare : (m : Node) (es : List CacheEntry) (ls : List Line) → all_lines is_bare ls ≡ true → all_lines is_bare (dropped m es ls) ≡ true
+dropped_bare m [] ls h = h
+dropped_bare m (e ∷ es) ls h = dropped_bare m es ls h
+
+dropped_steady : (m : Node) (es : List CacheEntry) (ls : List Line) → all_lines is_steady ls ≡ true → all_lines is_steady (dropped m es ls) ≡ true
+dropped_steady m [] ls h = h
+dropped_steady m (e ∷ es) ls h = dropped_steady m es ls h
+
+drops_bare : (m : Node) (fs : List Fid) → all_lines is_bare (map (drop_line m) fs) ≡ true
+drops_bare m [] = refl
+drops_bare m (f ∷ fs) = drops_bare m fs
+
+looked_steady : (m : Node) (looks : List Look) (ls : List Line) → all_lines is_steady ls ≡ true → all_lines is_steady (looked m looks ls) ≡ true
+looked_steady m [] ls h = h
+looked_steady m (l ∷ looks) ls h = looked_steady m looks ls h
+
+-- ---- reads from the cache
+
+seen_body : (o : Option Body) (x : Body) → body_seen o ≡ Some (seen.Contents x) → o ≡ Some x
+seen_body None x e = absurd cc
+seen_body (Some b) x e = let same : b ≡ x = cc in ap Some same
+
+shown_body : (need : Need) (e : CacheEntry) (x : Body) → shown_by need e ≡ Some (seen.Contents x) → e.body ≡ Some x
+shown_body (reads f) e x h = seen_body e.body x h
+shown_body (reads_status f) e x h = absurd cc
+shown_body (reads_statuses fs) e x h = absurd cc
+shown_body (reads_rights f) e x h = absurd cc
+shown_body (asks_for call) e x h = absurd cc
+shown_body gives_back e x h = absurd cc
+shown_body (answers code) e x h = absurd cc
+
+pub brought_shown : (s : Script) (n : ℕ) (need : Need) (e : CacheEntry) (body : ReadBody) (o : List Line) → shown_by need e ≡ Some body → ((b : Body) → e.body ≡ Some b → HasBrought s (Client n) e.fid b o) → IsBrought s (Client n) e.fid Cached body o
+brought_shown s n need e (seen.Contents x) o h w = w x (shown_body need e x h)
+brought_shown s n need e (seen.Status x) o h w = tt
+brought_shown s n need e (seen.AccessList x) o h w = tt
+
+looks_told : (s : Script) (n clock : ℕ) (past : List Entry) (first : List CacheEntry) (looks : List Look) (own tail : List Line) → AreLooks clock first looks → Had s n first (own ++ lines_of past) → ((o : List Line) → Told s n past o tail) → Told s n past own (looked (Client n) looks tail)
+looks_told s n clock past first [] own tail h had t = t own
+looks_told s n clock past first (l ∷ looks) own tail h had t = (
+  subst (λ (k : Look). IsBrought s (Client n) k.fid k.source k.body (own ++ lines_of past)) (sym h.0.same) (brought_shown s n h.0.need h.0.entry l.body (own ++ lines_of past) h.0.shown (λ b e. had h.0.entry.fid h.0.entry b h.0.found e)),
+  looks_told s n clock past first looks (lines.Read (Client n) l.fid l.index l.source l.body ∷ own) tail h.1 (λ f e b x y. inr (had f e b x y)) t,
+)
+
+-- these lines stand before what is read on, and the cache is then this
+record Opens (s : Script) (n : ℕ) (past : List Entry) (front : List Line → List Line) (own : List Line) (first : List CacheEntry) : Type 0 where
+  rule : (tail : List Line) → Told s n past own tail → Told s n past [] (front tail)
+  comes : (tail : List Line) → onto (lines_of past) (front tail) ≡ onto (own ++ lines_of past) tail
+  had : Had s n first (own ++ lines_of past)
+
+reads_on : (s : Script) (n clock : ℕ) (past : List Entry) (front : List Line → List Line) (own : List Line) (first : List CacheEntry) (looks : List Look) (tail : List Line) (st : Step ClientState) → st.lines ≡ front (looked (Client n) looks tail) → all_lines is_bare tail ≡ true → Within st.state.cache first → AreLooks clock first looks → Opens s n past front own first → Carries s n past st
+reads_on s n clock past front own first looks tail st is bare w h o = record {
+  told = subst (Told s n past []) (sym is) (o.rule (looked (Client n) looks tail) (looks_told s n clock past first looks own tail h o.had (λ p. bare_told s (actors.Node (Client n)) past p tail bare)));
+  after = λ f e b x y. subst (HasBrought s (Client n) f b) (sym (ap (onto (lines_of past)) is ∙ o.comes (looked (Client n) looks tail))) (brought_onto s (Client n) f b (looked (Client n) looks tail) (own ++ lines_of past) (looked_steady (Client n) looks tail (bare_steady tail bare)) (o.had f e b (w f e x) y));
+}
+
+goes_carries : (s : Script) (n clock : ℕ) (y : ClientState) (past : List Entry) (front : List Line → List Line) (own : List Line) (first : List CacheEntry) (w : Walked) (need : Need) → AreLooks clock first w.looks → Within w.cache first → Opens s n past front own first → Carries s n past (goes_by (Client n) y front w need)
+goes_carries s n clock y past front own first w (answers k) h u o = reads_on s n clock past front own first w.looks (lines.Answer (Client n) (record { 0 = pos k }) ∷ []) _ refl refl u h o
+goes_carries s n clock y past front own first w need h u o = reads_on s n clock past front own first w.looks [] _ refl refl u h o
+
+walks_carry : (s : Script) (n clock : ℕ) (y : ClientState) (past : List Entry) (front : List Line → List Line) (own : List Line) (act : Going) (first : List CacheEntry) → Opens s n past front own first → Carries s n past (walks_on (Client n) y clock front act first)
+walks_carry s n clock y past front own act first o =
+    let w : Walked = walked (most_reads act) clock act first in
+    goes_carries s n clock y past front own first w (next w.act) (walked_looks (most_reads act) clock first act first (λ g u z. z)) (λ f e z. walked_found (most_reads act) clock act first f e z) o
+
+-- ---- what a reply brings
+
+kept_by : (o : Option Body) (index : ℕ) (old : Option CacheEntry) (b : Body) → body_kept o index old ≡ Some b → (o ≡ Some b) ⊎ ((u : CacheEntry) × ((old ≡ Some u) × (u.body ≡ Some b)))
+kept_by (Some body) index old b e = inl e
+kept_by None index None b e = absurd cc
+kept_by None index (Some u) b e = inr (u, (refl, same_by (nat_eq u.index index) u.body b e))
+  where
+    same_by : (t : Bool) (o : Option Body) (b : Body) → cond t o None ≡ Some b → o ≡ Some b
+    same_by true o b e = e
+    same_by false o b e = absurd cc
+
+-- of an entry that is put beside what the cache has
+put_had : (s : Script) (n capacity : ℕ) (u : CacheEntry) (cache : List CacheEntry) (o : List Line) → Had s n cache o → ((b : Body) → u.body ≡ Some b → HasBrought s (Client n) u.fid b o) → Had s n (put_entry capacity u cache) o
+put_had s n capacity u cache o h new f e b found body = elim (put_found capacity f u cache e found) [
+  | inl x ↦ subst (λ (g : Fid). HasBrought s (Client n) g b o) x.0 (elim (kept_by u.body u.index (find_cached u.fid cache) b (ap (λ (v : CacheEntry). v.body) x.1 ∙ body)) [
+    | inl y ↦ new b y
+    | inr y ↦ h u.fid y.0 b y.1.0 y.1.1
+  ])
+  | inr x ↦ h f e b x.1 body
+]
+
+entry_carries : (s : Script) (n clock place : ℕ) (c : ClientState) (past : List Entry) (act : Going) (u : CacheEntry) (body : ReadBody) → ((b : Body) → u.body ≡ Some b → body ≡ seen.Contents b) → IsNow s n c past → Carries s n past (takes_entry (Client n) c clock place act u body)
+entry_carries s n clock place c past act u body is N =
+    let own : List Line = lines.Read (Client n) u.fid u.index Fetched body ∷ lines.Given place ∷ [] in
+    either_carries (is_trusted clock u) s n past _ _
+    (walks_carry s n clock c past (read_lines (Client n) place (look_at Fetched u body)) own (with_read u.fid body act) (put_entry c.capacity u c.cache) (record {
+      rule = λ tail h. (tt, (tt, h));
+      comes = λ tail. refl;
+      had = put_had s n c.capacity u c.cache (own ++ lines_of past) (λ f e b x y. inr (N.had f e b x y)) (λ b e. inl (refl, (refl, (refl, is b e))));
+    }))
+    (bare_step s n c past _ N refl (λ f e x. x))
+
+-- several statuses
+abbrev AreBodiless : List CacheEntry → Type 0
+AreBodiless [] = ⊤
+AreBodiless (e ∷ es) = (e.body ≡ None) × AreBodiless es
+
+puts_had : (s : Script) (n capacity : ℕ) (es cache : List CacheEntry) (o : List Line) → AreBodiless es → Had s n cache o → Had s n (put_entries capacity es cache) o
+puts_had s n capacity [] cache o h k = k
+puts_had s n capacity (u ∷ es) cache o h k = puts_had s n capacity es (put_entry capacity u cache) o h.1 (put_had s n capacity u cache o k (λ b e. (let no_ : None ≡ Some b = sym h.0 ∙ e in absurd cc)))
+
+bodiless : (server : Node) (sync : AfsVolSync) (fs : List Fid) (ss : List AfsFetchStatus) (cs : List AfsCallBack) → AreBodiless (entries_told server sync fs ss cs)
+bodiless server sync [] ss cs = tt
+bodiless server sync (f ∷ fs) [] cs = tt
+bodiless server sync (f ∷ fs) (s ∷ ss) [] = tt
+bodiless server sync (f ∷ fs) (s ∷ ss) (c ∷ cs) = (refl, bodiless server sync fs ss cs)
+
+statuses_told : (s : Script) (n : ℕ) (past : List Entry) (es : List CacheEntry) (own tail : List Line) → Told s n past (onto own (looked (Client n) (map status_look es) [])) tail → Told s n past own (looked (Client n) (map status_look es) tail)
+statuses_told s n past [] own tail h = h
+statuses_told s n past (e ∷ es) own tail h = (tt, statuses_told s n past es (lines.Read (Client n) e.fid e.index Fetched (seen.Status e.status) ∷ own) tail h)
+
+onto_append : (ls own o : List Line) → onto (own ++ o) ls ≡ onto own ls ++ o
+onto_append [] own o = refl
+onto_append (l ∷ ls) own o = onto_append ls (l ∷ own) o
+
+onto_more : (o a b : List Line) → onto o (a ++ b) ≡ onto (onto o a) b
+onto_more o [] b = refl
+onto_more o (l ∷ a) b = onto_more (l ∷ o) a b
+
+entries_carry : (s : Script) (n clock place : ℕ) (c : ClientState) (past : List Entry) (act : Going) (es : List CacheEntry) → AreBodiless es → IsNow s n c past → Carries s n past (takes_entries (Client n) c clock place act es)
+entries_carry s n clock place c past act es none N =
+    let seen_ : List Line = looked (Client n) (map status_look es) [] in
+    let own : List Line = onto (lines.Given place ∷ []) seen_ in
+    let on : onto (lines.Given place ∷ lines_of past) seen_ ≡ own ++ lines_of past = onto_append seen_ (lines.Given place ∷ []) (lines_of past) in
+    either_carries (list_any (λ e. not (is_trusted clock e)) es) s n past _ _
+    (bare_step s n c past _ N refl (λ f e x. x))
+    (walks_carry s n clock c past (λ ls. given place (looked (Client n) (map status_look es) ls)) own (with_statuses es act) (put_entries c.capacity es c.cache) (record {
+      rule = λ tail h. (tt, statuses_told s n past es (lines.Given place ∷ []) tail h);
+      comes = λ tail. ap (onto (lines.Given place ∷ lines_of past)) (looked_more (Client n) (map status_look es) tail) ∙ (onto_more (lines.Given place ∷ lines_of past) seen_ tail ∙ ap (λ (o : List Line). onto o tail) on);
+      had = subst (Had s n (put_entries c.capacity es c.cache)) on (had_onto s n (put_entries c.capacity es c.cache) seen_ (lines.Given place ∷ lines_of past) (looked_steady (Client n) (map status_look es) [] refl) (puts_had s n c.capacity es c.cache (lines.Given place ∷ lines_of past) none N.had));
+    }))
+
+-- ---- changes
+
+plain_carries : (s : Script) (n place : ℕ) (c : ClientState) (past : List Entry) (call : FsCall) (code : Code) → IsNow s n c past → Carries s n past (record { state = ended c (left_after call c.cache); lines = given place (dropped (Client n) (dropped_after call c.cache) (lines.Answer (Client n) code ∷ [])); sent = [] })
+plain_carries s n place c past call code N = bare_step s n c past _ N (dropped_bare (Client n) (dropped_after call c.cache) (lines.Answer (Client n) code ∷ []) refl) (within_filter (λ e. not (is_in_scope call e.fid)) c.cache N.apart)
+
+made_by : (t : Bool) (u x e : CacheEntry) (b : Body) → cond t x u ≡ e → e.body ≡ Some b → ((t ≡ true) × (x.body ≡ Some b)) ⊎ (u.body ≡ Some b)
+made_by true u x e b is h = inl (refl, ap (λ (v : CacheEntry). v.body) is ∙ h)
+made_by false u x e b is h = inr (ap (λ (v : CacheEntry). v.body) is ∙ h)
+
+stored_carries : (s : Script) (n place clock : ℕ) (c : ClientState) (past : List Entry) (g : Fid) (index : ℕ) (status : ReadStatus) (made : Option Body → Option Body) → ((f : Fid) (u : CacheEntry) (b : Body) → g ≡ f → find_cached f c.cache ≡ Some u → made u.body ≡ Some b → HasBrought s (Client n) f b (lines.Answer (Client n) zero_code ∷ lines.Given place ∷ lines_of past)) → IsNow s n c past
+    → Carries s n past (record { state = ended c (map (refreshed clock g index status made) c.cache); lines = given place (lines.Answer (Client n) zero_code ∷ []); sent = [] })
+stored_carries s n place clock c past g index status made new N = record {
+  told = (tt, (tt, tt));
+  after = λ f e b found body.
+      let u = mapped (find_cached f c.cache) (refreshed clock g index status made) e (sym (found-refreshed clock g f index status made c.cache) ∙ found) in
+      elim (made_by (same_fid u.0.fid g && is_trusted clock u.0) u.0 (record u.0 { index = index; status = status; body = made u.0.body }) e b u.1.1 body) [
+        | inl x ↦ new f u.0 b (sym (same_fid-true u.0.fid g (both (same_fid u.0.fid g) (is_trusted clock u.0) x.0).0) ∙ same_fid-true u.0.fid f (found-cached-fid f c.cache u.0 u.1.0)) u.1.0 x.1
+        | inr x ↦ inr (N.had f u.0 b u.1.0 x)
+      ];
+}
+
+-- the store of an act
+stores_by : (s : Script) (n place : ℕ) (c : ClientState) (past : List Entry) (act : Going) (call : FsCall) (f : Fid) (b : Body) → running s (Client n) (lines_of past) ≡ c.running → c.running ≡ Some act → call_of c act ≡ call → as_asked call ≡ call → Stores call f b → HasBrought s (Client n) f b (lines.Answer (Client n) zero_code ∷ lines.Given place ∷ lines_of past)
+stores_by s n place c past act call f b runs run same plain h =
+    let asks : asked act ≡ call = sym (call_is c act) ∙ (ap as_asked same ∙ plain) in
+    inl (refl, (refl, subst (λ (o : Option Going). StoresBy o f b) (sym (runs ∙ run)) (subst (λ (k : FsCall). Stores k f b) (sym asks) h)))
+
+status_carries : (s : Script) (n clock place : ℕ) (c : ClientState) (past : List Entry) (f : Fid) (status : AfsFetchStatus) (call : FsCall) → IsNow s n c past → Carries s n past (takes_status (Client n) c clock place f status call)
+status_carries s n clock place c past f status call N =
+    either_carries (not c.spoiled && is_below clock status.sync_counter (find_cached f c.cache)) s n past _ _
+    (stored_carries s n place clock c past f status.sync_counter (status_told status) (λ body. body) (λ g u b e found body. inr (N.had g u b found body)) N)
+    (plain_carries s n place c past call zero_code N)
+
+set_carries : (s : Script) (n clock place : ℕ) (c : ClientState) (past : List Entry) (act : Going) (status : AfsFetchStatus) (call : FsCall) → c.running ≡ Some act → call_of c act ≡ call → IsNow s n c past → Carries s n past (takes_set (Client n) c clock place status call)
+set_carries s n clock place c past act status (calls.StoreData f set position wanted file_length contents) run same N =
+    either_carries c.spoiled s n past _ _ (plain_carries s n place c past (calls.StoreData f set position wanted file_length contents) zero_code N)
+    (stored_carries s n place clock c past f status.sync_counter (status_told status) (λ body. Some (bodies.File contents)) (λ g u b e found body. stores_by s n place c past act (calls.StoreData f set position wanted file_length contents) g b N.runs run same refl (e, sym (some_of (bodies.File contents) b body))) N)
+set_carries s n clock place c past act status (calls.StoreAcl f acl) run same N = status_carries s n clock place c past f status (calls.StoreAcl f acl) N
+set_carries s n clock place c past act status (calls.StoreStatus f set) run same N = status_carries s n clock place c past f status (calls.StoreStatus f set) N
+set_carries s n clock place c past act status call run same N = plain_carries s n place c past call zero_code N
+
+-- ---- replies, by their calls
+
+data_carries : (s : Script) (n clock place : ℕ) (c : ClientState) (past : List Entry) (act : Going) (contents : List ℕ) (status : AfsFetchStatus) (callback : AfsCallBack) (sync : AfsVolSync) (call : FsCall) → IsNow s n c past → Carries s n past (takes_data (Client n) c clock place act contents status callback sync call)
+data_carries s n clock place c past act contents status callback sync (calls.FetchData f position wanted) N =
+    entry_carries s n clock place c past act (entry_told c.callee f status callback sync (Some (body_told status.file_type contents))) (seen.Contents (body_told status.file_type contents)) (λ b e. ap seen.Contents (some_of (body_told status.file_type contents) b e)) N
+data_carries s n clock place c past act contents status callback sync call N = plain_carries s n place c past call zero_code N
+
+shown_carries : (s : Script) (n clock place : ℕ) (c : ClientState) (past : List Entry) (act : Going) (status : AfsFetchStatus) (callback : AfsCallBack) (sync : AfsVolSync) (call : FsCall) → IsNow s n c past → Carries s n past (takes_shown (Client n) c clock place act status callback sync call)
+shown_carries s n clock place c past act status callback sync (calls.FetchStatus f) N = entry_carries s n clock place c past act (entry_told c.callee f status callback sync None) (seen.Status (status_told status)) (λ b e. absurd cc) N
+shown_carries s n clock place c past act status callback sync call N = plain_carries s n place c past call zero_code N
+
+drops_more : (m : Node) (es : List CacheEntry) (tail : List Line) → dropped m es tail ≡ dropped m es [] ++ tail
+drops_more m [] tail = refl
+drops_more m (e ∷ es) tail = ap (λ (o : List Line). lines.Drop m e.fid ∷ o) (drops_more m es tail)
+
+drops_told : (s : Script) (n : ℕ) (past : List Entry) (es : List CacheEntry) (own tail : List Line) → Told s n past (onto own (dropped (Client n) es [])) tail → Told s n past own (dropped (Client n) es tail)
+drops_told s n past [] own tail h = h
+drops_told s n past (e ∷ es) own tail h = (tt, drops_told s n past es (lines.Drop (Client n) e.fid ∷ own) tail h)
+
+list_carries : (s : Script) (n clock place : ℕ) (c : ClientState) (past : List Entry) (act : Going) (text : List ℕ) (status : AfsFetchStatus) (sync : AfsVolSync) (call : FsCall) → IsNow s n c past → Carries s n past (takes_list (Client n) c clock place act text status sync call)
+list_carries s n clock place c past act text status sync (calls.FetchAcl g) N =
+    let es : List CacheEntry = filter (is_older g status.sync_counter sync.release) c.cache in
+    let kept_ : List CacheEntry = filter (λ e. not (is_older g status.sync_counter sync.release e)) c.cache in
+    let r : Line = lines.Read (Client n) g status.sync_counter Fetched (seen.AccessList text) in
+    let gone : List Line = dropped (Client n) es [] in
+    let own : List Line = onto (r ∷ lines.Given place ∷ []) gone in
+    let on : onto (r ∷ lines.Given place ∷ lines_of past) gone ≡ own ++ lines_of past = onto_append gone (r ∷ lines.Given place ∷ []) (lines_of past) in
+    walks_carry s n clock c past (λ ls. read_lines (Client n) place (record { fid = g; index = status.sync_counter; source = Fetched; body = seen.AccessList text }) (dropped (Client n) es ls)) own (with_read g (seen.AccessList text) act) kept_ (record {
+      rule = λ tail h. (tt, (tt, drops_told s n past es (r ∷ lines.Given place ∷ []) tail h));
+      comes = λ tail. ap (onto (r ∷ lines.Given place ∷ lines_of past)) (drops_more (Client n) es tail) ∙ (onto_more (r ∷ lines.Given place ∷ lines_of past) gone tail ∙ ap (λ (o : List Line). onto o tail) on);
+      had = subst (Had s n kept_) on (had_onto s n kept_ gone (r ∷ lines.Given place ∷ lines_of past) (dropped_steady (Client n) es [] refl) (λ f e b x y. inr (N.had f e b (within_filter (λ e. not (is_older g status.sync_counter sync.release e)) c.cache N.apart f e x) y)));
+    })
+list_carries s n clock place c past act text status sync call N = plain_carries s n place c past call zero_code N
+
+bulk_carries : (s : Script) (n clock place : ℕ) (c : ClientState) (past : List Entry) (act : Going) (statuses : List AfsFetchStatus) (callbacks : List AfsCallBack) (sync : AfsVolSync) (call : FsCall) → IsNow s n c past → Carries s n past (takes_bulk (Client n) c clock place act statuses callbacks sync call)
+bulk_carries s n clock place c past act statuses callbacks sync (calls.BulkStatus fids) N = entries_carry s n clock place c past act (entries_told c.callee sync fids statuses callbacks) (bodiless c.callee sync fids statuses callbacks) N
+bulk_carries s n clock place c past act statuses callbacks sync call N = plain_carries s n place c past call zero_code N
+
+gives_carry : (s : Script) (n place : ℕ) (c : ClientState) (past : List Entry) (act : Going) (gs : List Gift) → IsNow s n c past → Carries s n past (gives_by (Client n) c (given place) act gs)
+gives_carry s n place c past act [] N = bare_step s n c past _ N refl (λ f e x. x)
+gives_carry s n place c past act (g ∷ gs) N = bare_step s n c past _ N refl (λ f e x. x)
+
+given_carries : (s : Script) (n place : ℕ) (c : ClientState) (past : List Entry) (act : Going) (call : FsCall) → IsNow s n c past → Carries s n past (takes_given (Client n) c place act call)
+given_carries s n place c past act (calls.GiveUpCallBacks fids callbacks) N = gives_carry s n place c past act (behind_batch c.gifts) N
+given_carries s n place c past act call N = plain_carries s n place c past call zero_code N
+
+takes_carry : (s : Script) (n clock place : ℕ) (c : ClientState) (past : List Entry) (act : Going) (call : FsCall) (reply : FsReply) → c.running ≡ Some act → call_of c act ≡ call → IsNow s n c past → Carries s n past (takes (Client n) c clock place act call reply)
+takes_carry s n clock place c past act call (replies.FetchData contents status callback sync) run same N = data_carries s n clock place c past act contents status callback sync call N
+takes_carry s n clock place c past act call (replies.FetchAcl text status sync) run same N = list_carries s n clock place c past act text status sync call N
+takes_carry s n clock place c past act call (replies.FetchStatus status callback sync) run same N = shown_carries s n clock place c past act status callback sync call N
+takes_carry s n clock place c past act call (replies.StoreData status sync) run same N = set_carries s n clock place c past act status call run same N
+takes_carry s n clock place c past act call (replies.StoreAcl status sync) run same N = set_carries s n clock place c past act status call run same N
+takes_carry s n clock place c past act call (replies.StoreStatus status sync) run same N = set_carries s n clock place c past act status call run same N
+takes_carry s n clock place c past act call (replies.BulkStatus statuses callbacks sync) run same N = bulk_carries s n clock place c past act statuses callbacks sync call N
+takes_carry s n clock place c past act call replies.GiveUpCallBacks run same N = given_carries s n place c past act call N
+takes_carry s n clock place c past act call reply run same N = plain_carries s n place c past call zero_code N
+
+counts_carry : (s : Script) (n clock place : ℕ) (c : ClientState) (act : Going) (head : Head) (x : Carried) (past : List Entry) → c.running ≡ Some act → IsNow s n c past → Carries s n past (counts (Client n) c clock place act head x)
+counts_carry s n clock place c act head (carried.Call user call) past run N = bare_step s n c past _ N refl (λ f e z. z)
+counts_carry s n clock place c act head (carried.Refusal code) past run N =
+    either_carries (is_spent c act) s n past _ _ (bare_step s n c past _ N refl (λ f e z. z))
+    (either_carries (is_busy_code code && nat_lt c.busy most_busy) s n past _ _ (bare_step s n c past _ N refl (λ f e z. z)) (bare_step s n c past _ N refl (λ f e z. z)))
+counts_carry s n clock place c act head (carried.Reply (tell.File reply)) past run N =
+    either_carries (is_spent c act) s n past _ _ (bare_step s n c past _ N refl (λ f e z. z)) (takes_carry s n clock place c past act (call_of c act) reply run refl N)
+counts_carry s n clock place c act head (carried.Reply reply) past run N = bare_step s n c past _ N refl (λ f e z. z)
+counts_carry s n clock place c act head carried.Notice past run N = bare_step s n c past _ N refl (λ f e z. z)
+
+awaits_carry : (s : Script) (n clock place : ℕ) (c : ClientState) (head : Head) (x : Carried) (past : List Entry) (o : Option Going) → c.running ≡ o → IsNow s n c past → Carries s n past (awaits (Client n) c clock place head x o)
+awaits_carry s n clock place c head x past None run N = bare_step s n c past _ N refl (λ f e z. z)
+awaits_carry s n clock place c head x past (Some act) run N = either_carries (is_awaited c act head) s n past _ _ (counts_carry s n clock place c act head x past run N) (bare_step s n c past _ N refl (λ f e z. z))
+
+-- ---- calls to it
+
+breaks_carry : (s : Script) (n place : ℕ) (c : ClientState) (head : Head) (call : FsCall) (past : List Entry) → IsNow s n c past → Carries s n past (breaks (Client n) c place head call)
+breaks_carry s n place c head (calls.CallBack fs callbacks) past N = bare_step s n c past _ N (drops_bare (Client n) fs) (within_filter (λ e. not (is_named e.fid fs)) c.cache N.apart)
+breaks_carry s n place c head calls.InitCallBackState past N = bare_step s n c past _ N refl (within_filter (λ e. not (same_node e.server head.from)) c.cache N.apart)
+breaks_carry s n place c head calls.Probe past N = bare_step s n c past _ N refl (λ f e z. z)
+breaks_carry s n place c head call past N = bare_step s n c past _ N refl (λ f e z. z)
+
+runs_carry : (s : Script) (n place : ℕ) (c : ClientState) (head : Head) (x : Carried) (past : List Entry) → IsNow s n c past → Carries s n past (runs_carried (Client n) c place head x)
+runs_carry s n place c head (carried.Call user (ask.File call)) past N = breaks_carry s n place c head call past N
+runs_carry s n place c head (carried.Call user call) past N = bare_step s n c past _ N refl (λ f e z. z)
+runs_carry s n place c head x past N = bare_step s n c past _ N refl (λ f e z. z)
+
+admits_carry : (s : Script) (n place : ℕ) (c : ClientState) (head : Head) (x : Carried) (o : Admitted Message) (past : List Entry) → IsNow s n c past → Carries s n past (admits_call (Client n) c place head (whole head x) o)
+admits_carry s n place c head x pairs.runs past N = runs_carry s n place c head x past N
+admits_carry s n place c head x (pairs.kept reply) past N = bare_step s n c past _ N refl (λ f e z. z)
+admits_carry s n place c head x pairs.in_progress past N = bare_step s n c past _ N refl (λ f e z. z)
+admits_carry s n place c head x pairs.older past N = bare_step s n c past _ N refl (λ f e z. z)
+admits_carry s n place c head x (pairs.wrong_boot boot) past N = bare_step s n c past _ N refl (λ f e z. z)
+
+hears_carry : (s : Script) (n clock place : ℕ) (c : ClientState) (head : Head) (x : Carried) (past : List Entry) → IsNow s n c past → Carries s n past (hears (Client n) c clock place head x)
+hears_carry s n clock place c head (carried.Call user call) past N = admits_carry s n place c head (carried.Call user call) (admitted c.epoch c.seats head) past N
+hears_carry s n clock place c head x past N = awaits_carry s n clock place c head x past c.running refl N
+
+-- ---- its steps
+
+told_carries : (s : Script) (n clock place : ℕ) (c : ClientState) (m : Message) (past : List Entry) → IsNow s n c past → Carries s n past (client_row (Client n) c clock place (Whole m))
+unfolding client_row
+told_carries s n clock place c m past N = either_carries (same_node m.head.to (Client n)) s n past _ _ (hears_carry s n clock place c m.head m.carried past N) (bare_step s n c past _ N refl (λ f e z. z))
+
+first_gives : (s : Script) (n clock : ℕ) (c y : ClientState) (act : Act) (g : Going) (past : List Entry) (gs : List Gift) → y.cache ≡ c.cache → IsNow s n c past → Carries s n past (gives_by (Client n) (record y { cache = untrusted_in clock y.cache }) (λ ls. lines.Begin (Client n) act ∷ dropped (Client n) (trusted_in clock y.cache) ls) g gs)
+first_gives s n clock c y act g past [] same N =
+    bare_step s n c past _ N (dropped_bare (Client n) (trusted_in clock y.cache) (lines.Answer (Client n) zero_code ∷ []) refl) (λ f e x. subst (Within (filter (λ u. not (is_trusted clock u)) y.cache)) same (within_filter (λ u. not (is_trusted clock u)) y.cache (subst AreApart (sym same) N.apart)) f e x)
+first_gives s n clock c y act g past (x ∷ gs) same N =
+    bare_step s n c past _ N (dropped_bare (Client n) (trusted_in clock y.cache) [] refl) (λ f e x. subst (Within (filter (λ u. not (is_trusted clock u)) y.cache)) same (within_filter (λ u. not (is_trusted clock u)) y.cache (subst AreApart (sym same) N.apart)) f e x)
+
+first_carries : (s : Script) (n clock : ℕ) (c : ClientState) (act : Act) (g : Going) (need : Need) (past : List Entry) → IsNow s n c past → Carries s n past (begins_by (Client n) (record c { busy = 0 }) clock (λ ls. lines.Begin (Client n) act ∷ ls) g need)
+first_carries s n clock c act g gives_back past N = first_gives s n clock c (record c { busy = 0 }) act g past (in_order (map gift_of (trusted_in clock c.cache))) refl N
+first_carries s n clock c act g need past N =
+    walks_carry s n clock (record c { busy = 0 }) past (λ ls. lines.Begin (Client n) act ∷ ls) (lines.Begin (Client n) act ∷ []) g c.cache (record { rule = λ tail h. (tt, h); comes = λ tail. refl; had = N.had })
+
+begun_carries : (s : Script) (n clock : ℕ) (c : ClientState) (act : Act) (past : List Entry) → IsNow s n c past → Carries s n past (begin_row (Client n) c clock act)
+unfolding begin_row
+begun_carries s n clock c act past N = first_carries s n clock c act (began c.table act) (next (began c.table act)) past N
+
+within_left : (o : Option ℕ) (cache : List CacheEntry) → AreApart cache → Within (left_in o cache) cache
+within_left None cache apart f e x = x
+within_left (Some id) cache apart f e x = within_filter (λ u. not (nat_eq u.fid.volume id)) cache apart f e x
+
+waits_carry : (s : Script) (n : ℕ) (c : ClientState) (act : Going) (past : List Entry) → IsNow s n c past → Carries s n past (timeout_row (Client n) c act)
+waits_carry s n c act past N =
+    either_carries (nat_lt c.tries 2) s n past (tries_again (Client n) c act) (gives_up (Client n) c (call_of c act)) (bare_step s n c past _ N refl (λ f e z. z))
+    (bare_step s n c past _ N (dropped_bare (Client n) (given_up_in (volume_changed (call_of c act)) c.cache) (lines.Answer (Client n) dead_code ∷ []) refl) (within_left (volume_changed (call_of c act)) c.cache N.apart))
+
+-- ---- every step
+
+abbrev pub BroughtIn : Script → Cell → List Entry → Type 0
+BroughtIn s c past = (j : ℕ) → Had s j (c.clients j).cache (lines_of past)
+
+abbrev pub GivenBrought : Script → Cell → List Entry → Type 0
+GivenBrought s c past = GivenKept s c past × BroughtIn s c past
+
+now_at : (s : Script) (c : Cell) (past : List Entry) (n : ℕ) → GivenBrought s c past → IsNow s n (c.clients n) past
+now_at s c past n h = record { apart = (h.0.1 n).0; had = h.1 n; runs = h.0.0.0.0.0.1.acts n }
+
+-- another node's lines crash another
+else_line : (s : Script) (j : ℕ) (f : Fid) (b : Body) (l : Line) (o : List Line) → ((n : Node) → l ≡ lines.Crash n → same_node n (Client j) ≡ false) → HasBrought s (Client j) f b o → HasBrought s (Client j) f b (l ∷ o)
+else_line s j f b (lines.Crash n) o h k = subst (λ (t : Bool). Unless t (HasBrought s (Client j) f b o)) (sym (h n refl)) k
+else_line s j f b (lines.Read m g index source body) o h k = inr k
+else_line s j f b (lines.Answer m code) o h k = inr k
+else_line s j f b l o h k = k
+
+other_crash : (i j : ℕ) (l : Line) → is_of i l ≡ true → (i ≡ j → ⊥) → (n : Node) → l ≡ lines.Crash n → same_node n (Client j) ≡ false
+other_crash i j l h ne n e = other_node n i j (ap (is_of i) (sym e) ∙ h) ne
+
+other_onto : (s : Script) (i j : ℕ) (f : Fid) (b : Body) (ls o : List Line) → all_lines (is_of i) ls ≡ true → (i ≡ j → ⊥) → HasBrought s (Client j) f b o → HasBrought s (Client j) f b (onto o ls)
+other_onto s i j f b [] o h ne k = k
+other_onto s i j f b (l ∷ ls) o h ne k = let q = both (is_of i l) (all_lines (is_of i) ls) h in other_onto s i j f b ls (l ∷ o) q.1 ne (else_line s j f b l o (other_crash i j l q.0 ne) k)
+
+no_client : (n : Node) (j : ℕ) → is_idle (lines.Crash n) ≡ true → same_node n (Client j) ≡ false
+no_client (Server i) j h = refl
+no_client (Client i) j h = absurd cc
+no_client n j h = absurd cc
+
+idle_onto : (s : Script) (j : ℕ) (f : Fid) (b : Body) (ls o : List Line) → all_lines is_idle ls ≡ true → HasBrought s (Client j) f b o → HasBrought s (Client j) f b (onto o ls)
+idle_onto s j f b [] o h k = k
+idle_onto s j f b (l ∷ ls) o h k = let q = both (is_idle l) (all_lines is_idle ls) h in idle_onto s j f b ls (l ∷ o) q.1 (else_line s j f b l o (λ n e. no_client n j (ap is_idle (sym e) ∙ q.0)) k)
+
+idle_told : (s : Script) (who : Actor) (past : List Entry) (own ls : List Line) → all_lines is_idle ls ≡ true → EachLine (IsBroughtGood s) who past own ls
+idle_told s who past own [] h = tt
+idle_told s who past own (lines.Read n f index source body ∷ ls) h = absurd cc
+idle_told s who past own (l ∷ ls) h = (tt, idle_told s who past (l ∷ own) ls (both (is_idle l) (all_lines is_idle ls) h).1)
+
+record Done (s : Script) (m : Moved) (past : List Entry) : Type 0 where
+  had : BroughtIn s m.cell (m.entry ∷ past)
+  told : EachLine (IsBroughtGood s) m.entry.actor past [] m.entry.lines
+
+abbrev BroughtStep : Script → Cell → List Entry → Moved → Type 0
+BroughtStep s c past m = Done s m past
+
+own_had : (s : Script) (c : Cell) (past : List Entry) (n : ℕ) (st : Step ClientState) → GivenBrought s c past → Acts n (who_at (c.clients n)) (c.clients n).gifts st → Had s n st.state.cache (onto (lines_of past) st.lines) → (j : ℕ) → Had s j (put n st.state c.clients j).cache (onto (lines_of past) st.lines)
+own_had s c past n st h a k j =
+    at_put n j (λ (x : ClientState). Had s j x.cache (onto (lines_of past) st.lines)) st.state c.clients
+    (λ same. subst (λ (i : ℕ). Had s i st.state.cache (onto (lines_of past) st.lines)) same k)
+    (λ other f e b x y. other_onto s n j f b st.lines (lines_of past) a.of other (h.1 j f e b x y))
+
+client_done : (s : Script) (c : Cell) (past : List Entry) (n : ℕ) (st : Step ClientState) → GivenBrought s c past → Acts n (who_at (c.clients n)) (c.clients n).gifts st → Carries s n past st → (j : ℕ) → Had s j (put n st.state c.clients j).cache (lines_of (of_client n st ∷ past))
+client_done s c past n st h a k = own_had s c past n st h a k.after
+
+idle_had : (s : Script) (c : Cell) (past : List Entry) (y : Entry) → GivenBrought s c past → all_lines is_idle y.lines ≡ true → BroughtIn s c (y ∷ past)
+idle_had s c past y h idle j f e b x z = idle_onto s j f b y.lines (lines_of past) idle (h.1 j f e b x z)
+
+brought_moves : (s : Script) → EachMove (GivenBrought s) (BroughtStep s)
+brought_moves s = record {
+  void = λ c past h. record { had = idle_had s c past (voided c).entry h refl; told = (tt, tt) };
+  ticked = λ c past n h. record { had = idle_had s c past (ticked c (suc n)).entry h refl; told = (tt, tt) };
+  begun = λ c past n act h r. (let k = begun_carries s n c.clock (c.clients n) act past (now_at s c past n h) in record { had = client_done s c past n _ h (begins_acts n (c.clients n) c.clock act r) k; told = k.told });
+  told = λ c past n place m h at to. (let k = told_carries s n c.clock place (c.clients n) m past (now_at s c past n h) in record { had = client_done s c past n _ h (given_acts (by_key (IsKnown h.0.0.0.0.0.0.keys.callees c.clients)) any_told n (c.clients n) c.clock place m (h.0.0.0.0.0.0.keys.replies n) (h.0.0.0.0.0.1.seats n)) k; told = k.told });
+  waited = λ c past n act h r. (let k = waits_carry s n (c.clients n) act past (now_at s c past n h) in record { had = client_done s c past n _ h (waits_acts n (c.clients n) act r) k; told = k.told });
+  fallen = λ c past n h. record { had = own_had s c past n _ h (falls_acts n (c.clients n)) (λ f e b x y. absurd cc); told = (tt, tt) };
+  risen = λ c past n h. record { had = own_had s c past n _ h (rises_acts n (c.clients n)) (h.1 n); told = (tt, tt) };
+  served = λ c past i place m armed h up at to. (let z = idle_works any_message i (c.hosts i).state _ _ (serves_works any_message (Server i) (c.hosts i).state c.clock place m (λ rest. tt)) in record { had = idle_had s c past (server_moves c i armed (server_row (Server i) (c.hosts i).state c.clock place (Whole m))).entry h z; told = idle_told s (actors.Node (Server i)) past [] _ z });
+  cut = λ c past i place m t h up at to. record { had = idle_had s c past (server_falls c i (lines.Given place ∷ blow_line i t ∷ []) (in_step m c.clock)).entry h (blow_idle i t); told = idle_told s (actors.Node (Server i)) past [] (lines.Given place ∷ blow_line i t ∷ []) (blow_idle i t) };
+  stopped = λ c past i h up. record { had = idle_had s c past (server_falls c i (lines.Crash (Server i) ∷ []) at_rest).entry h refl; told = (tt, tt) };
+  stop_set = λ c past i calls pick armed h up. record { had = idle_had s c past (server_set c i (lines.Stop (Server i) calls pick) armed).entry h refl; told = (tt, tt) };
+  fail_set = λ c past i call armed h up. record { had = idle_had s c past (server_set c i (lines.Fail (Server i) call) armed).entry h refl; told = (tt, tt) };
+  timed = λ c past i n b armed h up at. (let z = idle_works any_message i (c.hosts i).state _ _ (times_works any_message (Server i) (c.hosts i).state c.clock n b) in record { had = idle_had s c past (server_moves c i armed (back_timeout_row (Server i) (c.hosts i).state c.clock n b)).entry h z; told = idle_told s (actors.Node (Server i)) past [] _ z });
+  woken = λ c past i armed h up. (let z = idle_works any_message i (c.hosts i).state _ _ (wakes_works any_message (Server i) (c.hosts i).state c.clock) in record { had = idle_had s c past (server_moves c i armed (wake_row (Server i) (c.hosts i).state c.clock)).entry h z; told = idle_told s (actors.Node (Server i)) past [] _ z });
+  started = λ c past i after fall h down.
+      (let z = idle_works any_message i (c.hosts i).state _ _ (starts_works any_message (Server i) (c.hosts i).state c.clock c.count (begun_by_disk (Server i) (c.hosts i).state after fall) (disk_works any_message (Server i) (c.hosts i).state after fall (risen_lines (Server i) c.clock c.count (begun_by_disk (Server i) (c.hosts i).state after fall)) (any_cut fall) (risen_from (Server i) c.clock c.count (begun_by_disk (Server i) (c.hosts i).state after fall)))) in
+      record { had = idle_had s c past (server_rises c i (begun_by_disk (Server i) (c.hosts i).state after fall)).entry h z; told = idle_told s (actors.Node (Server i)) past [] _ z });
+  early = λ c past i fall h down. record { had = idle_had s c past (server_falls c i (lines.Fault (Server i) ∷ []) fall).entry h refl; told = (tt, tt) };
+  midway = λ c past i after fall h down. (let z = idle_works any_message i (c.hosts i).state _ _ (disk_works any_message (Server i) (c.hosts i).state after fall (lines.Fault (Server i) ∷ []) (any_cut fall) (one_from (Server i) true refl)) in record { had = idle_had s c past (server_stays c i (begun_by_disk (Server i) (c.hosts i).state after fall) (lines.Fault (Server i)) in_boot).entry h z; told = idle_told s (actors.Node (Server i)) past [] _ z });
+  full = λ c past i after fall h down. (let z = idle_works any_message i (c.hosts i).state _ _ (disk_works any_message (Server i) (c.hosts i).state after fall (lines.Full (Server i) ∷ []) (any_cut fall) (one_from (Server i) true refl)) in record { had = idle_had s c past (server_stays c i (begun_by_disk (Server i) (c.hosts i).state after fall) (lines.Full (Server i)) at_rest).entry h z; told = idle_told s (actors.Node (Server i)) past [] _ z });
+}
+
+pub brought_kept : (s : Script) → IsKept (GivenBrought s)
+brought_kept s c past x h = (kept_kept s c past x h.0, (each_moved (GivenBrought s) (BroughtStep s) (brought_moves s) c past x h).had)
+
+pub brought_first : (s : Script) → GivenBrought s (start s) (set_up s ∷ [])
+brought_first s = (kept_first s, λ j f e b x y. absurd cc)
+
+pub run_brought : CachedAreBrought
+run_brought s h end r =
+    run_each (GivenBrought s) (λ past e. EachLine (IsBroughtGood s) e.actor past [] e.lines) (brought_kept s) (λ c past x k. (each_moved (GivenBrought s) (BroughtStep s) (brought_moves s) c past x k).told) r.inputs (start s) (set_up s ∷ []) h end (brought_first s) r.leads
