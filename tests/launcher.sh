@@ -383,6 +383,13 @@ launch_at_once 'a device' replay < /dev/zero
 rm -f "$work/large"
 rm -f "$work/want.out"
 
+# A file is read where it is: that needs no place for a copy.
+wanted 0
+prints 'words: <replay>' first second
+status=0
+TMPDIR=$work/none "$launcher" replay < "$work/script" > "$work/out" 2> "$work/err" || status=$?
+judge 'a file, where there is no place for a copy'
+
 # The program finds a closed input as the launcher does: the stand-in's cat fails.
 install 4
 status=0
@@ -521,8 +528,12 @@ end_by() {
     running=$!
     if comes "$file"; then
         kill -s "$signal" "$running"
+        # a launcher that doesn't end would keep the tests
+        (sleep 60 && kill -9 "$running") > /dev/null 2>&1 &
+        guard=$!
         status=0
         wait "$running" 2> /dev/null || status=$?
+        kill "$guard" 2> /dev/null || :
         judge_signal "the signal $signal to $1" "$ends"
     else
         fail "the signal $signal to $1: nothing runs"
@@ -697,10 +708,11 @@ if [ -x "$built" ]; then
 else
     echo "skipped: the program and its words (it isn't built)"
 fi
-# It runs at once where it is proved: the stand-in of the kit proves nothing here.
+# It runs at once where it is proved. Where a source is newer, these rows fail: a kit that refuses all stands here now, so that
+# nothing is built in its place.
 if [ -e crates/afs_top/out/afscell.built ]; then
     launcher=./afscell
-    : > "$work/kit/refuse"
+    printf '#!/bin/sh\nexit 1\n' > "$work/kit/rt"
     wanted 0
     cat "$work/text" >> "$work/want.out"
     launch_at_once 'the proved program' replay < examples/open_close.afs
