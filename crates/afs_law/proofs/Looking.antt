@@ -20,7 +20,7 @@ use Rattle.afs_num.specs.Nodes.{same_node}
 use Rattle.afs_num.specs.declared.histories.Actor.{Actor}
 use Rattle.afs_num.specs.declared.histories.ReadBody.{ReadBody}
 use Rattle.afs_num.specs.declared.histories.ReadSource.{ReadSource}
-use Rattle.afs_num.specs.declared.histories.ReadSource.TheVariants.{Cached}
+use Rattle.afs_num.specs.declared.histories.ReadSource.TheVariants.{Cached, Fetched}
 use Rattle.afs_num.specs.declared.histories.Version.{Version}
 use Rattle.afs_num.specs.declared.messages.Message.{Message}
 use Rattle.afs_num.specs.declared.types.Fid.{Fid}
@@ -103,6 +103,7 @@ pub record ShownRead (s : Script) (c : Node) (f : Fid) (index : ℕ) (source : R
   pub by : read_reply c f source past own ≡ Some reply
   pub expiry : ℕ
   pub grant : GrantOf c f expiry reply past
+  pub exact : source ≡ Fetched → grant.index ≡ index
   pub home : Accepts s f.volume grant.server (until c f expiry reply past grant)
   pub granted : (v : Version) → last_version f (until c f expiry reply past grant) ≡ Some v → v.index ≤ index
   pub lasts : clock_of (own ++ lines_of past) < expiry
@@ -167,6 +168,7 @@ ready_good s n clock past ls need e body ticks lasts shown r =
       by = r.by;
       expiry = e.expiry;
       grant = r.grant;
+      exact = λ e. absurd cc;
       home = any_home s e.fid.volume r.grant.server (until (Client n) e.fid e.expiry r.reply past r.grant) r.home;
       granted = λ v z. granted_in _ v e.index r.least z;
       lasts = subst (λ (o : List Line). clock_of o < e.expiry) (own_lines ls (lines_of past)) (subst (λ (t : ℕ). t < e.expiry) (sym ticks) lasts);

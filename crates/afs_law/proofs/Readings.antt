@@ -68,6 +68,7 @@ read_good s true c f index source body past own w u k b = record {
   by = w.by;
   expiry = w.expiry;
   grant = w.grant;
+  exact = w.exact;
   home = w.home;
   granted = w.granted;
   lasts = w.lasts;

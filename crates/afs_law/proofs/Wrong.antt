@@ -58,7 +58,7 @@ use Rattle.afs_num.specs.declared.messages.Message.{Message}
 use Rattle.afs_num.specs.declared.types.Node.TheVariants.{Client, Server}
 use Rattle.std.proofs.Common.{arith, ◌<◌, ◌≤◌, ◌≡◌, ◌∙◌, true, false, cond, not, nat_eq, Bool, ℕ, ℤ, List, [], ◌∷◌, ◌++◌, ◌⊎◌, Option, None, Some, ap, sym, subst, refl, inl, inr, negsuc, pos}
 use Rattle.std.specs.Fmt.{digits}
-use Rattle.std.specs.Prelude.{⊤, codes, drop, map, take}
+use Rattle.std.specs.Prelude.{⊤, ◌&&◌, codes, drop, map, take}
 
 -- an entry with other lines, which sends nothing
 abbrev instead : List Line → Entry → Entry
@@ -1207,6 +1207,31 @@ unfolding moved begin_row client_row server_row back_timeout_row wake_row start_
 read_over_a_crash h =
     let g = h.1.1.1.1.1.0.0.0.1.0.1 in
     g.kept (crash_since g.grant.server _ _ _ g.grant.ran.newer g.grant.ran.at g.grant.ran.older g.grant.ran.message (onto [] g.grant.after) g.grant.ran.split g.grant.ran.given refl refl)
+
+-- ---- what is fetched is what its reply brought
+
+-- each line of these entries meets this test
+abbrev all_told : (Line → Bool) → List Entry → Bool
+all_told q [] = true
+all_told q (e ∷ past) = all_lines q e.lines && all_told q past
+
+told_at : (q : Line → Bool) (newer : List Entry) (at : Entry) (older : List Entry) → all_told q (newer ++ (at ∷ older)) ≡ true → all_lines q at.lines ≡ true
+told_at q [] at older h = (both (all_lines q at.lines) (all_told q older) h).0
+told_at q (e ∷ newer) at older h = told_at q newer at older (both (all_lines q e.lines) (all_told q (newer ++ (at ∷ older))) h).1
+
+-- no promise of this index was made
+abbrev is_other_grant : ℕ → Line → Bool
+is_other_grant n (lines.Grant s c f index expiry) = not (nat_eq index n)
+is_other_grant n l = true
+
+no_such_grant : (n : ℕ) (c : Node) (f : Fid) (x : ℕ) (reply : Message) (past : List Entry) → (g : GrantOf c f x reply past) → all_told (is_other_grant n) past ≡ true → not (nat_eq n n) ≡ false → g.index ≡ n → ⊥
+no_such_grant n c f x reply past g none own same =
+    no_such_owe g.before g.after g.ran.at.lines (lines.Grant g.server c f g.index x) (is_other_grant n) (told_at (is_other_grant n) g.ran.newer g.ran.at g.ran.older (subst (λ (p : List Entry). all_told (is_other_grant n) p ≡ true) g.ran.split none)) g.line (ap (λ (i : ℕ). not (nat_eq i n)) same ∙ own)
+
+-- a file is stored anew while the reply with its old contents is under way; its client shows the new ones, which no message brought
+fetched_what_came_later : Legal (alters 4 (instead (lines.Given 2 ∷ lines.Read (Client 1) file 2 Fetched (seen.Contents (bodies.File (codes "def"))) ∷ answer 1 ∷ [])) (entries (start (script 2)) (changes_file ++ gives 2 steady ∷ []))) (script 2) → ⊥
+unfolding moved begin_row client_row server_row back_timeout_row wake_row start_row record_bytes head_form volume_form spelled opaque pad word laid_at led name_ok directory_bytes name_bytes rights_of image acl_text digits entry_text directory_of names_at opaque_at word_at counted_at whole_at count_at name_at spelled_at bytes_below
+fetched_what_came_later h = let g = h.1.1.1.1.0.0.0.1.0.1 in no_such_grant 2 _ _ _ _ _ g.grant refl refl (g.exact refl)
 
 -- ---- a reply is of its call's kind
 

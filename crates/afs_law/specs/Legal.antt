@@ -60,7 +60,8 @@ has_read c [] = false
 has_read c (lines.Read m f index source body ∷ own) = if same_node m c then true else has_read c own
 has_read c (l ∷ own) = has_read c own
 
--- the entry was given a reply with code 0, by the callee of a call that the client sent since its act began, which was in an entry before
+-- the entry was given a reply with code 0, by the first callee of a call which the client sent for its user since it last began an act, in an
+-- entry before
 pub record HasUsed (s : Script) (c : Node) (past : List Entry) (own : List Line) : Type 0 where
   pub reply : Message
   pub by : given_message own (sent_of past) ≡ Some reply
@@ -123,9 +124,10 @@ abbrev pub Shows : Fid → ℕ → ReadBody → List Entry → List Line → Typ
 Shows f index (shows.Contents body) past own = IsThere body × HasVersion f index body (own ++ lines_of past)
 Shows f index body past own = HasIndex f index (own ++ lines_of past) × HasBeen f index body past
 
--- a read is whole: it shows a version; it is not older than any that the client has seen; and it is the newest unless its
--- grant, which lasts, was not given up, and came from a server that accepted stores of the volume, was withdrawn. One that was
--- fetched just now is of a reply to a call of the running act that brings just that, and contents that are cached came to the client before
+-- A read shows one stored version, whole. It is not older than what the client saw, or than the last one when the promise was made. The
+-- promise is of the server that accepts stores of the volume; it lasts, and since then the client didn't drop what it is on. The version is the
+-- last one, unless the promise was withdrawn. A fetched read has a reply with code 0 to a call of the running act for such a thing, and shows
+-- the version that the promise tells, which was made where that call ran. Contents that are cached came to the client before
 pub record GoodRead (s : Script) (c : Node) (f : Fid) (index : ℕ) (source : ReadSource) (body : ReadBody) (past : List Entry) (own : List Line) : Type 0 where
   pub whole : Shows f index body past own
   pub not_older : seen c f past own ≤ index
@@ -135,6 +137,7 @@ pub record GoodRead (s : Script) (c : Node) (f : Fid) (index : ℕ) (source : Re
   pub by : read_reply c f source past own ≡ Some reply
   pub expiry : ℕ
   pub grant : GrantOf c f expiry reply past
+  pub exact : source ≡ Fetched → grant.index ≡ index
   pub home : Accepts s f.volume grant.server (until c f expiry reply past grant)
   pub granted : (v : Version) → last_version f (until c f expiry reply past grant) ≡ Some v → v.index ≤ index
   pub lasts : clock_of (own ++ lines_of past) < expiry
