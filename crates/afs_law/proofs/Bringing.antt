@@ -396,7 +396,7 @@ rights_front s c past n place act m f index release text B T a R =
       shown = λ tail w. (
         tt,
         (
-          record { whole = ((R.is, has_given n f index R.is place past R.told), R.been); not_older = low; was = within_line (Client n) f index (lines.Given place) (lines_of past) refl was },
+          record { whole = ((R.is, has_given n f index R.is place past R.told), R.been); not_older = low; was = within_line (Client n) f index (lines.Given place) (lines_of past) refl was; reply = m; by = a.0.1; ran = ran; exact = R.last },
           drops_shown s (actors.Node (Client n)) n past es (l ∷ lines.Given place ∷ []) tail w,
         ),
       );

@@ -99,6 +99,7 @@ pub mod Watched
 pub mod Entering
 pub mod Trusted
 pub mod Brought
+pub mod OneRun
 pub mod Readings
 pub mod Claims
 pub mod Timed

@@ -14,7 +14,7 @@ use Rattle.afs_law.specs.Grants.{GrantOf, IsDropped, IsWithdrawn, is_promised, r
 use Rattle.afs_law.specs.Ideal.{Accepts, HasVersion, IsLast, Reach, WasLast, clock_of, is_at, is_zero_code, last_version, raised, reach, reach_over, seen}
 use Rattle.afs_law.specs.Legal.{Shows}
 use Rattle.afs_law.specs.Parts.{EachLine, LineRule}
-use Rattle.afs_law.specs.Past.{has_begun, lines_of, onto}
+use Rattle.afs_law.specs.Past.{Ran, given_message, has_begun, lines_of, onto, sent_of}
 use Rattle.afs_num.specs.Fids.{same_fid}
 use Rattle.afs_num.specs.Nodes.{same_node}
 use Rattle.afs_num.specs.declared.histories.Actor.{Actor}
@@ -114,6 +114,10 @@ pub record ShownRights (c : Node) (f : Fid) (index : ℕ) (body : ReadBody) (pas
   pub whole : Shows f index body past own
   pub not_older : seen c f past own ≤ index
   pub was : WasLast c f index (own ++ lines_of past)
+  pub reply : Message
+  pub by : given_message own (sent_of past) ≡ Some reply
+  pub ran : Ran reply.head past
+  pub exact : IsLast f index (lines_of ran.older)
 
 abbrev pub ShownBy : Script → Bool → Node → Fid → ℕ → ReadSource → ReadBody → List Entry → List Line → Type 0
 ShownBy s true c f index source body past own = ShownRead s c f index source body past own

@@ -39,7 +39,9 @@ use Rattle.afs_rows.specs.ClientRow.{begin_row, client_row}
 use Rattle.afs_rows.specs.Going.{Going, began, nothing_set, answers, asked, asks_for, gives_back, next, reads, stored_whole}
 use Rattle.afs_rows.specs.Runs.{Cell, Entry, Input, begins, client_starts, client_stops, comes_up, gives, locations, moved, nothing, server_waits, sets_stop, start, starts_again, steady, stops, ticks, waits}
 use Rattle.afs_xdr.specs.Words.{opaque, pad, word, opaque_at, word_at, counted_at}
-use Rattle.afs_law.specs.Ideal.{set_up}
+use Rattle.afs_law.specs.Ideal.{IsLast, last_version, set_up}
+use Rattle.afs_num.specs.declared.histories.Version.{Version}
+use Rattle.std.specs.Option.{option_map}
 use Rattle.afs_law.specs.Once.{past_of}
 use Rattle.afs_law.specs.Past.{WasSent, SendsTo, has_sent, is_called, same_key, onto, lines_on, IsCall, server_boot, CalledSince, IsToCome, called_key, Ran, answered_key, code_told, given_message, lines_of, sent_of}
 use Rattle.afs_num.specs.declared.calls.FsCall.{FsCall}
@@ -1232,6 +1234,49 @@ no_such_grant n c f x reply past g none own same =
 fetched_what_came_later : Legal (alters 4 (instead (lines.Given 2 ∷ lines.Read (Client 1) file 2 Fetched (seen.Contents (bodies.File (codes "def"))) ∷ answer 1 ∷ [])) (entries (start (script 2)) (changes_file ++ gives 2 steady ∷ []))) (script 2) → ⊥
 unfolding moved begin_row client_row server_row back_timeout_row wake_row start_row record_bytes head_form volume_form spelled opaque pad word laid_at led name_ok directory_bytes name_bytes rights_of image acl_text digits entry_text directory_of names_at opaque_at word_at counted_at whole_at count_at name_at spelled_at bytes_below
 fetched_what_came_later h = let g = h.1.1.1.1.0.0.0.1.0.1 in no_such_grant 2 _ _ _ _ _ g.grant refl refl (g.exact refl)
+
+-- what the cause of a read of rights says of the entry that ran its call
+record RanForRights (e : Entry) (older : List Entry) : Type 0 where
+  message : Message
+  given : given_message e.lines (sent_of older) ≡ Some message
+  key : called_key message.head ≡ key_of_one 1
+  last : IsLast root 2 (lines_of older)
+
+rights_none : (e : Entry) (older : List Entry) → given_message e.lines (sent_of older) ≡ None → RanForRights e older → ⊥
+rights_none e older none x = let no_ : None ≡ Some x.message = sym none ∙ x.given in absurd cc
+
+rights_of_another : (e : Entry) (older : List Entry) (m : Message) → given_message e.lines (sent_of older) ≡ Some m → m.head.from ≡ Client 2 → RanForRights e older → ⊥
+rights_of_another e older m at two x = two_clients (sym two ∙ (ap (λ (q : Message). q.head.from) (some_of m x.message (sym at ∙ x.given)) ∙ ap (λ (k : Key). k.node) x.key))
+
+rights_before : (e : Entry) (older : List Entry) → option_map (λ (v : Version). v.index) (last_version root (lines_of older)) ≡ Some 1 → RanForRights e older → ⊥
+rights_before e older one x = let no_ : 1 ≡ 2 = some_of 1 2 (sym one ∙ x.last) in absurd (omega (arith, no_))
+
+-- a list of rights is stored anew while the reply with the old one is under way; its client shows the new one
+abbrev ann_alone : List ℕ
+ann_alone = codes "1\n0\nann\t127\n"
+
+abbrev listed_anew : List Input
+listed_anew = begins 1 (acts.GetAccessList (operands.Fid root)) ∷ gives 1 steady ∷ begins 2 (acts.SetAccessList (operands.Fid root) (Hex ann_alone)) ∷ gives 3 steady ∷ []
+
+abbrev listed_past : List Entry
+listed_past = past_of (set_up (script 2) ∷ []) (entries (start (script 2)) listed_anew)
+
+rights_of_another_moment : Legal (alters 4 (instead (lines.Given 2 ∷ lines.Read (Client 1) root 2 Fetched (seen.AccessList ann_alone) ∷ answer 1 ∷ [])) (entries (start (script 2)) (listed_anew ++ gives 2 steady ∷ []))) (script 2) → ⊥
+unfolding moved begin_row client_row server_row back_timeout_row wake_row start_row record_bytes head_form volume_form spelled opaque pad word laid_at led name_ok directory_bytes name_bytes rights_of image acl_text digits entry_text directory_of names_at opaque_at word_at counted_at whole_at count_at name_at spelled_at bytes_below acl_laid acl_at entry_at access.name_at named_at line_number_at access.count_at
+rights_of_another_moment h =
+    let g = h.1.1.1.1.0.0.0.1.0.1 in
+    let c = g.cause in
+    let there : Among RanForRights listed_past = subst (Among RanForRights) (sym c.ran.split) (is_among RanForRights c.ran.newer c.ran.at c.ran.older (record { message = c.ran.message; given = c.ran.given; key = c.ran.key ∙ ap (λ (m : Message). answered_key m.head) (sym (some_of _ _ g.used.by)); last = g.exact })) in
+    elim there [
+      | inl x ↦ rights_of_another _ _ _ refl refl x
+      | inr y ↦ elim y [
+        | inl x ↦ rights_none _ _ refl x
+        | inr z ↦ elim z [
+          | inl x ↦ rights_before _ _ refl x
+          | inr w ↦ elim w [ inl x ↦ rights_none _ _ refl x | inr v ↦ elim v [ inl x ↦ rights_none _ _ refl x | inr u ↦ u ] ]
+        ]
+      ]
+    ]
 
 -- ---- a reply is of its call's kind
 

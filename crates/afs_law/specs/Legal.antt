@@ -368,8 +368,8 @@ pub record Cause (reply : Message) (code : ℤ) (asks_for : FsCall) (past : List
   pub result : IsResult reply.head.from code (answer_at user call ran.older) (answered_key reply.head) ran.at.lines (own ++ lines_of past)
 
 -- Rights are read without a promise: the act needs them, and the entry was given a reply with code 0 to its call for them. That is the code of the
--- ideal operation where the call ran, for the client's user. The read is whole, not older than any that the client has seen, and was the newest
--- at some line since its act began
+-- ideal operation where the call ran, for the client's user. The read is whole, and not older than any that the client has seen. It shows the
+-- version that was the last one where that call ran, and so at some line since the act began
 pub record GoodRights (s : Script) (c : Node) (f : Fid) (index : ℕ) (source : ReadSource) (body : ReadBody) (past : List Entry) (own : List Line) : Type 0 where
   pub fetched : source ≡ Fetched
   pub act : Going
@@ -382,6 +382,7 @@ pub record GoodRights (s : Script) (c : Node) (f : Fid) (index : ℕ) (source : 
   pub was : WasLast c f index (own ++ lines_of past)
   pub cause : Cause used.reply (pos 0) (asked act) past own
   pub own_user : cause.user ≡ user_of s c
+  pub exact : IsLast f index (lines_of cause.ran.older)
 
 abbrev pub GoodReadBy : Script → Bool → Node → Fid → ℕ → ReadSource → ReadBody → List Entry → List Line → Type 0
 GoodReadBy s true c f index source body past own = GoodRead s c f index source body past own
