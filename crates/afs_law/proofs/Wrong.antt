@@ -1294,6 +1294,18 @@ answered_by_another_kind h =
       | inr y ↦ elim y [ inl x ↦ for_none _ _ _ _ refl x | inr z ↦ elim z [ inl x ↦ for_none _ _ _ _ refl x | inr w ↦ w ] ]
     ]
 
+-- a server refuses with code 0, which tells nothing of what its client asked
+abbrev refuses_with_zero : Entry → Entry
+refuses_with_zero e = record e { sent = map (λ (m : Message). record m { carried = carried.Refusal (record { 0 = pos 0 }) }) e.sent }
+
+refused_with_zero : Legal (alters 1 refuses_with_zero (entries (start (script 1)) fetch_front)) (script 1) → ⊥
+unfolding moved begin_row client_row server_row back_timeout_row wake_row start_row record_bytes head_form volume_form spelled opaque pad word laid_at led name_ok directory_bytes name_bytes rights_of image acl_text digits entry_text directory_of names_at opaque_at word_at counted_at whole_at count_at name_at spelled_at bytes_below
+refused_with_zero h =
+    elim (ran_for _ _ (h.1.0.1.1.0.0 1 1 (refl, tt) refl refl)) [
+      | inl x ↦ for_call _ _ _ _ _ (codes "guest") (calls.FetchData file (pos 0) (pos 2147483647)) (pos 0) refl refl refl x (λ result kind. kind refl)
+      | inr y ↦ elim y [ inl x ↦ for_none _ _ _ _ refl x | inr z ↦ elim z [ inl x ↦ for_none _ _ _ _ refl x | inr w ↦ w ] ]
+    ]
+
 -- ---- a client that is down does nothing but begin again
 
 begin_not : (c : Node) (act : Act) (n : Node) (k : ℕ) (ls : List Line) → lines.Begin c act ∷ ls ≡ lines.Restart n k ∷ [] → ⊥

@@ -542,14 +542,14 @@ abbrev pub AreGoodSent : List Entry → List Message → Type 0
 AreGoodSent past [] = ⊤
 AreGoodSent past (m ∷ ms) = GoodMessage past m × AreGoodSent past ms
 
--- a refusal answers any call, and a reply one of its kind
+-- a refusal answers any call, by a code that isn't 0, and a reply one of its kind
 abbrev pub IsKind : FsCall → Carried → Type 0
-IsKind call (carried.Refusal code) = ⊤
+IsKind call (carried.Refusal code) = code.0 ≡ pos 0 → ⊥
 IsKind call (carried.Reply (tell.File reply)) = reply_number reply ≡ call_number call
 IsKind call c = ⊥
 
 -- What is sent as a server's reply to a client is that of the entry which ran its call, one before or the one that sends it. It has the code
--- of the ideal operation there, and, unless it is a refusal, it is of that call's kind
+-- that `IsResult` allows there, and is a refusal with another code than 0, or of that call's kind
 pub record Answered (m : Message) (past : List Entry) : Type 0 where
   pub ran : Ran m.head past
   pub user : List ℕ
