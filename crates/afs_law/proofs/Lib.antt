@@ -101,6 +101,7 @@ pub mod Trusted
 pub mod Brought
 pub mod OneRun
 pub mod Readings
+pub mod Returning
 pub mod Claims
 pub mod Timed
 pub mod Singly

@@ -30,8 +30,8 @@ use Rattle.afs_law.specs.Grants.{GrantOf, IsDropped, until}
 use Rattle.afs_num.specs.declared.histories.Actor.{Actor}
 use Rattle.afs_num.specs.declared.types.Node.{Node}
 use Rattle.afs_law.proofs.Worked.{apart_numbers, home, by_lines, stores, alters, answer, begun, entries, file, root, script, six_front}
-use Rattle.afs_law.specs.Breaks.{HasStopped, IsCarried}
-use Rattle.afs_law.specs.Legal.{Answered, Brings, IsKind, IsOpen, IsPromisedBy, Cause, EndsAct, IsResult, Legal, answer_at, code_given}
+use Rattle.afs_law.specs.Breaks.{HasStopped, IsCarried, IsNamedIn}
+use Rattle.afs_law.specs.Legal.{Answered, Brings, IsKind, IsOpen, IsPromisedBy, Cause, EndsAct, IsGivenBack, IsResult, Legal, answer_at, code_given}
 use Rattle.afs_model.specs.Messages.{spelled}
 use Rattle.afs_num.specs.Names.{name_ok}
 use Rattle.afs_num.specs.declared.types.Fid.{Fid}
@@ -43,7 +43,8 @@ use Rattle.afs_law.specs.Ideal.{IsLast, last_version, set_up}
 use Rattle.afs_num.specs.declared.histories.Version.{Version}
 use Rattle.std.specs.Option.{option_map}
 use Rattle.afs_law.specs.Once.{past_of}
-use Rattle.afs_law.specs.Past.{WasSent, SendsTo, has_sent, is_called, same_key, onto, lines_on, IsCall, server_boot, CalledSince, IsToCome, called_key, Ran, answered_key, code_told, given_message, lines_of, sent_of}
+use Rattle.afs_law.specs.Past.{WasSent, SendsTo, has_begun, has_sent, is_called, same_key, onto, lines_on, IsCall, server_boot, CalledSince, IsToCome, called_key, Ran, answered_key, code_told, given_message, lines_of, sent_of}
+use Rattle.afs_num.specs.declared.calls.AfsCallBack.{AfsCallBack}
 use Rattle.afs_num.specs.declared.calls.FsCall.{FsCall}
 use Rattle.afs_num.specs.declared.calls.FsCall.TheVariants as calls
 use Rattle.afs_num.specs.declared.histories.Actor.TheVariants as actors
@@ -819,6 +820,34 @@ granted_on_the_old_unique h =
     let old : file ≡ record { volume = home; vnode = 2; unique = 3 } =
     subst (λ (u : List ℕ). IsPromisedBy file makes_b (answer_at u makes_b made_past) made_past) (sym (one_user _ _ _ _ same)) (subst (λ (k : FsCall). IsPromisedBy file k (answer_at g.user k made_past) made_past) (sym (one_call _ _ _ _ same)) g.promises) in
     apart_numbers 2 3 refl (ap (λ (f : Fid). f.unique) old)
+
+-- ---- all that an act drops when it begins is given back
+
+-- a client drops a file and its directory, gives back the file alone, and is answered that all was given back
+abbrev two_opened : List Input
+two_opened = begins 1 (acts.Open (operands.Fid file)) ∷ gives 1 steady ∷ gives 2 steady ∷ begins 1 (acts.Open (operands.Fid root)) ∷ gives 3 steady ∷ gives 4 steady ∷ begins 1 acts.GiveUp ∷ gives 5 steady ∷ []
+
+abbrev names_the_file : Entry → Entry
+names_the_file e = record e { sent = map (λ (m : Message). record m { carried = carried.Call (codes "guest") (ask.File (calls.GiveUpCallBacks (file ∷ []) [])) }) e.sent }
+
+fids_of : (a b : List Fid) (c d : List AfsCallBack) → calls.GiveUpCallBacks a c ≡ calls.GiveUpCallBacks b d → a ≡ b
+fids_of a b c d e = cc
+
+abbrev gave_less_past : List Entry
+gave_less_past = past_of (set_up (script 1) ∷ []) (alters 6 names_the_file (entries (start (script 1)) two_opened))
+
+gave_back_less : Legal (alters 6 names_the_file (entries (start (script 1)) (two_opened ++ gives 6 steady ∷ []))) (script 1) → ⊥
+unfolding moved begin_row client_row server_row back_timeout_row wake_row start_row record_bytes head_form volume_form spelled opaque pad word laid_at led name_ok directory_bytes name_bytes rights_of image acl_text digits entry_text directory_of names_at opaque_at word_at counted_at whole_at count_at name_at spelled_at bytes_below
+gave_back_less h =
+    let g = h.1.1.1.1.1.1.1.1.0.0.0.1.0.1 in
+    let x : IsGivenBack (script 1) (Client 1) gave_less_past root = g.gives g.act root g.runs (ap (λ (a : Going). a.act) (sym (some_of _ _ g.runs))) refl refl (inl refl) in
+    elim x.called [
+      | inl y ↦ elim y.1 [ inl z ↦ let e : carried.Reply (tell.File replies.GiveUpCallBacks) ≡ carried.Call (codes "guest") (ask.File (calls.GiveUpCallBacks x.fids x.callbacks)) = z.1 in absurd cc | inr z ↦ z ]
+      | inr y ↦ elim y.1 [
+        | inl z ↦ elim z.1 [ inl w ↦ elim (subst (IsNamedIn root) (sym (fids_of _ _ _ _ (one_call _ _ _ _ w.1))) x.named) [ inl e ↦ file_apart e | inr e ↦ e ] | inr w ↦ w ]
+        | inr z ↦ let e : true ≡ false = subst (λ (n : Node). has_begun n (lines.Begin (Client 1) acts.GiveUp ∷ lines.Drop (Client 1) root ∷ lines.Drop (Client 1) file ∷ []) ≡ false) x.node z.0 in absurd cc
+      ]
+    ]
 
 -- ---- a restart owes the clients of the script, and nobody else
 

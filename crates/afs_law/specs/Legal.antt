@@ -9,6 +9,7 @@ use Rattle.afs_num.specs.declared.types.Head.{Head}
 use Rattle.afs_num.specs.declared.types.Key.{Key}
 use Rattle.afs_num.specs.declared.types.Node.{Node}
 use Rattle.afs_num.specs.declared.types.Node.TheVariants.{Server, Client}
+use Rattle.afs_num.specs.declared.calls.AfsCallBack.{AfsCallBack}
 use Rattle.afs_num.specs.declared.calls.FsCall.{FsCall}
 use Rattle.afs_num.specs.declared.calls.FsCall.TheVariants as calls
 use Rattle.afs_num.specs.declared.messages.Carried.{Carried}
@@ -19,6 +20,7 @@ use Rattle.afs_law.specs.Breaks.{unbroken_grant, IsNamedIn, AllOwes, HasEnded, H
 use Rattle.afs_rows.specs.Going.{Going, Need, answers, asks_for, next, asked, gives_back, reads_rights}
 use Rattle.afs_law.specs.Grants.{is_promised, read_reply, GrantOf, since, until, IsWithdrawn, IsChangedByOther, IsDropped}
 use Rattle.afs_law.specs.Ideal.{last_version, Unless, set_up, IsLast, WasLast, HasBeen, HasVersion, Accepts, clock_of, user_of, seen, change_in, change_key, call_under, callee_under, volume_after}
+use Rattle.afs_history.specs.declared.acts.Act.TheVariants as acts
 use Rattle.afs_history.specs.declared.lines.Line.{Line}
 use Rattle.afs_law.specs.Past.{HasBoot, WasSent, is_down, last_boot, is_new_to_act, called_key, IsCall, IsToCome, is_of_act, lines_of, sent_of, given_message, answered_key, code_told, IsReply, running, has_begun, has_given, Called, CalledSince, IsCallUnder, Ran, server_boot}
 use Rattle.afs_rows.specs.Runs.{Entry}
@@ -446,12 +448,40 @@ pub record HasNothing (c : Node) (act : Going) (code : ℤ) (own : List Line) : 
   pub begun : has_begun c own ≡ true
   pub none : has_dropped c own ≡ false
 
--- an act runs, and its answer has its cause: the reply to its call, for 0 that it was done from the cache or that there was
--- nothing to give back, or for -1 that its call was given up
+-- ---- promises that are given back
+
+-- the fids that the client gave up by themselves in these lines
+abbrev pub drops_in : Node → List Line → List Fid
+drops_in c [] = []
+drops_in c (lines.Drop m f ∷ ls) = if same_node m c then f ∷ drops_in c ls else drops_in c ls
+drops_in c (l ∷ ls) = drops_in c ls
+
+-- those of the entry in which it last began an act
+abbrev pub dropped_first : Node → List Entry → List Fid
+dropped_first c [] = []
+dropped_first c (e ∷ past) = if has_begun c e.lines then drops_in c e.lines else dropped_first c past
+
+-- a call that the client sent since it began its act gives back what it was promised on f
+pub record IsGivenBack (s : Script) (c : Node) (past : List Entry) (f : Fid) : Type 0 where
+  pub key : Key
+  pub node : key.node ≡ c
+  pub fids : List Fid
+  pub callbacks : List AfsCallBack
+  pub called : CalledSince key (user_of s c) (calls.GiveUpCallBacks fids callbacks) past
+  pub named : IsNamedIn f fids
+
+-- an act that gives promises back is answered 0, in a later entry than that in which it began, only where its calls gave back all that
+-- its client gave up when it began
+abbrev pub GivesAllBack : Script → Node → ℤ → List Entry → List Line → Type 0
+GivesAllBack s c code past own = (act : Going) (f : Fid) → running s c (own ++ lines_of past) ≡ Some act → act.act ≡ acts.GiveUp → code ≡ pos 0 → has_begun c own ≡ false → IsNamedIn f (dropped_first c past) → IsGivenBack s c past f
+
+-- An act runs, and its answer has its cause: the reply to its call, for 0 that it was done from the cache or that there was
+-- nothing to give back, or for -1 that its call was given up. Where promises are given back, 0 tells that all were
 pub record GoodCode (s : Script) (c : Node) (code : Code) (past : List Entry) (own : List Line) : Type 0 where
   pub act : Going
   pub runs : running s c (own ++ lines_of past) ≡ Some act
   pub cause : IsCaused s c act code.0 past own ⊎ (IsDone s c act code.0 past own ⊎ (IsDead s c act code.0 past own ⊎ HasNothing c act code.0 own))
+  pub gives : GivesAllBack s c code.0 past own
 
 -- ---- grants
 
