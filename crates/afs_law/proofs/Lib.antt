@@ -99,7 +99,9 @@ pub mod Watched
 pub mod Entering
 pub mod Trusted
 pub mod Brought
+pub mod OneRun
 pub mod Readings
+pub mod Returning
 pub mod Claims
 pub mod Timed
 pub mod Singly

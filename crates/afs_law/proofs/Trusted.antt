@@ -34,6 +34,7 @@ cached_good s c f index body past r b = record {
   by = r.by;
   expiry = r.expiry;
   grant = r.grant;
+  exact = r.exact;
   home = r.home;
   granted = r.granted;
   lasts = r.lasts;

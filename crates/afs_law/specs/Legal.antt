@@ -9,6 +9,7 @@ use Rattle.afs_num.specs.declared.types.Head.{Head}
 use Rattle.afs_num.specs.declared.types.Key.{Key}
 use Rattle.afs_num.specs.declared.types.Node.{Node}
 use Rattle.afs_num.specs.declared.types.Node.TheVariants.{Server, Client}
+use Rattle.afs_num.specs.declared.calls.AfsCallBack.{AfsCallBack}
 use Rattle.afs_num.specs.declared.calls.FsCall.{FsCall}
 use Rattle.afs_num.specs.declared.calls.FsCall.TheVariants as calls
 use Rattle.afs_num.specs.declared.messages.Carried.{Carried}
@@ -19,6 +20,7 @@ use Rattle.afs_law.specs.Breaks.{unbroken_grant, IsNamedIn, AllOwes, HasEnded, H
 use Rattle.afs_rows.specs.Going.{Going, Need, answers, asks_for, next, asked, gives_back, reads_rights}
 use Rattle.afs_law.specs.Grants.{is_promised, read_reply, GrantOf, since, until, IsWithdrawn, IsChangedByOther, IsDropped}
 use Rattle.afs_law.specs.Ideal.{last_version, Unless, set_up, IsLast, WasLast, HasBeen, HasVersion, Accepts, clock_of, user_of, seen, change_in, change_key, call_under, callee_under, volume_after}
+use Rattle.afs_history.specs.declared.acts.Act.TheVariants as acts
 use Rattle.afs_history.specs.declared.lines.Line.{Line}
 use Rattle.afs_law.specs.Past.{HasBoot, WasSent, is_down, last_boot, is_new_to_act, called_key, IsCall, IsToCome, is_of_act, lines_of, sent_of, given_message, answered_key, code_told, IsReply, running, has_begun, has_given, Called, CalledSince, IsCallUnder, Ran, server_boot}
 use Rattle.afs_rows.specs.Runs.{Entry}
@@ -60,7 +62,8 @@ has_read c [] = false
 has_read c (lines.Read m f index source body ∷ own) = if same_node m c then true else has_read c own
 has_read c (l ∷ own) = has_read c own
 
--- the entry was given a reply with code 0, by the callee of a call that the client sent since its act began, which was in an entry before
+-- the entry was given a reply with code 0, by the first callee of a call which the client sent for its user since it last began an act, in an
+-- entry before
 pub record HasUsed (s : Script) (c : Node) (past : List Entry) (own : List Line) : Type 0 where
   pub reply : Message
   pub by : given_message own (sent_of past) ≡ Some reply
@@ -123,9 +126,10 @@ abbrev pub Shows : Fid → ℕ → ReadBody → List Entry → List Line → Typ
 Shows f index (shows.Contents body) past own = IsThere body × HasVersion f index body (own ++ lines_of past)
 Shows f index body past own = HasIndex f index (own ++ lines_of past) × HasBeen f index body past
 
--- a read is whole: it shows a version; it is not older than any that the client has seen; and it is the newest unless its
--- grant, which lasts, was not given up, and came from a server that accepted stores of the volume, was withdrawn. One that was
--- fetched just now is of a reply to a call of the running act that brings just that, and contents that are cached came to the client before
+-- A read shows one stored version, whole. It is not older than what the client saw, or than the last one when the promise was made. The
+-- promise is of the server that accepts stores of the volume; it lasts, and since then the client didn't drop what it is on. The version is the
+-- last one, unless the promise was withdrawn. A fetched read has a reply with code 0 to a call of the running act for such a thing, and shows
+-- the version that the promise tells, which was made where that call ran. Contents that are cached came to the client before
 pub record GoodRead (s : Script) (c : Node) (f : Fid) (index : ℕ) (source : ReadSource) (body : ReadBody) (past : List Entry) (own : List Line) : Type 0 where
   pub whole : Shows f index body past own
   pub not_older : seen c f past own ≤ index
@@ -135,6 +139,7 @@ pub record GoodRead (s : Script) (c : Node) (f : Fid) (index : ℕ) (source : Re
   pub by : read_reply c f source past own ≡ Some reply
   pub expiry : ℕ
   pub grant : GrantOf c f expiry reply past
+  pub exact : source ≡ Fetched → grant.index ≡ index
   pub home : Accepts s f.volume grant.server (until c f expiry reply past grant)
   pub granted : (v : Version) → last_version f (until c f expiry reply past grant) ≡ Some v → v.index ≤ index
   pub lasts : clock_of (own ++ lines_of past) < expiry
@@ -365,8 +370,8 @@ pub record Cause (reply : Message) (code : ℤ) (asks_for : FsCall) (past : List
   pub result : IsResult reply.head.from code (answer_at user call ran.older) (answered_key reply.head) ran.at.lines (own ++ lines_of past)
 
 -- Rights are read without a promise: the act needs them, and the entry was given a reply with code 0 to its call for them. That is the code of the
--- ideal operation where the call ran, for the client's user. The read is whole, not older than any that the client has seen, and was the newest
--- at some line since its act began
+-- ideal operation where the call ran, for the client's user. The read is whole, and not older than any that the client has seen. It shows the
+-- version that was the last one where that call ran, and so at some line since the act began
 pub record GoodRights (s : Script) (c : Node) (f : Fid) (index : ℕ) (source : ReadSource) (body : ReadBody) (past : List Entry) (own : List Line) : Type 0 where
   pub fetched : source ≡ Fetched
   pub act : Going
@@ -379,6 +384,7 @@ pub record GoodRights (s : Script) (c : Node) (f : Fid) (index : ℕ) (source : 
   pub was : WasLast c f index (own ++ lines_of past)
   pub cause : Cause used.reply (pos 0) (asked act) past own
   pub own_user : cause.user ≡ user_of s c
+  pub exact : IsLast f index (lines_of cause.ran.older)
 
 abbrev pub GoodReadBy : Script → Bool → Node → Fid → ℕ → ReadSource → ReadBody → List Entry → List Line → Type 0
 GoodReadBy s true c f index source body past own = GoodRead s c f index source body past own
@@ -442,12 +448,40 @@ pub record HasNothing (c : Node) (act : Going) (code : ℤ) (own : List Line) : 
   pub begun : has_begun c own ≡ true
   pub none : has_dropped c own ≡ false
 
--- an act runs, and its answer has its cause: the reply to its call, for 0 that it was done from the cache or that there was
--- nothing to give back, or for -1 that its call was given up
+-- ---- promises that are given back
+
+-- the fids that the client gave up by themselves in these lines
+abbrev pub drops_in : Node → List Line → List Fid
+drops_in c [] = []
+drops_in c (lines.Drop m f ∷ ls) = if same_node m c then f ∷ drops_in c ls else drops_in c ls
+drops_in c (l ∷ ls) = drops_in c ls
+
+-- those of the entry in which it last began an act
+abbrev pub dropped_first : Node → List Entry → List Fid
+dropped_first c [] = []
+dropped_first c (e ∷ past) = if has_begun c e.lines then drops_in c e.lines else dropped_first c past
+
+-- a call that the client sent since it began its act gives back what it was promised on f
+pub record IsGivenBack (s : Script) (c : Node) (past : List Entry) (f : Fid) : Type 0 where
+  pub key : Key
+  pub node : key.node ≡ c
+  pub fids : List Fid
+  pub callbacks : List AfsCallBack
+  pub called : CalledSince key (user_of s c) (calls.GiveUpCallBacks fids callbacks) past
+  pub named : IsNamedIn f fids
+
+-- an act that gives promises back is answered 0, in a later entry than that in which it began, only where its calls gave back all that
+-- its client gave up when it began
+abbrev pub GivesAllBack : Script → Node → ℤ → List Entry → List Line → Type 0
+GivesAllBack s c code past own = (act : Going) (f : Fid) → running s c (own ++ lines_of past) ≡ Some act → act.act ≡ acts.GiveUp → code ≡ pos 0 → has_begun c own ≡ false → IsNamedIn f (dropped_first c past) → IsGivenBack s c past f
+
+-- An act runs, and its answer has its cause: the reply to its call, for 0 that it was done from the cache or that there was
+-- nothing to give back, or for -1 that its call was given up. Where promises are given back, 0 tells that all were
 pub record GoodCode (s : Script) (c : Node) (code : Code) (past : List Entry) (own : List Line) : Type 0 where
   pub act : Going
   pub runs : running s c (own ++ lines_of past) ≡ Some act
   pub cause : IsCaused s c act code.0 past own ⊎ (IsDone s c act code.0 past own ⊎ (IsDead s c act code.0 past own ⊎ HasNothing c act code.0 own))
+  pub gives : GivesAllBack s c code.0 past own
 
 -- ---- grants
 
@@ -538,14 +572,14 @@ abbrev pub AreGoodSent : List Entry → List Message → Type 0
 AreGoodSent past [] = ⊤
 AreGoodSent past (m ∷ ms) = GoodMessage past m × AreGoodSent past ms
 
--- a refusal answers any call, and a reply one of its kind
+-- a refusal answers any call, by a code that isn't 0, and a reply one of its kind
 abbrev pub IsKind : FsCall → Carried → Type 0
-IsKind call (carried.Refusal code) = ⊤
+IsKind call (carried.Refusal code) = code.0 ≡ pos 0 → ⊥
 IsKind call (carried.Reply (tell.File reply)) = reply_number reply ≡ call_number call
 IsKind call c = ⊥
 
 -- What is sent as a server's reply to a client is that of the entry which ran its call, one before or the one that sends it. It has the code
--- of the ideal operation there, and, unless it is a refusal, it is of that call's kind
+-- that `IsResult` allows there, and is a refusal with another code than 0, or of that call's kind
 pub record Answered (m : Message) (past : List Entry) : Type 0 where
   pub ran : Ran m.head past
   pub user : List ℕ
