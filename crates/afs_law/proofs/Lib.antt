@@ -60,6 +60,8 @@ pub mod Remaining
 pub mod Latest
 pub mod Learning
 pub mod Lives
+pub mod Hosted
+pub mod Delivered
 pub mod Ascending
 pub mod Sending
 pub mod Gifts
