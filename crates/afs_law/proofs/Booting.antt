@@ -303,13 +303,13 @@ pub owes_standing : (me : Node) (os : List OwedBreak) → all_lines is_standing 
 owes_standing me os = all_standing (map (owe_line me) os) (owes_running me os)
 
 pub serves_standing : (me : Node) (x : ServerState) (clock place : ℕ) (m : Message) → all_lines is_standing (server_row me x clock place (Whole m)).lines ≡ true
-serves_standing me x clock place m = all_standing _ (serves_running me x clock place m)
+serves_standing me x clock place m = all_standing (server_row me x clock place (Whole m)).lines (serves_running me x clock place m)
 
 pub times_standing : (me : Node) (x : ServerState) (clock : ℕ) (n : Node) (c : BackCall) → all_lines is_standing (back_timeout_row me x clock n c).lines ≡ true
-times_standing me x clock n c = all_standing _ (times_running me x clock n c)
+times_standing me x clock n c = all_standing (back_timeout_row me x clock n c).lines (times_running me x clock n c)
 
 pub wakes_standing : (me : Node) (x : ServerState) (clock : ℕ) → all_lines is_standing (wake_row me x clock).lines ≡ true
-wakes_standing me x clock = all_standing _ (wakes_running me x clock)
+wakes_standing me x clock = all_standing (wake_row me x clock).lines (wakes_running me x clock)
 
 -- ---- what a restart begins with
 

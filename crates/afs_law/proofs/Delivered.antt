@@ -25,10 +25,10 @@ use Rattle.afs_num.specs.declared.types.Node.TheVariants.{Client, Server}
 use Rattle.afs_rows.specs.Callbacks.{expired, owe_line, quit_line, quits, retries, risen_turn, still_owed}
 use Rattle.afs_rows.specs.ClientRow.{Look, Walked, begin_row, begins_by, call_of, client_row, dead_code, dropped, gift_of, given_up_in, gives_by, gives_up, goes_by, in_order, looked, most_reads, timeout_row, tries_again, trusted_in, untrusted_in, walked}
 use Rattle.afs_rows.specs.Going.{ClientState, Going, Need, answers, began, gives_back, next}
-use Rattle.afs_rows.specs.Runs.{Cell, Entry, Fall, Moved, RunsTo, begun_by_disk, blow_line, message_at, start}
+use Rattle.afs_rows.specs.Runs.{Cell, Entry, Fall, Moved, RunsTo, at_rest, begun_by_disk, blow_line, client_falls, client_moves, client_rises, in_boot, message_at, server_falls, server_moves, server_rises, server_set, server_stays, start, ticked, voided}
 use Rattle.afs_rows.specs.ServerSteps.{back_timeout_row, server_row, start_row, wake_row}
 use Rattle.afs_rows.specs.States.{BackCall, Backs, CacheEntry, Gift, ServerState}
-use Rattle.std.proofs.Common.{◌≡◌, ℕ, ◌+◌, Bool, true, false, cond, List, [], ◌∷◌, map, Option, Some, None, refl, sym, ap, subst, ◌∙◌, nat_lt}
+use Rattle.std.proofs.Common.{suc, ◌≡◌, ℕ, ◌+◌, Bool, true, false, cond, List, [], ◌∷◌, map, Option, Some, None, refl, sym, ap, subst, ◌∙◌, nat_lt}
 
 -- ---- an entry that is given nothing
 
@@ -101,7 +101,7 @@ unfolding wake_row
 woken_ungiven me x clock = refl
 
 found_ungiven : (me : Node) (x : ServerState) (after : Bool) (fall : Fall) (ls : List Line) → all_lines is_ungiven ls ≡ true → Ungiven ((begun_by_disk me x after fall).before ls)
-found_ungiven me x after fall ls h = all_ungiven _ (disk_lines is_ungiven (λ n key z. refl) (λ v. refl) me x after fall ls h)
+found_ungiven me x after fall ls h = all_ungiven ((begun_by_disk me x after fall).before ls) (disk_lines is_ungiven (λ n key z. refl) (λ v. refl) me x after fall ls h)
 
 started_ungiven : (me : Node) (x : ServerState) (clock count : ℕ) (after : Bool) (fall : Fall) → Ungiven (start_row me clock count (begun_by_disk me x after fall)).lines
 unfolding start_row
@@ -117,26 +117,29 @@ given_delivered n past ls m is to has = subst (IsTo (actors.Node n)) (sym is) (a
 abbrev DeliveredStep : Cell → List Entry → Moved → Type 0
 DeliveredStep c past m = IsDelivered m.entry.actor past m.entry.lines
 
+ungiven_step : (past : List Entry) (m : Moved) → Ungiven m.entry.lines → IsDelivered m.entry.actor past m.entry.lines
+ungiven_step past m none = ungiven_delivered m.entry.actor past m.entry.lines none
+
 delivered_moves : EachMove HearsIn DeliveredStep
 delivered_moves = record {
-  void = λ c past h. ungiven_delivered _ past _ refl;
-  ticked = λ c past n h. ungiven_delivered _ past _ refl;
-  begun = λ c past n act h r. ungiven_delivered _ past _ (begun_ungiven (Client n) (c.clients n) c.clock act);
-  told = λ c past n place m h at to. given_delivered (Client n) past _ m ((client_given c past n place m h to at).given (sent_of past) ∙ (ap (λ (ms : List Message). message_at ms place) h.told ∙ at)) to;
-  waited = λ c past n act h r. ungiven_delivered _ past _ (waited_ungiven (Client n) (c.clients n) act);
-  fallen = λ c past n h. ungiven_delivered _ past _ refl;
-  risen = λ c past n h. ungiven_delivered _ past _ refl;
-  served = λ c past i place m armed h up at to. given_delivered (Server i) past _ m (served_given i (c.hosts i).state c.clock place m (sent_of past) ∙ (ap (λ (ms : List Message). message_at ms place) h.told ∙ at)) to;
+  void = λ c past h. ungiven_step past (voided c) refl;
+  ticked = λ c past n h. ungiven_step past (ticked c (suc n)) refl;
+  begun = λ c past n act h r. ungiven_step past (client_moves c n (begin_row (Client n) (c.clients n) c.clock act)) (begun_ungiven (Client n) (c.clients n) c.clock act);
+  told = λ c past n place m h at to. given_delivered (Client n) past (client_row (Client n) (c.clients n) c.clock place (Whole m)).lines m ((client_given c past n place m h to at).given (sent_of past) ∙ (ap (λ (ms : List Message). message_at ms place) h.told ∙ at)) to;
+  waited = λ c past n act h r. ungiven_step past (client_moves c n (timeout_row (Client n) (c.clients n) act)) (waited_ungiven (Client n) (c.clients n) act);
+  fallen = λ c past n h. ungiven_step past (client_falls c n) refl;
+  risen = λ c past n h. ungiven_step past (client_rises c n) refl;
+  served = λ c past i place m armed h up at to. given_delivered (Server i) past (server_row (Server i) (c.hosts i).state c.clock place (Whole m)).lines m (served_given i (c.hosts i).state c.clock place m (sent_of past) ∙ (ap (λ (ms : List Message). message_at ms place) h.told ∙ at)) to;
   cut = λ c past i place m t h up at to. given_delivered (Server i) past (lines.Given place ∷ blow_line i t ∷ []) m (ap (λ (ms : List Message). message_at ms place) h.told ∙ at) to;
-  stopped = λ c past i h up. ungiven_delivered _ past _ refl;
-  stop_set = λ c past i calls pick armed h up. ungiven_delivered _ past _ refl;
-  fail_set = λ c past i call armed h up. ungiven_delivered _ past _ refl;
-  timed = λ c past i n b armed h up at. ungiven_delivered _ past _ (timed_ungiven (Server i) (c.hosts i).state c.clock n b);
-  woken = λ c past i armed h up. ungiven_delivered _ past _ (woken_ungiven (Server i) (c.hosts i).state c.clock);
-  started = λ c past i after fall h down. ungiven_delivered _ past _ (started_ungiven (Server i) (c.hosts i).state c.clock c.count after fall);
-  early = λ c past i fall h down. ungiven_delivered _ past _ refl;
-  midway = λ c past i after fall h down. ungiven_delivered _ past _ (found_ungiven (Server i) (c.hosts i).state after fall (lines.Fault (Server i) ∷ []) refl);
-  full = λ c past i after fall h down. ungiven_delivered _ past _ (found_ungiven (Server i) (c.hosts i).state after fall (lines.Full (Server i) ∷ []) refl);
+  stopped = λ c past i h up. ungiven_step past (server_falls c i (lines.Crash (Server i) ∷ []) at_rest) refl;
+  stop_set = λ c past i calls pick armed h up. ungiven_step past (server_set c i (lines.Stop (Server i) calls pick) armed) refl;
+  fail_set = λ c past i call armed h up. ungiven_step past (server_set c i (lines.Fail (Server i) call) armed) refl;
+  timed = λ c past i n b armed h up at. ungiven_step past (server_moves c i armed (back_timeout_row (Server i) (c.hosts i).state c.clock n b)) (timed_ungiven (Server i) (c.hosts i).state c.clock n b);
+  woken = λ c past i armed h up. ungiven_step past (server_moves c i armed (wake_row (Server i) (c.hosts i).state c.clock)) (woken_ungiven (Server i) (c.hosts i).state c.clock);
+  started = λ c past i after fall h down. ungiven_step past (server_rises c i (begun_by_disk (Server i) (c.hosts i).state after fall)) (started_ungiven (Server i) (c.hosts i).state c.clock c.count after fall);
+  early = λ c past i fall h down. ungiven_step past (server_falls c i (lines.Fault (Server i) ∷ []) fall) refl;
+  midway = λ c past i after fall h down. ungiven_step past (server_stays c i (begun_by_disk (Server i) (c.hosts i).state after fall) (lines.Fault (Server i)) in_boot) (found_ungiven (Server i) (c.hosts i).state after fall (lines.Fault (Server i) ∷ []) refl);
+  full = λ c past i after fall h down. ungiven_step past (server_stays c i (begun_by_disk (Server i) (c.hosts i).state after fall) (lines.Full (Server i)) at_rest) (found_ungiven (Server i) (c.hosts i).state after fall (lines.Full (Server i) ∷ []) refl);
 }
 
 pub run_delivered : (s : Script) (h : List Entry) (end : Cell) → RunsTo h s end → EachEntry (λ past e. IsDelivered e.actor past e.lines) (set_up s ∷ []) h
