@@ -276,7 +276,7 @@ midway_least s c past i after was h down =
     let none : server_boot (Server i) o ≡ None = (all_same i (f.before []) (lines_of past) front.standing).boot ∙ is_none c s past i was h down in
     let same : last_written (Server i) o ≡ last_written (Server i) (lines_of past) = standing_written i (f.before []) (lines_of past) front.standing in
     let more : last_written (Server i) (lines.Fault (Server i) ∷ o) ≡ last_written (Server i) (lines_of past) + 1 =
-        ap (λ (t : Bool). cond t (written_at (server_boot (Server i) o) (last_written (Server i) o)) (last_written (Server i) o)) (same_node-refl (Server i)) ∙ (ap (λ (b : Option ℕ). written_at b (last_written (Server i) o)) none ∙ ap (λ (n : ℕ). n + 1) same) in
+    ap (λ (t : Bool). cond t (written_at (server_boot (Server i) o) (last_written (Server i) o)) (last_written (Server i) o)) (same_node-refl (Server i)) ∙ (ap (λ (b : Option ℕ). written_at b (last_written (Server i) o)) none ∙ ap (λ (n : ℕ). n + 1) same) in
     let low : f.state.lasting.boot ≤ last_written (Server i) (lines_of past) = le_trans (found (Server i) (c.hosts i).state after was) (down_now c past i was h.1 down) in
     subst (λ (n : ℕ). f.state.lasting.boot + 1 ≤ n) (sym (ap (last_written (Server i)) (behind_front f past (lines.Fault (Server i) ∷ []) front) ∙ more)) (omega arith)
 

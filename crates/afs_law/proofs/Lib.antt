@@ -103,6 +103,7 @@ pub mod Trusted
 pub mod Brought
 pub mod Readings
 pub mod Claims
+pub mod Counting
 pub mod Timed
 pub mod Singly
 pub mod Assembled

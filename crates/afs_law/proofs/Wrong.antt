@@ -1,5 +1,5 @@
 -- Histories that are wrong for one reason each: a run, altered in one entry, of which just one condition isn't met. (Some of those of a server
--- that stops, or is down, are refused by what is asked of such a server's entries, too.)
+-- that stops or is down, and of a timeout, more than one condition refuses.)
 use Rattle.afs_law.proofs.Ideals.{at_home}
 use Rattle.afs_law.proofs.Backing.{all_lines}
 use Rattle.afs_num.specs.declared.types.Key.{Key}
@@ -1337,3 +1337,25 @@ noticed_and_stopped h = elim h.1.0.1.0.1.1.0 [ inl x ↦ x | inr x ↦ one_sent 
 full_when_up : Legal (step_of (Server 1) (lines.Full (Server 1) ∷ []) [] ∷ []) (script 1) → ⊥
 unfolding moved begin_row client_row server_row back_timeout_row wake_row start_row record_bytes head_form volume_form spelled opaque pad word laid_at led name_ok directory_bytes name_bytes rights_of image acl_text digits entry_text directory_of names_at opaque_at word_at counted_at whole_at count_at name_at spelled_at bytes_below
 full_when_up h = elim h.0.1.0.1.1.0 [ inl x ↦ x | inr x ↦ x.0 ]
+
+-- ---- a client times out the call for which it waits, three times at most
+
+-- the same timeout twice
+timed_out_again : Legal (entries (start (script 1)) (begins 1 (acts.Open (operands.Fid file)) ∷ waits 1 ∷ []) ++ step_of (Client 1) (times_out 1 ∷ []) [] ∷ []) (script 1) → ⊥
+unfolding moved begin_row client_row server_row back_timeout_row wake_row start_row record_bytes head_form volume_form spelled opaque pad word laid_at led name_ok directory_bytes name_bytes rights_of image acl_text digits entry_text directory_of names_at opaque_at word_at counted_at whole_at count_at name_at spelled_at bytes_below
+timed_out_again h = h.1.1.0.0.0.0.1.awaited.once (inl (refl, (refl, (refl, (refl, refl)))))
+
+-- the reply came
+timed_out_when_answered : Legal (entries (start (script 1)) (begins 1 (acts.Open (operands.Fid file)) ∷ gives 1 steady ∷ gives 2 steady ∷ []) ++ step_of (Client 1) (times_out 1 ∷ []) [] ∷ []) (script 1) → ⊥
+unfolding moved begin_row client_row server_row back_timeout_row wake_row start_row record_bytes head_form volume_form spelled opaque pad word laid_at led name_ok directory_bytes name_bytes rights_of image acl_text digits entry_text directory_of names_at opaque_at word_at counted_at whole_at count_at name_at spelled_at bytes_below
+timed_out_when_answered h = let g = h.1.1.1.0.0.0.0.1.awaited in let e : None ≡ Some g.act = g.runs in absurd cc
+
+-- the act goes on with its next call
+timed_out_when_replaced : Legal (entries (start (script 1)) walk_front ++ step_of (Client 1) (times_out 1 ∷ []) [] ∷ []) (script 1) → ⊥
+unfolding moved begin_row client_row server_row back_timeout_row wake_row start_row record_bytes head_form volume_form spelled opaque pad word laid_at led name_ok directory_bytes name_bytes rights_of image acl_text digits entry_text directory_of names_at opaque_at word_at counted_at whole_at count_at name_at spelled_at bytes_below
+timed_out_when_replaced h = elim (h.1.1.1.0.0.0.0.1.awaited.last 3 _ refl tt refl) [ inl x ↦ let e : 1 < 1 = x in absurd (omega arith) | inr x ↦ let e : 2 ≤ 1 = x.1 in absurd (omega arith) ]
+
+-- a server times its call out once more than thrice
+timed_out_four_times : Legal (entries (start (script 2)) (changes_file ++ server_waits 1 (Client 1) ∷ server_waits 1 (Client 1) ∷ server_waits 1 (Client 1) ∷ []) ++ step_of (Server 1) (lines.Timeout (Server 1) (Client 1) 1 1 4 ∷ []) [] ∷ []) (script 2) → ⊥
+unfolding moved begin_row client_row server_row back_timeout_row wake_row start_row record_bytes head_form volume_form spelled opaque pad word laid_at led name_ok directory_bytes name_bytes rights_of image acl_text digits entry_text directory_of names_at opaque_at word_at counted_at whole_at count_at name_at spelled_at bytes_below
+timed_out_four_times h = let e : 4 ≤ 3 = h.1.1.1.1.1.1.1.0.0.0.0.1.few in absurd (omega arith)

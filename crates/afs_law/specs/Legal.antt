@@ -20,6 +20,8 @@ use Rattle.afs_rows.specs.Going.{Going, Need, answers, asks_for, next, asked, gi
 use Rattle.afs_law.specs.Grants.{is_promised, read_reply, GrantOf, since, until, IsWithdrawn, IsChangedByOther, IsDropped}
 use Rattle.afs_law.specs.Ideal.{last_version, Unless, set_up, IsLast, WasLast, HasBeen, HasVersion, Accepts, clock_of, user_of, seen, change_in, change_key, call_under, callee_under, volume_after}
 use Rattle.afs_history.specs.declared.lines.Line.{Line}
+use Rattle.afs_law.specs.Past.{IsUpTo}
+use Rattle.afs_rows.specs.Runs.{message_at}
 use Rattle.afs_law.specs.Lives.{IsDelivered, IsHostLived, epoch_after, last_written}
 use Rattle.afs_law.specs.Past.{HasBoot, WasSent, is_down, last_boot, is_new_to_act, called_key, IsCall, IsToCome, is_of_act, lines_of, sent_of, given_message, answered_key, code_told, IsReply, running, has_begun, has_given, Called, CalledSince, IsCallUnder, Ran, server_boot}
 use Rattle.afs_rows.specs.Runs.{Entry}
@@ -621,12 +623,29 @@ IsLivedBy who past ls sent = ⊤
 
 -- ---- timeouts
 
--- the call of this key was sent to this node before; and this is its first timeout, or the one below it stands in an entry before
-pub record GoodTimeout (n callee : Node) (epoch number count : ℕ) (past : List Entry) : Type 0 where
+-- the client waits for the reply to this call, of which this timeout wasn't told before: its act runs, which sent the call, and it sent no
+-- later one
+pub record AwaitsReply (s : Script) (c callee : Node) (k : Key) (user : List ℕ) (call : FsCall) (count : ℕ) (past : List Entry) (own : List Line) : Type 0 where
+  pub act : Going
+  pub runs : running s c (lines_of past) ≡ Some act
+  pub called : CalledSince k user call past
+  pub last : (place : ℕ) (m : Message) → message_at (sent_of past) place ≡ Some m → IsCall m.carried → m.head.from ≡ c → IsUpTo m.head.epoch m.head.number k.epoch k.number
+  pub once : HasTimeout c callee k.epoch k.number count (own ++ lines_of past) → ⊥
+
+-- of a server's calls this isn't asked
+abbrev pub IsAwaitedBy : Script → Node → Node → Key → List ℕ → FsCall → ℕ → List Entry → List Line → Type 0
+IsAwaitedBy s (Client j) callee k user call count past own = AwaitsReply s (Client j) callee k user call count past own
+IsAwaitedBy s n callee k user call count past own = ⊤
+
+-- The call of this key was sent to this node before. Its count is 1, or the timeout of the count below stands in an entry before; and it is 3
+-- at most. A client waits for the reply still
+pub record GoodTimeout (s : Script) (n callee : Node) (epoch number count : ℕ) (past : List Entry) (own : List Line) : Type 0 where
   pub user : List ℕ
   pub call : FsCall
   pub sent : WasSent callee (record { node = n; epoch = epoch; number = number }) user call past
   pub below : (count ≡ 1) ⊎ ((k : ℕ) × ((count ≡ k + 1) × HasTimeout n callee epoch number k (lines_of past)))
+  pub few : count ≤ 3
+  pub awaited : IsAwaitedBy s n callee (record { node = n; epoch = epoch; number = number }) user call count past own
 
 -- ---- histories
 
@@ -677,7 +696,7 @@ IsGood s who (lines.Grant server c f index expiry) past own next = IsInPlace s w
 IsGood s who (lines.Change server k count) past own next = IsInPlace s who (lines.Change server k count) past own next × GoodChange s server k count past own next
 IsGood s who (lines.Read c f index source body) past own next = IsInPlace s who (lines.Read c f index source body) past own next × GoodReadBy s (is_promised body) c f index source body past own
 IsGood s who (lines.Answer c code) past own next = IsInPlace s who (lines.Answer c code) past own next × GoodCode s c code past own
-IsGood s who (lines.Timeout n callee epoch number count) past own next = IsInPlace s who (lines.Timeout n callee epoch number count) past own next × GoodTimeout n callee epoch number count past
+IsGood s who (lines.Timeout n callee epoch number count) past own next = IsInPlace s who (lines.Timeout n callee epoch number count) past own next × GoodTimeout s n callee epoch number count past own
 IsGood s who (lines.Owe server c what n) past own next = IsInPlace s who (lines.Owe server c what n) past own next × GoodOwe s server c what n past own
 IsGood s who (lines.Settle server c n) past own next = IsInPlace s who (lines.Settle server c n) past own next × GoodSettle server c n past own
 IsGood s who (lines.Quit server c n) past own next = IsInPlace s who (lines.Quit server c n) past own next × GoodQuit server c n past own
