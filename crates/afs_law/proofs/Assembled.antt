@@ -35,7 +35,7 @@ record Parts (s : Script) (who : Actor) (l : Line) (past : List Entry) (own next
   broken : IsBreakGood s who l past own next
   read : IsReadGood s who l past own next
   code : IsCodeGood s who l past own next
-  timed : IsTimeoutGood who l past own next
+  timed : IsTimeoutGood s who l past own next
 
 good_line : (s : Script) (who : Actor) (l : Line) (past : List Entry) (own next : List Line) → Parts s who l past own next → IsGood s who l past own next
 good_line s who (lines.Grant server c f index expiry) past own next p = (p.place, p.grant)
@@ -49,7 +49,7 @@ good_line s who (lines.Quit server c n) past own next p = (p.place, p.broken)
 good_line s who l past own next p = p.place
 
 good_lines : (s : Script) (who : Actor) (past : List Entry) (own ls : List Line) → EachLine (IsInPlace s) who past own ls → EachLine IsGrantGood who past own ls → EachLine (IsIdeal s) who past own ls → EachLine (IsAlone s) who past own ls
-    → EachLine (IsBreakGood s) who past own ls → EachLine (IsReadGood s) who past own ls → EachLine (IsCodeGood s) who past own ls → EachLine IsTimeoutGood who past own ls → AreGood s who past own ls
+    → EachLine (IsBreakGood s) who past own ls → EachLine (IsReadGood s) who past own ls → EachLine (IsCodeGood s) who past own ls → EachLine (IsTimeoutGood s) who past own ls → AreGood s who past own ls
 good_lines s who past own [] p g i a b r c t = tt
 good_lines s who past own (l ∷ ls) p g i a b r c t = (
   good_line s who l past own ls (record { place = p.0; grant = g.0; ideal = i.0; alone = a.0; broken = b.0; read = r.0; code = c.0; timed = t.0 }),
@@ -76,7 +76,7 @@ abbrev OfSent : (List Entry → Message → Type 0) → List Entry → List Entr
 OfSent G past es = EachEntry (λ before e. EachSent G (e ∷ before) e.sent) past es
 
 legal_from : (s : Script) (past es : List Entry) → OfLines (IsInPlace s) past es → OfLines IsGrantGood past es → OfLines (IsIdeal s) past es → OfLines (IsAlone s) past es → OfLines (IsBreakGood s) past es → OfLines (IsReadGood s) past es → OfLines (IsCodeGood s) past es
-    → OfSent IsOwn past es → OfSent IsFair past es → OfSent GoodReply past es → EachEntry (λ before e. IsEntryOf s before e × WereRun (e ∷ before) e.sent) past es → OfSent (IsOwnCall s) past es → OfLines IsTimeoutGood past es → OfLines IsBreakOnce past es → LegalAfter s past es
+    → OfSent IsOwn past es → OfSent IsFair past es → OfSent GoodReply past es → EachEntry (λ before e. IsEntryOf s before e × WereRun (e ∷ before) e.sent) past es → OfSent (IsOwnCall s) past es → OfLines (IsTimeoutGood s) past es → OfLines IsBreakOnce past es → LegalAfter s past es
 legal_from s past [] p g i a b r c o f w n q t u = tt
 legal_from s past (e ∷ es) p g i a b r c o f w n q t u = (
   ((good_lines s e.actor past [] e.lines p.0 g.0 i.0 a.0 b.0 r.0 c.0 t.0, good_sent (e ∷ past) e.sent o.0 f.0 w.0), (n.0.0, (n.0.1, (own_sent s (e ∷ past) e.sent q.0, once_lines e.actor past [] e.lines u.0)))),

@@ -435,7 +435,7 @@ number_back me [] o u h = refl
 number_back me (l ∷ ls) o u h = let p = both (is_up me l) (all_lines (is_up me) ls) u in let q = both (is_oweless l) (all_lines is_oweless ls) h in number_back me ls (l ∷ o) p.1 q.1 ∙ number_before me l o p.0 q.0
 
 pub numbered_over : (me : Node) (d : Option Fall) (last : ℕ) (e : Entry) (past : List Entry) → all_lines (is_up me) e.lines ≡ true → all_lines is_oweless e.lines ≡ true → Numbered me d last (lines_of past) → Numbered me d last (lines_of (e ∷ past))
-numbered_over me None last e past u h n = subst (λ (k : ℕ). k ≤ last) (sym (number_back me e.lines (lines_of past) u h)) n
+numbered_over me None last e past u h n = number_back me e.lines (lines_of past) u h ∙ n
 numbered_over me (Some fall) last e past u h n = number_back me e.lines (lines_of past) u h ∙ n
 
 -- a stop ends the numbers

@@ -39,6 +39,14 @@ is_standing (lines.Fault n) = not (is_server n)
 is_standing (lines.Restart n boot) = not (is_server n)
 is_standing l = true
 
+-- lines of steps in which no node stops or begins again
+abbrev pub is_running : Line → Bool
+is_running (lines.Crash n) = false
+is_running (lines.Fault n) = false
+is_running (lines.Restart n boot) = false
+is_running (lines.Full n) = false
+is_running l = true
+
 stop_apart : (n : Node) (j : ℕ) → not (is_server n) ≡ true → same_node n (Server j) ≡ false
 stop_apart (Server i) j h = absurd cc
 stop_apart (Client i) j h = refl
@@ -197,84 +205,111 @@ rise_boots hosts i h e past front notes are stand note was up grows B =
     (then_same (record { boot = ap (λ (t : Bool). cond t (risen (server_boot (Server j) o) b) (server_boot (Server j) o)) (server_apart i j ne); last = ap (λ (t : Bool). cond t b (last_boot (Server j) o)) (server_apart i j ne) }) (all_same j front (lines_of past) stand))))
     (subst (AreRising (lines_of past)) (sym are) (rise_both front (rise ∷ notes) (lines_of past) (all_rise front (lines_of past) stand) ((none, above), all_rise notes (rise ∷ o) note))) B
 
--- ---- the lines of a server's steps
+-- ---- the lines of a server's steps: none of them stops or begins again
 
-pub owes_standing : (me : Node) (os : List OwedBreak) → all_lines is_standing (map (owe_line me) os) ≡ true
-owes_standing me [] = refl
-owes_standing me (o ∷ os) = owes_standing me os
+pub owes_running : (me : Node) (os : List OwedBreak) → all_lines is_running (map (owe_line me) os) ≡ true
+owes_running me [] = refl
+owes_running me (o ∷ os) = owes_running me os
 
-settles_standing : (me n : Node) (os : List OwedBreak) → all_lines is_standing (map (settle_line me n) os) ≡ true
-settles_standing me n [] = refl
-settles_standing me n (o ∷ os) = settles_standing me n os
+settles_running : (me n : Node) (os : List OwedBreak) → all_lines is_running (map (settle_line me n) os) ≡ true
+settles_running me n [] = refl
+settles_running me n (o ∷ os) = settles_running me n os
 
-quits_standing : (me n : Node) (os : List OwedBreak) → all_lines is_standing (map (quit_line me n) os) ≡ true
-quits_standing me n [] = refl
-quits_standing me n (o ∷ os) = quits_standing me n os
+quits_running : (me n : Node) (os : List OwedBreak) → all_lines is_running (map (quit_line me n) os) ≡ true
+quits_running me n [] = refl
+quits_running me n (o ∷ os) = quits_running me n os
 
-granted_standing : (me client : Node) (expiry : ℕ) (fs : List Found) (ls : List Line) → all_lines is_standing ls ≡ true → all_lines is_standing (granted me client expiry fs ls) ≡ true
-granted_standing me client expiry [] ls h = h
-granted_standing me client expiry (f ∷ fs) ls h = granted_standing me client expiry fs ls h
+granted_running : (me client : Node) (expiry : ℕ) (fs : List Found) (ls : List Line) → all_lines is_running ls ≡ true → all_lines is_running (granted me client expiry fs ls) ≡ true
+granted_running me client expiry [] ls h = h
+granted_running me client expiry (f ∷ fs) ls h = granted_running me client expiry fs ls h
+
+versioned_running : (vs : List Version) (ls : List Line) → all_lines is_running ls ≡ true → all_lines is_running (versioned vs ls) ≡ true
+versioned_running [] ls h = h
+versioned_running (v ∷ vs) ls h = versioned_running vs ls h
 
 versioned_standing : (vs : List Version) (ls : List Line) → all_lines is_standing ls ≡ true → all_lines is_standing (versioned vs ls) ≡ true
 versioned_standing [] ls h = h
 versioned_standing (v ∷ vs) ls h = versioned_standing vs ls h
 
 -- of a turn's
-abbrev IsStanding : Turn → Type 0
-IsStanding t = all_lines is_standing t.lines ≡ true
+abbrev IsRunning : Turn → Type 0
+IsRunning t = all_lines is_running t.lines ≡ true
 
-either_standing : (t : Bool) (a b : Turn) → IsStanding a → IsStanding b → IsStanding (cond t a b)
-either_standing true a b h k = h
-either_standing false a b h k = k
+either_running : (t : Bool) (a b : Turn) → IsRunning a → IsRunning b → IsRunning (cond t a b)
+either_running true a b h k = h
+either_running false a b h k = k
 
-repeats_standing : (b : Backs) (reply : Message) (o : Option Held) (good : Bool) → IsStanding (repeats_by b reply o good)
-repeats_standing b reply (Some w) good = either_standing (w.again && is_ready b.lists.owed w) _ _ refl refl
-repeats_standing b reply None true = refl
-repeats_standing b reply None false = refl
+repeats_running : (b : Backs) (reply : Message) (o : Option Held) (good : Bool) → IsRunning (repeats_by b reply o good)
+repeats_running b reply (Some w) good = either_running (w.again && is_ready b.lists.owed w) _ _ refl refl
+repeats_running b reply None true = refl
+repeats_running b reply None false = refl
 
-for_standing : (me : Node) (x : ServerState) (clock : ℕ) (b : Backs) (d : Decision) → IsStanding (turn_for me x clock b d)
-for_standing me x clock b drops = refl
-for_standing me x clock b (tells_boot head) = refl
-for_standing me x clock b (repeats reply) = repeats_standing b reply (held_under (key_answered reply) b.held) (is_seat_of reply (call_seat reply.head.to x.lasting.kept))
-for_standing me x clock b (refuses head code) = refl
-for_standing me x clock b (shows head r) = refl
-for_standing me x clock b (saves head c) = owes_standing me (new_owes head.from (made c) b.lists)
+for_running : (me : Node) (x : ServerState) (clock : ℕ) (b : Backs) (d : Decision) → IsRunning (turn_for me x clock b d)
+for_running me x clock b drops = refl
+for_running me x clock b (tells_boot head) = refl
+for_running me x clock b (repeats reply) = repeats_running b reply (held_under (key_answered reply) b.held) (is_seat_of reply (call_seat reply.head.to x.lasting.kept))
+for_running me x clock b (refuses head code) = refl
+for_running me x clock b (shows head r) = refl
+for_running me x clock b (saves head c) = owes_running me (new_owes head.from (made c) b.lists)
 
-settled_standing : (me : Node) (boot : ℕ) (head : Head) (b : Backs) (o : Option BackCall) → IsStanding (settles_by me boot head b o)
-settled_standing me boot head b None = refl
-settled_standing me boot head b (Some c) = either_standing (is_back_awaited boot c head) _ _ (settles_standing me head.from (still_owed c b)) refl
+settled_running : (me : Node) (boot : ℕ) (head : Head) (b : Backs) (o : Option BackCall) → IsRunning (settles_by me boot head b o)
+settled_running me boot head b None = refl
+settled_running me boot head b (Some c) = either_running (is_back_awaited boot c head) _ _ (settles_running me head.from (still_owed c b)) refl
 
-renewed_standing : (me : Node) (boot : ℕ) (head : Head) (b : Backs) (o : Option BackCall) → IsStanding (renews_by me boot head b o)
-renewed_standing me boot head b None = refl
-renewed_standing me boot head b (Some c) = either_standing (is_back_awaited boot c head) _ _ refl refl
+renewed_running : (me : Node) (boot : ℕ) (head : Head) (b : Backs) (o : Option BackCall) → IsRunning (renews_by me boot head b o)
+renewed_running me boot head b None = refl
+renewed_running me boot head b (Some c) = either_running (is_back_awaited boot c head) _ _ refl refl
 
-carried_standing : (me : Node) (x : ServerState) (clock : ℕ) (b : Backs) (d : Decision) (head : Head) (c : Carried) → IsStanding (turned_by me x clock b d head c)
-carried_standing me x clock b d head (carried.Call user call) = for_standing me x clock b d
-carried_standing me x clock b d head (carried.Refusal code) = either_standing (same_node head.to me) _ _ (settled_standing me x.lasting.boot head b (b.calls head.from)) refl
-carried_standing me x clock b d head (carried.Reply reply) = either_standing (same_node head.to me) _ _ (settled_standing me x.lasting.boot head b (b.calls head.from)) refl
-carried_standing me x clock b d head carried.Notice = either_standing (same_node head.to me) _ _ (renewed_standing me x.lasting.boot head b (b.calls head.from)) refl
+carried_running : (me : Node) (x : ServerState) (clock : ℕ) (b : Backs) (d : Decision) (head : Head) (c : Carried) → IsRunning (turned_by me x clock b d head c)
+carried_running me x clock b d head (carried.Call user call) = for_running me x clock b d
+carried_running me x clock b d head (carried.Refusal code) = either_running (same_node head.to me) _ _ (settled_running me x.lasting.boot head b (b.calls head.from)) refl
+carried_running me x clock b d head (carried.Reply reply) = either_running (same_node head.to me) _ _ (settled_running me x.lasting.boot head b (b.calls head.from)) refl
+carried_running me x clock b d head carried.Notice = either_running (same_node head.to me) _ _ (renewed_running me x.lasting.boot head b (b.calls head.from)) refl
 
-does_standing : (me : Node) (x : ServerState) (clock place : ℕ) (d : Decision) (ls : List Line) → all_lines is_standing ls ≡ true → all_lines is_standing (does me x clock place d ls).lines ≡ true
-does_standing me x clock place drops ls h = h
-does_standing me x clock place (tells_boot head) ls h = h
-does_standing me x clock place (repeats reply) ls h = h
-does_standing me x clock place (refuses head code) ls h = h
-does_standing me x clock place (shows head g) ls h = granted_standing me head.from (clock + promise_ticks) g.granted ls h
-does_standing me x clock place (saves head c) ls h = versioned_standing (made c) _ (granted_standing me head.from (clock + promise_ticks) (granted_in c) ls h)
+does_running : (me : Node) (x : ServerState) (clock place : ℕ) (d : Decision) (ls : List Line) → all_lines is_running ls ≡ true → all_lines is_running (does me x clock place d ls).lines ≡ true
+does_running me x clock place drops ls h = h
+does_running me x clock place (tells_boot head) ls h = h
+does_running me x clock place (repeats reply) ls h = h
+does_running me x clock place (refuses head code) ls h = h
+does_running me x clock place (shows head g) ls h = granted_running me head.from (clock + promise_ticks) g.granted ls h
+does_running me x clock place (saves head c) ls h = versioned_running (made c) _ (granted_running me head.from (clock + promise_ticks) (granted_in c) ls h)
+
+pub serves_running : (me : Node) (x : ServerState) (clock place : ℕ) (m : Message) → all_lines is_running (server_row me x clock place (Whole m)).lines ≡ true
+unfolding server_row
+serves_running me x clock place m =
+    let d : Decision = decides me x clock (Whole m) in
+    does_running me x clock place d (turned_in me x clock (expired clock x.backs) d (Whole m)).lines (carried_running me x clock (expired clock x.backs) d m.head m.carried)
+
+pub times_running : (me : Node) (x : ServerState) (clock : ℕ) (n : Node) (c : BackCall) → all_lines is_running (back_timeout_row me x clock n c).lines ≡ true
+unfolding back_timeout_row
+times_running me x clock n c = either_running (nat_lt c.tries 2) _ _ refl (quits_running me n (still_owed c (expired clock x.backs)))
+
+pub wakes_running : (me : Node) (x : ServerState) (clock : ℕ) → all_lines is_running (wake_row me x clock).lines ≡ true
+unfolding wake_row
+wakes_running me x clock = refl
+
+running_standing : (l : Line) → is_running l ≡ true → is_standing l ≡ true
+running_standing (lines.Crash n) h = absurd cc
+running_standing (lines.Fault n) h = absurd cc
+running_standing (lines.Restart n boot) h = absurd cc
+running_standing (lines.Full n) h = absurd cc
+running_standing l h = refl
+
+all_standing : (ls : List Line) → all_lines is_running ls ≡ true → all_lines is_standing ls ≡ true
+all_standing [] h = refl
+all_standing (l ∷ ls) h = let q = both (is_running l) (all_lines is_running ls) h in rw (running_standing l q.0, all_standing ls q.1) refl
+
+pub owes_standing : (me : Node) (os : List OwedBreak) → all_lines is_standing (map (owe_line me) os) ≡ true
+owes_standing me os = all_standing (map (owe_line me) os) (owes_running me os)
 
 pub serves_standing : (me : Node) (x : ServerState) (clock place : ℕ) (m : Message) → all_lines is_standing (server_row me x clock place (Whole m)).lines ≡ true
-unfolding server_row
-serves_standing me x clock place m =
-    let d : Decision = decides me x clock (Whole m) in
-    does_standing me x clock place d (turned_in me x clock (expired clock x.backs) d (Whole m)).lines (carried_standing me x clock (expired clock x.backs) d m.head m.carried)
+serves_standing me x clock place m = all_standing (server_row me x clock place (Whole m)).lines (serves_running me x clock place m)
 
 pub times_standing : (me : Node) (x : ServerState) (clock : ℕ) (n : Node) (c : BackCall) → all_lines is_standing (back_timeout_row me x clock n c).lines ≡ true
-unfolding back_timeout_row
-times_standing me x clock n c = either_standing (nat_lt c.tries 2) _ _ refl (quits_standing me n (still_owed c (expired clock x.backs)))
+times_standing me x clock n c = all_standing (back_timeout_row me x clock n c).lines (times_running me x clock n c)
 
 pub wakes_standing : (me : Node) (x : ServerState) (clock : ℕ) → all_lines is_standing (wake_row me x clock).lines ≡ true
-unfolding wake_row
-wakes_standing me x clock = refl
+wakes_standing me x clock = all_standing (wake_row me x clock).lines (wakes_running me x clock)
 
 -- ---- what a restart begins with
 

@@ -223,11 +223,11 @@ saves_loads me x m j clock place cs sent ms past ch B run now =
     let on : lines_of (e ∷ past) ≡ onto mid t.lines = onto_versioned vs tl (l ∷ lines.Given place ∷ lines_of past) ∙ onto_granted me c y fs t.lines base in
     let above = run_above me x m j run in
     let still : all_lines is_still front ≡ true = versions_lines is_still vs [] (λ v. refl) refl in
-    let low : last_number me mid ≤ b.lists.last_owed = subst (λ (i : ℕ). i ≤ b.lists.last_owed) (sym (granted_number me c y fs base ∙ on_number me vs (l ∷ lines.Given place ∷ lines_of past))) B.numbered in
+    let low : last_number me mid ≡ b.lists.last_owed = granted_number me c y fs base ∙ (on_number me vs (l ∷ lines.Given place ∷ lines_of past) ∙ B.numbered) in
     record {
       backed = change_loaded me c b t.backs.lists.promises t.backs.lists.last_owed boot x.seats (call_seated seat x.seats) cs clock sent e past pre os hd m B
           (left_granted me c b.lists.last_owed y vs ps fs e past front fronted still (versions_lines (is_up me) vs [] (λ v. refl) refl) (versions_lines is_oweless vs [] (λ v. refl) refl) (B.granted refl)) (left_promised me c b.lists.last_owed y clock vs ps fs e past front fronted still (promised_given me None ps clock e past B.promised))
-          (subst (λ (ls : List Line). last_number me ls ≤ t.backs.lists.last_owed) (sym on) (numbers_rise me b.lists.last_owed (hits c vs ps) mid low))
+          (subst (λ (ls : List Line). last_number me ls ≡ t.backs.lists.last_owed) (sym on) (numbers_rise me b.lists.last_owed (hits c vs ps) mid low))
           (subst (Rising me) (sym on) (owes_rising me b.lists.last_owed (hits c vs ps) mid low (rising_back me (granted me c y fs []) base (granted_all me is_oweless c y fs (λ f i. refl)) (on_rising me vs (l ∷ lines.Given place ∷ lines_of past) B.rising))))
           (record {
             promised = subst (λ (n : Node). AllOf (λ (p : Promise). IsClient p.client) (with_promises n y fs (staying c vs ps))) (sym run.from) (granted_to_client y j fs (staying c vs ps) (all_left (λ (p : Promise). IsClient p.client) c vs ps (B.clients refl).promised));

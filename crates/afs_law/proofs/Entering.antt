@@ -1,17 +1,24 @@
 -- Each entry of a run is of a node of its script, and each reply that it sends was run, however many servers a cell has.
 use Rattle.afs_history.specs.declared.scripts.Script.{Script}
 use Rattle.afs_law.proofs.Changing.{run_each}
+use Rattle.afs_law.proofs.Delivered.{run_delivered}
 use Rattle.afs_law.proofs.Hearing.{HearsIn, first_hears, moved_hears}
 use Rattle.afs_law.proofs.SettingUp.{AreEntries}
-use Rattle.afs_law.proofs.Lives.{run_lived}
+use Rattle.afs_law.proofs.Hosted.{IsServerLived, run_hosted}
+use Rattle.afs_law.proofs.Lives.{IsClientLived, run_lived}
 use Rattle.afs_law.proofs.Members.{run_entries}
 use Rattle.afs_law.proofs.Moving.{EachMove, each_moved}
 use Rattle.afs_law.specs.Ideal.{set_up}
 use Rattle.afs_law.proofs.Truthful.{run_true}
 use Rattle.afs_law.specs.Legal.{IsEntryOf, IsLivedBy, WereRun}
+use Rattle.afs_law.specs.Lives.{IsDelivered}
 use Rattle.afs_law.specs.Parts.{EachEntry, EachSent, EntriesAreSound}
 use Rattle.afs_law.specs.ServerParts.{IsTruthful}
+use Rattle.afs_history.specs.declared.lines.Line.{Line}
+use Rattle.afs_num.specs.declared.histories.Actor.{Actor}
+use Rattle.afs_num.specs.declared.histories.Actor.TheVariants as actors
 use Rattle.afs_num.specs.declared.messages.Message.{Message}
+use Rattle.afs_num.specs.declared.types.Node.TheVariants.{Admin, Client, Loc, Server}
 use Rattle.afs_rows.specs.Runs.{Cell, Entry, Moved, start}
 use Rattle.std.proofs.Common.{◌≡◌, List, [], ◌∷◌, refl}
 
@@ -51,10 +58,21 @@ each_ran past (m ∷ ms) h = (
   each_ran past ms h.1,
 )
 
-join : (s : Script) (past es : List Entry) → AreEntries s past es → EachEntry (λ past e. e.volumes ≡ []) past es → EachEntry (λ past e. IsLivedBy e.actor past e.lines e.sent) past es → EachEntry (λ past e. EachSent IsTruthful (e ∷ past) e.sent) past es → EachEntry (λ past e. IsEntryOf s past e × WereRun (e ∷ past) e.sent) past es
-join s past [] a b l t = tt
-join s past (e ∷ es) a b l t = ((((b.0, a.0.0), (a.0.1, l.0)), each_ran (e ∷ past) e.sent t.0), join s (e ∷ past) es a.1 b.1 l.1 t.1)
+-- it is as its node, up or down
+lived_by : (who : Actor) (past : List Entry) (ls : List Line) (sent : List Message) → IsClientLived who past ls sent → IsServerLived who past ls sent → IsLivedBy who past ls sent
+lived_by (actors.Node (Client j)) past ls sent c h = c
+lived_by (actors.Node (Server i)) past ls sent c h = h
+lived_by (actors.Node (Admin i)) past ls sent c h = tt
+lived_by (actors.Node Loc) past ls sent c h = tt
+lived_by actors.Clock past ls sent c h = tt
+lived_by actors.Nobody past ls sent c h = tt
+
+join : (s : Script) (past es : List Entry) → AreEntries s past es → EachEntry (λ past e. e.volumes ≡ []) past es → EachEntry (λ past e. IsClientLived e.actor past e.lines e.sent) past es → EachEntry (λ past e. IsServerLived e.actor past e.lines e.sent) past es → EachEntry (λ past e. IsDelivered e.actor past e.lines) past es
+    → EachEntry (λ past e. EachSent IsTruthful (e ∷ past) e.sent) past es → EachEntry (λ past e. IsEntryOf s past e × WereRun (e ∷ past) e.sent) past es
+join s past [] a b l h d t = tt
+join s past (e ∷ es) a b l h d t = ((((b.0, a.0.0), (a.0.1, (lived_by e.actor past e.lines e.sent l.0 h.0, d.0))), each_ran (e ∷ past) e.sent t.0), join s (e ∷ past) es a.1 b.1 l.1 h.1 d.1 t.1)
 
 pub run_entered : EntriesAreSound
 run_entered s h end r =
-    join s (set_up s ∷ []) h (run_entries s h end r) (run_each HearsIn (λ past e. e.volumes ≡ []) moved_hears (λ c past x k. each_moved HearsIn LaysNone none_laid c past x k) r.inputs (start s) (set_up s ∷ []) h end (first_hears s) r.leads) (run_lived s h end r) (run_true s h end r)
+    join s (set_up s ∷ []) h (run_entries s h end r) (run_each HearsIn (λ past e. e.volumes ≡ []) moved_hears (λ c past x k. each_moved HearsIn LaysNone none_laid c past x k) r.inputs (start s) (set_up s ∷ []) h end (first_hears s) r.leads) (run_lived s h end r) (run_hosted s h end r) (run_delivered s h end r)
+    (run_true s h end r)

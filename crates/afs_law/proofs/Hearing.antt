@@ -297,11 +297,11 @@ hears_taken P me x clock place head (carried.Call user call) is w to own a = abs
 hears_taken P me x clock place head c is w to own a = absurd is
 
 -- of a server that was given a message
-served_given : (i : ℕ) (x : ServerState) (clock place : ℕ) (m : Message) (sent : List Message) → given_message (server_row (Server i) x clock place (Whole m)).lines sent ≡ message_at sent place
+pub served_given : (i : ℕ) (x : ServerState) (clock place : ℕ) (m : Message) (sent : List Message) → given_message (server_row (Server i) x clock place (Whole m)).lines sent ≡ message_at sent place
 unfolding server_row
 served_given i x clock place m sent = does_given (Server i) x clock place (decides (Server i) x clock (Whole m)) (turned_in (Server i) x clock (expired clock x.backs) (decides (Server i) x clock (Whole m)) (Whole m)).lines sent
 
-served_boot : (i : ℕ) (x : ServerState) (clock place : ℕ) (m : Message) → (server_row (Server i) x clock place (Whole m)).state.lasting.boot ≡ x.lasting.boot
+pub served_boot : (i : ℕ) (x : ServerState) (clock place : ℕ) (m : Message) → (server_row (Server i) x clock place (Whole m)).state.lasting.boot ≡ x.lasting.boot
 unfolding server_row
 served_boot i x clock place m = does_boot (Server i) x clock place (decides (Server i) x clock (Whole m)) []
 
@@ -315,15 +315,15 @@ unfolding server_row
 served_taken P i x clock place m is w to own a = hears_taken P (Server i) x clock place m.head m.carried is w to own a
 
 -- of the others
-timed_state : (i : ℕ) (x : ServerState) (clock : ℕ) (n : Node) (b : BackCall) → ((back_timeout_row (Server i) x clock n b).state.seats ≡ x.seats) × ((back_timeout_row (Server i) x clock n b).state.lasting.boot ≡ x.lasting.boot)
+pub timed_state : (i : ℕ) (x : ServerState) (clock : ℕ) (n : Node) (b : BackCall) → ((back_timeout_row (Server i) x clock n b).state.seats ≡ x.seats) × ((back_timeout_row (Server i) x clock n b).state.lasting.boot ≡ x.lasting.boot)
 unfolding back_timeout_row
 timed_state i x clock n b = (refl, refl)
 
-woken_state : (i : ℕ) (x : ServerState) (clock : ℕ) → ((wake_row (Server i) x clock).state.seats ≡ x.seats) × ((wake_row (Server i) x clock).state.lasting.boot ≡ x.lasting.boot)
+pub woken_state : (i : ℕ) (x : ServerState) (clock : ℕ) → ((wake_row (Server i) x clock).state.seats ≡ x.seats) × ((wake_row (Server i) x clock).state.lasting.boot ≡ x.lasting.boot)
 unfolding wake_row
 woken_state i x clock = (refl, refl)
 
-started_boot : (i clock count : ℕ) (f : Begun) → (start_row (Server i) clock count f).state.lasting.boot ≡ f.state.lasting.boot + 1
+pub started_boot : (i clock count : ℕ) (f : Begun) → (start_row (Server i) clock count f).state.lasting.boot ≡ f.state.lasting.boot + 1
 unfolding start_row
 started_boot i clock count f = refl
 

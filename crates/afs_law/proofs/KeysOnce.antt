@@ -463,7 +463,7 @@ once s h end r = (run_stands r.inputs (start s) [] h end (first_stands s) r.lead
 pub known_pair : (callees : Key → Node) (clients : ℕ → ClientState) (q : Node) (k : Key) (j : ℕ) → k.node ≡ Client j → IsKnown callees clients q k → UpTo k.epoch k.number (clients j).epoch (clients j).last
 known_pair callees clients q k j e h = subst (λ (i : ℕ). UpTo k.epoch k.number (clients i).epoch (clients i).last) (client_number h.client j (sym h.node ∙ e)) h.behind
 
-call_pair : (callees : Key → Node) (clients : ℕ → ClientState) (j : ℕ) (h : Head) (x : Carried) → IsCall x → h.from ≡ Client j → OfCall (ByClient (λ y user call. IsKnown callees clients y.to (key_of y))) h x → IsKnownTo (clients j) h
+pub call_pair : (callees : Key → Node) (clients : ℕ → ClientState) (j : ℕ) (h : Head) (x : Carried) → IsCall x → h.from ≡ Client j → OfCall (ByClient (λ y user call. IsKnown callees clients y.to (key_of y))) h x → IsKnownTo (clients j) h
 call_pair callees clients j h (carried.Call user (ask.File call)) is from w = known_pair callees clients h.to (key_of h) j from (by_client j h.from (IsKnown callees clients h.to (key_of h)) from w)
 call_pair callees clients j h (carried.Call user call) is from w = absurd w
 call_pair callees clients j h x is from w = absurd is

@@ -60,6 +60,8 @@ pub mod Remaining
 pub mod Latest
 pub mod Learning
 pub mod Lives
+pub mod Hosted
+pub mod Delivered
 pub mod Ascending
 pub mod Sending
 pub mod Gifts
@@ -103,6 +105,7 @@ pub mod OneRun
 pub mod Readings
 pub mod Returning
 pub mod Claims
+pub mod Counting
 pub mod Timed
 pub mod Singly
 pub mod Assembled

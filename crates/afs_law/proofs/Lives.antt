@@ -1,16 +1,20 @@
--- A client that is down does nothing but begin again, and one that is up tells its crash alone, however many servers a cell has.
+-- A client that is down does nothing but begin again, in the epoch after its last, and one that is up tells its crash alone, however many
+-- servers a cell has.
 use Rattle.afs_history.specs.declared.acts.Act.{Act}
 use Rattle.afs_history.specs.declared.lines.Line.{Line}
 use Rattle.afs_history.specs.declared.lines.Line.TheVariants as lines
 use Rattle.afs_history.specs.declared.scripts.Script.{Script}
 use Rattle.afs_ideal.specs.Operations.{volume_changed}
+use Rattle.afs_law.proofs.Acting.{Acts, begins_acts, given_acts, waits_acts, who_at}
 use Rattle.afs_law.proofs.Basics.{at_put, node_apart, same_node-refl, same_node-true}
 use Rattle.afs_law.proofs.Changing.{run_each}
+use Rattle.afs_law.proofs.KeysOnce.{IsKnown, any_told, by_key}
 use Rattle.afs_law.proofs.Moving.{IsKept, each_moved}
 use Rattle.afs_law.proofs.Placing.{Placed, PlacedStep, placed_first, placed_kept, placed_moves}
 use Rattle.afs_law.proofs.SettingUp.{AreVersions, all_versions}
 use Rattle.afs_law.specs.Ideal.{first_lines, set_up}
-use Rattle.afs_law.specs.Legal.{IsInPlace, IsLived, IsLivedBy, has_crash_or_restart}
+use Rattle.afs_law.specs.Legal.{IsInPlace, IsLived, has_crash_or_restart}
+use Rattle.afs_law.specs.Lives.{epoch_after}
 use Rattle.afs_law.specs.Parts.{EachEntry, EachLine}
 use Rattle.afs_law.specs.Past.{is_down, lines_of, onto}
 use Rattle.afs_model.specs.Calls as pairs
@@ -41,7 +45,7 @@ use Rattle.afs_num.specs.declared.types.Head.{Head}
 use Rattle.afs_num.specs.declared.types.Node.{Node}
 use Rattle.afs_num.specs.declared.types.Node.TheVariants.{Admin, Client, Loc, Server}
 use Rattle.afs_rows.specs.Callbacks.{put}
-use Rattle.afs_rows.specs.ClientRow.{Look, Walked, admits_call, answers_step, awaits, find_cached, is_below, put_entries, put_entry, takes_stored, begin_row, begins_by, behind_batch, body_told, breaks, call_of, calls_again, client_row, counts, dead_code, drop_line, dropped, dropped_after, entries_told, entry_told, gift_of, given, given_up_in, gives_by, gives_up, goes_by, hears, ignores, in_order, is_awaited, is_busy_code, is_older, is_spent, is_trusted, look_at, looked, most_busy, most_reads, read_lines, refuses, runs_carried, status_look, status_told, takes, takes_bulk, takes_bytes, takes_data, takes_entries, takes_entry, takes_given, takes_list, takes_plain, takes_rights, takes_set, takes_shown, takes_status, timeout_row, tries_again, trusted_in, untrusted_in, walked, walks_on, whole, with_statuses}
+use Rattle.afs_rows.specs.ClientRow.{Look, Walked, admits_call, answers_step, awaits, find_cached, is_below, put_entries, put_entry, takes_stored, begin_row, begins_by, behind_batch, body_told, breaks, call_of, calls_again, client_row, counts, dead_code, drop_line, dropped, dropped_after, entries_told, entry_told, gift_of, given, given_up_in, gives_by, gives_up, goes_by, hears, ignores, in_order, is_awaited, is_busy_code, is_older, is_spent, is_trusted, look_at, looked, most_busy, most_reads, read_lines, reborn, refuses, runs_carried, status_look, status_told, takes, takes_bulk, takes_bytes, takes_data, takes_entries, takes_entry, takes_given, takes_list, takes_plain, takes_rights, takes_set, takes_shown, takes_status, timeout_row, tries_again, trusted_in, untrusted_in, walked, walks_on, whole, with_statuses}
 use Rattle.afs_rows.specs.Going.{ClientState, Going, Need, answers, began, gives_back, next, with_read}
 use Rattle.afs_rows.specs.Runs.{Armed, Blow, Cell, Entry, Fall, Input, Luck, Moved, Outcome, RunsTo, back_timed, begins, begun_by, begun_by_disk, client_falls, client_moves, client_rises, client_starts, client_stops, comes_up, decided_at, fails_early, fails_midway, given_at, given_to, gives, has_client, has_host, is_full, message_at, moved, nothing, server_armed, server_ends, server_given, server_restarted, server_served, server_stopped, server_timed, server_waits, server_wakes, sets_fail, sets_stop, settled, start, starts_again, stops, struck, ticked, ticks, voided, waited_by, waits, wakes}
 use Rattle.afs_rows.specs.ServerRow.{Begun, device_calls}
@@ -219,21 +223,47 @@ DownOf away past = (j : ℕ) → is_down (Client j) (lines_of past) ≡ away j
 abbrev pub DownIn : Cell → List Entry → Type 0
 DownIn c past = DownOf c.away past
 
+-- ---- which epochs they are in
+
+alive_epoch : (c : Node) (ls o : List Line) → Alive ls → epoch_after c (onto o ls) ≡ epoch_after c o
+alive_epoch c [] o h = refl
+alive_epoch c (lines.Crash n ∷ ls) o h = absurd cc
+alive_epoch c (lines.Restart n boot ∷ ls) o h = absurd cc
+alive_epoch c (l ∷ ls) o h = alive_epoch c ls (l ∷ o) h
+
+others_epoch : (s : Script) (who : Actor) (j : ℕ) (past : List Entry) (own ls o : List Line) → (who ≡ actors.Node (Client j) → ⊥) → EachLine (IsInPlace s) who past own ls → epoch_after (Client j) (onto o ls) ≡ epoch_after (Client j) o
+others_epoch s who j past own [] o other p = refl
+others_epoch s who j past own (lines.Crash n ∷ ls) o other p = others_epoch s who j past (lines.Crash n ∷ own) ls (lines.Crash n ∷ o) other p.1 ∙ ap (λ (t : Bool). cond t (epoch_after (Client j) o + 1) (epoch_after (Client j) o)) (not_node who n j other p.0)
+others_epoch s who j past own (l ∷ ls) o other p = others_epoch s who j past (l ∷ own) ls (l ∷ o) other p.1
+
+abbrev EpochsOf : (ℕ → ClientState) → List Entry → Type 0
+EpochsOf clients past = (j : ℕ) → epoch_after (Client j) (lines_of past) ≡ (clients j).epoch
+
+abbrev pub EpochsIn : Cell → List Entry → Type 0
+EpochsIn c past = EpochsOf c.clients past
+
 abbrev pub Lived : Script → Cell → List Entry → Type 0
-Lived s c past = Placed s c past × DownIn c past
+Lived s c past = Placed s c past × (DownIn c past × EpochsIn c past)
 
 -- ---- a step
 
+-- what is asked of a client's entry
+abbrev pub IsClientLived : Actor → List Entry → List Line → List Message → Type 0
+IsClientLived (actors.Node (Client j)) past ls sent = IsLived (Client j) (is_down (Client j) (lines_of past)) (epoch_after (Client j) (lines_of past)) ls sent
+IsClientLived who past ls sent = ⊤
+
 record Lives (past : List Entry) (m : Moved) : Type 0 where
-  good : IsLivedBy m.entry.actor past m.entry.lines m.entry.sent
+  good : IsClientLived m.entry.actor past m.entry.lines m.entry.sent
   down : DownIn m.cell (m.entry ∷ past)
+  epochs : EpochsIn m.cell (m.entry ∷ past)
 
 -- it is no client's
 record Besides (c : Cell) (m : Moved) : Type 0 where
   other : (j : ℕ) → m.entry.actor ≡ actors.Node (Client j) → ⊥
   away : m.cell.away ≡ c.away
+  clients : m.cell.clients ≡ c.clients
 
-besides_lived : (who : Actor) (past : List Entry) (ls : List Line) (sent : List Message) → ((j : ℕ) → who ≡ actors.Node (Client j) → ⊥) → IsLivedBy who past ls sent
+besides_lived : (who : Actor) (past : List Entry) (ls : List Line) (sent : List Message) → ((j : ℕ) → who ≡ actors.Node (Client j) → ⊥) → IsClientLived who past ls sent
 besides_lived (actors.Node (Client j)) past ls sent other = absurd (other j refl)
 besides_lived (actors.Node (Server i)) past ls sent other = tt
 besides_lived (actors.Node (Admin i)) past ls sent other = tt
@@ -244,14 +274,25 @@ besides_lived actors.Nobody past ls sent other = tt
 besides_lives : (s : Script) (c : Cell) (past : List Entry) (m : Moved) → Lived s c past → EachLine (IsInPlace s) m.entry.actor past [] m.entry.lines → Besides c m → Lives past m
 besides_lives s c past m h p b = record {
   good = besides_lived m.entry.actor past m.entry.lines m.entry.sent b.other;
-  down = subst (λ (away : ℕ → Bool). DownOf away (m.entry ∷ past)) (sym b.away) (λ j. others_down s m.entry.actor j past [] m.entry.lines (lines_of past) (b.other j) p ∙ h.1 j);
+  down = subst (λ (away : ℕ → Bool). DownOf away (m.entry ∷ past)) (sym b.away) (λ j. others_down s m.entry.actor j past [] m.entry.lines (lines_of past) (b.other j) p ∙ h.1.0 j);
+  epochs = subst (λ (clients : ℕ → ClientState). EpochsOf clients (m.entry ∷ past)) (sym b.clients) (λ j. others_epoch s m.entry.actor j past [] m.entry.lines (lines_of past) (b.other j) p ∙ h.1.1 j);
 }
 
 -- of a client that is up, which tells neither a crash nor a restart
-up_lives : (s : Script) (c : Cell) (past : List Entry) (n : ℕ) (st : Step ClientState) → Lived s c past → c.away n ≡ false → Alive st.lines → Lives past (client_moves c n st)
-up_lives s c past n st h up alive = record {
-  good = subst (λ (t : Bool). IsLived (Client n) t st.lines st.sent) (sym (h.1 n ∙ up)) (inr alive);
-  down = λ j. alive_down (Client j) st.lines (lines_of past) alive ∙ h.1 j;
+same_epoch : (n : ℕ) (x : ClientState) (st : Step ClientState) → Acts n (who_at x) x.gifts st → Alive st.lines → st.state.epoch ≡ x.epoch
+same_epoch n x st a alive = elim a.goes [
+  | inl r ↦ r.epoch
+  | inr y ↦ elim y [
+    | inl z ↦ z.epoch
+    | inr z ↦ let no : true ≡ false = ap has_crash_or_restart (sym z.lines) ∙ alive in absurd cc
+  ]
+]
+
+up_lives : (s : Script) (c : Cell) (past : List Entry) (n : ℕ) (st : Step ClientState) → Lived s c past → c.away n ≡ false → Alive st.lines → Acts n (who_at (c.clients n)) (c.clients n).gifts st → Lives past (client_moves c n st)
+up_lives s c past n st h up alive a = record {
+  good = subst (λ (t : Bool). IsLived (Client n) t (epoch_after (Client n) (lines_of past)) st.lines st.sent) (sym (h.1.0 n ∙ up)) (inr alive);
+  down = λ j. alive_down (Client j) st.lines (lines_of past) alive ∙ h.1.0 j;
+  epochs = λ j. alive_epoch (Client j) st.lines (lines_of past) alive ∙ (h.1.1 j ∙ at_put n j (λ (x : ClientState). (c.clients j).epoch ≡ x.epoch) st.state c.clients (λ same. ap (λ (k : ℕ). (c.clients k).epoch) (sym same) ∙ sym (same_epoch n (c.clients n) st a alive)) (λ other. refl));
 }
 
 -- of one that stops, or begins again
@@ -266,14 +307,19 @@ client_apart n j ne = node_apart (Client n) (Client j) (λ e. ne (one_client n j
 
 falls_lives : (s : Script) (c : Cell) (past : List Entry) (n : ℕ) → Lived s c past → c.away n ≡ false → Lives past (client_falls c n)
 falls_lives s c past n h up = record {
-  good = subst (λ (t : Bool). IsLived (Client n) t (lines.Crash (Client n) ∷ []) []) (sym (h.1 n ∙ up)) (inl (refl, refl));
-  down = turned_down n past c.away true (lines.Crash (Client n) ∷ lines_of past) (ap (λ (t : Bool). cond t true (is_down (Client n) (lines_of past))) (same_node-refl (Client n))) (λ j ne. ap (λ (t : Bool). cond t true (is_down (Client j) (lines_of past))) (client_apart n j ne)) h.1;
+  good = subst (λ (t : Bool). IsLived (Client n) t (epoch_after (Client n) (lines_of past)) (lines.Crash (Client n) ∷ []) []) (sym (h.1.0 n ∙ up)) (inl (refl, refl));
+  down = turned_down n past c.away true (lines.Crash (Client n) ∷ lines_of past) (ap (λ (t : Bool). cond t true (is_down (Client n) (lines_of past))) (same_node-refl (Client n))) (λ j ne. ap (λ (t : Bool). cond t true (is_down (Client j) (lines_of past))) (client_apart n j ne)) h.1.0;
+  epochs = λ j. at_put n j (λ (x : ClientState). epoch_after (Client j) (lines.Crash (Client n) ∷ lines_of past) ≡ x.epoch) (reborn (c.clients n)) c.clients
+      (λ same. subst (λ (k : ℕ). epoch_after (Client k) (lines.Crash (Client n) ∷ lines_of past) ≡ (c.clients n).epoch + 1) same
+      (ap (λ (t : Bool). cond t (epoch_after (Client n) (lines_of past) + 1) (epoch_after (Client n) (lines_of past))) (same_node-refl (Client n)) ∙ ap (λ (k : ℕ). k + 1) (h.1.1 n)))
+      (λ ne. ap (λ (t : Bool). cond t (epoch_after (Client j) (lines_of past) + 1) (epoch_after (Client j) (lines_of past))) (client_apart n j ne) ∙ h.1.1 j);
 }
 
 rises_lives : (s : Script) (c : Cell) (past : List Entry) (n : ℕ) → Lived s c past → c.away n ≡ true → Lives past (client_rises c n)
 rises_lives s c past n h down = record {
-  good = subst (λ (t : Bool). IsLived (Client n) t (lines.Restart (Client n) (c.clients n).epoch ∷ []) []) (sym (h.1 n ∙ down)) ((c.clients n).epoch, (refl, refl));
-  down = turned_down n past c.away false (lines.Restart (Client n) (c.clients n).epoch ∷ lines_of past) (ap (λ (t : Bool). cond t false (is_down (Client n) (lines_of past))) (same_node-refl (Client n))) (λ j ne. ap (λ (t : Bool). cond t false (is_down (Client j) (lines_of past))) (client_apart n j ne)) h.1;
+  good = subst (λ (t : Bool). IsLived (Client n) t (epoch_after (Client n) (lines_of past)) (lines.Restart (Client n) (c.clients n).epoch ∷ []) []) (sym (h.1.0 n ∙ down)) (ap (λ (k : ℕ). lines.Restart (Client n) k ∷ []) (sym (h.1.1 n)), refl);
+  down = turned_down n past c.away false (lines.Restart (Client n) (c.clients n).epoch ∷ lines_of past) (ap (λ (t : Bool). cond t false (is_down (Client n) (lines_of past))) (same_node-refl (Client n))) (λ j ne. ap (λ (t : Bool). cond t false (is_down (Client j) (lines_of past))) (client_apart n j ne)) h.1.0;
+  epochs = λ j. h.1.1 j ∙ at_put n j (λ (x : ClientState). (c.clients j).epoch ≡ x.epoch) (c.clients n) c.clients (λ same. ap (λ (k : ℕ). (c.clients k).epoch) (sym same)) (λ other. refl);
 }
 
 -- ---- every input. `P` tells that the lines of the step are in place
@@ -282,7 +328,7 @@ abbrev InPlace : Script → List Entry → Moved → Type 0
 InPlace s past m = EachLine (IsInPlace s) m.entry.actor past [] m.entry.lines
 
 void_lives : (s : Script) (c : Cell) (past : List Entry) → Lived s c past → Lives past (voided c)
-void_lives s c past h = besides_lives s c past (voided c) h (refl, tt) (record { other = λ j e. absurd cc; away = refl })
+void_lives s c past h = besides_lives s c past (voided c) h (refl, tt) (record { other = λ j e. absurd cc; away = refl; clients = refl })
 
 -- where no client of this number is up, nothing comes
 unless_away : (s : Script) (c : Cell) (past : List Entry) (has away : Bool) (m : Moved) → Lived s c past → (away ≡ false → Lives past m) → Lives past (cond (not has || away) (voided c) m)
@@ -294,66 +340,66 @@ if_down : (s : Script) (c : Cell) (past : List Entry) (away : Bool) (m : Moved) 
 if_down s c past true m h w = w refl
 if_down s c past false m h w = void_lives s c past h
 
-begun_lives : (s : Script) (c : Cell) (past : List Entry) (n : ℕ) (act : Act) (g : Option Going) → Lived s c past → c.away n ≡ false → Lives past (begun_by c n act g)
-begun_lives s c past n act None h up = up_lives s c past n _ h up (begun_alive (Client n) (c.clients n) c.clock act)
-begun_lives s c past n act (Some g) h up = void_lives s c past h
+begun_lives : (s : Script) (c : Cell) (past : List Entry) (n : ℕ) (act : Act) (g : Option Going) → Lived s c past → c.away n ≡ false → (c.clients n).running ≡ g → Lives past (begun_by c n act g)
+begun_lives s c past n act None h up r = up_lives s c past n _ h up (begun_alive (Client n) (c.clients n) c.clock act) (begins_acts n (c.clients n) c.clock act r)
+begun_lives s c past n act (Some g) h up r = void_lives s c past h
 
-waited_lives : (s : Script) (c : Cell) (past : List Entry) (n : ℕ) (g : Option Going) → Lived s c past → c.away n ≡ false → Lives past (waited_by c n g)
-waited_lives s c past n None h up = void_lives s c past h
-waited_lives s c past n (Some act) h up = up_lives s c past n _ h up (waited_alive (Client n) (c.clients n) act)
+waited_lives : (s : Script) (c : Cell) (past : List Entry) (n : ℕ) (g : Option Going) → Lived s c past → c.away n ≡ false → (c.clients n).running ≡ g → Lives past (waited_by c n g)
+waited_lives s c past n None h up r = void_lives s c past h
+waited_lives s c past n (Some act) h up r = up_lives s c past n _ h up (waited_alive (Client n) (c.clients n) act) (waits_acts n (c.clients n) act r)
 
 -- ---- the inputs of servers
 
 void_besides : (c : Cell) → Besides c (voided c)
-void_besides c = record { other = λ j e. absurd cc; away = refl }
+void_besides c = record { other = λ j e. absurd cc; away = refl; clients = refl }
 
 if_besides : (c : Cell) (t : Bool) (m : Moved) → Besides c m → Besides c (cond t m (voided c))
 if_besides c true m b = b
 if_besides c false m b = void_besides c
 
 served_besides : (c : Cell) (i place : ℕ) (m : Message) (b : Option Blow) → Besides c (server_served c i place m b)
-served_besides c i place m None = record { other = λ j e. absurd cc; away = refl }
-served_besides c i place m (Some b) = record { other = λ j e. absurd cc; away = refl }
+served_besides c i place m None = record { other = λ j e. absurd cc; away = refl; clients = refl }
+served_besides c i place m (Some b) = record { other = λ j e. absurd cc; away = refl; clients = refl }
 
 received_besides : (c : Cell) (i place : ℕ) (luck : Luck) (m : Message) (d : Option Fall) → Besides c (server_given c i place luck m d)
 received_besides c i place luck m None = served_besides c i place m (struck (c.hosts i).armed luck (device_calls (decided_at c i m)))
 received_besides c i place luck m (Some fall) = void_besides c
 
 stopped_besides : (c : Cell) (i : ℕ) (d : Option Fall) → Besides c (server_stopped c i d)
-stopped_besides c i None = record { other = λ j e. absurd cc; away = refl }
+stopped_besides c i None = record { other = λ j e. absurd cc; away = refl; clients = refl }
 stopped_besides c i (Some fall) = void_besides c
 
 ends_besides : (c : Cell) (i : ℕ) (f : Begun) (fall : Fall) (out : Outcome) → Besides c (server_ends c i f fall out)
-ends_besides c i f fall comes_up = record { other = λ j e. absurd cc; away = refl }
-ends_besides c i f fall fails_early = record { other = λ j e. absurd cc; away = refl }
-ends_besides c i f fall fails_midway = record { other = λ j e. absurd cc; away = refl }
-ends_besides c i f fall is_full = record { other = λ j e. absurd cc; away = refl }
+ends_besides c i f fall comes_up = record { other = λ j e. absurd cc; away = refl; clients = refl }
+ends_besides c i f fall fails_early = record { other = λ j e. absurd cc; away = refl; clients = refl }
+ends_besides c i f fall fails_midway = record { other = λ j e. absurd cc; away = refl; clients = refl }
+ends_besides c i f fall is_full = record { other = λ j e. absurd cc; away = refl; clients = refl }
 
 restarted_besides : (c : Cell) (i : ℕ) (after : Bool) (out : Outcome) (d : Option Fall) → Besides c (server_restarted c i after out d)
 restarted_besides c i after out None = void_besides c
 restarted_besides c i after out (Some fall) = ends_besides c i (begun_by_disk (Server i) (c.hosts i).state after fall) fall (settled (begun_by_disk (Server i) (c.hosts i).state after fall).state out)
 
 armed_besides : (c : Cell) (i : ℕ) (l : Line) (armed : Armed) (d : Option Fall) → Besides c (server_armed c i l armed d)
-armed_besides c i l armed None = record { other = λ j e. absurd cc; away = refl }
+armed_besides c i l armed None = record { other = λ j e. absurd cc; away = refl; clients = refl }
 armed_besides c i l armed (Some fall) = void_besides c
 
 back_besides : (c : Cell) (i : ℕ) (n : Node) (b : Option BackCall) → Besides c (back_timed c i n b)
 back_besides c i n None = void_besides c
-back_besides c i n (Some b) = record { other = λ j e. absurd cc; away = refl }
+back_besides c i n (Some b) = record { other = λ j e. absurd cc; away = refl; clients = refl }
 
 timed_besides : (c : Cell) (i : ℕ) (n : Node) (d : Option Fall) → Besides c (server_timed c i n d)
 timed_besides c i n None = back_besides c i n ((c.hosts i).state.backs.calls n)
 timed_besides c i n (Some fall) = void_besides c
 
 woken_besides : (c : Cell) (i : ℕ) (d : Option Fall) → Besides c (server_wakes c i d)
-woken_besides c i None = record { other = λ j e. absurd cc; away = refl }
+woken_besides c i None = record { other = λ j e. absurd cc; away = refl; clients = refl }
 woken_besides c i (Some fall) = void_besides c
 
 -- ---- every input
 
 to_lives : (s : Script) (c : Cell) (past : List Entry) (place : ℕ) (luck : Luck) (m : Message) (to : Node) → Lived s c past → InPlace s past (given_to c place luck m to) → Lives past (given_to c place luck m to)
 to_lives s c past place luck m (Server i) h p = besides_lives s c past _ h p (if_besides c (has_host c i) _ (received_besides c i place luck m (c.hosts i).down))
-to_lives s c past place luck m (Client n) h p = unless_away s c past (has_client c.count n) (c.away n) _ h (λ up. up_lives s c past n _ h up (told_alive (Client n) (c.clients n) c.clock place m))
+to_lives s c past place luck m (Client n) h p = unless_away s c past (has_client c.count n) (c.away n) _ h (λ up. up_lives s c past n _ h up (told_alive (Client n) (c.clients n) c.clock place m) (given_acts (by_key (IsKnown h.0.0.0.keys.callees c.clients)) any_told n (c.clients n) c.clock place m (h.0.0.0.keys.replies n) (h.0.0.1.seats n)))
 to_lives s c past place luck m Loc h p = void_lives s c past h
 to_lives s c past place luck m (Admin n) h p = void_lives s c past h
 
@@ -363,11 +409,11 @@ at_lives s c past place luck (Some m) h p = to_lives s c past place luck m m.hea
 
 moved_lives : (s : Script) (c : Cell) (past : List Entry) (x : Input) → Lived s c past → InPlace s past (moved c x) → Lives past (moved c x)
 unfolding moved
-moved_lives s c past (begins n act) h p = unless_away s c past (has_client c.count n) (c.away n) _ h (λ up. begun_lives s c past n act (c.clients n).running h up)
+moved_lives s c past (begins n act) h p = unless_away s c past (has_client c.count n) (c.away n) _ h (λ up. begun_lives s c past n act (c.clients n).running h up refl)
 moved_lives s c past (gives place luck) h p = at_lives s c past place luck (message_at c.sent place) h p
-moved_lives s c past (waits n) h p = unless_away s c past (has_client c.count n) (c.away n) _ h (λ up. waited_lives s c past n (c.clients n).running h up)
+moved_lives s c past (waits n) h p = unless_away s c past (has_client c.count n) (c.away n) _ h (λ up. waited_lives s c past n (c.clients n).running h up refl)
 moved_lives s c past (ticks zero) h p = void_lives s c past h
-moved_lives s c past (ticks (suc n)) h p = besides_lives s c past (ticked c (suc n)) h p (record { other = λ j e. absurd cc; away = refl })
+moved_lives s c past (ticks (suc n)) h p = besides_lives s c past (ticked c (suc n)) h p (record { other = λ j e. absurd cc; away = refl; clients = refl })
 moved_lives s c past (client_stops n) h p = unless_away s c past (has_client c.count n) (c.away n) _ h (λ up. falls_lives s c past n h up)
 moved_lives s c past (client_starts n) h p = if_down s c past (c.away n) _ h (λ down. rises_lives s c past n h down)
 moved_lives s c past (stops i) h p = besides_lives s c past _ h p (if_besides c (has_host c i) _ (stopped_besides c i (c.hosts i).down))
@@ -382,20 +428,23 @@ step_lives : (s : Script) (c : Cell) (past : List Entry) (x : Input) → Lived s
 step_lives s c past x h = moved_lives s c past x h (each_moved (Placed s) (PlacedStep s) (placed_moves s) c past x h.0)
 
 lived_kept : (s : Script) → IsKept (Lived s)
-lived_kept s c past x h = (placed_kept s c past x h.0, (step_lives s c past x h).down)
+lived_kept s c past x h = let k = step_lives s c past x h in (placed_kept s c past x h.0, (k.down, k.epochs))
 
 -- the set-up tells versions alone
+versions_alive : (ls : List Line) → AreVersions ls → Alive ls
+versions_alive [] h = refl
+versions_alive (lines.Version v ∷ ls) h = versions_alive ls h
+versions_alive (l ∷ ls) h = absurd h
+
 first_down : (j : ℕ) (ls : List Line) → AreVersions ls → is_down (Client j) (onto [] ls) ≡ false
 first_down j ls h = alive_down (Client j) ls [] (versions_alive ls h)
-  where
-    versions_alive : (ls : List Line) → AreVersions ls → Alive ls
-    versions_alive [] h = refl
-    versions_alive (lines.Version v ∷ ls) h = versions_alive ls h
-    versions_alive (l ∷ ls) h = absurd h
+
+first_epoch : (j : ℕ) (ls : List Line) → AreVersions ls → epoch_after (Client j) (onto [] ls) ≡ 1
+first_epoch j ls h = alive_epoch (Client j) ls [] (versions_alive ls h)
 
 lived_first : (s : Script) → Lived s (start s) (set_up s ∷ [])
-lived_first s = (placed_first s, λ j. first_down j (first_lines s.volumes) (all_versions s.volumes))
+lived_first s = (placed_first s, (λ j. first_down j (first_lines s.volumes) (all_versions s.volumes), λ j. first_epoch j (first_lines s.volumes) (all_versions s.volumes)))
 
-pub run_lived : (s : Script) (h : List Entry) (end : Cell) → RunsTo h s end → EachEntry (λ past e. IsLivedBy e.actor past e.lines e.sent) (set_up s ∷ []) h
+pub run_lived : (s : Script) (h : List Entry) (end : Cell) → RunsTo h s end → EachEntry (λ past e. IsClientLived e.actor past e.lines e.sent) (set_up s ∷ []) h
 run_lived s h end r =
-    run_each (Lived s) (λ past e. IsLivedBy e.actor past e.lines e.sent) (lived_kept s) (λ c past x k. (step_lives s c past x k).good) r.inputs (start s) (set_up s ∷ []) h end (lived_first s) r.leads
+    run_each (Lived s) (λ past e. IsClientLived e.actor past e.lines e.sent) (lived_kept s) (λ c past x k. (step_lives s c past x k).good) r.inputs (start s) (set_up s ∷ []) h end (lived_first s) r.leads

@@ -971,33 +971,33 @@ change_loaded me who b ps more boot seats now cs clock sent e past pre os hd m h
     (λ j seat k x y. seated_over me None None b after boot clock clock e past s j k (h.seated j seat k x y)))
 
 -- the number of the last break
-top_owe : (me c : Node) (what : Option Fid) (n : ℕ) (ls : List Line) → last_number me (lines.Owe me c what n ∷ ls) ≤ n
-top_owe me c what n ls = rw (same_node-refl me) (le_refl n)
+top_owe : (me c : Node) (what : Option Fid) (n : ℕ) (ls : List Line) → last_number me (lines.Owe me c what n ∷ ls) ≡ n
+top_owe me c what n ls = rw (same_node-refl me) refl
 
 -- numbers of new breaks
-pub numbers_good : (me : Node) → IsServing me → (s : Script) (k : ℕ) (ps : List Promise) (past : List Entry) (own : List Line) → last_number me (own ++ lines_of past) ≤ k → (HasStopped me own → ⊥) → AllOf (λ (p : Promise). IsChangedByOther me p.client p.fid own) ps → AllOf (λ (p : Promise). IsUnbroken me p.client p.fid past) ps → AreGood s (actors.Node me) past own (map (owe_line me) (owes_from k ps))
+pub numbers_good : (me : Node) → IsServing me → (s : Script) (k : ℕ) (ps : List Promise) (past : List Entry) (own : List Line) → last_number me (own ++ lines_of past) ≡ k → (HasStopped me own → ⊥) → AllOf (λ (p : Promise). IsChangedByOther me p.client p.fid own) ps → AllOf (λ (p : Promise). IsUnbroken me p.client p.fid past) ps → AreGood s (actors.Node me) past own (map (owe_line me) (owes_from k ps))
 numbers_good me serving s k [] past own h up w g = tt
-numbers_good me serving s k (p ∷ ps) past own h up w g = ((serving, record { going = up; number = omega arith; cause = (w.0, g.0) }), numbers_good me serving s (k + 1) ps past (lines.Owe me p.client (Some p.fid) (k + 1) ∷ own) (top_owe me p.client (Some p.fid) (k + 1) (own ++ lines_of past)) up w.1 g.1)
+numbers_good me serving s k (p ∷ ps) past own h up w g = ((serving, record { going = up; number = ap (λ (i : ℕ). i + 1) (sym h); cause = (w.0, g.0) }), numbers_good me serving s (k + 1) ps past (lines.Owe me p.client (Some p.fid) (k + 1) ∷ own) (top_owe me p.client (Some p.fid) (k + 1) (own ++ lines_of past)) up w.1 g.1)
 
-pub numbers_rise : (me : Node) (k : ℕ) (ps : List Promise) (base : List Line) → last_number me base ≤ k → last_number me (onto base (map (owe_line me) (owes_from k ps))) ≤ k + length (owes_from k ps)
+pub numbers_rise : (me : Node) (k : ℕ) (ps : List Promise) (base : List Line) → last_number me base ≡ k → last_number me (onto base (map (owe_line me) (owes_from k ps))) ≡ k + length (owes_from k ps)
 numbers_rise me k [] base h = omega arith
-numbers_rise me k (p ∷ ps) base h = let x : last_number me (onto (lines.Owe me p.client (Some p.fid) (k + 1) ∷ base) (map (owe_line me) (owes_from (k + 1) ps))) ≤ (k + 1) + length (owes_from (k + 1) ps) = numbers_rise me (k + 1) ps (lines.Owe me p.client (Some p.fid) (k + 1) ∷ base) (top_owe me p.client (Some p.fid) (k + 1) base) in omega arith
+numbers_rise me k (p ∷ ps) base h = let x : last_number me (onto (lines.Owe me p.client (Some p.fid) (k + 1) ∷ base) (map (owe_line me) (owes_from (k + 1) ps))) ≡ (k + 1) + length (owes_from (k + 1) ps) = numbers_rise me (k + 1) ps (lines.Owe me p.client (Some p.fid) (k + 1) ∷ base) (top_owe me p.client (Some p.fid) (k + 1) base) in omega arith
 
-pub owes_rising : (me : Node) (k : ℕ) (ps : List Promise) (base : List Line) → last_number me base ≤ k → Rising me base → Rising me (onto base (map (owe_line me) (owes_from k ps)))
+pub owes_rising : (me : Node) (k : ℕ) (ps : List Promise) (base : List Line) → last_number me base ≡ k → Rising me base → Rising me (onto base (map (owe_line me) (owes_from k ps)))
 owes_rising me k [] base le h = h
 owes_rising me k (p ∷ ps) base le h = owes_rising me (k + 1) ps (lines.Owe me p.client (Some p.fid) (k + 1) ∷ base) (top_owe me p.client (Some p.fid) (k + 1) base) (λ e. omega arith, h)
 
-alls_rising : (me : Node) (x k m : ℕ) (base : List Line) → last_number me base ≤ k → Rising me base → Rising me (onto base (map (owe_line me) (owes_all x k m)))
+alls_rising : (me : Node) (x k m : ℕ) (base : List Line) → last_number me base ≡ k → Rising me base → Rising me (onto base (map (owe_line me) (owes_all x k m)))
 alls_rising me x k zero base le h = h
 alls_rising me x k (suc m) base le h = alls_rising me x (k + 1) m (lines.Owe me (Client (k + 1)) None (k + 1) ∷ base) (top_owe me (Client (k + 1)) None (k + 1) base) (λ e. omega arith, h)
 
-pub alls_good : (me : Node) → IsServing me → (s : Script) (x k m : ℕ) (past : List Entry) (own : List Line) → last_number me (own ++ lines_of past) ≤ k → (HasStopped me own → ⊥) → HasRisen me own → k + m ≤ s.clients → AreGood s (actors.Node me) past own (map (owe_line me) (owes_all x k m))
+pub alls_good : (me : Node) → IsServing me → (s : Script) (x k m : ℕ) (past : List Entry) (own : List Line) → last_number me (own ++ lines_of past) ≡ k → (HasStopped me own → ⊥) → HasRisen me own → k + m ≤ s.clients → AreGood s (actors.Node me) past own (map (owe_line me) (owes_all x k m))
 alls_good me serving s x k zero past own h up w few = tt
-alls_good me serving s x k (suc m) past own h up w few = ((serving, record { going = up; number = omega arith; cause = (w, (omega arith, omega arith)) }), alls_good me serving s x (k + 1) m past (lines.Owe me (Client (k + 1)) None (k + 1) ∷ own) (top_owe me (Client (k + 1)) None (k + 1) (own ++ lines_of past)) up w (omega arith))
+alls_good me serving s x k (suc m) past own h up w few = ((serving, record { going = up; number = ap (λ (i : ℕ). i + 1) (sym h); cause = (w, (omega arith, omega arith)) }), alls_good me serving s x (k + 1) m past (lines.Owe me (Client (k + 1)) None (k + 1) ∷ own) (top_owe me (Client (k + 1)) None (k + 1) (own ++ lines_of past)) up w (omega arith))
 
-pub alls_rise : (me : Node) (x k m : ℕ) (base : List Line) → last_number me base ≤ k → last_number me (onto base (map (owe_line me) (owes_all x k m))) ≤ k + m
+pub alls_rise : (me : Node) (x k m : ℕ) (base : List Line) → last_number me base ≡ k → last_number me (onto base (map (owe_line me) (owes_all x k m))) ≡ k + m
 alls_rise me x k zero base h = omega arith
-alls_rise me x k (suc m) base h = let y : last_number me (onto (lines.Owe me (Client (k + 1)) None (k + 1) ∷ base) (map (owe_line me) (owes_all x (k + 1) m))) ≤ (k + 1) + m = alls_rise me x (k + 1) m (lines.Owe me (Client (k + 1)) None (k + 1) ∷ base) (top_owe me (Client (k + 1)) None (k + 1) base) in omega arith
+alls_rise me x k (suc m) base h = let y : last_number me (onto (lines.Owe me (Client (k + 1)) None (k + 1) ∷ base) (map (owe_line me) (owes_all x (k + 1) m))) ≡ (k + 1) + m = alls_rise me x (k + 1) m (lines.Owe me (Client (k + 1)) None (k + 1) ∷ base) (top_owe me (Client (k + 1)) None (k + 1) base) in omega arith
 
 -- ---- a restart
 
@@ -1022,11 +1022,11 @@ rise_loaded me count d b boot seats now cs clock sent e past pre ne h time are o
       granted = λ x. tt;
       numbered =
           let zero : last_number me (onto (lines_of past) pre) ≡ 0 = zero_back me pre (lines_of past) oweless (down_zero me d b.lists.last_owed (lines_of past) ne h.numbered) in
-          subst (λ (ls : List Line). last_number me ls ≤ count) (sym (ap (onto (lines_of past)) are ∙ onto_both (lines_of past) pre (map (owe_line me) os)))
-          (let y : last_number me (onto (onto (lines_of past) pre) (map (owe_line me) os)) ≤ 0 + count = alls_rise me (clock + promise_ticks) 0 count (onto (lines_of past) pre) (le_of_eq zero) in omega arith);
+          subst (λ (ls : List Line). last_number me ls ≡ count) (sym (ap (onto (lines_of past)) are ∙ onto_both (lines_of past) pre (map (owe_line me) os)))
+          (let y : last_number me (onto (onto (lines_of past) pre) (map (owe_line me) os)) ≡ 0 + count = alls_rise me (clock + promise_ticks) 0 count (onto (lines_of past) pre) zero in omega arith);
       rising =
           let zero : last_number me (onto (lines_of past) pre) ≡ 0 = zero_back me pre (lines_of past) oweless (down_zero me d b.lists.last_owed (lines_of past) ne h.numbered) in
-          subst (Rising me) (sym (ap (onto (lines_of past)) are ∙ onto_both (lines_of past) pre (map (owe_line me) os))) (alls_rising me (clock + promise_ticks) 0 count (onto (lines_of past) pre) (le_of_eq zero) (rising_back me pre (lines_of past) oweless h.rising));
+          subst (Rising me) (sym (ap (onto (lines_of past)) are ∙ onto_both (lines_of past) pre (map (owe_line me) os))) (alls_rising me (clock + promise_ticks) 0 count (onto (lines_of past) pre) zero (rising_back me pre (lines_of past) oweless h.rising));
       clients = λ x. record { promised = tt; owed = all_clients (clock + promise_ticks) 0 count };
       promised = λ j f x l t. absurd (ne (h.promised j f x (live_given me j f x e past (live_back me j f x e.lines (before_own me e past) (subst (λ (ls : List Line). all_lines is_still ls ≡ true) (sym are) (lines_both is_still pre _ still (owes_still me os))) l)) t).0);
       accounted = owes_over me (AccountedBy me d b.lists.owed b.held clock) (AccountedBy me None os [] clock) e past

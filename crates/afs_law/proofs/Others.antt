@@ -137,7 +137,7 @@ no_own_owe me (l ∷ ls) (x ∷ before) after c what n h e = no_own_owe me ls be
 -- ---- over an entry of another server
 
 numbered_apart : (me : Node) (d : Option Fall) (last : ℕ) (e : Entry) (past : List Entry) → AreApart me e.lines → Numbered me d last (lines_of past) → Numbered me d last (lines_of (e ∷ past))
-numbered_apart me None last e past h n = subst (λ (k : ℕ). k ≤ last) (sym (number_apart me e.lines (lines_of past) h)) n
+numbered_apart me None last e past h n = number_apart me e.lines (lines_of past) h ∙ n
 numbered_apart me (Some fall) last e past h n = number_apart me e.lines (lines_of past) h ∙ n
 
 none_returned : (t : Bool) (me : Node) (e : Entry) (o : Option Message) (past : List Entry) → is_entry_of me e.actor ≡ t → t ≡ false → returned_in me e o past ≡ []

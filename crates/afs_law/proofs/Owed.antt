@@ -594,7 +594,7 @@ saves_rules s c past i place m ch B up =
       (
         owed,
         versions_rules s who past front vs tl (granted_rules s who past (on_top vs front) me n y fs owes (rules_of s who past own owes
-            (numbers_good me refl s b.lists.last_owed (hits n vs ps) past own (subst (λ (u : ℕ). u ≤ b.lists.last_owed) (sym (granted_top me n y fs (on_top vs front) (lines_of past) ∙ versions_top me vs front (lines_of past))) U.numbered)
+            (numbers_good me refl s b.lists.last_owed (hits n vs ps) past own (granted_top me n y fs (on_top vs front) (lines_of past) ∙ (versions_top me vs front (lines_of past) ∙ U.numbered))
             (granted_stopped me me n y fs (on_top vs front) (λ z. over_stopped me vs front z))
             (all_map (IsHit n vs) (λ (o : Promise). IsChangedByOther me o.client o.fid own) (λ o z. granted_others me o.client me n o.fid y fs (on_top vs front) (on_others me o.client o.fid vs front (refl, λ q. z.1 (sym q)) z.0)) (hits n vs ps) (hits_hit n vs ps))
             (two_all (IsGranted me (lines_of past)) (λ (o : Promise). c.clock < o.expiry) (λ (o : Promise). IsUnbroken me o.client o.fid past) (λ o was lasts. (o.expiry, (was, subst (λ (u : ℕ). u < o.expiry) (sym B.held.1) lasts))) (hits n vs ps) (all_hits (IsGranted me (lines_of past)) n vs ps (U.granted refl))
@@ -747,7 +747,7 @@ started_rules s c past i after fall B down =
     let few : c.count ≤ s.clients = le_of_eq B.backed.count in
     subst (λ (t : Turn). EachLine (IsBreakGood s) (actors.Node me) past [] (f.before (l ∷ t.lines))) (sym (risen_is me c.clock c.count))
     (disk_rules s me past (l ∷ (risen_as me c.clock c.count).lines) (c.hosts i).state after fall (record {
-      rest = λ own e going. (tt, rules_of s (actors.Node me) past (l ∷ own) (risen_as me c.clock c.count).lines (alls_good me refl s (c.clock + promise_ticks) 0 c.count past (l ∷ own) (le_of_eq (e ∙ zero)) (λ z. going z) (inl refl) (omega arith)));
+      rest = λ own e going. (tt, rules_of s (actors.Node me) past (l ∷ own) (risen_as me c.clock c.count).lines (alls_good me refl s (c.clock + promise_ticks) 0 c.count past (l ∷ own) (e ∙ zero) (λ z. going z) (inl refl) (omega arith)));
       none = no_live s c past i fall B down;
     }))
 
@@ -884,7 +884,7 @@ first_backed s i =
     let vs : AreVersions (first_lines s.volumes) = all_versions s.volumes in
     record {
       granted = λ x. tt;
-      numbered = let y : last_number me (onto [] (first_lines s.volumes)) ≡ 0 = zero_back me (first_lines s.volumes) [] (first_oweless (first_lines s.volumes) vs) refl in le_of_eq y;
+      numbered = let y : last_number me (onto [] (first_lines s.volumes)) ≡ 0 = zero_back me (first_lines s.volumes) [] (first_oweless (first_lines s.volumes) vs) refl in y;
       promised = λ j f x l t. let none : live_grant me j f [] ≡ Some x = live_given me j f x (set_up s) [] (live_back me j f x (first_lines s.volumes) (before_own me (set_up s) []) (first_still (first_lines s.volumes) vs) l) in absurd cc;
       accounted = λ newer at older before rest c what n split line. none_owes me newer (set_up s) at older before rest c what n _ (first_oweless (first_lines s.volumes) vs) split line;
       owing = λ x. tt;

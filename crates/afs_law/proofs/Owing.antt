@@ -148,9 +148,9 @@ promise_to j f x = record { client = j; fid = f; expiry = x }
 abbrev pub Promised : Node → Option Fall → List Promise → ℕ → List Line → Type 0
 Promised me d ps clock ls = (j : Node) (f : Fid) (x : ℕ) → live_grant me j f ls ≡ Some x → clock < x → (d ≡ None) × IsPromised (promise_to j f x) ps
 
--- the breaks of a boot are numbered upwards
+-- the breaks of a boot are numbered upwards, without a gap
 abbrev pub Numbered : Node → Option Fall → ℕ → List Line → Type 0
-Numbered me None last ls = last_number me ls ≤ last
+Numbered me None last ls = last_number me ls ≡ last
 Numbered me (Some fall) last ls = last_number me ls ≡ 0
 
 -- the breaks of a boot become owed in the order of their numbers

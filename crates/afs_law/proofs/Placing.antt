@@ -250,7 +250,7 @@ blow_each s i place past false = (refl, (refl, tt))
 pub placed_moves : (s : Script) → EachMove (Placed s) (PlacedStep s)
 placed_moves s = record {
   void = λ c past h. (refl, tt);
-  ticked = λ c past n h. (refl, tt);
+  ticked = λ c past n h. ((refl, (omega arith, (refl, refl))), tt);
   begun = λ c past n act h r. (begins_acts n (c.clients n) c.clock act r).each s past (h.0.1.table n) (h.0.1.acts n);
   told = λ c past n place m h at to. (given_acts (by_key (IsKnown h.0.0.keys.callees c.clients)) any_told n (c.clients n) c.clock place m (h.0.0.keys.replies n) (h.0.1.seats n)).each s past (h.0.1.table n) (h.0.1.acts n);
   waited = λ c past n act h r. (waits_acts n (c.clients n) act r).each s past (h.0.1.table n) (h.0.1.acts n);

@@ -6,11 +6,15 @@ use Rattle.afs_history.specs.declared.scripts.Script.{Script}
 use Rattle.afs_ideal.specs.Operations.{volume_changed}
 use Rattle.afs_law.proofs.Acting.{begins_acts, given_acts}
 use Rattle.afs_law.proofs.Backing.{all_lines}
-use Rattle.afs_law.proofs.Basics.{both}
+use Rattle.afs_law.proofs.Acting.{last_key}
+use Rattle.afs_law.proofs.Basics.{IfCall, both, each_at}
 use Rattle.afs_law.proofs.Changing.{run_each}
 use Rattle.afs_law.proofs.Choosing.{risen_lines}
+use Rattle.afs_law.proofs.Counting.{CountedFacts, counted_first, counted_kept}
 use Rattle.afs_law.proofs.Hearing.{client_given}
-use Rattle.afs_law.proofs.KeysOnce.{IsKnown, any_told, by_key}
+use Rattle.afs_law.proofs.KeysOnce.{IsKnown, any_told, by_key, call_pair}
+use Rattle.afs_law.proofs.Knowing.{Known}
+use Rattle.afs_law.proofs.Origins.{AskedIn}
 use Rattle.afs_law.proofs.Moving.{EachMove, IsKept, each_moved}
 use Rattle.afs_law.proofs.Owed.{Breaks, breaks_first, breaks_kept, disk_lines}
 use Rattle.afs_law.proofs.Owing.{CallOut}
@@ -19,9 +23,9 @@ use Rattle.afs_law.proofs.Timing.{given_has, row_begun}
 use Rattle.afs_law.proofs.Trying.{GivenWaits, Waits, waits_first, waits_kept}
 use Rattle.afs_law.specs.Breaks.{HasTimeout}
 use Rattle.afs_law.specs.Ideal.{set_up}
-use Rattle.afs_law.specs.Legal.{IsInPlace}
+use Rattle.afs_law.specs.Legal.{AwaitsReply, IsInPlace}
 use Rattle.afs_law.specs.Parts.{EachLine}
-use Rattle.afs_law.specs.Past.{SendsTo, WasSent, has_begun, has_given, lines_of}
+use Rattle.afs_law.specs.Past.{CalledSince, SendsTo, WasSent, has_begun, has_given, lines_of}
 use Rattle.afs_law.specs.ServerParts.{IsTimeoutGood, TimeoutsAreGood}
 use Rattle.afs_num.specs.Nodes.{same_node}
 use Rattle.afs_num.specs.declared.calls.FsCall.{FsCall}
@@ -35,14 +39,14 @@ use Rattle.afs_num.specs.declared.types.Node.TheVariants.{Client, Server}
 use Rattle.afs_rows.specs.Callbacks.{expired, owe_line, quit_line, quits, retries, risen_turn, still_owed}
 use Rattle.afs_rows.specs.ClientRow.{call_of, client_row, dead_code, dropped, given_up_in, gives_up, tries_again}
 use Rattle.afs_rows.specs.Going.{ClientState, Going}
-use Rattle.afs_rows.specs.Runs.{Cell, Entry, Fall, Moved, begun_by_disk, blow_line, start}
-use Rattle.afs_rows.specs.ServerRow.{Decision, does, drops, refuses, repeats, saves, shows, tells_boot}
+use Rattle.afs_rows.specs.Runs.{Cell, Entry, Fall, Moved, begun_by_disk, blow_line, message_at, start}
+use Rattle.afs_rows.specs.ServerRow.{key_of, Decision, does, drops, refuses, repeats, saves, shows, tells_boot}
 use Rattle.afs_rows.specs.ServerSteps.{back_timeout_row, server_row, start_row, wake_row}
 use Rattle.afs_rows.specs.States.{BackCall, Backs, CacheEntry, ServerState}
-use Rattle.std.proofs.Common.{zero, suc, ◌≡◌, ◌≤◌, ℕ, ◌+◌, ◌⊎◌, inl, inr, Bool, true, false, cond, List, [], ◌∷◌, ◌++◌, map, Some, refl, sym, subst, ◌∙◌, nat_lt, ltb-false, arith}
+use Rattle.std.proofs.Common.{ap, ltb-true, ◌<◌, zero, suc, ◌≡◌, ◌≤◌, ℕ, ◌+◌, ◌⊎◌, inl, inr, Bool, true, false, cond, List, [], ◌∷◌, ◌++◌, map, Some, refl, sym, subst, ◌∙◌, nat_lt, ltb-false, arith}
 
-abbrev Timely : Actor → List Entry → List Line → List Line → Type 0
-Timely who past own ls = EachLine IsTimeoutGood who past own ls
+abbrev Timely : Script → Actor → List Entry → List Line → List Line → Type 0
+Timely s who past own ls = EachLine (IsTimeoutGood s) who past own ls
 
 -- ---- lines without timeouts
 
@@ -50,13 +54,13 @@ abbrev is_timeless : Line → Bool
 is_timeless (lines.Timeout n callee epoch number count) = false
 is_timeless l = true
 
-timeless_line : (who : Actor) (l : Line) (past : List Entry) (own next : List Line) → is_timeless l ≡ true → IsTimeoutGood who l past own next
-timeless_line who (lines.Timeout n callee epoch number count) past own next h = absurd cc
-timeless_line who l past own next h = tt
+timeless_line : (s : Script) (who : Actor) (l : Line) (past : List Entry) (own next : List Line) → is_timeless l ≡ true → IsTimeoutGood s who l past own next
+timeless_line s who (lines.Timeout n callee epoch number count) past own next h = absurd cc
+timeless_line s who l past own next h = tt
 
-timeless : (who : Actor) (past : List Entry) (own ls : List Line) → all_lines is_timeless ls ≡ true → Timely who past own ls
-timeless who past own [] h = tt
-timeless who past own (l ∷ ls) h = let q = both (is_timeless l) (all_lines is_timeless ls) h in (timeless_line who l past own ls q.0, timeless who past (l ∷ own) ls q.1)
+timeless : (s : Script) (who : Actor) (past : List Entry) (own ls : List Line) → all_lines is_timeless ls ≡ true → Timely s who past own ls
+timeless s who past own [] h = tt
+timeless s who past own (l ∷ ls) h = let q = both (is_timeless l) (all_lines is_timeless ls) h in (timeless_line s who l past own ls q.0, timeless s who past (l ∷ own) ls q.1)
 
 owes_timeless : (me : Node) (os : List OwedBreak) → all_lines is_timeless (map (owe_line me) os) ≡ true
 owes_timeless me [] = refl
@@ -84,7 +88,7 @@ given_either l own ls (inr h) = inr h
 true_not : (x : Bool) → x ≡ true → x ≡ false → ⊥
 true_not x a b = let no : true ≡ false = sym a ∙ b in absurd cc
 
-given_timely : (s : Script) (who : Actor) (past : List Entry) (own ls : List Line) → EachLine (IsInPlace s) who past own ls → (has_given own ≡ true) ⊎ (has_given ls ≡ true) → Timely who past own ls
+given_timely : (s : Script) (who : Actor) (past : List Entry) (own ls : List Line) → EachLine (IsInPlace s) who past own ls → (has_given own ≡ true) ⊎ (has_given ls ≡ true) → Timely s who past own ls
 given_timely s who past own [] p h = tt
 given_timely s who past own (lines.Timeout n callee epoch number count ∷ ls) p h =
     absurd (elim h [ inl x ↦ true_not (has_given own) x p.0.1.0.0 | inr x ↦ true_not (has_given ls) x p.0.1.1.0 ])
@@ -103,7 +107,7 @@ begun_either n (lines.Begin m act) own ls (inl h) = inl (begun_more n (same_node
 begun_either n (lines.Begin m act) own ls (inr h) = begun_by (same_node m n) (has_begun n ls) (has_begun n own) h
 begun_either n l own ls h = h
 
-begun_timely : (s : Script) (n : Node) (past : List Entry) (own ls : List Line) → EachLine (IsInPlace s) (actors.Node n) past own ls → (has_begun n own ≡ true) ⊎ (has_begun n ls ≡ true) → Timely (actors.Node n) past own ls
+begun_timely : (s : Script) (n : Node) (past : List Entry) (own ls : List Line) → EachLine (IsInPlace s) (actors.Node n) past own ls → (has_begun n own ≡ true) ⊎ (has_begun n ls ≡ true) → Timely s (actors.Node n) past own ls
 begun_timely s n past own [] p h = tt
 begun_timely s n past own (lines.Timeout m callee epoch number count ∷ ls) p h =
     let own_ : (has_begun n own ≡ false) × (has_begun n ls ≡ false) = subst (λ (q : Node). (has_begun q own ≡ false) × (has_begun q ls ≡ false)) (sym (one_node n m p.0.0)) (p.0.1.0.1, p.0.1.1.1) in
@@ -121,12 +125,47 @@ below_by n callee epoch number (suc k) ls h = inr (suc k, (refl, h (suc k) (omeg
 
 -- ---- a client's
 
-waits_timely : (n : ℕ) (x : ClientState) (act : Going) (past : List Entry) (t : Bool) → Waits n x past → x.running ≡ Some act → nat_lt x.tries 2 ≡ t → Timely (actors.Node (Client n)) past [] (cond t (tries_again (Client n) x act) (gives_up (Client n) x (call_of x act))).lines
-waits_timely n x act past true w r e = (record { user = x.user; call = call_of x act; sent = w.sent act r; below = below_by (Client n) x.callee x.epoch x.last x.tries (lines_of past) (w.tried act r) }, tt)
-waits_timely n x act past false w r e =
+-- the reply to the call is awaited still
+awaited : (s : Script) (c : Cell) (past : List Entry) (n : ℕ) (act : Going) (count : ℕ) → CountedFacts s c past → (c.clients n).running ≡ Some act → (HasTimeout (Client n) (c.clients n).callee (c.clients n).epoch (c.clients n).last count (lines_of past) → ⊥)
+    → AwaitsReply s (Client n) (c.clients n).callee (last_key n (c.clients n)) (c.clients n).user (call_of (c.clients n) act) count past []
+awaited s c past n act count h r none =
+    let known : Known c past = h.0.0.0.0.0.0.0.0 in
+    let asked : AskedIn s c past = h.0.0.0.0.0.0.0.1 in
+    record {
+      act = act;
+      runs = asked.acts n ∙ r;
+      called = subst (λ (u : List ℕ). CalledSince (last_key n (c.clients n)) u (call_of (c.clients n) act) past) (sym (asked.user n)) (asked.asked n act r);
+      last = λ place m at is from. call_pair known.keys.callees c.clients n m.head m.carried is from (each_at (IfCall (λ x u y. IsKnown known.keys.callees c.clients x.to (key_of x))) c.sent place m (ap (λ (ms : List Message). message_at ms place) (sym known.hears.told) ∙ at) known.keys.calls);
+      once = none;
+    }
+
+waits_timely : (s : Script) (c : Cell) (past : List Entry) (n : ℕ) (act : Going) (t : Bool) → Waits n (c.clients n) past → CountedFacts s c past → (c.clients n).running ≡ Some act → nat_lt (c.clients n).tries 2 ≡ t
+    → Timely s (actors.Node (Client n)) past [] (cond t (tries_again (Client n) (c.clients n) act) (gives_up (Client n) (c.clients n) (call_of (c.clients n) act))).lines
+waits_timely s c past n act true w h r e =
+    let x : ClientState = c.clients n in
+    let l : x.tries < 2 = ltb-true x.tries 2 e in (
+      record {
+        user = x.user;
+        call = call_of x act;
+        sent = w.sent act r;
+        below = below_by (Client n) x.callee x.epoch x.last x.tries (lines_of past) (w.tried act r);
+        few = omega (arith, l);
+        awaited = awaited s c past n act (x.tries + 1) h r (λ y. (let le : x.tries + 1 ≤ x.tries = h.1 n act r x.callee (x.tries + 1) y in absurd (omega (arith, le))));
+      },
+      tt,
+    )
+waits_timely s c past n act false w h r e =
+    let x : ClientState = c.clients n in
     let le : 2 ≤ x.tries = ltb-false x.tries 2 e in (
-      record { user = x.user; call = call_of x act; sent = w.sent act r; below = inr (2, (refl, w.tried act r 2 (omega arith) le)) },
-      timeless (actors.Node (Client n)) past _ _ (dropped_timeless (Client n) (given_up_in (volume_changed (call_of x act)) x.cache) (lines.Answer (Client n) dead_code ∷ []) refl),
+      record {
+        user = x.user;
+        call = call_of x act;
+        sent = w.sent act r;
+        below = inr (2, (refl, w.tried act r 2 (omega arith) le));
+        few = omega arith;
+        awaited = awaited s c past n act 3 h r (λ y. (h.0.1 n).alive act r x.callee y);
+      },
+      timeless s (actors.Node (Client n)) past _ _ (dropped_timeless (Client n) (given_up_in (volume_changed (call_of x act)) x.cache) (lines.Answer (Client n) dead_code ∷ []) refl),
     )
 
 -- ---- a server's
@@ -135,18 +174,18 @@ was_sent : (callee : Node) (k : Key) (user : List ℕ) (call : FsCall) (newer : 
 was_sent callee k user call [] at older h = inl h
 was_sent callee k user call (e ∷ newer) at older h = inr (was_sent callee k user call newer at older h)
 
-backs_timely : (i boot : ℕ) (n : Node) (k : BackCall) (b : Backs) (past : List Entry) (t : Bool) (last : ℕ) → CallOut (Server i) n k last boot past → nat_lt k.tries 2 ≡ t → Timely (actors.Node (Server i)) past [] (cond t (retries (Server i) boot n k b) (quits (Server i) boot n k b)).lines
-backs_timely i boot n k b past true last out e =
-    (record { user = []; call = _; sent = subst (WasSent n _ [] _) (sym out.sent.split) (was_sent n _ [] _ out.sent.newer out.sent.at out.sent.older out.sent.sent); below = below_by (Server i) n boot k.number k.tries (lines_of past) out.tries }, tt)
-backs_timely i boot n k b past false last out e =
+backs_timely : (s : Script) (i boot : ℕ) (n : Node) (k : BackCall) (b : Backs) (past : List Entry) (t : Bool) (last : ℕ) → CallOut (Server i) n k last boot past → nat_lt k.tries 2 ≡ t → Timely s (actors.Node (Server i)) past [] (cond t (retries (Server i) boot n k b) (quits (Server i) boot n k b)).lines
+backs_timely s i boot n k b past true last out e =
+    (record { few = (let l : k.tries < 2 = ltb-true k.tries 2 e in omega (arith, l)); awaited = tt; user = []; call = _; sent = subst (WasSent n _ [] _) (sym out.sent.split) (was_sent n _ [] _ out.sent.newer out.sent.at out.sent.older out.sent.sent); below = below_by (Server i) n boot k.number k.tries (lines_of past) out.tries }, tt)
+backs_timely s i boot n k b past false last out e =
     let le : 2 ≤ k.tries = ltb-false k.tries 2 e in (
-      record { user = []; call = _; sent = subst (WasSent n _ [] _) (sym out.sent.split) (was_sent n _ [] _ out.sent.newer out.sent.at out.sent.older out.sent.sent); below = inr (2, (refl, out.tries 2 (omega arith) le)) },
-      timeless (actors.Node (Server i)) past _ _ (quits_timeless (Server i) n (still_owed k b)),
+      record { user = []; call = _; sent = subst (WasSent n _ [] _) (sym out.sent.split) (was_sent n _ [] _ out.sent.newer out.sent.at out.sent.older out.sent.sent); below = inr (2, (refl, out.tries 2 (omega arith) le)); few = omega arith; awaited = tt },
+      timeless s (actors.Node (Server i)) past _ _ (quits_timeless (Server i) n (still_owed k b)),
     )
 
-timed_timely : (s : Script) (c : Cell) (past : List Entry) (i : ℕ) (n : Node) (k : BackCall) → CallOut (Server i) n k (c.hosts i).state.backs.last_call (c.hosts i).state.lasting.boot past → Timely (actors.Node (Server i)) past [] (back_timeout_row (Server i) (c.hosts i).state c.clock n k).lines
+timed_timely : (s : Script) (c : Cell) (past : List Entry) (i : ℕ) (n : Node) (k : BackCall) → CallOut (Server i) n k (c.hosts i).state.backs.last_call (c.hosts i).state.lasting.boot past → Timely s (actors.Node (Server i)) past [] (back_timeout_row (Server i) (c.hosts i).state c.clock n k).lines
 unfolding back_timeout_row
-timed_timely s c past i n k out = backs_timely i (c.hosts i).state.lasting.boot n k (expired c.clock (c.hosts i).state.backs) past (nat_lt k.tries 2) (c.hosts i).state.backs.last_call out refl
+timed_timely s c past i n k out = backs_timely s i (c.hosts i).state.lasting.boot n k (expired c.clock (c.hosts i).state.backs) past (nat_lt k.tries 2) (c.hosts i).state.backs.last_call out refl
 
 does_given : (me : Node) (x : ServerState) (clock place : ℕ) (d : Decision) (ls : List Line) → has_given (does me x clock place d ls).lines ≡ true
 does_given me x clock place drops ls = refl
@@ -160,57 +199,57 @@ row_given : (me : Node) (x : ServerState) (clock place : ℕ) (m : Message) → 
 unfolding server_row
 row_given me x clock place m = does_given me x clock place _ _
 
-woken_timely : (past : List Entry) (i : ℕ) (x : ServerState) (clock : ℕ) → Timely (actors.Node (Server i)) past [] (wake_row (Server i) x clock).lines
+woken_timely : (s : Script) (past : List Entry) (i : ℕ) (x : ServerState) (clock : ℕ) → Timely s (actors.Node (Server i)) past [] (wake_row (Server i) x clock).lines
 unfolding wake_row
-woken_timely past i x clock = tt
+woken_timely s past i x clock = tt
 
-starts_timely : (past : List Entry) (i : ℕ) (x : ServerState) (clock count : ℕ) (after : Bool) (fall : Fall) → Timely (actors.Node (Server i)) past [] (start_row (Server i) clock count (begun_by_disk (Server i) x after fall)).lines
+starts_timely : (s : Script) (past : List Entry) (i : ℕ) (x : ServerState) (clock count : ℕ) (after : Bool) (fall : Fall) → Timely s (actors.Node (Server i)) past [] (start_row (Server i) clock count (begun_by_disk (Server i) x after fall)).lines
 unfolding start_row
-starts_timely past i x clock count after fall =
-    timeless (actors.Node (Server i)) past [] _ (disk_lines is_timeless (λ n key z. refl) (λ v. refl) (Server i) x after fall (risen_lines (Server i) clock count (begun_by_disk (Server i) x after fall)) (owes_timeless (Server i) (risen_turn (Server i) clock count).backs.lists.owed))
+starts_timely s past i x clock count after fall =
+    timeless s (actors.Node (Server i)) past [] _ (disk_lines is_timeless (λ n key z. refl) (λ v. refl) (Server i) x after fall (risen_lines (Server i) clock count (begun_by_disk (Server i) x after fall)) (owes_timeless (Server i) (risen_turn (Server i) clock count).backs.lists.owed))
 
-stays_timely : (past : List Entry) (i : ℕ) (x : ServerState) (after : Bool) (fall : Fall) (l : Line) → is_timeless l ≡ true → Timely (actors.Node (Server i)) past [] ((begun_by_disk (Server i) x after fall).before (l ∷ []))
-stays_timely past i x after fall l h = timeless (actors.Node (Server i)) past [] _ (disk_lines is_timeless (λ n key z. refl) (λ v. refl) (Server i) x after fall (l ∷ []) (rw h refl))
+stays_timely : (s : Script) (past : List Entry) (i : ℕ) (x : ServerState) (after : Bool) (fall : Fall) (l : Line) → is_timeless l ≡ true → Timely s (actors.Node (Server i)) past [] ((begun_by_disk (Server i) x after fall).before (l ∷ []))
+stays_timely s past i x after fall l h = timeless s (actors.Node (Server i)) past [] _ (disk_lines is_timeless (λ n key z. refl) (λ v. refl) (Server i) x after fall (l ∷ []) (rw h refl))
 
-blow_timely : (past : List Entry) (i place : ℕ) (t : Bool) → Timely (actors.Node (Server i)) past [] (lines.Given place ∷ blow_line i t ∷ [])
-blow_timely past i place true = (tt, (tt, tt))
-blow_timely past i place false = (tt, (tt, tt))
+blow_timely : (s : Script) (past : List Entry) (i place : ℕ) (t : Bool) → Timely s (actors.Node (Server i)) past [] (lines.Given place ∷ blow_line i t ∷ [])
+blow_timely s past i place true = (tt, (tt, tt))
+blow_timely s past i place false = (tt, (tt, tt))
 
 -- ---- every step
 
 abbrev TimedFacts : Script → Cell → List Entry → Type 0
-TimedFacts s c past = Breaks s c past × GivenWaits s c past
+TimedFacts s c past = Breaks s c past × (GivenWaits s c past × CountedFacts s c past)
 
-abbrev TimelyStep : Cell → List Entry → Moved → Type 0
-TimelyStep c past m = Timely m.entry.actor past [] m.entry.lines
+abbrev TimelyStep : Script → Cell → List Entry → Moved → Type 0
+TimelyStep s c past m = Timely s m.entry.actor past [] m.entry.lines
 
-timely_moves : (s : Script) → EachMove (TimedFacts s) TimelyStep
+timely_moves : (s : Script) → EachMove (TimedFacts s) (TimelyStep s)
 timely_moves s = record {
   void = λ c past h. (tt, tt);
   ticked = λ c past n h. (tt, tt);
-  begun = λ c past n act h r. begun_timely s (Client n) past [] _ ((begins_acts n (c.clients n) c.clock act r).each s past (h.1.0.0.0.0.1.table n) (h.1.0.0.0.0.1.acts n)) (inr (row_begun (c.clients n) n c.clock act));
+  begun = λ c past n act h r. begun_timely s (Client n) past [] _ ((begins_acts n (c.clients n) c.clock act r).each s past (h.1.0.0.0.0.0.1.table n) (h.1.0.0.0.0.0.1.acts n)) (inr (row_begun (c.clients n) n c.clock act));
   told = λ c past n place m h at to. given_timely s (actors.Node (Client n)) past [] _
-      ((given_acts (by_key (IsKnown h.1.0.0.0.0.0.keys.callees c.clients)) any_told n (c.clients n) c.clock place m (h.1.0.0.0.0.0.keys.replies n) (h.1.0.0.0.0.1.seats n)).each s past (h.1.0.0.0.0.1.table n) (h.1.0.0.0.0.1.acts n))
-      (inr (given_has (client_row (Client n) (c.clients n) c.clock place (Whole m)).lines c.sent m ((client_given c past n place m h.1.0.0.0.0.0.hears to at).given c.sent ∙ at)));
-  waited = λ c past n act h r. waits_timely n (c.clients n) act past (nat_lt (c.clients n).tries 2) (h.1.1 n) r refl;
+      ((given_acts (by_key (IsKnown h.1.0.0.0.0.0.0.keys.callees c.clients)) any_told n (c.clients n) c.clock place m (h.1.0.0.0.0.0.0.keys.replies n) (h.1.0.0.0.0.0.1.seats n)).each s past (h.1.0.0.0.0.0.1.table n) (h.1.0.0.0.0.0.1.acts n))
+      (inr (given_has (client_row (Client n) (c.clients n) c.clock place (Whole m)).lines c.sent m ((client_given c past n place m h.1.0.0.0.0.0.0.hears to at).given c.sent ∙ at)));
+  waited = λ c past n act h r. waits_timely s c past n act (nat_lt (c.clients n).tries 2) (h.1.0.1 n) h.1.1 r refl;
   fallen = λ c past n h. (tt, tt);
   risen = λ c past n h. (tt, tt);
   served = λ c past i place m armed h up at to. given_timely s (actors.Node (Server i)) past [] _ (serves_each s i past (c.hosts i).state c.clock place m) (inr (row_given (Server i) (c.hosts i).state c.clock place m));
-  cut = λ c past i place m t h up at to. blow_timely past i place t;
+  cut = λ c past i place m t h up at to. blow_timely s past i place t;
   stopped = λ c past i h up. (tt, tt);
   stop_set = λ c past i calls pick armed h up. (tt, tt);
   fail_set = λ c past i call armed h up. (tt, tt);
   timed = λ c past i n b armed h up at. timed_timely s c past i n b ((h.0.backed.all i).outs up n b at);
-  woken = λ c past i armed h up. woken_timely past i (c.hosts i).state c.clock;
-  started = λ c past i after fall h down. starts_timely past i (c.hosts i).state c.clock c.count after fall;
+  woken = λ c past i armed h up. woken_timely s past i (c.hosts i).state c.clock;
+  started = λ c past i after fall h down. starts_timely s past i (c.hosts i).state c.clock c.count after fall;
   early = λ c past i fall h down. (tt, tt);
-  midway = λ c past i after fall h down. stays_timely past i (c.hosts i).state after fall (lines.Fault (Server i)) refl;
-  full = λ c past i after fall h down. stays_timely past i (c.hosts i).state after fall (lines.Full (Server i)) refl;
+  midway = λ c past i after fall h down. stays_timely s past i (c.hosts i).state after fall (lines.Fault (Server i)) refl;
+  full = λ c past i after fall h down. stays_timely s past i (c.hosts i).state after fall (lines.Full (Server i)) refl;
 }
 
 timed_facts_kept : (s : Script) → IsKept (TimedFacts s)
-timed_facts_kept s c past x h = (breaks_kept s c past x h.0, waits_kept s c past x h.1)
+timed_facts_kept s c past x h = (breaks_kept s c past x h.0, (waits_kept s c past x h.1.0, counted_kept s c past x h.1.1))
 
 pub run_timed : TimeoutsAreGood
 run_timed s h end r =
-    run_each (TimedFacts s) (λ past e. EachLine IsTimeoutGood e.actor past [] e.lines) (timed_facts_kept s) (λ c past x k. each_moved (TimedFacts s) TimelyStep (timely_moves s) c past x k) r.inputs (start s) (set_up s ∷ []) h end (breaks_first s, waits_first s) r.leads
+    run_each (TimedFacts s) (λ past e. EachLine (IsTimeoutGood s) e.actor past [] e.lines) (timed_facts_kept s) (λ c past x k. each_moved (TimedFacts s) (TimelyStep s) (timely_moves s) c past x k) r.inputs (start s) (set_up s ∷ []) h end (breaks_first s, (waits_first s, counted_first s)) r.leads

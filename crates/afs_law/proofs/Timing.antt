@@ -174,7 +174,7 @@ TimedIn c past = (j : ℕ) → Timed j (c.clients j) past
 abbrev pub GivenTimed : Script → Cell → List Entry → Type 0
 GivenTimed s c past = GivenQueued s c past × TimedIn c past
 
-not_next : (e n : ℕ) → UpTo e (n + 1) e n → ⊥
+pub not_next : (e n : ℕ) → UpTo e (n + 1) e n → ⊥
 not_next e n (inl x) = absurd (omega arith)
 not_next e n (inr x) = absurd (omega (arith, x.1))
 

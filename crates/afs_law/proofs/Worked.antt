@@ -302,14 +302,22 @@ unchanged : Legal (six_by 3 (by_lines no_change)) (script 2) → ⊥
 unfolding moved begin_row client_row server_row back_timeout_row wake_row start_row record_bytes head_form volume_form spelled opaque pad word laid_at led name_ok directory_bytes name_bytes rights_of image acl_text digits entry_text
 unchanged h = h.1.1.1.0.0.0.1.1.0
 
--- a break whose number doesn't rise
+-- a break whose number doesn't rise; and below, one that leaves a number out
 abbrev nought : Line → Line
 nought (lines.Owe s c w n) = lines.Owe s c w 0
 nought l = l
 
 owed_nought : Legal (six_by 3 (by_lines nought)) (script 2) → ⊥
 unfolding moved begin_row client_row server_row back_timeout_row wake_row start_row record_bytes head_form volume_form spelled opaque pad word laid_at led name_ok directory_bytes name_bytes rights_of image acl_text digits entry_text
-owed_nought h = let e : 0 < 0 = h.1.1.1.0.0.0.1.1.1.0.1.number in absurd (omega arith)
+owed_nought h = let e : 0 ≡ 1 = h.1.1.1.0.0.0.1.1.1.0.1.number in absurd (omega (arith, e))
+
+abbrev second : Line → Line
+second (lines.Owe s c w n) = lines.Owe s c w 2
+second l = l
+
+owed_with_a_gap : Legal (six_by 3 (by_lines second)) (script 2) → ⊥
+unfolding moved begin_row client_row server_row back_timeout_row wake_row start_row record_bytes head_form volume_form spelled opaque pad word laid_at led name_ok directory_bytes name_bytes rights_of image acl_text digits entry_text
+owed_with_a_gap h = let e : 2 ≡ 1 = h.1.1.1.0.0.0.1.1.1.0.1.number in absurd (omega (arith, e))
 
 -- an entry that brings a volume
 abbrev brings : Entry → Entry

@@ -1,4 +1,5 @@
--- Histories that are wrong for one reason each: a run, altered in one entry, of which just one condition isn't met.
+-- Histories that are wrong for one reason each: a run, altered in one entry, of which just one condition isn't met. (Some of those of a server
+-- that stops or is down, and of a timeout, more than one condition refuses.)
 use Rattle.afs_law.proofs.Ideals.{at_home}
 use Rattle.afs_law.proofs.Backing.{all_lines}
 use Rattle.afs_num.specs.declared.types.Key.{Key}
@@ -1349,12 +1350,12 @@ true_not e = absurd cc
 -- one that crashed begins an act
 acted_when_down : Legal (entries (start (script 1)) (client_stops 1 ∷ []) ++ entries (start (script 1)) (begins 1 (acts.Open (operands.Fid file)) ∷ [])) (script 1) → ⊥
 unfolding moved begin_row client_row server_row back_timeout_row wake_row start_row record_bytes head_form volume_form spelled opaque pad word laid_at led name_ok directory_bytes name_bytes rights_of image acl_text digits entry_text directory_of names_at opaque_at word_at counted_at whole_at count_at name_at spelled_at bytes_below
-acted_when_down h = begin_not _ _ _ _ _ h.1.0.1.0.1.1.1.0
+acted_when_down h = begin_not _ _ _ _ _ h.1.0.1.0.1.1.0.0
 
 -- one that is up begins again
 begun_again_when_up : Legal (step_of (Client 1) (lines.Restart (Client 1) 2 ∷ []) [] ∷ []) (script 1) → ⊥
 unfolding moved begin_row client_row server_row back_timeout_row wake_row start_row record_bytes head_form volume_form spelled opaque pad word laid_at led name_ok directory_bytes name_bytes rights_of image acl_text digits entry_text directory_of names_at opaque_at word_at counted_at whole_at count_at name_at spelled_at bytes_below
-begun_again_when_up h = elim h.0.1.0.1.1 [ inl x ↦ restart_not _ _ _ x.0 | inr x ↦ true_not x ]
+begun_again_when_up h = elim h.0.1.0.1.1.0 [ inl x ↦ restart_not _ _ _ x.0 | inr x ↦ true_not x ]
 
 -- ---- a client calls a server in a boot that this began
 
@@ -1372,3 +1373,100 @@ owed_twice h = h.1.1.1.0.1.1.1.1.1.1.1.1.0 (inl (refl, (refl, refl)))
 settled_twice : Legal (alters 5 (also (lines.Settle (Server 1) (Client 1) 1)) (entries (start (script 2)) (changes_file ++ gives 4 steady ∷ gives 5 steady ∷ []))) (script 2) → ⊥
 unfolding moved begin_row client_row server_row back_timeout_row wake_row start_row record_bytes head_form volume_form spelled opaque pad word laid_at led name_ok directory_bytes name_bytes rights_of image acl_text digits entry_text directory_of names_at opaque_at word_at counted_at whole_at count_at name_at spelled_at bytes_below
 settled_twice h = h.1.1.1.1.1.0.1.1.1.1.1.1.0 (inl (refl, refl))
+
+-- ---- what is given was sent, to the node that is given it
+
+-- a client is given its own call
+given_to_another : Legal (entries (start (script 1)) (begins 1 (acts.Open (operands.Fid file)) ∷ []) ++ step_of (Client 1) (lines.Given 1 ∷ []) [] ∷ []) (script 1) → ⊥
+unfolding moved begin_row client_row server_row back_timeout_row wake_row start_row record_bytes head_form volume_form spelled opaque pad word laid_at led name_ok directory_bytes name_bytes rights_of image acl_text digits entry_text directory_of names_at opaque_at word_at counted_at whole_at count_at name_at spelled_at bytes_below
+given_to_another h = no_client (sym (node_of _ _ (h.1.0.1.0.1.1.1 refl)))
+
+given_unsent : Legal (entries (start (script 1)) (begins 1 (acts.Open (operands.Fid file)) ∷ []) ++ step_of (Server 1) (lines.Given 2 ∷ []) [] ∷ []) (script 1) → ⊥
+unfolding moved begin_row client_row server_row back_timeout_row wake_row start_row record_bytes head_form volume_form spelled opaque pad word laid_at led name_ok directory_bytes name_bytes rights_of image acl_text digits entry_text directory_of names_at opaque_at word_at counted_at whole_at count_at name_at spelled_at bytes_below
+given_unsent h = h.1.0.1.0.1.1.1 refl
+
+-- ---- the clock ticks by itself
+
+abbrev at_the_clock : List Line → Entry
+at_the_clock ls = record { actor = actors.Clock; lines = ls; sent = []; volumes = [] }
+
+ticked_by_nought : Legal (at_the_clock (lines.Tick 0 ∷ []) ∷ []) (script 1) → ⊥
+ticked_by_nought h = let e : 0 < 0 = h.0.0.0.0.1.0 in absurd (omega arith)
+
+ticked_twice : Legal (at_the_clock (lines.Tick 1 ∷ lines.Tick 1 ∷ []) ∷ []) (script 1) → ⊥
+ticked_twice h = more_lines _ _ h.0.0.0.0.1.1.1
+  where
+    more_lines : (l : Line) (ls : List Line) → l ∷ ls ≡ [] → ⊥
+    more_lines l ls e = absurd cc
+
+-- ---- a node that begins again takes the next number
+
+begun_in_the_old_epoch : Legal (entries (start (script 1)) (client_stops 1 ∷ []) ++ step_of (Client 1) (lines.Restart (Client 1) 1 ∷ []) [] ∷ []) (script 1) → ⊥
+unfolding moved begin_row client_row server_row back_timeout_row wake_row start_row record_bytes head_form volume_form spelled opaque pad word laid_at led name_ok directory_bytes name_bytes rights_of image acl_text digits entry_text directory_of names_at opaque_at word_at counted_at whole_at count_at name_at spelled_at bytes_below
+begun_in_the_old_epoch h = let e : 1 ≡ 2 = one_epoch _ _ h.1.0.1.0.1.1.0.0 in absurd (omega (arith, e))
+  where
+    one_epoch : (a b : ℕ) → lines.Restart (Client 1) a ∷ [] ≡ lines.Restart (Client 1) b ∷ [] → a ≡ b
+    one_epoch a b e = cc
+
+abbrev in_boot_three : Line → Line
+in_boot_three (lines.Restart n boot) = lines.Restart n 3
+in_boot_three l = l
+
+boot_leapt : Legal (alters 1 (by_lines in_boot_three) (entries (start (script 1)) (stops 1 ∷ starts_again 1 false comes_up ∷ []))) (script 1) → ⊥
+unfolding moved begin_row client_row server_row back_timeout_row wake_row start_row record_bytes head_form volume_form spelled opaque pad word laid_at led name_ok directory_bytes name_bytes rights_of image acl_text digits entry_text directory_of names_at opaque_at word_at counted_at whole_at count_at name_at spelled_at bytes_below
+boot_leapt h = let e : 3 ≤ 2 = h.1.0.1.0.1.1.0.0 in absurd (omega arith)
+
+-- ---- a server that is down does nothing but begin again, or fail to; and one that stops does nothing else
+
+-- it stops once more
+stopped_when_down : Legal (entries (start (script 1)) (stops 1 ∷ []) ++ step_of (Server 1) (lines.Crash (Server 1) ∷ []) [] ∷ []) (script 1) → ⊥
+unfolding moved begin_row client_row server_row back_timeout_row wake_row start_row record_bytes head_form volume_form spelled opaque pad word laid_at led name_ok directory_bytes name_bytes rights_of image acl_text digits entry_text directory_of names_at opaque_at word_at counted_at whole_at count_at name_at spelled_at bytes_below
+stopped_when_down h = h.1.0.1.0.1.1.0
+
+-- its disk is set to stop it
+set_when_down : Legal (entries (start (script 1)) (stops 1 ∷ []) ++ step_of (Server 1) (lines.Stop (Server 1) 0 0 ∷ []) [] ∷ []) (script 1) → ⊥
+unfolding moved begin_row client_row server_row back_timeout_row wake_row start_row record_bytes head_form volume_form spelled opaque pad word laid_at led name_ok directory_bytes name_bytes rights_of image acl_text digits entry_text directory_of names_at opaque_at word_at counted_at whole_at count_at name_at spelled_at bytes_below
+set_when_down h = h.1.0.1.0.1.1.0
+
+-- it tells a client which boot it is in
+abbrev its_boot : Message
+its_boot = record { head = record { half = halves.Boot; from = Server 1; to = Client 1; epoch = 1; number = 1; boot = 1; stamp = 0; opcode = 130 }; carried = carried.Notice }
+
+noticed_when_down : Legal (entries (start (script 1)) (begins 1 (acts.Open (operands.Fid file)) ∷ stops 1 ∷ []) ++ step_of (Server 1) (lines.Given 1 ∷ []) (its_boot ∷ []) ∷ []) (script 1) → ⊥
+unfolding moved begin_row client_row server_row back_timeout_row wake_row start_row record_bytes head_form volume_form spelled opaque pad word laid_at led name_ok directory_bytes name_bytes rights_of image acl_text digits entry_text directory_of names_at opaque_at word_at counted_at whole_at count_at name_at spelled_at bytes_below
+noticed_when_down h = h.1.1.0.1.0.1.1.0
+
+-- it does so in the step in which it stops
+noticed_and_stopped : Legal (entries (start (script 1)) (begins 1 (acts.Open (operands.Fid file)) ∷ []) ++ step_of (Server 1) (lines.Given 1 ∷ lines.Crash (Server 1) ∷ []) (its_boot ∷ []) ∷ []) (script 1) → ⊥
+unfolding moved begin_row client_row server_row back_timeout_row wake_row start_row record_bytes head_form volume_form spelled opaque pad word laid_at led name_ok directory_bytes name_bytes rights_of image acl_text digits entry_text directory_of names_at opaque_at word_at counted_at whole_at count_at name_at spelled_at bytes_below
+noticed_and_stopped h = elim h.1.0.1.0.1.1.0 [ inl x ↦ x | inr x ↦ one_sent _ _ x.1 ]
+  where
+    one_sent : (m : Message) (ms : List Message) → m ∷ ms ≡ [] → ⊥
+    one_sent m ms e = absurd cc
+
+-- it is up, and has no room to begin again
+full_when_up : Legal (step_of (Server 1) (lines.Full (Server 1) ∷ []) [] ∷ []) (script 1) → ⊥
+unfolding moved begin_row client_row server_row back_timeout_row wake_row start_row record_bytes head_form volume_form spelled opaque pad word laid_at led name_ok directory_bytes name_bytes rights_of image acl_text digits entry_text directory_of names_at opaque_at word_at counted_at whole_at count_at name_at spelled_at bytes_below
+full_when_up h = elim h.0.1.0.1.1.0 [ inl x ↦ x | inr x ↦ x.0 ]
+
+-- ---- a client times out the call for which it waits, three times at most
+
+-- the same timeout twice
+timed_out_again : Legal (entries (start (script 1)) (begins 1 (acts.Open (operands.Fid file)) ∷ waits 1 ∷ []) ++ step_of (Client 1) (times_out 1 ∷ []) [] ∷ []) (script 1) → ⊥
+unfolding moved begin_row client_row server_row back_timeout_row wake_row start_row record_bytes head_form volume_form spelled opaque pad word laid_at led name_ok directory_bytes name_bytes rights_of image acl_text digits entry_text directory_of names_at opaque_at word_at counted_at whole_at count_at name_at spelled_at bytes_below
+timed_out_again h = h.1.1.0.0.0.0.1.awaited.once (inl (refl, (refl, (refl, (refl, refl)))))
+
+-- the reply came
+timed_out_when_answered : Legal (entries (start (script 1)) (begins 1 (acts.Open (operands.Fid file)) ∷ gives 1 steady ∷ gives 2 steady ∷ []) ++ step_of (Client 1) (times_out 1 ∷ []) [] ∷ []) (script 1) → ⊥
+unfolding moved begin_row client_row server_row back_timeout_row wake_row start_row record_bytes head_form volume_form spelled opaque pad word laid_at led name_ok directory_bytes name_bytes rights_of image acl_text digits entry_text directory_of names_at opaque_at word_at counted_at whole_at count_at name_at spelled_at bytes_below
+timed_out_when_answered h = let g = h.1.1.1.0.0.0.0.1.awaited in let e : None ≡ Some g.act = g.runs in absurd cc
+
+-- the act goes on with its next call
+timed_out_when_replaced : Legal (entries (start (script 1)) walk_front ++ step_of (Client 1) (times_out 1 ∷ []) [] ∷ []) (script 1) → ⊥
+unfolding moved begin_row client_row server_row back_timeout_row wake_row start_row record_bytes head_form volume_form spelled opaque pad word laid_at led name_ok directory_bytes name_bytes rights_of image acl_text digits entry_text directory_of names_at opaque_at word_at counted_at whole_at count_at name_at spelled_at bytes_below
+timed_out_when_replaced h = elim (h.1.1.1.0.0.0.0.1.awaited.last 3 _ refl tt refl) [ inl x ↦ let e : 1 < 1 = x in absurd (omega arith) | inr x ↦ let e : 2 ≤ 1 = x.1 in absurd (omega arith) ]
+
+-- a server times its call out once more than thrice
+timed_out_four_times : Legal (entries (start (script 2)) (changes_file ++ server_waits 1 (Client 1) ∷ server_waits 1 (Client 1) ∷ server_waits 1 (Client 1) ∷ []) ++ step_of (Server 1) (lines.Timeout (Server 1) (Client 1) 1 1 4 ∷ []) [] ∷ []) (script 2) → ⊥
+unfolding moved begin_row client_row server_row back_timeout_row wake_row start_row record_bytes head_form volume_form spelled opaque pad word laid_at led name_ok directory_bytes name_bytes rights_of image acl_text digits entry_text directory_of names_at opaque_at word_at counted_at whole_at count_at name_at spelled_at bytes_below
+timed_out_four_times h = let e : 4 ≤ 3 = h.1.1.1.1.1.1.1.0.0.0.0.1.few in absurd (omega arith)

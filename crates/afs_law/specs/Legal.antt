@@ -22,6 +22,9 @@ use Rattle.afs_law.specs.Grants.{is_promised, read_reply, GrantOf, since, until,
 use Rattle.afs_law.specs.Ideal.{last_version, Unless, set_up, IsLast, WasLast, HasBeen, HasVersion, Accepts, clock_of, user_of, seen, change_in, change_key, call_under, callee_under, volume_after}
 use Rattle.afs_history.specs.declared.acts.Act.TheVariants as acts
 use Rattle.afs_history.specs.declared.lines.Line.{Line}
+use Rattle.afs_law.specs.Past.{IsUpTo}
+use Rattle.afs_rows.specs.Runs.{message_at}
+use Rattle.afs_law.specs.Lives.{IsDelivered, IsHostLived, epoch_after, last_written}
 use Rattle.afs_law.specs.Past.{HasBoot, WasSent, is_down, last_boot, is_new_to_act, called_key, IsCall, IsToCome, is_of_act, lines_of, sent_of, given_message, answered_key, code_told, IsReply, running, has_begun, has_given, Called, CalledSince, IsCallUnder, Ran, server_boot}
 use Rattle.afs_rows.specs.Runs.{Entry}
 use Rattle.afs_history.specs.declared.scripts.Script.{Script}
@@ -279,10 +282,10 @@ abbrev pub IsOwedFor : Script → Node → Node → Option Fid → List Entry �
 IsOwedFor s server c None past own = HasRisen server own × IsClientOf s c
 IsOwedFor s server c (Some f) past own = IsChangedByOther server c f own × IsUnbroken server c f past
 
--- a break becomes owed at a server that hasn't stopped in this entry, under a number above those of its boot
+-- a break becomes owed at a server that hasn't stopped in this entry, under the number after that of its last one in this boot
 pub record GoodOwe (s : Script) (server c : Node) (what : Option Fid) (n : ℕ) (past : List Entry) (own : List Line) : Type 0 where
   pub going : HasStopped server own → ⊥
-  pub number : last_number server (own ++ lines_of past) < n
+  pub number : n ≡ last_number server (own ++ lines_of past) + 1
   pub cause : IsOwedFor s server c what past own
 
 -- an entry owes a client one break on one thing, and a break is settled or given up once
@@ -630,7 +633,7 @@ abbrev pub AreRising : List Line → List Line → Type 0
 AreRising older [] = ⊤
 AreRising older (l ∷ ls) = IsRising l older × AreRising (l ∷ older) ls
 
--- ---- clients that stop
+-- ---- nodes that stop
 
 -- these lines tell a crash or a restart
 abbrev pub has_crash_or_restart : List Line → Bool
@@ -639,24 +642,44 @@ has_crash_or_restart (lines.Crash n ∷ ls) = true
 has_crash_or_restart (lines.Restart n boot ∷ ls) = true
 has_crash_or_restart (l ∷ ls) = has_crash_or_restart ls
 
--- An entry of a client that is down is its restart. One of a client that is up is its crash, or tells neither a crash nor a restart. A crash
--- and a restart are their entry's only line, and send nothing
-abbrev pub IsLived : Node → Bool → List Line → List Message → Type 0
-IsLived c true ls sent = (epoch : ℕ) × ((ls ≡ lines.Restart c epoch ∷ []) × (sent ≡ []))
-IsLived c false ls sent = ((ls ≡ lines.Crash c ∷ []) × (sent ≡ [])) ⊎ (has_crash_or_restart ls ≡ false)
+-- An entry of a client that is down is its restart, in this epoch. One of a client that is up is its crash, or tells neither a crash nor a
+-- restart. A crash and a restart are their entry's only line, and send nothing
+abbrev pub IsLived : Node → Bool → ℕ → List Line → List Message → Type 0
+IsLived c true epoch ls sent = (ls ≡ lines.Restart c epoch ∷ []) × (sent ≡ [])
+IsLived c false epoch ls sent = ((ls ≡ lines.Crash c ∷ []) × (sent ≡ [])) ⊎ (has_crash_or_restart ls ≡ false)
 
+-- a client's entry is as the client is, up or down, and so is a server's; that begins again in the next boot, or where restarts failed before in
+-- one that comes after those which they may have written
 abbrev pub IsLivedBy : Actor → List Entry → List Line → List Message → Type 0
-IsLivedBy (actors.Node (Client j)) past ls sent = IsLived (Client j) (is_down (Client j) (lines_of past)) ls sent
+IsLivedBy (actors.Node (Client j)) past ls sent = IsLived (Client j) (is_down (Client j) (lines_of past)) (epoch_after (Client j) (lines_of past)) ls sent
+IsLivedBy (actors.Node (Server i)) past ls sent = IsHostLived (server_boot (Server i) (lines_of past)) (last_written (Server i) (lines_of past) + 1) ls sent
 IsLivedBy who past ls sent = ⊤
 
 -- ---- timeouts
 
--- the call of this key was sent to this node before; and this is its first timeout, or the one below it stands in an entry before
-pub record GoodTimeout (n callee : Node) (epoch number count : ℕ) (past : List Entry) : Type 0 where
+-- the client waits for the reply to this call, of which this timeout wasn't told before: its act runs, which sent the call, and it sent no
+-- later one
+pub record AwaitsReply (s : Script) (c callee : Node) (k : Key) (user : List ℕ) (call : FsCall) (count : ℕ) (past : List Entry) (own : List Line) : Type 0 where
+  pub act : Going
+  pub runs : running s c (lines_of past) ≡ Some act
+  pub called : CalledSince k user call past
+  pub last : (place : ℕ) (m : Message) → message_at (sent_of past) place ≡ Some m → IsCall m.carried → m.head.from ≡ c → IsUpTo m.head.epoch m.head.number k.epoch k.number
+  pub once : HasTimeout c callee k.epoch k.number count (own ++ lines_of past) → ⊥
+
+-- of a server's calls this isn't asked
+abbrev pub IsAwaitedBy : Script → Node → Node → Key → List ℕ → FsCall → ℕ → List Entry → List Line → Type 0
+IsAwaitedBy s (Client j) callee k user call count past own = AwaitsReply s (Client j) callee k user call count past own
+IsAwaitedBy s n callee k user call count past own = ⊤
+
+-- The call of this key was sent to this node before. Its count is 1, or the timeout of the count below stands in an entry before; and it is 3
+-- at most. A client waits for the reply still
+pub record GoodTimeout (s : Script) (n callee : Node) (epoch number count : ℕ) (past : List Entry) (own : List Line) : Type 0 where
   pub user : List ℕ
   pub call : FsCall
   pub sent : WasSent callee (record { node = n; epoch = epoch; number = number }) user call past
   pub below : (count ≡ 1) ⊎ ((k : ℕ) × ((count ≡ k + 1) × HasTimeout n callee epoch number k (lines_of past)))
+  pub few : count ≤ 3
+  pub awaited : IsAwaitedBy s n callee (record { node = n; epoch = epoch; number = number }) user call count past own
 
 -- ---- histories
 
@@ -674,7 +697,7 @@ abbrev pub IsTimed : Node → List Line → List Line → Type 0
 IsTimed c own next = ((has_given own ≡ false) × (has_begun c own ≡ false)) × ((has_given next ≡ false) × (has_begun c next ≡ false))
 
 -- Each line stands in an entry of its own node: a begin, a read, an answer, a drop in one of its client, a change, a grant, a break in
--- one of its server, a tick in the clock's, and that nothing happened in nobody's. An entry is given one message at most; a version
+-- one of its server, a tick, which isn't of 0 and is alone, in the clock's, and that nothing happened in nobody's. An entry is given one message at most; a version
 -- stands under its change; an act runs where a client reads or answers; a timeout stands in an entry that is given no message and in
 -- which its node begins no act; and a server that begins again owes each client of the script a break on all. A crash is of any node, a
 -- fault of a server alone, for clients have no disk
@@ -687,7 +710,7 @@ IsInPlace s who (lines.Version v) past own next = IsUnderChange own
 IsInPlace s who (lines.Read c f index source body) past own next = IsOfClient who c × HasAct s c past own
 IsInPlace s who (lines.Answer c code) past own next = IsOfClient who c × HasAct s c past own
 IsInPlace s who (lines.Timeout c callee epoch number count) past own next = (who ≡ actors.Node c) × IsTimed c own next
-IsInPlace s who (lines.Tick n) past own next = who ≡ actors.Clock
+IsInPlace s who (lines.Tick n) past own next = (who ≡ actors.Clock) × ((0 < n) × ((own ≡ []) × (next ≡ [])))
 IsInPlace s who (lines.Stop n calls pick) past own next = IsOfServer who n
 IsInPlace s who (lines.Fail n call) past own next = IsOfServer who n
 IsInPlace s who (lines.Crash n) past own next = who ≡ actors.Node n
@@ -707,7 +730,7 @@ IsGood s who (lines.Grant server c f index expiry) past own next = IsInPlace s w
 IsGood s who (lines.Change server k count) past own next = IsInPlace s who (lines.Change server k count) past own next × GoodChange s server k count past own next
 IsGood s who (lines.Read c f index source body) past own next = IsInPlace s who (lines.Read c f index source body) past own next × GoodReadBy s (is_promised body) c f index source body past own
 IsGood s who (lines.Answer c code) past own next = IsInPlace s who (lines.Answer c code) past own next × GoodCode s c code past own
-IsGood s who (lines.Timeout n callee epoch number count) past own next = IsInPlace s who (lines.Timeout n callee epoch number count) past own next × GoodTimeout n callee epoch number count past
+IsGood s who (lines.Timeout n callee epoch number count) past own next = IsInPlace s who (lines.Timeout n callee epoch number count) past own next × GoodTimeout s n callee epoch number count past own
 IsGood s who (lines.Owe server c what n) past own next = IsInPlace s who (lines.Owe server c what n) past own next × GoodOwe s server c what n past own
 IsGood s who (lines.Settle server c n) past own next = IsInPlace s who (lines.Settle server c n) past own next × GoodSettle server c n past own
 IsGood s who (lines.Quit server c n) past own next = IsInPlace s who (lines.Quit server c n) past own next × GoodQuit server c n past own
@@ -726,9 +749,10 @@ IsOfScript s actors.Clock = ⊤
 IsOfScript s actors.Nobody = ⊤
 
 -- An entry lays no volumes, for the set-up alone does; and it is of a node of the script. A server that begins again was down, and is then in
--- a boot above the last one that it began. A client that is down does nothing but begin again
+-- a boot above the last one that it began. A node that is down does nothing but begin again, or fail to. What an entry is given was sent to its
+-- node
 abbrev pub IsEntryOf : Script → List Entry → Entry → Type 0
-IsEntryOf s past e = ((e.volumes ≡ []) × IsOfScript s e.actor) × (AreRising (lines_of past) e.lines × IsLivedBy e.actor past e.lines e.sent)
+IsEntryOf s past e = ((e.volumes ≡ []) × IsOfScript s e.actor) × (AreRising (lines_of past) e.lines × (IsLivedBy e.actor past e.lines e.sent × IsDelivered e.actor past e.lines))
 
 abbrev pub LegalAfter : Script → List Entry → List Entry → Type 0
 LegalAfter s past [] = ⊤

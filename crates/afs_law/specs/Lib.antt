@@ -2,6 +2,7 @@ pub mod Past
 pub mod Ideal
 pub mod Grants
 pub mod Breaks
+pub mod Lives
 pub mod Legal
 pub mod Cells
 pub mod Once

@@ -42,14 +42,14 @@ IsBreakGood s who (lines.Settle server c n) past own next = GoodSettle server c 
 IsBreakGood s who (lines.Quit server c n) past own next = GoodQuit server c n past own
 IsBreakGood s who l past own next = ⊤
 
--- a timeout is of a call that was sent before, and the one below it was told
-abbrev pub IsTimeoutGood : LineRule
-IsTimeoutGood who (lines.Timeout n callee epoch number count) past own next = GoodTimeout n callee epoch number count past
-IsTimeoutGood who l past own next = ⊤
+-- a timeout is of a call that was sent before, the one below it was told, and a client waits for the reply still
+abbrev pub IsTimeoutGood : Script → LineRule
+IsTimeoutGood s who (lines.Timeout n callee epoch number count) past own next = GoodTimeout s n callee epoch number count past own
+IsTimeoutGood s who l past own next = ⊤
 
 -- so is each timeout of a run
 abbrev pub TimeoutsAreGood : Type 0
-TimeoutsAreGood = (s : Script) (history : List Entry) (end : Cell) → RunsTo history s end → AllLines IsTimeoutGood s history
+TimeoutsAreGood = (s : Script) (history : List Entry) (end : Cell) → RunsTo history s end → AllLines (IsTimeoutGood s) s history
 
 -- a break becomes owed once in its entry, and ends once
 abbrev pub IsBreakOnce : LineRule

@@ -152,7 +152,8 @@ pub fn calls_are_asked()
     ensures { CallsAreAsked }
 {}
 
-/// Each entry is of a node of the script, a server that begins again in it was down, and each reply that it sends to a client was run.
+/// Each entry is of a node of the script, and as that is, up or down: one that is down does nothing but begin again, or fail to. What it is
+/// given was sent to its node, and each reply that it sends to a client was run.
 pub fn entries_are_sound()
     ensures { EntriesAreSound }
 {}
@@ -234,7 +235,8 @@ pub fn breaks_are_once()
     ensures { BreaksAreOnce }
 {}
 
-/// Each timeout is of a call that was sent before, and is its first or has the one below it before.
+/// Each timeout is of a call that was sent before, and is its first or has the one below it before; it is the third at most, and a client
+/// waits for the reply still.
 pub fn timeouts_are_good()
     ensures { TimeoutsAreGood }
 {}

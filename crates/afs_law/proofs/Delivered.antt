@@ -1,0 +1,147 @@
+-- What an entry of a run is given was sent before, to its node, however many servers a cell has.
+use Rattle.afs_breaks.specs.declared.types.OwedBreak.{OwedBreak}
+use Rattle.afs_history.specs.declared.acts.Act.{Act}
+use Rattle.afs_history.specs.declared.lines.Line.{Line}
+use Rattle.afs_history.specs.declared.lines.Line.TheVariants as lines
+use Rattle.afs_history.specs.declared.scripts.Script.{Script}
+use Rattle.afs_ideal.specs.Operations.{volume_changed}
+use Rattle.afs_law.proofs.Backing.{all_lines}
+use Rattle.afs_law.proofs.Basics.{both}
+use Rattle.afs_law.proofs.Changing.{run_each}
+use Rattle.afs_law.proofs.Choosing.{risen_lines}
+use Rattle.afs_law.proofs.Hearing.{HearsIn, client_given, first_hears, moved_hears, served_given}
+use Rattle.afs_law.proofs.Moving.{EachMove, each_moved}
+use Rattle.afs_law.proofs.Owed.{disk_lines}
+use Rattle.afs_law.specs.Ideal.{set_up}
+use Rattle.afs_law.specs.Lives.{IsDelivered, IsTo}
+use Rattle.afs_law.specs.Parts.{EachEntry}
+use Rattle.afs_law.specs.Past.{given_message, has_given, sent_of}
+use Rattle.afs_num.specs.declared.histories.Actor.{Actor}
+use Rattle.afs_num.specs.declared.histories.Actor.TheVariants as actors
+use Rattle.afs_num.specs.declared.messages.Message.{Message}
+use Rattle.afs_num.specs.declared.messages.Received.TheVariants.{Whole}
+use Rattle.afs_num.specs.declared.types.Node.{Node}
+use Rattle.afs_num.specs.declared.types.Node.TheVariants.{Client, Server}
+use Rattle.afs_rows.specs.Callbacks.{expired, owe_line, quit_line, quits, retries, risen_turn, still_owed}
+use Rattle.afs_rows.specs.ClientRow.{Look, Walked, begin_row, begins_by, call_of, client_row, dead_code, dropped, gift_of, given_up_in, gives_by, gives_up, goes_by, in_order, looked, most_reads, timeout_row, tries_again, trusted_in, untrusted_in, walked}
+use Rattle.afs_rows.specs.Going.{ClientState, Going, Need, answers, began, gives_back, next}
+use Rattle.afs_rows.specs.Runs.{Cell, Entry, Fall, Moved, RunsTo, at_rest, begun_by_disk, blow_line, client_falls, client_moves, client_rises, in_boot, message_at, server_falls, server_moves, server_rises, server_set, server_stays, start, ticked, voided}
+use Rattle.afs_rows.specs.ServerSteps.{back_timeout_row, server_row, start_row, wake_row}
+use Rattle.afs_rows.specs.States.{BackCall, Backs, CacheEntry, Gift, ServerState}
+use Rattle.std.proofs.Common.{suc, ◌≡◌, ℕ, ◌+◌, Bool, true, false, cond, List, [], ◌∷◌, map, Option, Some, None, refl, sym, ap, subst, ◌∙◌, nat_lt}
+
+-- ---- an entry that is given nothing
+
+abbrev Ungiven : List Line → Type 0
+Ungiven ls = has_given ls ≡ false
+
+ungiven_delivered : (who : Actor) (past : List Entry) (ls : List Line) → Ungiven ls → IsDelivered who past ls
+ungiven_delivered who past ls none has = let no : true ≡ false = sym has ∙ none in absurd cc
+
+looked_ungiven : (me : Node) (looks : List Look) (ls : List Line) → Ungiven ls → Ungiven (looked me looks ls)
+looked_ungiven me [] ls h = h
+looked_ungiven me (l ∷ looks) ls h = looked_ungiven me looks ls h
+
+dropped_ungiven : (me : Node) (es : List CacheEntry) (ls : List Line) → Ungiven ls → Ungiven (dropped me es ls)
+dropped_ungiven me [] ls h = h
+dropped_ungiven me (e ∷ es) ls h = dropped_ungiven me es ls h
+
+goes_ungiven : (me : Node) (x : ClientState) (act : Act) (w : Walked) (need : Need) → Ungiven (goes_by me x (λ ls. lines.Begin me act ∷ ls) w need).lines
+goes_ungiven me x act w (answers n) = looked_ungiven me w.looks _ refl
+goes_ungiven me x act w need = looked_ungiven me w.looks [] refl
+
+gives_ungiven : (me : Node) (x : ClientState) (act : Act) (a : Going) (es : List CacheEntry) (gs : List Gift) → Ungiven (gives_by me x (λ ls. lines.Begin me act ∷ dropped me es ls) a gs).lines
+gives_ungiven me x act a es [] = dropped_ungiven me es _ refl
+gives_ungiven me x act a es (g ∷ gs) = dropped_ungiven me es [] refl
+
+first_ungiven : (me : Node) (x : ClientState) (clock : ℕ) (act : Act) (a : Going) (need : Need) → Ungiven (begins_by me x clock (λ ls. lines.Begin me act ∷ ls) a need).lines
+first_ungiven me x clock act a gives_back = gives_ungiven me (record x { cache = untrusted_in clock x.cache }) act a (trusted_in clock x.cache) (in_order (map gift_of (trusted_in clock x.cache)))
+first_ungiven me x clock act a need = let w : Walked = walked (most_reads a) clock a x.cache in goes_ungiven me x act w (next w.act)
+
+begun_ungiven : (me : Node) (x : ClientState) (clock : ℕ) (act : Act) → Ungiven (begin_row me x clock act).lines
+unfolding begin_row
+begun_ungiven me x clock act = first_ungiven me (record x { busy = 0 }) clock act (began x.table act) (next (began x.table act))
+
+tries_ungiven : (me : Node) (x : ClientState) (act : Going) (t : Bool) → Ungiven (cond t (tries_again me x act) (gives_up me x (call_of x act))).lines
+tries_ungiven me x act true = refl
+tries_ungiven me x act false = dropped_ungiven me (given_up_in (volume_changed (call_of x act)) x.cache) (lines.Answer me dead_code ∷ []) refl
+
+waited_ungiven : (me : Node) (x : ClientState) (act : Going) → Ungiven (timeout_row me x act).lines
+waited_ungiven me x act = tries_ungiven me x act (nat_lt x.tries 2)
+
+-- ---- a server's
+
+abbrev is_ungiven : Line → Bool
+is_ungiven (lines.Given place) = false
+is_ungiven l = true
+
+all_ungiven : (ls : List Line) → all_lines is_ungiven ls ≡ true → Ungiven ls
+all_ungiven [] h = refl
+all_ungiven (lines.Given place ∷ ls) h = absurd cc
+all_ungiven (l ∷ ls) h = all_ungiven ls (both (is_ungiven l) (all_lines is_ungiven ls) h).1
+
+owes_ungiven : (me : Node) (os : List OwedBreak) → all_lines is_ungiven (map (owe_line me) os) ≡ true
+owes_ungiven me [] = refl
+owes_ungiven me (o ∷ os) = owes_ungiven me os
+
+quits_ungiven : (me n : Node) (os : List OwedBreak) → Ungiven (map (quit_line me n) os)
+quits_ungiven me n [] = refl
+quits_ungiven me n (o ∷ os) = quits_ungiven me n os
+
+back_ungiven : (me : Node) (boot : ℕ) (n : Node) (k : BackCall) (b : Backs) (t : Bool) → Ungiven (cond t (retries me boot n k b) (quits me boot n k b)).lines
+back_ungiven me boot n k b true = refl
+back_ungiven me boot n k b false = quits_ungiven me n (still_owed k b)
+
+timed_ungiven : (me : Node) (x : ServerState) (clock : ℕ) (n : Node) (k : BackCall) → Ungiven (back_timeout_row me x clock n k).lines
+unfolding back_timeout_row
+timed_ungiven me x clock n k = back_ungiven me x.lasting.boot n k (expired clock x.backs) (nat_lt k.tries 2)
+
+woken_ungiven : (me : Node) (x : ServerState) (clock : ℕ) → Ungiven (wake_row me x clock).lines
+unfolding wake_row
+woken_ungiven me x clock = refl
+
+found_ungiven : (me : Node) (x : ServerState) (after : Bool) (fall : Fall) (ls : List Line) → all_lines is_ungiven ls ≡ true → Ungiven ((begun_by_disk me x after fall).before ls)
+found_ungiven me x after fall ls h = all_ungiven ((begun_by_disk me x after fall).before ls) (disk_lines is_ungiven (λ n key z. refl) (λ v. refl) me x after fall ls h)
+
+started_ungiven : (me : Node) (x : ServerState) (clock count : ℕ) (after : Bool) (fall : Fall) → Ungiven (start_row me clock count (begun_by_disk me x after fall)).lines
+unfolding start_row
+started_ungiven me x clock count after fall = found_ungiven me x after fall (risen_lines me clock count (begun_by_disk me x after fall)) (owes_ungiven me (risen_turn me clock count).backs.lists.owed)
+
+-- ---- one that is given a message
+
+given_delivered : (n : Node) (past : List Entry) (ls : List Line) (m : Message) → given_message ls (sent_of past) ≡ Some m → m.head.to ≡ n → IsDelivered (actors.Node n) past ls
+given_delivered n past ls m is to has = subst (IsTo (actors.Node n)) (sym is) (ap actors.Node (sym to))
+
+-- ---- every step
+
+abbrev DeliveredStep : Cell → List Entry → Moved → Type 0
+DeliveredStep c past m = IsDelivered m.entry.actor past m.entry.lines
+
+ungiven_step : (past : List Entry) (m : Moved) → Ungiven m.entry.lines → IsDelivered m.entry.actor past m.entry.lines
+ungiven_step past m none = ungiven_delivered m.entry.actor past m.entry.lines none
+
+delivered_moves : EachMove HearsIn DeliveredStep
+delivered_moves = record {
+  void = λ c past h. ungiven_step past (voided c) refl;
+  ticked = λ c past n h. ungiven_step past (ticked c (suc n)) refl;
+  begun = λ c past n act h r. ungiven_step past (client_moves c n (begin_row (Client n) (c.clients n) c.clock act)) (begun_ungiven (Client n) (c.clients n) c.clock act);
+  told = λ c past n place m h at to. given_delivered (Client n) past (client_row (Client n) (c.clients n) c.clock place (Whole m)).lines m ((client_given c past n place m h to at).given (sent_of past) ∙ (ap (λ (ms : List Message). message_at ms place) h.told ∙ at)) to;
+  waited = λ c past n act h r. ungiven_step past (client_moves c n (timeout_row (Client n) (c.clients n) act)) (waited_ungiven (Client n) (c.clients n) act);
+  fallen = λ c past n h. ungiven_step past (client_falls c n) refl;
+  risen = λ c past n h. ungiven_step past (client_rises c n) refl;
+  served = λ c past i place m armed h up at to. given_delivered (Server i) past (server_row (Server i) (c.hosts i).state c.clock place (Whole m)).lines m (served_given i (c.hosts i).state c.clock place m (sent_of past) ∙ (ap (λ (ms : List Message). message_at ms place) h.told ∙ at)) to;
+  cut = λ c past i place m t h up at to. given_delivered (Server i) past (lines.Given place ∷ blow_line i t ∷ []) m (ap (λ (ms : List Message). message_at ms place) h.told ∙ at) to;
+  stopped = λ c past i h up. ungiven_step past (server_falls c i (lines.Crash (Server i) ∷ []) at_rest) refl;
+  stop_set = λ c past i calls pick armed h up. ungiven_step past (server_set c i (lines.Stop (Server i) calls pick) armed) refl;
+  fail_set = λ c past i call armed h up. ungiven_step past (server_set c i (lines.Fail (Server i) call) armed) refl;
+  timed = λ c past i n b armed h up at. ungiven_step past (server_moves c i armed (back_timeout_row (Server i) (c.hosts i).state c.clock n b)) (timed_ungiven (Server i) (c.hosts i).state c.clock n b);
+  woken = λ c past i armed h up. ungiven_step past (server_moves c i armed (wake_row (Server i) (c.hosts i).state c.clock)) (woken_ungiven (Server i) (c.hosts i).state c.clock);
+  started = λ c past i after fall h down. ungiven_step past (server_rises c i (begun_by_disk (Server i) (c.hosts i).state after fall)) (started_ungiven (Server i) (c.hosts i).state c.clock c.count after fall);
+  early = λ c past i fall h down. ungiven_step past (server_falls c i (lines.Fault (Server i) ∷ []) fall) refl;
+  midway = λ c past i after fall h down. ungiven_step past (server_stays c i (begun_by_disk (Server i) (c.hosts i).state after fall) (lines.Fault (Server i)) in_boot) (found_ungiven (Server i) (c.hosts i).state after fall (lines.Fault (Server i) ∷ []) refl);
+  full = λ c past i after fall h down. ungiven_step past (server_stays c i (begun_by_disk (Server i) (c.hosts i).state after fall) (lines.Full (Server i)) at_rest) (found_ungiven (Server i) (c.hosts i).state after fall (lines.Full (Server i) ∷ []) refl);
+}
+
+pub run_delivered : (s : Script) (h : List Entry) (end : Cell) → RunsTo h s end → EachEntry (λ past e. IsDelivered e.actor past e.lines) (set_up s ∷ []) h
+run_delivered s h end r =
+    run_each HearsIn (λ past e. IsDelivered e.actor past e.lines) moved_hears (λ c past x k. each_moved HearsIn DeliveredStep delivered_moves c past x k) r.inputs (start s) (set_up s ∷ []) h end (first_hears s) r.leads
