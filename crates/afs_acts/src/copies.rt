@@ -1,6 +1,7 @@
 //! Copies.
 
 ghost use Rattle.std.specs.Prelude.{◌≡◌, IfOk};
+ghost use Rattle.afs_history.specs.declared.acts.Act.TheVariants as acts;
 
 use afs_history::acts::{Act, Operand, Path, Written};
 use afs_num::histories::{Body, ReadBody};
@@ -69,6 +70,51 @@ fn copy_written(alloc: Global, written: &Written) -> Mem<Written>
     }
 }
 
+fn copy_close(alloc: Global, operand: &Operand, contents: &Written) -> Mem<Act>
+    ensures { IfOk result (λ c. c ≡ acts.Close operand.now contents.now) }
+{
+    Ok(Act::Close {
+        operand: copy_operand(alloc, operand)?,
+        contents: copy_written(alloc, contents)?,
+    })
+}
+
+fn copy_set_access_list(alloc: Global, operand: &Operand, text: &Written) -> Mem<Act>
+    ensures { IfOk result (λ c. c ≡ acts.SetAccessList operand.now text.now) }
+{
+    Ok(Act::SetAccessList {
+        operand: copy_operand(alloc, operand)?,
+        text: copy_written(alloc, text)?,
+    })
+}
+
+fn copy_move(alloc: Global, from: &Path, to: &Path) -> Mem<Act>
+    ensures { IfOk result (λ c. c ≡ acts.Move from.now to.now) }
+{
+    Ok(Act::Move {
+        from: copy_path(alloc, from)?,
+        to: copy_path(alloc, to)?,
+    })
+}
+
+fn copy_link(alloc: Global, target: &Path, path: &Path) -> Mem<Act>
+    ensures { IfOk result (λ c. c ≡ acts.Link target.now path.now) }
+{
+    Ok(Act::Link {
+        target: copy_path(alloc, target)?,
+        path: copy_path(alloc, path)?,
+    })
+}
+
+fn copy_symlink(alloc: Global, path: &Path, target: &Written) -> Mem<Act>
+    ensures { IfOk result (λ c. c ≡ acts.Symlink path.now target.now) }
+{
+    Ok(Act::Symlink {
+        path: copy_path(alloc, path)?,
+        target: copy_written(alloc, target)?,
+    })
+}
+
 pub fn copy_act(alloc: Global, act: &Act) -> Mem<Act>
     ensures { IfOk result (λ c. c ≡ act.now) }
 {
@@ -92,18 +138,12 @@ pub fn copy_act(alloc: Global, act: &Act) -> Mem<Act>
             operand: copy_operand(alloc, operand)?,
         }),
         Act::GiveUp => Ok(Act::GiveUp),
-        Act::Close { operand, contents } => Ok(Act::Close {
-            operand: copy_operand(alloc, operand)?,
-            contents: copy_written(alloc, contents)?,
-        }),
+        Act::Close { operand, contents } => copy_close(alloc, operand, contents),
         Act::SetMode { operand, mode } => Ok(Act::SetMode {
             operand: copy_operand(alloc, operand)?,
             mode: *mode,
         }),
-        Act::SetAccessList { operand, text } => Ok(Act::SetAccessList {
-            operand: copy_operand(alloc, operand)?,
-            text: copy_written(alloc, text)?,
-        }),
+        Act::SetAccessList { operand, text } => copy_set_access_list(alloc, operand, text),
         Act::Make { path } => Ok(Act::Make {
             path: copy_path(alloc, path)?,
         }),
@@ -116,17 +156,8 @@ pub fn copy_act(alloc: Global, act: &Act) -> Mem<Act>
         Act::RemoveDirectory { path } => Ok(Act::RemoveDirectory {
             path: copy_path(alloc, path)?,
         }),
-        Act::Move { from, to } => Ok(Act::Move {
-            from: copy_path(alloc, from)?,
-            to: copy_path(alloc, to)?,
-        }),
-        Act::Link { target, path } => Ok(Act::Link {
-            target: copy_path(alloc, target)?,
-            path: copy_path(alloc, path)?,
-        }),
-        Act::Symlink { path, target } => Ok(Act::Symlink {
-            path: copy_path(alloc, path)?,
-            target: copy_written(alloc, target)?,
-        }),
+        Act::Move { from, to } => copy_move(alloc, from, to),
+        Act::Link { target, path } => copy_link(alloc, target, path),
+        Act::Symlink { path, target } => copy_symlink(alloc, path, target),
     }
 }

@@ -5,7 +5,7 @@ ghost use Rattle.afs_records.specs.Records.{caller_form, caller_number, head_for
 ghost use Rattle.afs_record.specs.Reading.{ReadsForm};
 
 use crate::faults::RecordFault;
-use crate::forms::{Form, Text};
+use crate::forms::read_text;
 use afs_num::records::RecordHead;
 use afs_num::types::{Mem, Node};
 use afs_xdr::reading::Reader;
@@ -44,19 +44,13 @@ fn read_caller(r: &mut Reader) -> Result<Option<Node>, RecordFault>
 pub(crate) fn read_head(alloc: Global, r: &mut Reader) -> Result<RecordHead, RecordFault>
     ensures { ReadsForm head_form.at (λ h. h) r.old r.new result }
 {
-    let family = r.word()?;
-    let stamp = r.word()?;
-    let caller = read_caller(r)?;
-    let epoch = r.word()?;
-    let number = r.word()?;
-    let reply = Text::<MOST_REPLY>::read(alloc, r)?;
     Ok(RecordHead {
-        family,
-        stamp,
-        caller,
-        epoch,
-        number,
-        reply,
+        family: r.word()?,
+        stamp: r.word()?,
+        caller: read_caller(r)?,
+        epoch: r.word()?,
+        number: r.word()?,
+        reply: read_text(alloc, r, MOST_REPLY)?,
     })
 }
 

@@ -7,7 +7,7 @@ ghost use Rattle.afs_records.specs.Records.{are_listed, are_whole, ascend_from, 
 ghost use Rattle.afs_record.specs.Reading.{ReadsForm};
 
 use crate::faults::RecordFault;
-use crate::forms::{Form, Image, Text, VolumeKind, Word};
+use crate::forms::{Form, Image, read_text, read_volume_kind};
 use crate::lists::{ListOf, read_many, write_many};
 use afs_num::records::StoredVolume;
 use afs_num::types::Mem;
@@ -174,31 +174,22 @@ impl Form for Volume {
 
     #[tactic(auto, unfolding(afs_records::specs::Records::volume_form))]
     fn read(alloc: Global, r: &mut Reader) -> Result<StoredVolume, RecordFault> {
-        let name = Text::<MOST_NAME>::read(alloc, r)?;
+        let name = read_text(alloc, r, MOST_NAME)?;
         let flags = r.word()?;
         read_mark(r, VOLUME_MARK)?;
-        let id = r.word()?;
-        let family = r.word()?;
-        let kind = VolumeKind::read(alloc, r)?;
-        let quota = r.word()?;
-        let unique = r.word()?;
-        let counter = r.word()?;
-        let release = r.word()?;
+        let head = VolumeHead {
+            name,
+            flags,
+            id: r.word()?,
+            family: r.word()?,
+            kind: read_volume_kind(r)?,
+            quota: r.word()?,
+            unique: r.word()?,
+            counter: r.word()?,
+            release: r.word()?,
+        };
         let vnodes = read_vnodes(alloc, r)?;
-        Ok(StoredVolume {
-            head: VolumeHead {
-                id,
-                family,
-                name,
-                kind,
-                flags,
-                quota,
-                unique,
-                counter,
-                release,
-            },
-            vnodes,
-        })
+        Ok(StoredVolume { head, vnodes })
     }
 
     #[tactic(auto, unfolding(afs_records::specs::Records::volume_form))]
