@@ -44,13 +44,19 @@ fn read_caller(r: &mut Reader) -> Result<Option<Node>, RecordFault>
 pub(crate) fn read_head(alloc: Global, r: &mut Reader) -> Result<RecordHead, RecordFault>
     ensures { ReadsForm head_form.at (λ h. h) r.old r.new result }
 {
+    let family = r.word()?;
+    let stamp = r.word()?;
+    let caller = read_caller(r)?;
+    let epoch = r.word()?;
+    let number = r.word()?;
+    let reply = read_text(alloc, r, MOST_REPLY)?;
     Ok(RecordHead {
-        family: r.word()?,
-        stamp: r.word()?,
-        caller: read_caller(r)?,
-        epoch: r.word()?,
-        number: r.word()?,
-        reply: read_text(alloc, r, MOST_REPLY)?,
+        family,
+        stamp,
+        caller,
+        epoch,
+        number,
+        reply,
     })
 }
 

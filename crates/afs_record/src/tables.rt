@@ -95,38 +95,55 @@ pub(crate) fn write_body(body: &RecordBody, w: &mut Writer) -> Mem<()>
 fn read_change(alloc: Global, r: &mut Reader) -> Result<RecordBody, RecordFault>
     ensures { MakesAtEnd ((row (bodies.Change 0 0 0 [] [])).make r.old.left) r.new result }
 {
+    let id = r.word()?;
+    let counter = r.word()?;
+    let unique = r.word()?;
+    let vnodes = ListOf::<Image>::read(alloc, r)?;
+    let removed = ListOf::<Word>::read(alloc, r)?;
     Ok(RecordBody::Change {
-        id: r.word()?,
-        counter: r.word()?,
-        unique: r.word()?,
-        vnodes: ListOf::<Image>::read(alloc, r)?,
-        removed: ListOf::<Word>::read(alloc, r)?,
+        id,
+        counter,
+        unique,
+        vnodes,
+        removed,
     })
 }
 
 fn read_create(alloc: Global, r: &mut Reader) -> Result<RecordBody, RecordFault>
     ensures { MakesAtEnd ((row (bodies.Create 0 0 [] 0 0 0 false)).make r.old.left) r.new result }
 {
+    let id = r.word()?;
+    let family = r.word()?;
+    let name = read_text(alloc, r, MOST_NAME)?;
+    let kind = read_volume_kind(r)?;
+    let flags = r.word()?;
+    let quota = r.word()?;
+    let is_new = read_flag(r)?;
     Ok(RecordBody::Create {
-        id: r.word()?,
-        family: r.word()?,
-        name: read_text(alloc, r, MOST_NAME)?,
-        kind: read_volume_kind(r)?,
-        flags: r.word()?,
-        quota: r.word()?,
-        is_new: read_flag(r)?,
+        id,
+        family,
+        name,
+        kind,
+        flags,
+        quota,
+        is_new,
     })
 }
 
 fn read_clone(alloc: Global, r: &mut Reader) -> Result<RecordBody, RecordFault>
     ensures { MakesAtEnd ((row (bodies.Clone 0 0 [] 0 0)).make r.old.left) r.new result }
 {
+    let source = r.word()?;
+    let id = r.word()?;
+    let name = read_text(alloc, r, MOST_NAME)?;
+    let kind = read_volume_kind(r)?;
+    let release = r.word()?;
     Ok(RecordBody::Clone {
-        source: r.word()?,
-        id: r.word()?,
-        name: read_text(alloc, r, MOST_NAME)?,
-        kind: read_volume_kind(r)?,
-        release: r.word()?,
+        source,
+        id,
+        name,
+        kind,
+        release,
     })
 }
 
@@ -135,26 +152,36 @@ fn read_fields(alloc: Global, number: u32, r: &mut Reader) -> Result<RecordBody,
     ensures { MakesAtEnd (body_at number r.old.left) r.new result }
 {
     match number {
-        1 => Ok(RecordBody::First {
-            volumes: ListOf::<Volume>::read(alloc, r)?,
-        }),
+        1 => {
+            let volumes = ListOf::<Volume>::read(alloc, r)?;
+            Ok(RecordBody::First { volumes })
+        }
         2 => read_change(alloc, r),
-        3 => Ok(RecordBody::Boot { boot: r.word()? }),
+        3 => {
+            let boot = r.word()?;
+            Ok(RecordBody::Boot { boot })
+        }
         4 => read_create(alloc, r),
-        5 => Ok(RecordBody::Delete { id: r.word()? }),
+        5 => {
+            let id = r.word()?;
+            Ok(RecordBody::Delete { id })
+        }
         6 => read_clone(alloc, r),
-        7 => Ok(RecordBody::Restore {
-            id: r.word()?,
-            dump: read_text(alloc, r, MOST_DUMP)?,
-        }),
-        8 => Ok(RecordBody::Flags {
-            id: r.word()?,
-            flags: r.word()?,
-        }),
-        9 => Ok(RecordBody::Forward {
-            id: r.word()?,
-            server: read_server(r)?,
-        }),
+        7 => {
+            let id = r.word()?;
+            let dump = read_text(alloc, r, MOST_DUMP)?;
+            Ok(RecordBody::Restore { id, dump })
+        }
+        8 => {
+            let id = r.word()?;
+            let flags = r.word()?;
+            Ok(RecordBody::Flags { id, flags })
+        }
+        9 => {
+            let id = r.word()?;
+            let server = read_server(r)?;
+            Ok(RecordBody::Forward { id, server })
+        }
         10 => Ok(RecordBody::Stamp),
         _ => Err(RecordFault::NoForm),
     }

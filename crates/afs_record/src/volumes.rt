@@ -177,19 +177,28 @@ impl Form for Volume {
         let name = read_text(alloc, r, MOST_NAME)?;
         let flags = r.word()?;
         read_mark(r, VOLUME_MARK)?;
-        let head = VolumeHead {
-            name,
-            flags,
-            id: r.word()?,
-            family: r.word()?,
-            kind: read_volume_kind(r)?,
-            quota: r.word()?,
-            unique: r.word()?,
-            counter: r.word()?,
-            release: r.word()?,
-        };
+        let id = r.word()?;
+        let family = r.word()?;
+        let kind = read_volume_kind(r)?;
+        let quota = r.word()?;
+        let unique = r.word()?;
+        let counter = r.word()?;
+        let release = r.word()?;
         let vnodes = read_vnodes(alloc, r)?;
-        Ok(StoredVolume { head, vnodes })
+        Ok(StoredVolume {
+            head: VolumeHead {
+                id,
+                family,
+                name,
+                kind,
+                flags,
+                quota,
+                unique,
+                counter,
+                release,
+            },
+            vnodes,
+        })
     }
 
     #[tactic(auto, unfolding(afs_records::specs::Records::volume_form))]

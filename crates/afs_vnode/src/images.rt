@@ -80,24 +80,40 @@ fn fields(alloc: Global, r: &mut Reader) -> Result<Vnode, ImageFault>
     ensures end { KeepsEnd r.old r.new }
 {
     let vnode = word(r, 1)?;
+    let unique = word(r, 2)?;
+    let kind = kind(r, 3, vnode)?;
+    let index = word(r, 4)?;
+    let data_version = word(r, 5)?;
+    let link_count = word(r, 6)?;
+    let owner = word(r, 7)?;
+    let group = word(r, 8)?;
+    let mode = word(r, 9)?;
+    let segment_size = word(r, 10)?;
+    let client_time = word(r, 11)?;
+    let server_time = word(r, 12)?;
+    let parent_vnode = word(r, 13)?;
+    let parent_unique = word(r, 14)?;
+    let change_counter = word(r, 15)?;
+    let acl = opaque(alloc, r, 16, MOST_ACL)?;
+    let contents = opaque(alloc, r, 17, MOST_CONTENTS)?;
     Ok(Vnode {
         vnode,
-        unique: word(r, 2)?,
-        kind: kind(r, 3, vnode)?,
-        index: word(r, 4)?,
-        data_version: word(r, 5)?,
-        link_count: word(r, 6)?,
-        owner: word(r, 7)?,
-        group: word(r, 8)?,
-        mode: word(r, 9)?,
-        segment_size: word(r, 10)?,
-        client_time: word(r, 11)?,
-        server_time: word(r, 12)?,
-        parent_vnode: word(r, 13)?,
-        parent_unique: word(r, 14)?,
-        change_counter: word(r, 15)?,
-        acl: opaque(alloc, r, 16, MOST_ACL)?,
-        contents: opaque(alloc, r, 17, MOST_CONTENTS)?,
+        unique,
+        kind,
+        index,
+        data_version,
+        link_count,
+        owner,
+        group,
+        mode,
+        segment_size,
+        client_time,
+        server_time,
+        parent_vnode,
+        parent_unique,
+        change_counter,
+        acl,
+        contents,
     })
 }
 
