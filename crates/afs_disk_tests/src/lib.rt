@@ -2,10 +2,12 @@
 #![tactic(auto)]
 
 #[cfg(test)]
+mod called;
+#[cfg(test)]
 mod disks;
 #[cfg(test)]
 mod files;
 #[cfg(test)]
 mod journals;
 #[cfg(test)]
-mod tearing;
+mod played;
