@@ -1,4 +1,5 @@
-//! Tests of the disks, the banks and the journal: worked images, files in a real folder, and each call once.
+//! Tests of the disks, the banks and the journal: worked images, files in a real folder, and each call once. Tests of sources
+//! and sinks: those in memory, over the standard streams, and with a buffer.
 #![tactic(auto)]
 
 #[cfg(test)]
@@ -11,3 +12,5 @@ mod files;
 mod journals;
 #[cfg(test)]
 mod played;
+#[cfg(test)]
+mod streams;

@@ -1,11 +1,28 @@
-//! Tests of a file server over a disk in memory: runs of another program are played again.
+//! Tests of the nodes: the promises and the turns of a file server, a file server over a disk in memory, a client's cache, and
+//! a client. What is wanted was worked out by hand, or is a run of another program that is played again.
 #![tactic(auto)]
 
 #[cfg(test)]
+mod caches;
+#[cfg(test)]
+mod clients;
+#[cfg(test)]
+mod clients_played;
+#[cfg(test)]
 mod playing;
+#[cfg(test)]
+mod promises;
+#[cfg(test)]
+mod promises_played;
+#[cfg(test)]
+mod promises_tried;
+#[cfg(test)]
+mod servers;
 #[cfg(test)]
 mod shown;
 #[cfg(test)]
-mod tests;
+mod turns;
+#[cfg(test)]
+mod turns_played;
 #[cfg(test)]
 mod vectors;
