@@ -1,12 +1,11 @@
 //! Messages of the file servers and clients as words; the samples and vectors were made by another program.
 
-use crate::samples::{Interface, Sample, bytes_of, changed, fault_of, refuses_all};
+use crate::samples::{Interface, Sample, bytes_of, changed, fault_of, refused, refuses_all};
 use afs_fsrpc::calls::{decode_call, encode_call};
-use afs_fsrpc::heads::read_head;
 use afs_fsrpc::replies::{decode_reply, encode_reply};
-use afs_num::calls::{FsCall, FsReply};
+use afs_num::calls::FsCall;
 use afs_num::sequences::Octets;
-use afs_num::types::{Code, Fid, Half, Head, Node};
+use afs_num::types::{Code, Half};
 use afs_shape::faults::ShapeFault;
 use afs_xdr::faults::XdrFault;
 use std::alloc::Global;
@@ -412,108 +411,21 @@ const OPEN: &[u32] = &[
 ];
 
 #[test]
-fn the_call_of_an_open(rt: HostRuntime) -> Result<(), Fail> {
-    let bytes = bytes_of(rt.alloc(), OPEN)?;
-    let (head, user, call) = decode_call(rt.alloc(), &bytes)?;
-    assert_eq!(rt; head.from, Node::Client(1));
-    assert_eq!(rt; head.to, Node::Server(1));
-    assert_eq!(rt; user.as_slice(), b"guest".as_slice());
-    match call {
-        FsCall::FetchData {
-            fid,
-            position,
-            length,
-        } => {
-            assert_eq!(rt;
-                fid,
-                Fid {
-                    volume: 536870912,
-                    vnode: 2,
-                    unique: 2
-                }
-            );
-            assert_eq!(rt; position, 0);
-            assert_eq!(rt; length, i32::MAX);
-        }
-        _ => assert!(rt; false, "another call"),
-    }
-    Ok(())
-}
-
-#[test]
 fn an_open_is_refused_with_its_fault(rt: HostRuntime) -> Result<(), Fail> {
-    let bytes = bytes_of(rt.alloc(), OPEN)?;
-    let short = bytes.len().saturating_sub(1);
-    if short <= bytes.len() {
-        let fault = fault_of(rt.alloc(), Interface::Files, Half::Call, &bytes[..short]);
-        assert_eq!(rt; fault, Some(ShapeFault::Field(3, XdrFault::Short)));
+    // the place of a word, what it becomes, and why the call is refused then
+    for (at, word, want) in [
+        (7, 161, ShapeFault::NoRow(161)),
+        (7, 143, ShapeFault::NoRow(143)),
+        (10, 0x74000001, ShapeFault::Field(0, XdrFault::BadPad)),
+        (0, 9, ShapeFault::Head(XdrFault::BadHead)),
+        (1, 117, ShapeFault::Head(XdrFault::BadHead)),
+    ] {
+        let words = changed(rt.alloc(), OPEN, at, word)?;
+        let fault = refused(rt.alloc(), Interface::Files, Half::Call, &words)?;
+        assert_eq!(rt; fault, Some(want));
     }
-    let unknown = bytes_of(rt.alloc(), &changed(rt.alloc(), OPEN, 7, 161)?)?;
-    let fault = fault_of(rt.alloc(), Interface::Files, Half::Call, &unknown);
-    assert_eq!(rt; fault, Some(ShapeFault::NoRow(161)));
-    let padded = bytes_of(rt.alloc(), &changed(rt.alloc(), OPEN, 10, 0x74000001)?)?;
-    let fault = fault_of(rt.alloc(), Interface::Files, Half::Call, &padded);
-    assert_eq!(rt; fault, Some(ShapeFault::Field(0, XdrFault::BadPad)));
-    let half = bytes_of(rt.alloc(), &changed(rt.alloc(), OPEN, 0, 9)?)?;
-    assert_eq!(rt; read_head(&half), Err(XdrFault::BadHead));
-    let node = bytes_of(rt.alloc(), &changed(rt.alloc(), OPEN, 1, 117)?)?;
-    assert_eq!(rt; read_head(&node), Err(XdrFault::BadHead));
-    let fault = fault_of(rt.alloc(), Interface::Files, Half::Reply, &bytes);
+    let fault = refused(rt.alloc(), Interface::Files, Half::Reply, OPEN)?;
     assert_eq!(rt; fault, Some(ShapeFault::Head(XdrFault::BadHead)));
-    let lock = bytes_of(rt.alloc(), &changed(rt.alloc(), OPEN, 7, 143)?)?;
-    let fault = fault_of(rt.alloc(), Interface::Files, Half::Call, &lock);
-    assert_eq!(rt; fault, Some(ShapeFault::NoRow(143)));
-    Ok(())
-}
-
-#[test]
-fn a_restarted_server_resets_its_client(rt: HostRuntime) -> Result<(), Fail> {
-    let head = Head {
-        half: Half::Call,
-        from: Node::Server(1),
-        to: Node::Client(1),
-        epoch: 1,
-        number: 1,
-        boot: 1,
-        stamp: 0,
-        opcode: 205,
-    };
-    let words = [1, 1, 101, 1, 1, 1, 0, 205, 0];
-    let bytes = bytes_of(rt.alloc(), &words)?;
-    let spelled = encode_call(rt.alloc(), &head, &[], &FsCall::InitCallBackState)?;
-    assert_eq!(rt; spelled.as_slice(), bytes.as_slice());
-    Ok(())
-}
-
-#[test]
-fn the_reply_to_an_open(rt: HostRuntime) -> Result<(), Fail> {
-    let words = [
-        2, 1, 101, 1, 1, 1, 0, 130, 0, 3, 0x61626300, 1, 1, 1, 3, 1, 0, 0, 127, 127, 420, 1, 1, 0,
-        0, 0, 0, 1, 0, 0, 0, 0, 1, 7200, 2, 0, 0, 0, 0, 0, 0,
-    ];
-    let bytes = bytes_of(rt.alloc(), &words)?;
-    let (_, code, reply) = decode_reply(rt.alloc(), &bytes)?;
-    assert_eq!(rt; code, Code(0));
-    match &reply {
-        Some(
-            FsReply::FetchData {
-                contents,
-                status,
-                callback,
-                sync,
-            },
-        ) => {
-            assert_eq!(rt; contents.as_slice(), b"abc".as_slice());
-            assert_eq!(rt; status.length, 3);
-            assert_eq!(rt; status.unix_mode_bits, 420);
-            assert_eq!(rt; status.sync_counter, 1);
-            assert_eq!(rt; callback.expiration_time, 7200);
-            assert_eq!(rt; sync.release, 0);
-        }
-        _ => assert!(rt; false, "another reply"),
-    }
-    let again = reply_again(rt.alloc(), &bytes)?;
-    assert_eq!(rt; again.as_slice(), bytes.as_slice());
     Ok(())
 }
 
@@ -529,43 +441,42 @@ fn a_refusal_has_no_fields(rt: HostRuntime) -> Result<(), Fail> {
     Ok(())
 }
 
-const BREAK: &[u32] = &[1, 1, 101, 1, 1, 1, 0, 204, 0, 51];
-
-const STORE_ACL: &[u32] = &[1, 101, 1, 1, 1, 1, 0, 134, 0, 1, 1, 1, 3, 0x31323300];
-
-const LONG_ACL: &[u32] = &[2, 1, 101, 1, 1, 1, 0, 131, 0, 1025];
-
-const STORE: &[u32] = &[
-    1, 101, 1, 1, 1, 1, 0, 133, 0, 1, 2, 2, 0, 0, 0, 0, 0, 0, 0, 0xffffffff, 4, 2000000,
+/// Messages that end behind a count: the breaks of a call, the bytes of an access list, and those of a store.
+const COUNTED: [(Half, &[u32], ShapeFault); 5] = [
+    (
+        Half::Call,
+        &[1, 1, 101, 1, 1, 1, 0, 204, 0, 51],
+        ShapeFault::Field(1, XdrFault::TooLong),
+    ),
+    (
+        Half::Call,
+        &[1, 1, 101, 1, 1, 1, 0, 204, 0, 0xffffffff],
+        ShapeFault::Field(1, XdrFault::TooLong),
+    ),
+    (
+        Half::Call,
+        &[1, 1, 101, 1, 1, 1, 0, 204, 0, 50],
+        ShapeFault::Field(1, XdrFault::Short),
+    ),
+    (
+        Half::Reply,
+        &[2, 1, 101, 1, 1, 1, 0, 131, 0, 1025],
+        ShapeFault::Field(1, XdrFault::TooLong),
+    ),
+    (
+        Half::Call,
+        &[
+            1, 101, 1, 1, 1, 1, 0, 133, 0, 1, 2, 2, 0, 0, 0, 0, 0, 0, 0, 0xffffffff, 4, 2000000,
+        ],
+        ShapeFault::Field(6, XdrFault::Short),
+    ),
 ];
 
 #[test]
 fn hostile_counts_are_refused(rt: HostRuntime) -> Result<(), Fail> {
-    let many = bytes_of(rt.alloc(), BREAK)?;
-    let fault = fault_of(rt.alloc(), Interface::Files, Half::Call, &many);
-    assert_eq!(rt; fault, Some(ShapeFault::Field(1, XdrFault::TooLong)));
-    let most = bytes_of(rt.alloc(), &changed(rt.alloc(), BREAK, 9, u32::MAX)?)?;
-    let fault = fault_of(rt.alloc(), Interface::Files, Half::Call, &most);
-    assert_eq!(rt; fault, Some(ShapeFault::Field(1, XdrFault::TooLong)));
-    let fifty = bytes_of(rt.alloc(), &changed(rt.alloc(), BREAK, 9, 50)?)?;
-    let fault = fault_of(rt.alloc(), Interface::Files, Half::Call, &fifty);
-    assert_eq!(rt; fault, Some(ShapeFault::Field(1, XdrFault::Short)));
-    let long = bytes_of(rt.alloc(), LONG_ACL)?;
-    let fault = fault_of(rt.alloc(), Interface::Files, Half::Reply, &long);
-    assert_eq!(rt; fault, Some(ShapeFault::Field(1, XdrFault::TooLong)));
-    let large = bytes_of(rt.alloc(), STORE)?;
-    let fault = fault_of(rt.alloc(), Interface::Files, Half::Call, &large);
-    assert_eq!(rt; fault, Some(ShapeFault::Field(6, XdrFault::Short)));
-    Ok(())
-}
-
-#[test]
-fn an_access_list_is_bytes_like_any_others(rt: HostRuntime) -> Result<(), Fail> {
-    let bytes = bytes_of(rt.alloc(), STORE_ACL)?;
-    let (_, _, call) = decode_call(rt.alloc(), &bytes)?;
-    match call {
-        FsCall::StoreAcl { acl, .. } => assert_eq!(rt; acl.as_slice(), b"123".as_slice()),
-        _ => assert!(rt; false, "another call"),
+    for (half, words, want) in COUNTED {
+        let fault = refused(rt.alloc(), Interface::Files, half, words)?;
+        assert_eq!(rt; fault, Some(want));
     }
     Ok(())
 }

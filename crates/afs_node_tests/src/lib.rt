@@ -1,13 +1,9 @@
-//! Tests of the nodes: the promises and the turns of a file server, a file server over a disk in memory, a client's cache, and
-//! a client. What is wanted was worked out by hand, or is a run of another program that is played again.
+//! Tests of the nodes: the promises of a file server, a file server over a disk in memory, and a client's cache. What is wanted was
+//! worked out by hand, or is a run of another program that is played again.
 #![tactic(auto)]
 
 #[cfg(test)]
 mod caches;
-#[cfg(test)]
-mod clients;
-#[cfg(test)]
-mod clients_played;
 #[cfg(test)]
 mod playing;
 #[cfg(test)]
@@ -20,9 +16,5 @@ mod promises_tried;
 mod servers;
 #[cfg(test)]
 mod shown;
-#[cfg(test)]
-mod turns;
-#[cfg(test)]
-mod turns_played;
 #[cfg(test)]
 mod vectors;
