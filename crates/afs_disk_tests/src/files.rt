@@ -93,7 +93,10 @@ fn fewer_bytes_than_the_length_are_a_fault(rt: HostRuntime) -> Result<(), Fail> 
 fn a_disk_in_use_is_not_lent(rt: HostRuntime) -> Result<(), Fail> {
     let mut bank = HostBank::new(&rt, rt.alloc());
     let disk = lent(&mut bank, rt.alloc(), 79)?;
-    assert_eq!(rt; refused(&rt, rt.alloc(), b".", 79)?, Some(LendFault::Failed));
+    assert_eq!(rt;
+        refused(&rt, rt.alloc(), b".", 79)?,
+        Some(LendFault::Failed)
+    );
     bank.give_back(79, disk)?;
     assert_eq!(rt; refused(&rt, rt.alloc(), b".", 79)?, None);
     fs::remove_file(&rt, "./node-79")?;
@@ -103,7 +106,10 @@ fn a_disk_in_use_is_not_lent(rt: HostRuntime) -> Result<(), Fail> {
 #[test]
 fn what_cannot_be_opened_is_not_lent(rt: HostRuntime) -> Result<(), Fail> {
     for path in [b"no/such/folder".as_slice(), b"\xff"] {
-        assert_eq!(rt; refused(&rt, rt.alloc(), path, 80)?, Some(LendFault::Failed));
+        assert_eq!(rt;
+            refused(&rt, rt.alloc(), path, 80)?,
+            Some(LendFault::Failed)
+        );
     }
     let _made = fs::create_dir(&rt, "./node-80");
     let refused = refused(&rt, rt.alloc(), b".", 80)?;
@@ -139,10 +145,16 @@ fn a_crash_leaves_what_a_read_gives(rt: HostRuntime) -> Result<(), Fail> {
 fn a_file_that_stands_elsewhere_is_not_lent(rt: HostRuntime) -> Result<(), Fail> {
     fs::write(&rt, "./elsewhere", b"kept")?;
     symlink(&rt, "elsewhere", "./node-85")?;
-    assert_eq!(rt; refused(&rt, rt.alloc(), b".", 85)?, Some(LendFault::Failed));
+    assert_eq!(rt;
+        refused(&rt, rt.alloc(), b".", 85)?,
+        Some(LendFault::Failed)
+    );
     fs::remove_file(&rt, "./node-85")?;
     fs::hard_link(&rt, "./elsewhere", "./node-85")?;
-    assert_eq!(rt; refused(&rt, rt.alloc(), b".", 85)?, Some(LendFault::Failed));
+    assert_eq!(rt;
+        refused(&rt, rt.alloc(), b".", 85)?,
+        Some(LendFault::Failed)
+    );
     fs::remove_file(&rt, "./node-85")?;
     assert_eq!(rt;
         fs::read(&rt, "./elsewhere")?.as_slice(),
@@ -171,7 +183,10 @@ fn after_a_failed_sync_each_call_fails(rt: HostRuntime) -> Result<(), Fail> {
         Sync,
     ];
     let told = told(rt.alloc(), &mut disk, &calls);
-    assert_eq!(rt; told.as_str(), "failed 0 0: failed 0: failed failed failed ");
+    assert_eq!(rt;
+        told.as_str(),
+        "failed 0 0: failed 0: failed failed failed "
+    );
     Ok(())
 }
 
@@ -231,7 +246,10 @@ impl<'a> Files for FolderFails<'a> {
 #[test]
 fn a_new_file_is_on_the_disk_with_its_name(rt: HostRuntime) -> Result<(), Fail> {
     let files = FolderFails { files: &rt };
-    assert_eq!(rt; refused(&files, rt.alloc(), b".", 81)?, Some(LendFault::Failed));
+    assert_eq!(rt;
+        refused(&files, rt.alloc(), b".", 81)?,
+        Some(LendFault::Failed)
+    );
     fs::remove_file(&rt, "./node-81")?;
     Ok(())
 }

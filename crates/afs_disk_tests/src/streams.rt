@@ -29,7 +29,11 @@ fn is_taken<K: Sink>(sink: &mut K, put: Put) -> bool {
 fn taken<K: Sink>(alloc: Global, sink: &mut K, puts: &[Put]) -> String {
     let mut out = String::new(alloc);
     for put in puts {
-        let word = if is_taken(sink, *put) { "ok " } else { "failed " };
+        let word = if is_taken(sink, *put) {
+            "ok "
+        } else {
+            "failed "
+        };
         let _ = out.push_str(word);
     }
     out
@@ -80,9 +84,15 @@ fn a_full_sink_behind_holds_a_beginning(rt: HostRuntime) -> Result<(), Fail> {
 fn what_a_failure_leaves_is_passed_on_later(rt: HostRuntime) {
     let alloc = rt.alloc();
     let mut sink = BufferedSink::new(MemSink::new(alloc, &[1, 0, 1]));
-    assert_eq!(rt; taken(alloc, &mut sink, &[All(b"begin")]).as_str(), "failed ");
+    assert_eq!(rt;
+        taken(alloc, &mut sink, &[All(b"begin")]).as_str(),
+        "failed "
+    );
     assert_eq!(rt; sink.inner().as_slice(), b"".as_slice());
-    assert_eq!(rt; taken(alloc, &mut sink, &[All(b" c1\n")]).as_str(), "failed ");
+    assert_eq!(rt;
+        taken(alloc, &mut sink, &[All(b" c1\n")]).as_str(),
+        "failed "
+    );
     assert_eq!(rt; sink.inner().as_slice(), b"begin c1\n".as_slice());
     assert_eq!(rt; taken(alloc, &mut sink, &[Flush]).as_str(), "ok ");
     assert_eq!(rt; sink.inner().as_slice(), b"begin c1\n".as_slice());
@@ -113,12 +123,7 @@ fn one_byte_above_the_limit_is_too_long(rt: HostRuntime) {
 #[test]
 fn a_read_fails_in_mid_stream(rt: HostRuntime) {
     let mut source = MemSource::new(b"abc", &[0, 1]);
-    assert!(rt;
-        matches!(
-            read(rt.alloc(), &mut source, 100),
-            Err(ReadError::Failed)
-        )
-    );
+    assert!(rt; matches!(read(rt.alloc(), &mut source, 100), Err(ReadError::Failed)));
 }
 
 #[test]
@@ -130,7 +135,10 @@ fn a_full_sink_holds_a_beginning(rt: HostRuntime) -> Result<(), Fail> {
     assert_eq!(rt; full.as_slice(), b"entry 1 c1".as_slice());
 
     let mut unflushed = MemSink::new(alloc, &[0, 1]);
-    assert_eq!(rt; taken(alloc, &mut unflushed, &[All(b"end\n")]).as_str(), "failed ");
+    assert_eq!(rt;
+        taken(alloc, &mut unflushed, &[All(b"end\n")]).as_str(),
+        "failed "
+    );
     assert_eq!(rt; unflushed.as_slice(), b"end\n".as_slice());
 
     let mut out = Vec::new(alloc);
