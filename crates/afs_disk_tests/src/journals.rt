@@ -196,8 +196,15 @@ fn stopped(alloc: Global, passes: u64) -> Option<MemDisk> {
     let mut fuse = Fuse::new(disk_of(alloc, &TORN));
     fuse.arm(passes);
     match attach(alloc, fuse) {
-        Err((JournalFault::Failed, fuse)) if fuse.stopped() => Some(fuse.into_inner()),
-        _ => None,
+        Ok(_journal) => None,
+        Err((fault, fuse)) => {
+            let is_stopped = fault == JournalFault::Failed && fuse.stopped();
+            if is_stopped {
+                Some(fuse.into_inner())
+            } else {
+                None
+            }
+        }
     }
 }
 
