@@ -1,7 +1,6 @@
 use crate::called::Call::{Crash, Cut, Length, Read, Sync, Write};
 use crate::called::{Call, told};
 use afs_disk::{Bank, Disk, LendFault, MemBank, MemDisk, Place};
-use afs_num::devices::Failed;
 use afs_num::sequences::{Octets, Records};
 use std::alloc::Global;
 use std::test::Fail;
@@ -54,19 +53,23 @@ fn bank(alloc: Global) -> Result<MemBank, Fail> {
     Ok(MemBank::new(alloc, failing, Records::new(alloc)))
 }
 
+fn lent(bank: &mut MemBank, node: u32) -> Result<MemDisk, LendFault> {
+    bank.lend(&Place::Memory, node, 50)
+}
+
+fn is_taken(bank: &mut MemBank, node: u32, disk: MemDisk) -> bool {
+    bank.give_back(node, disk).is_ok()
+}
+
 #[test]
 fn a_bank_in_memory_tells_what_it_lent(rt: HostRuntime) -> Result<(), Fail> {
-    let alloc = rt.alloc();
-    let mut bank = bank(alloc)?;
-    let mut disk = bank.lend(&Place::Memory, 3, 50).map_err(|_| "not lent")?;
+    let mut bank = bank(rt.alloc())?;
+    let mut disk = lent(&mut bank, 3).map_err(|_| "not lent")?;
     assert_eq!(rt; disk.capacity(), 50);
-    assert_eq!(rt;
-        bank.lend(&Place::Memory, 4, 50).err(),
-        Some(LendFault::Failed)
-    );
-    let told = told(alloc, &mut disk, &[Write(0, b"abc")]);
+    assert_eq!(rt; lent(&mut bank, 4).err(), Some(LendFault::Failed));
+    let told = told(rt.alloc(), &mut disk, &[Write(0, b"abc")]);
     assert_eq!(rt; told.as_str(), "ok ");
-    bank.give_back(3, disk)?;
+    assert!(rt; is_taken(&mut bank, 3, disk));
     assert_eq!(rt; bank.lends().len(), 1);
     assert_eq!(rt; bank.given().len(), 1);
     assert_eq!(rt; bank.given()[0].node, 3);
@@ -76,10 +79,9 @@ fn a_bank_in_memory_tells_what_it_lent(rt: HostRuntime) -> Result<(), Fail> {
 
 #[test]
 fn a_bank_in_memory_may_take_no_disk_back(rt: HostRuntime) -> Result<(), Fail> {
-    let alloc = rt.alloc();
-    let mut bank = bank(alloc)?;
-    let disk = bank.lend(&Place::Memory, 3, 50).map_err(|_| "not lent")?;
-    assert_eq!(rt; bank.give_back(3, disk), Err(Failed));
+    let mut bank = bank(rt.alloc())?;
+    let disk = lent(&mut bank, 3).map_err(|_| "not lent")?;
+    assert!(rt; !is_taken(&mut bank, 3, disk));
     assert_eq!(rt; bank.given().len(), 0);
     Ok(())
 }

@@ -2,9 +2,10 @@
 use crate::called::Call::{Crash, Cut, Length, Read, Sync, Write};
 use crate::called::{Call, told};
 use crate::played::Step::Append;
-use crate::played::{attach, found_in, put_step};
+use crate::played::{attach, put_records, put_step};
 use afs_disk::{Bank, FileDisk, HostBank, HostDisk, LendFault, Place};
 use afs_num::sequences::Octets;
+use afs_num::types::Mem;
 use std::alloc::{Allocator, Global};
 use std::fs::{File, Metadata, OpenOptions};
 use std::os::unix::fs::symlink;
@@ -12,7 +13,7 @@ use std::rt::Files;
 use std::test::Fail;
 use std::{fs, io};
 
-fn folder(alloc: Global, path: &[u8]) -> Result<Place, Fail> {
+fn folder(alloc: Global, path: &[u8]) -> Mem<Place> {
     Ok(Place::Folder(Octets::from_slice(alloc, path)?))
 }
 
@@ -40,16 +41,16 @@ fn told_of<R: Files<File = File>>(
     Ok(told)
 }
 
-// Why the disk of a node isn't lent in the folder of this path.
-fn refused<R: Files<File = File>>(
-    files: &R,
-    alloc: Global,
-    path: &[u8],
-    node: u32,
-) -> Result<Option<LendFault>, Fail> {
-    let place = folder(alloc, path)?;
+// Whether the disk of a node isn't lent in the folder of this path, since that failed.
+fn is_refused<R: Files<File = File>>(files: &R, alloc: Global, path: &[u8], node: u32) -> bool {
+    let Ok(place) = folder(alloc, path) else {
+        return false;
+    };
     let mut bank = HostBank::new(files, alloc);
-    Ok(bank.lend(&place, node, 100).err())
+    match bank.lend(&place, node, 100) {
+        Ok(_disk) => false,
+        Err(fault) => fault == LendFault::Failed,
+    }
 }
 
 #[test]
@@ -93,12 +94,9 @@ fn fewer_bytes_than_the_length_are_a_fault(rt: HostRuntime) -> Result<(), Fail> 
 fn a_disk_in_use_is_not_lent(rt: HostRuntime) -> Result<(), Fail> {
     let mut bank = HostBank::new(&rt, rt.alloc());
     let disk = lent(&mut bank, rt.alloc(), 79)?;
-    assert_eq!(rt;
-        refused(&rt, rt.alloc(), b".", 79)?,
-        Some(LendFault::Failed)
-    );
+    assert!(rt; is_refused(&rt, rt.alloc(), b".", 79));
     bank.give_back(79, disk)?;
-    assert_eq!(rt; refused(&rt, rt.alloc(), b".", 79)?, None);
+    assert!(rt; !is_refused(&rt, rt.alloc(), b".", 79));
     fs::remove_file(&rt, "./node-79")?;
     Ok(())
 }
@@ -106,15 +104,12 @@ fn a_disk_in_use_is_not_lent(rt: HostRuntime) -> Result<(), Fail> {
 #[test]
 fn what_cannot_be_opened_is_not_lent(rt: HostRuntime) -> Result<(), Fail> {
     for path in [b"no/such/folder".as_slice(), b"\xff"] {
-        assert_eq!(rt;
-            refused(&rt, rt.alloc(), path, 80)?,
-            Some(LendFault::Failed)
-        );
+        assert!(rt; is_refused(&rt, rt.alloc(), path, 80));
     }
     let _made = fs::create_dir(&rt, "./node-80");
-    let refused = refused(&rt, rt.alloc(), b".", 80)?;
+    let is_refused = is_refused(&rt, rt.alloc(), b".", 80);
     fs::remove_dir(&rt, "./node-80")?;
-    assert_eq!(rt; refused, Some(LendFault::Failed));
+    assert!(rt; is_refused);
     Ok(())
 }
 
@@ -145,16 +140,10 @@ fn a_crash_leaves_what_a_read_gives(rt: HostRuntime) -> Result<(), Fail> {
 fn a_file_that_stands_elsewhere_is_not_lent(rt: HostRuntime) -> Result<(), Fail> {
     fs::write(&rt, "./elsewhere", b"kept")?;
     symlink(&rt, "elsewhere", "./node-85")?;
-    assert_eq!(rt;
-        refused(&rt, rt.alloc(), b".", 85)?,
-        Some(LendFault::Failed)
-    );
+    assert!(rt; is_refused(&rt, rt.alloc(), b".", 85));
     fs::remove_file(&rt, "./node-85")?;
     fs::hard_link(&rt, "./elsewhere", "./node-85")?;
-    assert_eq!(rt;
-        refused(&rt, rt.alloc(), b".", 85)?,
-        Some(LendFault::Failed)
-    );
+    assert!(rt; is_refused(&rt, rt.alloc(), b".", 85));
     fs::remove_file(&rt, "./node-85")?;
     assert_eq!(rt;
         fs::read(&rt, "./elsewhere")?.as_slice(),
@@ -246,10 +235,7 @@ impl<'a> Files for FolderFails<'a> {
 #[test]
 fn a_new_file_is_on_the_disk_with_its_name(rt: HostRuntime) -> Result<(), Fail> {
     let files = FolderFails { files: &rt };
-    assert_eq!(rt;
-        refused(&files, rt.alloc(), b".", 81)?,
-        Some(LendFault::Failed)
-    );
+    assert!(rt; is_refused(&files, rt.alloc(), b".", 81));
     fs::remove_file(&rt, "./node-81")?;
     Ok(())
 }
@@ -263,7 +249,8 @@ fn journal_told<R: Files<File = File>>(
     let mut bank = HostBank::new(files, alloc);
     let disk = lent(&mut bank, alloc, 82)?;
     let mut journal = attach(alloc, disk).map_err(|e| e.0)?;
-    let mut out = found_in(alloc, &journal);
+    let mut out = String::new(alloc);
+    put_records(&mut out, &journal);
     for record in records {
         put_step(&mut out, &mut journal, Append(record));
     }

@@ -1,13 +1,14 @@
 use crate::called::Call::{Sync, Write};
 use crate::called::told;
 use crate::played::Step::{Append, Counts, Reserve};
-use crate::played::{Step, attach, found_in, put_step};
+use crate::played::{Step, attach, put_records, put_step};
 use afs_disk::{Disk, Fuse, MemDisk};
 use afs_journal::Journal;
 use afs_num::faults::JournalFault;
 use afs_num::sequences::Octets;
+use afs_num::types::Mem;
 use std::alloc::Global;
-use std::test::Fail;
+use std::fmt::Write as _;
 
 // An empty disk whose device calls all succeed.
 fn empty(alloc: Global, capacity: u64) -> MemDisk {
@@ -42,45 +43,86 @@ fn put_steps(out: &mut String, journal: &mut Journal<Fuse<MemDisk>>, steps: &[St
         put_step(out, journal, *step);
     }
     if journal.stopped() {
-        let _ = out.push_str("stopped");
+        let _ = out.push_str("stopped ");
     }
 }
 
-// What steps give on a journal over this disk, and the disk.
-fn played(alloc: Global, disk: MemDisk, fused: Fused, steps: &[Step]) -> (String, MemDisk) {
-    let mut out = String::new(alloc);
-    match attach(alloc, Fuse::new(disk)) {
+// A disk as it is at first: empty, for so many bytes, or with these bytes.
+#[derive(Clone, Copy)]
+enum Start<'a> {
+    Empty(u64),
+    Holds(&'a [u8]),
+}
+
+fn disk_at(alloc: Global, start: Start) -> MemDisk {
+    match start {
+        Start::Empty(capacity) => empty(alloc, capacity),
+        Start::Holds(bytes) => disk_of(alloc, bytes),
+    }
+}
+
+// Tells what steps give on a journal over this disk, and hands the disk back.
+fn played(out: &mut String, alloc: Global, start: Start, fused: Fused, steps: &[Step]) -> MemDisk {
+    match attach(alloc, Fuse::new(disk_at(alloc, start))) {
         Ok(attached) => {
             let mut journal = attached;
             set(&mut journal, fused);
-            put_steps(&mut out, &mut journal, steps);
-            (out, journal.into_disk().into_inner())
+            put_steps(out, &mut journal, steps);
+            journal.into_disk().into_inner()
         }
         Err((_, disk)) => {
             let _ = out.push_str("refused");
-            (out, disk.into_inner())
+            disk.into_inner()
         }
     }
 }
 
-// The records on a disk, and the number of a further one.
-fn found(alloc: Global, disk: MemDisk) -> String {
-    match attach(alloc, disk) {
-        Ok(attached) => {
-            let mut journal = attached;
-            let mut out = found_in(alloc, &journal);
-            put_step(&mut out, &mut journal, Append(b"again"));
-            out
-        }
-        Err(_) => String::new(alloc),
+// What steps give.
+fn told_by(alloc: Global, start: Start, fused: Fused, steps: &[Step]) -> String {
+    let mut out = String::new(alloc);
+    let _disk = played(&mut out, alloc, start, fused, steps);
+    out
+}
+
+// The bytes that steps leave on a disk, after how many device calls in all.
+fn left_by(alloc: Global, start: Start, steps: &[Step]) -> String {
+    let mut out = String::new(alloc);
+    let disk = played(&mut out, alloc, start, Fused::Never, steps);
+    put_disk(&mut out, &disk);
+    out
+}
+
+fn put_disk(out: &mut String, disk: &MemDisk) {
+    for byte in disk.bytes() {
+        let _ = write!(out, "{byte} ");
+    }
+    let _ = write!(out, "calls {}", disk.calls());
+}
+
+// Tells the records on a disk, and the number of a further one.
+fn put_found(out: &mut String, alloc: Global, disk: MemDisk) {
+    if let Ok(attached) = attach(alloc, disk) {
+        let mut journal = attached;
+        put_records(out, &journal);
+        put_step(out, &mut journal, Append(b"again"));
     }
 }
 
-// The records that a crash with this pick leaves.
-fn found_behind(alloc: Global, disk: MemDisk, pick: u8) -> String {
-    let mut disk = disk;
+// The records on a disk with these bytes.
+fn found_on(alloc: Global, bytes: &[u8]) -> String {
+    let mut out = String::new(alloc);
+    put_found(&mut out, alloc, disk_of(alloc, bytes));
+    out
+}
+
+// Where an append stops after so many device calls: what it gives, and the records that a crash with this pick leaves.
+fn found_after(alloc: Global, passes: u64, pick: u8) -> String {
+    let mut out = String::new(alloc);
+    let stops = Fused::Stops(passes);
+    let mut disk = played(&mut out, alloc, Start::Holds(&ONE), stops, &[Append(b"c")]);
     disk.crash(pick);
-    found(alloc, disk)
+    put_found(&mut out, alloc, disk);
+    out
 }
 
 // The first record, `ab`, with its gate open, and then a closed gate.
@@ -88,38 +130,31 @@ const ONE: [u8; 12] = [1, 0, 0, 0, 2, 0, 0, 0, 1, 97, 98, 0];
 
 #[test]
 fn a_full_journal_tells_the_two_lengths(rt: HostRuntime) {
-    let alloc = rt.alloc();
     let steps = [Reserve(90), Append(&[7; 90]), Append(&[8]), Counts];
-    let (told, _) = played(alloc, empty(alloc, 100), Fused::Never, &steps);
+    let told = told_by(rt.alloc(), Start::Empty(100), Fused::Never, &steps);
     assert_eq!(rt; told.as_str(), "ok 1 full 100 100 100 100 1 ");
 }
 
+// To attach an empty disk takes three device calls: a sync, and the closed gate with another.
 #[test]
 fn a_record_is_spelled_behind_its_gate(rt: HostRuntime) {
-    let alloc = rt.alloc();
-    let (told, disk) = played(alloc, empty(alloc, 100), Fused::Never, &[Append(b"ab")]);
-    assert_eq!(rt; told.as_str(), "1 ");
-    assert_eq!(rt; disk.bytes(), ONE.as_slice());
+    let left = left_by(rt.alloc(), Start::Empty(100), &[Append(b"ab")]);
+    assert_eq!(rt; left.as_str(), "1 1 0 0 0 2 0 0 0 1 97 98 0 calls 7");
 }
 
+// The record counts once its open gate is on the disk: after the last call, or where the crash leaves what the third one wrote.
 #[test]
 fn a_stop_at_each_call_of_an_append(rt: HostRuntime) {
-    let alloc = rt.alloc();
     for passes in 0..5 {
         for pick in 0..4u8 {
-            let (told, disk) = played(
-                alloc,
-                disk_of(alloc, &ONE),
-                Fused::Stops(passes),
-                &[Append(b"c")],
-            );
-            let answer = if passes < 4 { "failed stopped" } else { "2 " };
-            assert_eq!(rt; told.as_str(), answer);
-            // The record counts once its open gate is on the disk: after the last call, or where the crash leaves what the
-            // third one wrote.
-            let is_left = passes == 4 || passes == 3 && pick == 1;
-            let want = if is_left { "ab c 3 " } else { "ab 2 " };
-            assert_eq!(rt; found_behind(alloc, disk, pick).as_str(), want);
+            let want = if passes == 4 {
+                "2 ab c 3 "
+            } else if passes == 3 && pick == 1 {
+                "failed stopped ab c 3 "
+            } else {
+                "failed stopped ab 2 "
+            };
+            assert_eq!(rt; found_after(rt.alloc(), passes, pick).as_str(), want);
         }
     }
 }
@@ -134,7 +169,7 @@ fn part(bytes: &[u8], from: usize, to: usize) -> &[u8] {
 }
 
 // What a crash leaves that tears that record where it wasn't synced, and leaves all else as a read gives it.
-fn torn(alloc: Global, disk: MemDisk) -> Result<MemDisk, Fail> {
+fn torn(alloc: Global, disk: MemDisk) -> Mem<MemDisk> {
     let shown = Vec::from_slice(alloc, disk.bytes())?;
     let mut disk = disk;
     disk.crash(0);
@@ -147,48 +182,56 @@ fn torn(alloc: Global, disk: MemDisk) -> Result<MemDisk, Fail> {
     Ok(disk_of(alloc, &image))
 }
 
-#[test]
-fn a_crash_leaves_no_record_that_nobody_appended(rt: HostRuntime) -> Result<(), Fail> {
-    let alloc = rt.alloc();
-    for passes in 0..5 {
-        let stops = Fused::Stops(passes);
-        let (told, disk) = played(alloc, disk_of(alloc, &[0]), stops, &[Append(b"a")]);
-        let answer = if passes < 4 { "failed stopped" } else { "1 " };
-        assert_eq!(rt; told.as_str(), answer);
-        // The gate is written by the third call.
-        let want = if passes < 3 { "1 " } else { "a 2 " };
-        assert_eq!(rt; found(alloc, torn(alloc, disk)?).as_str(), want);
+// Where an append stops after so many device calls: what it gives, and the records that such a crash leaves.
+fn found_torn(alloc: Global, passes: u64) -> String {
+    let mut out = String::new(alloc);
+    let stops = Fused::Stops(passes);
+    let disk = played(&mut out, alloc, Start::Holds(&[0]), stops, &[Append(b"a")]);
+    if let Ok(disk) = torn(alloc, disk) {
+        put_found(&mut out, alloc, disk);
     }
-    Ok(())
+    out
+}
+
+// The gate is written by the third call.
+#[test]
+fn a_crash_leaves_no_record_that_nobody_appended(rt: HostRuntime) {
+    for (passes, want) in [
+        (0, "failed stopped 1 "),
+        (1, "failed stopped 1 "),
+        (2, "failed stopped 1 "),
+        (3, "failed stopped a 2 "),
+        (4, "1 a 2 "),
+    ] {
+        assert_eq!(rt; found_torn(rt.alloc(), passes).as_str(), want);
+    }
 }
 
 #[test]
 fn a_new_journal_is_a_closed_gate(rt: HostRuntime) {
-    let alloc = rt.alloc();
-    let (_, disk) = played(alloc, empty(alloc, 100), Fused::Never, &[]);
-    assert_eq!(rt; disk.bytes(), [0].as_slice());
+    let left = left_by(rt.alloc(), Start::Empty(100), &[]);
+    assert_eq!(rt; left.as_str(), "0 calls 3");
 }
 
+// Two calls made the disk, and to attach it takes two.
 #[test]
 fn a_journal_at_rest_is_synced_and_read(rt: HostRuntime) {
-    let alloc = rt.alloc();
-    let at_rest: [&[u8]; 2] = [&[0], &ONE];
-    for bytes in at_rest {
-        let (_, disk) = played(alloc, disk_of(alloc, bytes), Fused::Never, &[]);
-        assert_eq!(rt; disk.calls(), 4);
-        assert_eq!(rt; disk.bytes(), bytes);
-    }
+    let left = left_by(rt.alloc(), Start::Holds(&[0]), &[]);
+    assert_eq!(rt; left.as_str(), "0 calls 4");
+    let left = left_by(rt.alloc(), Start::Holds(&ONE), &[]);
+    assert_eq!(rt; left.as_str(), "1 0 0 0 2 0 0 0 1 97 98 0 calls 4");
 }
 
 // The first record, and behind it what a torn write may have left: an open gate, and a record cut short.
 const TORN: [u8; 16] = [1, 0, 0, 0, 2, 0, 0, 0, 1, 97, 98, 1, 0, 0, 0, 9];
 
+// To attach it takes a sync, a read, and what cuts it off: a cut and a closed gate, each with a sync.
 #[test]
 fn what_lies_behind_the_last_gate_is_cut_off(rt: HostRuntime) {
-    let alloc = rt.alloc();
-    let (told, disk) = played(alloc, disk_of(alloc, &TORN), Fused::Never, &[Counts]);
+    let told = told_by(rt.alloc(), Start::Holds(&TORN), Fused::Never, &[Counts]);
     assert_eq!(rt; told.as_str(), "12 1000 1 ");
-    assert_eq!(rt; disk.bytes(), ONE.as_slice());
+    let left = left_by(rt.alloc(), Start::Holds(&TORN), &[]);
+    assert_eq!(rt; left.as_str(), "1 0 0 0 2 0 0 0 1 97 98 0 calls 8");
 }
 
 // The disk that is handed back where it stops as it is attached, after so many device calls.
@@ -208,44 +251,50 @@ fn stopped(alloc: Global, passes: u64) -> Option<MemDisk> {
     }
 }
 
+// The records that a crash with this pick leaves there.
+fn found_where_stopped(alloc: Global, passes: u64, pick: u8) -> String {
+    let mut out = String::new(alloc);
+    if let Some(disk) = stopped(alloc, passes) {
+        let mut disk = disk;
+        disk.crash(pick);
+        put_found(&mut out, alloc, disk);
+    }
+    out
+}
+
 // To attach it takes six.
 #[test]
-fn a_stop_at_each_call_of_an_attach(rt: HostRuntime) -> Result<(), Fail> {
-    let alloc = rt.alloc();
+fn a_stop_at_each_call_of_an_attach(rt: HostRuntime) {
     for passes in 0..6 {
         for pick in 0..4u8 {
-            let disk = stopped(alloc, passes).ok_or("it doesn't stop")?;
-            assert_eq!(rt; found_behind(alloc, disk, pick).as_str(), "ab 2 ");
+            let found = found_where_stopped(rt.alloc(), passes, pick);
+            assert_eq!(rt; found.as_str(), "ab 2 ");
         }
     }
-    Ok(())
 }
 
 #[test]
 fn a_failing_sync_closes_the_journal(rt: HostRuntime) {
-    let alloc = rt.alloc();
     let steps = [Append(b"ab"), Append(b"ab")];
-    let (told, _) = played(alloc, empty(alloc, 100), Fused::FailsAt(2), &steps);
+    let told = told_by(rt.alloc(), Start::Empty(100), Fused::FailsAt(2), &steps);
     assert_eq!(rt; told.as_str(), "failed closed ");
 }
 
 #[test]
 fn a_gate_that_is_torn_to_any_byte(rt: HostRuntime) {
-    let alloc = rt.alloc();
     for gate in 0..256u32 {
         let mut bytes = ONE;
         bytes[0] = gate as u8;
         let want = if gate == 1 { "ab 2 " } else { "1 " };
-        assert_eq!(rt; found(alloc, disk_of(alloc, &bytes)).as_str(), want);
+        assert_eq!(rt; found_on(rt.alloc(), &bytes).as_str(), want);
     }
 }
 
 #[test]
 fn a_file_that_is_cut_anywhere(rt: HostRuntime) {
-    let alloc = rt.alloc();
     for len in 0..=ONE.len() {
         let want = if len == ONE.len() { "ab 2 " } else { "1 " };
-        assert_eq!(rt; found(alloc, disk_of(alloc, &ONE[..len])).as_str(), want);
+        assert_eq!(rt; found_on(rt.alloc(), &ONE[..len]).as_str(), want);
     }
 }
 
@@ -260,15 +309,27 @@ fn with_many(alloc: Global, count: u64) -> Option<MemDisk> {
     Some(journal.into_disk())
 }
 
+// How many device calls it took, how long it is, and its last record with the two gates.
+fn put_many(out: &mut String, disk: &MemDisk) {
+    let _ = write!(out, "calls {} length {}: ", disk.calls(), disk.len());
+    for byte in part(disk.bytes(), 9_999 * 109, 10_000 * 109 + 1) {
+        let _ = write!(out, "{byte} ");
+    }
+}
+
+fn told_of_many(alloc: Global) -> String {
+    let mut out = String::new(alloc);
+    if let Some(disk) = with_many(alloc, 10_000) {
+        put_many(&mut out, &disk);
+    }
+    out
+}
+
+// To attach took three: a sync, and the closed gate with another.
 #[test]
-fn ten_thousand_appends_take_four_calls_each(rt: HostRuntime) -> Result<(), Fail> {
-    let disk = with_many(rt.alloc(), 10_000).ok_or("another number")?;
-    // To attach took three: a sync, and the closed gate with another.
-    assert_eq!(rt; disk.calls(), 40_003);
-    assert_eq!(rt; disk.len(), 10_000 * 109 + 1);
-    let last = disk.bytes().get(9_999 * 109..).unwrap_or(b"");
-    assert_eq!(rt; last.len(), 110);
-    assert!(rt; last.starts_with(&[1, 0, 0, 0, 100, 0, 0, 39, 16]));
-    assert!(rt; last.ends_with(&[5, 0]));
-    Ok(())
+fn ten_thousand_appends_take_four_calls_each(rt: HostRuntime) {
+    let told = told_of_many(rt.alloc());
+    let text = told.as_str();
+    assert!(rt; text.starts_with("calls 40003 length 1090001: 1 0 0 0 100 0 0 39 16 5 5 "));
+    assert!(rt; text.ends_with(" 5 5 0 "));
 }

@@ -61,11 +61,9 @@ fn put_bytes(out: &mut String, bytes: &[u8]) {
     let _ = out.push_str(" ");
 }
 
-/// The records that were found as it was attached.
-pub(crate) fn found_in<D: Disk>(alloc: Global, journal: &Journal<D>) -> String {
-    let mut out = String::new(alloc);
+/// Tells the records that were found as it was attached.
+pub(crate) fn put_records<D: Disk>(out: &mut String, journal: &Journal<D>) {
     for record in journal.records().as_slice() {
-        put_bytes(&mut out, record.as_slice());
+        put_bytes(out, record.as_slice());
     }
-    out
 }

@@ -1,6 +1,5 @@
 // Sources and sinks: those in memory, over the standard streams, and with a buffer.
 use crate::streams::Put::{All, Bytes, Flush};
-use afs_num::sequences::Octets;
 use afs_outside::buffered::BufferedSink;
 use afs_outside::memory::{MemSink, MemSource};
 use afs_outside::outside::{
@@ -39,9 +38,44 @@ fn taken<K: Sink>(alloc: Global, sink: &mut K, puts: &[Put]) -> String {
     out
 }
 
+fn put_text(out: &mut String, bytes: &[u8]) {
+    for byte in bytes {
+        let _ = out.push(*byte as char);
+    }
+}
+
+fn put_error(out: &mut String, error: &ReadError) {
+    match error {
+        ReadError::TooLong(bytes) => {
+            let _ = out.push_str("too long: ");
+            put_text(out, bytes.as_slice());
+        }
+        ReadError::Failed => {
+            let _ = out.push_str("failed");
+        }
+        _ => {
+            let _ = out.push_str("out of memory");
+        }
+    }
+}
+
 // What is read of a source.
-fn read<S: Source>(alloc: Global, source: &mut S, limit: u32) -> Result<Octets, ReadError> {
-    read_all(alloc, source, limit)
+fn read<S: Source>(alloc: Global, source: &mut S, limit: u32) -> String {
+    let mut out = String::new(alloc);
+    match read_all(alloc, source, limit) {
+        Ok(bytes) => put_text(&mut out, bytes.as_slice()),
+        Err(error) => put_error(&mut out, &error),
+    }
+    out
+}
+
+// So many letters.
+fn letters(alloc: Global, count: u32) -> String {
+    let mut out = String::new(alloc);
+    for _ in 0..count {
+        let _ = out.push('a');
+    }
+    out
 }
 
 #[test]
@@ -57,17 +91,18 @@ fn what_is_put_waits_until_it_is_passed_on(rt: HostRuntime) {
 }
 
 #[test]
-fn a_full_buffer_is_passed_on(rt: HostRuntime) -> Result<(), Fail> {
+fn a_full_buffer_is_passed_on(rt: HostRuntime) {
     let alloc = rt.alloc();
-    let many = vec![in alloc; b'a'; 20000]?;
+    let many = letters(alloc, 20000);
+    assert_eq!(rt; many.as_bytes().len(), 20000);
     let mut sink = BufferedSink::new(MemSink::new(alloc, &[]));
-    assert_eq!(rt; taken(alloc, &mut sink, &[Bytes(&many)]).as_str(), "ok ");
+    let puts = [Bytes(many.as_bytes())];
+    assert_eq!(rt; taken(alloc, &mut sink, &puts).as_str(), "ok ");
     assert_eq!(rt; sink.inner().as_slice().len(), 16384);
     assert_eq!(rt; taken(alloc, &mut sink, &[All(b"end\n")]).as_str(), "ok ");
     assert_eq!(rt; sink.inner().as_slice().len(), 20004);
-    assert!(rt; sink.inner().as_slice().starts_with(&many));
+    assert!(rt; sink.inner().as_slice().starts_with(many.as_bytes()));
     assert!(rt; sink.inner().as_slice().ends_with(b"end\n"));
-    Ok(())
 }
 
 #[test]
@@ -99,31 +134,29 @@ fn what_a_failure_leaves_is_passed_on_later(rt: HostRuntime) {
 }
 
 #[test]
-fn a_source_is_read_to_its_end(rt: HostRuntime) -> Result<(), Fail> {
+fn a_source_is_read_to_its_end(rt: HostRuntime) {
     let alloc = rt.alloc();
-    let bytes = vec![in alloc; b'a'; 10000]?;
-    let found = read(alloc, &mut MemSource::new(&bytes, &[]), 10000)?;
-    assert_eq!(rt; found.as_slice(), bytes.as_slice());
-    let found = read(alloc, &mut HostSource::new(b"cell 1\n".as_slice()), 7)?;
-    assert_eq!(rt; found.as_slice(), b"cell 1\n".as_slice());
-    Ok(())
+    let many = letters(alloc, 10000);
+    assert_eq!(rt; many.as_bytes().len(), 10000);
+    let found = read(alloc, &mut MemSource::new(many.as_bytes(), &[]), 10000);
+    assert_eq!(rt; found.as_str(), many.as_str());
+    let found = read(alloc, &mut HostSource::new(b"cell 1\n".as_slice()), 7);
+    assert_eq!(rt; found.as_str(), "cell 1\n");
 }
 
 #[test]
 fn one_byte_above_the_limit_is_too_long(rt: HostRuntime) {
     let mut source = MemSource::new(b"abcdef", &[]);
-    match read(rt.alloc(), &mut source, 3) {
-        Err(ReadError::TooLong(bytes)) => assert_eq!(rt; bytes.as_slice(), b"abcd".as_slice()),
-        _ => panic!(rt; "the source has six bytes"),
-    }
-    let mut last = [0; 8];
-    assert_eq!(rt; source.read(&mut last), Ok(2));
+    let found = read(rt.alloc(), &mut source, 3);
+    assert_eq!(rt; found.as_str(), "too long: abcd");
+    let rest = read(rt.alloc(), &mut source, 3);
+    assert_eq!(rt; rest.as_str(), "ef");
 }
 
 #[test]
 fn a_read_fails_in_mid_stream(rt: HostRuntime) {
-    let mut source = MemSource::new(b"abc", &[0, 1]);
-    assert!(rt; matches!(read(rt.alloc(), &mut source, 100), Err(ReadError::Failed)));
+    let found = read(rt.alloc(), &mut MemSource::new(b"abc", &[0, 1]), 100);
+    assert_eq!(rt; found.as_str(), "failed");
 }
 
 #[test]
