@@ -1,11 +1,9 @@
 // Disks in files of a real folder: what no contract says of them.
-use crate::called::Call::{Crash, Cut, Length, Read, Sync, Write};
-use crate::called::{Call, told};
-use crate::played::Step::Append;
-use crate::played::{attach, put_records, put_step};
-use afs_disk::{Bank, FileDisk, HostBank, HostDisk, LendFault, Place};
+use crate::disks::write_after;
+use crate::journals::attach;
+use afs_disk::{Bank, Disk, FileDisk, HostBank, HostDisk, LendFault, Place};
+use afs_num::devices::Failed;
 use afs_num::sequences::Octets;
-use afs_num::types::Mem;
 use std::alloc::{Allocator, Global};
 use std::fs::{File, Metadata, OpenOptions};
 use std::os::unix::fs::symlink;
@@ -13,7 +11,7 @@ use std::rt::Files;
 use std::test::Fail;
 use std::{fs, io};
 
-fn folder(alloc: Global, path: &[u8]) -> Mem<Place> {
+fn folder(alloc: Global, path: &[u8]) -> Result<Place, Fail> {
     Ok(Place::Folder(Octets::from_slice(alloc, path)?))
 }
 
@@ -27,110 +25,117 @@ fn lent<R: Files<File = File>>(
     bank.lend(&here, node, 100).map_err(|_| "not lent".into())
 }
 
-// What calls give on the disk of a node there, which is given back.
-fn told_of<R: Files<File = File>>(
-    files: &R,
-    alloc: Global,
-    node: u32,
-    calls: &[Call],
-) -> Result<String, Fail> {
-    let mut bank = HostBank::new(files, alloc);
-    let mut disk = lent(&mut bank, alloc, node)?;
-    let told = told(alloc, &mut disk, calls);
-    bank.give_back(node, disk)?;
-    Ok(told)
+// Cuts the disk, which is at least that long.
+fn cut_to<D: Disk>(disk: &mut D, len: u64) -> Result<(), Fail> {
+    if disk.len() < len {
+        return Err("it is shorter than what was written".into());
+    }
+    disk.room(0, 0)?;
+    disk.cut(len)?;
+    Ok(())
 }
 
-// Whether the disk of a node isn't lent in the folder of this path, since that failed.
-fn is_refused<R: Files<File = File>>(files: &R, alloc: Global, path: &[u8], node: u32) -> bool {
-    let Ok(place) = folder(alloc, path) else {
-        return false;
-    };
-    let mut bank = HostBank::new(files, alloc);
-    match bank.lend(&place, node, 100) {
-        Ok(_disk) => false,
-        Err(fault) => fault == LendFault::Failed,
-    }
+// What a read of six bytes from this place on gives, behind it the zeros of the buffer.
+fn read_from<D: Disk>(disk: &mut D, at: u64) -> Result<(usize, [u8; 6]), Fail> {
+    let mut bytes = [0u8; 6];
+    disk.room(0, 0)?;
+    let count = disk.read(at, &mut bytes)?;
+    Ok((count, bytes))
 }
 
 #[test]
 fn a_file_keeps_what_was_written(rt: HostRuntime) -> Result<(), Fail> {
-    let calls = [
-        Cut(0),
-        Write(0, b"abcdef"),
-        Write(2, b"CD"),
-        Write(6, b"gh"),
-        Read(1),
-        Cut(4),
-        Sync,
-    ];
-    let told = told_of(&rt, rt.alloc(), 77, &calls)?;
-    assert_eq!(rt; told.as_str(), "ok ok ok ok 6:624344656667 ok ok ");
+    let alloc = rt.alloc();
+    let mut bank = HostBank::new(&rt, alloc);
+    let mut disk = lent(&mut bank, alloc, 77)?;
+    cut_to(&mut disk, 0)?;
+    write_after(&mut disk, 0, b"abcdef")?;
+    write_after(&mut disk, 2, b"CD")?;
+    write_after(&mut disk, 6, b"gh")?;
+    assert_eq!(rt; read_from(&mut disk, 1)?, (6, *b"bCDefg"));
+    cut_to(&mut disk, 4)?;
+    disk.room(0, 0)?;
+    disk.sync()?;
+    bank.give_back(77, disk)?;
     // Node n is the file `node-n`, and a disk over it anew has its length and its bytes.
     assert_eq!(rt; fs::read(&rt, "./node-77")?.as_slice(), b"abCD".as_slice());
-    let told = told_of(&rt, rt.alloc(), 77, &[Length, Read(1), Read(4)])?;
-    assert_eq!(rt; told.as_str(), "4 3:624344 0: ");
+    let mut again = lent(&mut bank, alloc, 77)?;
+    assert_eq!(rt; again.len(), 4);
+    assert_eq!(rt; read_from(&mut again, 1)?, (3, *b"bCD\0\0\0"));
+    assert_eq!(rt; read_from(&mut again, 4)?, (0, [0; 6]));
     fs::remove_file(&rt, "./node-77")?;
     Ok(())
 }
 
 #[test]
 fn fewer_bytes_than_the_length_are_a_fault(rt: HostRuntime) -> Result<(), Fail> {
-    let mut bank = HostBank::new(&rt, rt.alloc());
-    let mut disk = lent(&mut bank, rt.alloc(), 78)?;
-    let written = told(rt.alloc(), &mut disk, &[Cut(0), Write(0, b"abcdef")]);
-    assert_eq!(rt; written.as_str(), "ok ok ");
+    let alloc = rt.alloc();
+    let mut bank = HostBank::new(&rt, alloc);
+    let mut disk = lent(&mut bank, alloc, 78)?;
+    cut_to(&mut disk, 0)?;
+    write_after(&mut disk, 0, b"abcdef")?;
     File::options()
         .write(true)
         .open(&rt, "./node-78")?
         .set_len(2)?;
-    let read = told(rt.alloc(), &mut disk, &[Read(0)]);
-    assert_eq!(rt; read.as_str(), "failed ");
+    let mut bytes = [0u8; 6];
+    disk.room(0, 0)?;
+    assert_eq!(rt; disk.read(0, &mut bytes), Err(Failed));
     fs::remove_file(&rt, "./node-78")?;
     Ok(())
 }
 
 #[test]
 fn a_disk_in_use_is_not_lent(rt: HostRuntime) -> Result<(), Fail> {
-    let mut bank = HostBank::new(&rt, rt.alloc());
-    let disk = lent(&mut bank, rt.alloc(), 79)?;
-    assert!(rt; is_refused(&rt, rt.alloc(), b".", 79));
+    let alloc = rt.alloc();
+    let here = folder(alloc, b".")?;
+    let mut bank = HostBank::new(&rt, alloc);
+    let mut other = HostBank::new(&rt, alloc);
+    let disk = lent(&mut bank, alloc, 79)?;
+    assert_eq!(rt; other.lend(&here, 79, 100).err(), Some(LendFault::Failed));
     bank.give_back(79, disk)?;
-    assert!(rt; !is_refused(&rt, rt.alloc(), b".", 79));
+    assert!(rt; other.lend(&here, 79, 100).is_ok());
     fs::remove_file(&rt, "./node-79")?;
     Ok(())
 }
 
 #[test]
 fn what_cannot_be_opened_is_not_lent(rt: HostRuntime) -> Result<(), Fail> {
+    let alloc = rt.alloc();
+    let mut bank = HostBank::new(&rt, alloc);
     for path in [b"no/such/folder".as_slice(), b"\xff"] {
-        assert!(rt; is_refused(&rt, rt.alloc(), path, 80));
+        let nowhere = folder(alloc, path)?;
+        assert_eq!(rt; bank.lend(&nowhere, 80, 100).err(), Some(LendFault::Failed));
     }
+    let here = folder(alloc, b".")?;
     let _made = fs::create_dir(&rt, "./node-80");
-    let is_refused = is_refused(&rt, rt.alloc(), b".", 80);
+    let refused = bank.lend(&here, 80, 100).err();
     fs::remove_dir(&rt, "./node-80")?;
-    assert!(rt; is_refused);
+    assert_eq!(rt; refused, Some(LendFault::Failed));
     Ok(())
 }
 
 #[test]
 fn a_file_that_was_removed_is_a_fault(rt: HostRuntime) -> Result<(), Fail> {
-    let mut bank = HostBank::new(&rt, rt.alloc());
-    let mut disk = lent(&mut bank, rt.alloc(), 83)?;
-    let written = told(rt.alloc(), &mut disk, &[Write(0, b"abcdef")]);
-    assert_eq!(rt; written.as_str(), "ok ");
+    let alloc = rt.alloc();
+    let mut bank = HostBank::new(&rt, alloc);
+    let mut disk = lent(&mut bank, alloc, 83)?;
+    write_after(&mut disk, 0, b"abcdef")?;
     fs::remove_file(&rt, "./node-83")?;
-    let synced = told(rt.alloc(), &mut disk, &[Sync]);
-    assert_eq!(rt; synced.as_str(), "failed ");
+    disk.room(0, 0)?;
+    assert_eq!(rt; disk.sync(), Err(Failed));
     assert_eq!(rt; disk.faults(), 1);
     Ok(())
 }
 
 #[test]
 fn a_crash_leaves_what_a_read_gives(rt: HostRuntime) -> Result<(), Fail> {
-    let calls = [Write(0, b"abcdef"), Crash(0), Read(0)];
-    let told = told_of(&rt, rt.alloc(), 84, &calls)?;
-    assert_eq!(rt; told.as_str(), "ok 6:616263646566 ");
+    let alloc = rt.alloc();
+    let mut bank = HostBank::new(&rt, alloc);
+    let mut disk = lent(&mut bank, alloc, 84)?;
+    write_after(&mut disk, 0, b"abcdef")?;
+    disk.crash(0);
+    assert_eq!(rt; read_from(&mut disk, 0)?, (6, *b"abcdef"));
     fs::remove_file(&rt, "./node-84")?;
     Ok(())
 }
@@ -138,12 +143,15 @@ fn a_crash_leaves_what_a_read_gives(rt: HostRuntime) -> Result<(), Fail> {
 // What a link leads to stays as it is, and so does a file that has another name.
 #[test]
 fn a_file_that_stands_elsewhere_is_not_lent(rt: HostRuntime) -> Result<(), Fail> {
+    let alloc = rt.alloc();
+    let here = folder(alloc, b".")?;
+    let mut bank = HostBank::new(&rt, alloc);
     fs::write(&rt, "./elsewhere", b"kept")?;
     symlink(&rt, "elsewhere", "./node-85")?;
-    assert!(rt; is_refused(&rt, rt.alloc(), b".", 85));
+    assert_eq!(rt; bank.lend(&here, 85, 100).err(), Some(LendFault::Failed));
     fs::remove_file(&rt, "./node-85")?;
     fs::hard_link(&rt, "./elsewhere", "./node-85")?;
-    assert!(rt; is_refused(&rt, rt.alloc(), b".", 85));
+    assert_eq!(rt; bank.lend(&here, 85, 100).err(), Some(LendFault::Failed));
     fs::remove_file(&rt, "./node-85")?;
     assert_eq!(rt;
         fs::read(&rt, "./elsewhere")?.as_slice(),
@@ -156,26 +164,21 @@ fn a_file_that_stands_elsewhere_is_not_lent(rt: HostRuntime) -> Result<(), Fail>
 // A device that takes no byte and can't be synced.
 const FULL: &str = "/dev/full";
 
-// A failed write is told, and the disk can be used on; after a failed sync it can't.
 #[test]
 fn after_a_failed_sync_each_call_fails(rt: HostRuntime) -> Result<(), Fail> {
     let file = File::options().read(true).write(true).open(&rt, FULL)?;
     let mut disk = FileDisk::over(file, 100)?;
-    let calls = [
-        Write(0, b"abc"),
-        Length,
-        Read(0),
-        Cut(0),
-        Read(0),
-        Sync,
-        Read(0),
-        Sync,
-    ];
-    let told = told(rt.alloc(), &mut disk, &calls);
-    assert_eq!(rt;
-        told.as_str(),
-        "failed 0 0: failed 0: failed failed failed "
-    );
+    disk.room(3, 3)?;
+    assert_eq!(rt; disk.write_at(0, b"abc"), Err(Failed));
+    assert_eq!(rt; disk.len(), 0);
+    // A failed write is told, and the disk can be used on.
+    assert_eq!(rt; disk.read(0, &mut []), Ok(0));
+    assert_eq!(rt; disk.cut(0), Err(Failed));
+    assert_eq!(rt; disk.read(0, &mut []), Ok(0));
+    disk.room(0, 0)?;
+    assert_eq!(rt; disk.sync(), Err(Failed));
+    assert_eq!(rt; disk.read(0, &mut []), Err(Failed));
+    assert_eq!(rt; disk.sync(), Err(Failed));
     Ok(())
 }
 
@@ -234,38 +237,39 @@ impl<'a> Files for FolderFails<'a> {
 
 #[test]
 fn a_new_file_is_on_the_disk_with_its_name(rt: HostRuntime) -> Result<(), Fail> {
+    let alloc = rt.alloc();
+    let here = folder(alloc, b".")?;
     let files = FolderFails { files: &rt };
-    assert!(rt; is_refused(&files, rt.alloc(), b".", 81));
+    let mut bank = HostBank::new(&files, alloc);
+    assert_eq!(rt; bank.lend(&here, 81, 100).err(), Some(LendFault::Failed));
     fs::remove_file(&rt, "./node-81")?;
     Ok(())
 }
 
-// A journal on the disk of node 82, on which these steps are made; the disk is given back.
-fn journal_told<R: Files<File = File>>(
-    files: &R,
-    alloc: Global,
-    records: &[&[u8]],
-) -> Result<String, Fail> {
-    let mut bank = HostBank::new(files, alloc);
-    let disk = lent(&mut bank, alloc, 82)?;
-    let mut journal = attach(alloc, disk).map_err(|e| e.0)?;
-    let mut out = String::new(alloc);
-    put_records(&mut out, &journal);
-    for record in records {
-        put_step(&mut out, &mut journal, Append(record));
-    }
-    bank.give_back(82, journal.into_disk())?;
-    Ok(out)
-}
-
 #[test]
 fn a_journal_in_a_file_is_found_again(rt: HostRuntime) -> Result<(), Fail> {
-    let emptied = told_of(&rt, rt.alloc(), 82, &[Cut(0)])?;
-    assert_eq!(rt; emptied.as_str(), "ok ");
-    let written = journal_told(&rt, rt.alloc(), &[b"ab", b"c"])?;
-    assert_eq!(rt; written.as_str(), "1 2 ");
-    let found = journal_told(&rt, rt.alloc(), &[])?;
-    assert_eq!(rt; found.as_str(), "ab c ");
+    let alloc = rt.alloc();
+    let mut bank = HostBank::new(&rt, alloc);
+    let mut disk = lent(&mut bank, alloc, 82)?;
+    cut_to(&mut disk, 0)?;
+    let mut journal = attach(alloc, disk).map_err(|e| e.0)?;
+    assert_eq!(rt; journal.append(b"ab"), Ok(1));
+    assert_eq!(rt; journal.append(b"c"), Ok(2));
+    bank.give_back(82, journal.into_disk())?;
+    let again = lent(&mut bank, alloc, 82)?;
+    let journal = attach(alloc, again).map_err(|e| e.0)?;
+    let mut found = journal.records().as_slice().iter();
+    assert!(rt;
+        found
+            .next()
+            .is_some_and(|record| record.as_slice() == b"ab".as_slice())
+    );
+    assert!(rt;
+        found
+            .next()
+            .is_some_and(|record| record.as_slice() == b"c".as_slice())
+    );
+    assert!(rt; found.next().is_none());
     fs::remove_file(&rt, "./node-82")?;
     Ok(())
 }

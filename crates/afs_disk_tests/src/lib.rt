@@ -3,14 +3,12 @@
 #![tactic(auto)]
 
 #[cfg(test)]
-mod called;
-#[cfg(test)]
 mod disks;
 #[cfg(test)]
 mod files;
 #[cfg(test)]
 mod journals;
 #[cfg(test)]
-mod played;
-#[cfg(test)]
 mod streams;
+#[cfg(test)]
+mod tearing;
