@@ -2,7 +2,7 @@
 //! written again, and refused with its fault where it is cut, where a pad byte is set or a count raised, and where more
 //! stands behind it.
 
-use crate::samples::{Interface, Sample, bytes_of, changed, fault_of, refused, refuses_all};
+use crate::samples::{Interface, Sample, bytes_of, changed, fault_of, refuses_all};
 use afs_num::location_calls::{LocCall, LocEntry, LocReply, LocSite};
 use afs_num::sequences::Octets;
 use afs_num::types::{Code, Half};
@@ -408,6 +408,17 @@ fn each_location_reply_has_one_spelling(rt: HostRuntime) -> Result<(), Fail> {
         Half::Reply,
         LOCATION_REPLIES,
     )
+}
+
+/// What these words are refused with.
+fn refused(
+    alloc: Global,
+    interface: Interface,
+    half: Half,
+    words: &[u32],
+) -> Result<Option<ShapeFault>, Fail> {
+    let bytes = bytes_of(alloc, words)?;
+    Ok(fault_of(alloc, interface, half, &bytes))
 }
 
 #[test]

@@ -1,7 +1,8 @@
 //! Messages of the file servers and clients as words; the samples and vectors were made by another program.
 
-use crate::samples::{Interface, Sample, bytes_of, changed, fault_of, refused, refuses_all};
+use crate::samples::{Interface, Sample, bytes_of, changed, fault_of, refuses_all};
 use afs_fsrpc::calls::{decode_call, encode_call};
+use afs_fsrpc::heads::read_head;
 use afs_fsrpc::replies::{decode_reply, encode_reply};
 use afs_num::calls::FsCall;
 use afs_num::sequences::Octets;
@@ -412,20 +413,27 @@ const OPEN: &[u32] = &[
 
 #[test]
 fn an_open_is_refused_with_its_fault(rt: HostRuntime) -> Result<(), Fail> {
-    // the place of a word, what it becomes, and why the call is refused then
-    for (at, word, want) in [
-        (7, 161, ShapeFault::NoRow(161)),
-        (7, 143, ShapeFault::NoRow(143)),
-        (10, 0x74000001, ShapeFault::Field(0, XdrFault::BadPad)),
-        (0, 9, ShapeFault::Head(XdrFault::BadHead)),
-        (1, 117, ShapeFault::Head(XdrFault::BadHead)),
-    ] {
-        let words = changed(rt.alloc(), OPEN, at, word)?;
-        let fault = refused(rt.alloc(), Interface::Files, Half::Call, &words)?;
-        assert_eq!(rt; fault, Some(want));
+    let bytes = bytes_of(rt.alloc(), OPEN)?;
+    let short = bytes.len().saturating_sub(1);
+    if short <= bytes.len() {
+        let fault = fault_of(rt.alloc(), Interface::Files, Half::Call, &bytes[..short]);
+        assert_eq!(rt; fault, Some(ShapeFault::Field(3, XdrFault::Short)));
     }
-    let fault = refused(rt.alloc(), Interface::Files, Half::Reply, OPEN)?;
+    let unknown = bytes_of(rt.alloc(), &changed(rt.alloc(), OPEN, 7, 161)?)?;
+    let fault = fault_of(rt.alloc(), Interface::Files, Half::Call, &unknown);
+    assert_eq!(rt; fault, Some(ShapeFault::NoRow(161)));
+    let padded = bytes_of(rt.alloc(), &changed(rt.alloc(), OPEN, 10, 0x74000001)?)?;
+    let fault = fault_of(rt.alloc(), Interface::Files, Half::Call, &padded);
+    assert_eq!(rt; fault, Some(ShapeFault::Field(0, XdrFault::BadPad)));
+    let half = bytes_of(rt.alloc(), &changed(rt.alloc(), OPEN, 0, 9)?)?;
+    assert_eq!(rt; read_head(&half), Err(XdrFault::BadHead));
+    let node = bytes_of(rt.alloc(), &changed(rt.alloc(), OPEN, 1, 117)?)?;
+    assert_eq!(rt; read_head(&node), Err(XdrFault::BadHead));
+    let fault = fault_of(rt.alloc(), Interface::Files, Half::Reply, &bytes);
     assert_eq!(rt; fault, Some(ShapeFault::Head(XdrFault::BadHead)));
+    let lock = bytes_of(rt.alloc(), &changed(rt.alloc(), OPEN, 7, 143)?)?;
+    let fault = fault_of(rt.alloc(), Interface::Files, Half::Call, &lock);
+    assert_eq!(rt; fault, Some(ShapeFault::NoRow(143)));
     Ok(())
 }
 
@@ -441,43 +449,31 @@ fn a_refusal_has_no_fields(rt: HostRuntime) -> Result<(), Fail> {
     Ok(())
 }
 
-/// Messages that end behind a count: the breaks of a call, the bytes of an access list, and those of a store.
-const COUNTED: [(Half, &[u32], ShapeFault); 5] = [
-    (
-        Half::Call,
-        &[1, 1, 101, 1, 1, 1, 0, 204, 0, 51],
-        ShapeFault::Field(1, XdrFault::TooLong),
-    ),
-    (
-        Half::Call,
-        &[1, 1, 101, 1, 1, 1, 0, 204, 0, 0xffffffff],
-        ShapeFault::Field(1, XdrFault::TooLong),
-    ),
-    (
-        Half::Call,
-        &[1, 1, 101, 1, 1, 1, 0, 204, 0, 50],
-        ShapeFault::Field(1, XdrFault::Short),
-    ),
-    (
-        Half::Reply,
-        &[2, 1, 101, 1, 1, 1, 0, 131, 0, 1025],
-        ShapeFault::Field(1, XdrFault::TooLong),
-    ),
-    (
-        Half::Call,
-        &[
-            1, 101, 1, 1, 1, 1, 0, 133, 0, 1, 2, 2, 0, 0, 0, 0, 0, 0, 0, 0xffffffff, 4, 2000000,
-        ],
-        ShapeFault::Field(6, XdrFault::Short),
-    ),
+const BREAK: &[u32] = &[1, 1, 101, 1, 1, 1, 0, 204, 0, 51];
+
+const LONG_ACL: &[u32] = &[2, 1, 101, 1, 1, 1, 0, 131, 0, 1025];
+
+const STORE: &[u32] = &[
+    1, 101, 1, 1, 1, 1, 0, 133, 0, 1, 2, 2, 0, 0, 0, 0, 0, 0, 0, 0xffffffff, 4, 2000000,
 ];
 
 #[test]
 fn hostile_counts_are_refused(rt: HostRuntime) -> Result<(), Fail> {
-    for (half, words, want) in COUNTED {
-        let fault = refused(rt.alloc(), Interface::Files, half, words)?;
-        assert_eq!(rt; fault, Some(want));
-    }
+    let many = bytes_of(rt.alloc(), BREAK)?;
+    let fault = fault_of(rt.alloc(), Interface::Files, Half::Call, &many);
+    assert_eq!(rt; fault, Some(ShapeFault::Field(1, XdrFault::TooLong)));
+    let most = bytes_of(rt.alloc(), &changed(rt.alloc(), BREAK, 9, u32::MAX)?)?;
+    let fault = fault_of(rt.alloc(), Interface::Files, Half::Call, &most);
+    assert_eq!(rt; fault, Some(ShapeFault::Field(1, XdrFault::TooLong)));
+    let fifty = bytes_of(rt.alloc(), &changed(rt.alloc(), BREAK, 9, 50)?)?;
+    let fault = fault_of(rt.alloc(), Interface::Files, Half::Call, &fifty);
+    assert_eq!(rt; fault, Some(ShapeFault::Field(1, XdrFault::Short)));
+    let long = bytes_of(rt.alloc(), LONG_ACL)?;
+    let fault = fault_of(rt.alloc(), Interface::Files, Half::Reply, &long);
+    assert_eq!(rt; fault, Some(ShapeFault::Field(1, XdrFault::TooLong)));
+    let large = bytes_of(rt.alloc(), STORE)?;
+    let fault = fault_of(rt.alloc(), Interface::Files, Half::Call, &large);
+    assert_eq!(rt; fault, Some(ShapeFault::Field(6, XdrFault::Short)));
     Ok(())
 }
 

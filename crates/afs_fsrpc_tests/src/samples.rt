@@ -51,17 +51,6 @@ pub fn fault_of(
     }
 }
 
-/// What these words are refused with.
-pub fn refused(
-    alloc: Global,
-    interface: Interface,
-    half: Half,
-    words: &[u32],
-) -> Result<Option<ShapeFault>, Fail> {
-    let bytes = bytes_of(alloc, words)?;
-    Ok(fault_of(alloc, interface, half, &bytes))
-}
-
 /// The field that a message is cut in, where it keeps so many bytes.
 fn place_of(ends: &[usize], kept: usize) -> u32 {
     let mut place = 0u32;
