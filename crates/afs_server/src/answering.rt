@@ -280,8 +280,7 @@ impl FileServer {
             &message,
             now,
         )?;
-        self.promises.expire(now);
-        let outs = self.keep(store, ended);
+        let outs = self.keep_at(store, ended, now);
         Ok(outs)
     }
 
@@ -305,8 +304,7 @@ impl FileServer {
             good,
             now,
         )?;
-        self.promises.expire(now);
-        let outs = self.keep(store, ended);
+        let outs = self.keep_at(store, ended, now);
         Ok(outs)
     }
 
@@ -334,8 +332,7 @@ impl FileServer {
         )?;
         let Replied { ended, kept } = replied;
         keep_answer(&mut self.callers, head, kept)?;
-        self.promises.expire(now);
-        let outs = self.keep(store, ended);
+        let outs = self.keep_at(store, ended, now);
         Ok(outs)
     }
 

@@ -198,8 +198,7 @@ impl FileServer {
             grants,
             expiry,
         )?;
-        self.promises.expire(now);
-        let outs = self.keep(store, ended);
+        let outs = self.keep_at(store, ended, now);
         Ok(outs)
     }
 }
