@@ -1,14 +1,18 @@
 //! What a server answers to calls that change nothing on its disk.
 
 ghost use Rattle.std.specs.Prelude.{◌≡◌, ◌≤◌, [], false, IfOk, OnErr, OnOk};
+ghost use Rattle.afs_num.specs.declared.messages.Carried.TheVariants as carried;
+ghost use Rattle.afs_num.specs.declared.messages.Reply.TheVariants as tell;
 ghost use Rattle.afs_num.specs.Nodes.{IsNode};
+ghost use Rattle.afs_shape.specs.Rows.{IsWithin};
 ghost use Rattle.afs_model.specs.Calls.{call_seat, paired, runs};
+ghost use Rattle.afs_model.specs.CellRows.{cell_replies, reply_number};
 ghost use Rattle.afs_model.specs.Heads.{is_zero, IsSoundHead};
 ghost use Rattle.afs_model.specs.Messages.{HasSpelling};
 ghost use Rattle.afs_breaks.specs.Promises.{expired, lasting_breaks, Lists};
 ghost use Rattle.afs_rows.specs.Callbacks as row;
 ghost use Rattle.afs_rows.specs.Callbacks.{gives_up_all, is_seat_of, pumped};
-ghost use Rattle.afs_rows.specs.ServerRow.{boot_told, given_up_read, read_reply_to, refusal};
+ghost use Rattle.afs_rows.specs.ServerRow.{boot_told, given_up_read, promised_in, read_reply_to, refusal, replied};
 ghost use Rattle.afs_server_parts.specs.Called.{AreGoodCalls};
 ghost use Rattle.afs_server_parts.specs.Kept.{IsSpelling, Spells};
 ghost use Rattle.afs_server_parts.specs.Turning.{backs_with, IsFresh, IsTurn};
@@ -27,7 +31,7 @@ use afs_num::sequences::{Octets, Sequence};
 use afs_num::types::{Fid, Head, Key, Mem, Node};
 use afs_promise::Promises;
 use afs_server_parts::callers::Callers;
-use afs_server_parts::replies::{key, notice, refusal, reply};
+use afs_server_parts::replies::{key, notice, promised, refusal, reply};
 use afs_server_parts::spelled::SpelledMessage;
 use afs_server_parts::turns::Turn;
 use afs_volstore::VolStore;
@@ -68,6 +72,25 @@ fn give_up_all(promises: &mut Promises, node: Node, fids: &[Fid])
     for fid in fids {
         promises.give_up(node, *fid);
     }
+}
+
+/// The reply to the call of this header, which is told this, with a promise where it has a place for one.
+pub fn reply_told(
+    alloc: Global,
+    boot: u32,
+    head: &Head,
+    told: FsReply,
+    expiry: u32,
+) -> Mem<SpelledMessage>
+    requires head { IsSoundHead head.now }
+    requires opcode { head.now.opcode ≡ reply_number (tell.File told) }
+    requires within { IsWithin cell_replies (tell.File told) }
+    ensures { IfOk result (λ m. m ≡ replied boot head.now (carried.Reply (tell.File (promised_in expiry told)))) }
+{
+    let told = promised(alloc, told, expiry)?;
+    let message = reply(boot, head, told);
+    let spelled = SpelledMessage::of(alloc, &message)?;
+    Ok(spelled)
 }
 
 /// A reply goes out at once.

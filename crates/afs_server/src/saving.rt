@@ -34,11 +34,11 @@ ghost use Rattle.afs_volstore.specs.Stores.{LeftAround, Served};
 ghost use Rattle.afs_server.specs.Answering.{answer_turn, with_lists, KeepsReply};
 ghost use Rattle.afs_server.specs.Deciding.{CanBeWritten, HasKind, IsChanged};
 ghost use Rattle.afs_server.specs.Ending.{Ends};
-ghost use Rattle.afs_server.specs.Saving.{change_kept, fids_changed, fids_granted, has_fid, hits_fresh, hits_new, new_grants, IsPlanned, IsTaken, Puts};
+ghost use Rattle.afs_server.specs.Saving.{breaks_new, change_kept, fids_changed, fids_granted, has_fid, hits_each, hits_fresh, hits_new, new_grants, IsPlanned, IsTaken, Puts};
 ghost use Rattle.afs_server.specs.Seen.{backs_seen, IsPromiseToNode, IsToNodes};
 ghost use Rattle.afs_server.specs.declared.faults.NodeFault.TheVariants as faults;
 
-use crate::answering::{Replied, keep_reply};
+use crate::answering::{Replied, reply_told};
 use crate::ending::{Ended, end};
 use crate::faults::NodeFault;
 use crate::server::FileServer;
@@ -54,7 +54,7 @@ use afs_num::types::{Fid, Head, Key, Mem, Node};
 use afs_num::vnodes::{Vnode, VnodeNumbers, Vnodes};
 use afs_num::volumes::Change;
 use afs_promise::Promises;
-use afs_server_parts::replies::{key, promised, reply};
+use afs_server_parts::replies::key;
 use afs_server_parts::spelled::SpelledMessage;
 use afs_server_parts::telling::{Grant, tell_grants, tell_owed};
 use afs_server_parts::turns::Turn;
@@ -73,6 +73,17 @@ pub struct Planned {
     pub changed: Sequence<Fid>,
     pub withdrawn: Vec<Promise>,
     pub granted: Sequence<Fid>,
+}
+
+/// What a change withdraws and grants: the fids that it changes; the promises that the reply to it grants, and their fids; the
+/// promises that it withdraws, and the breaks that are then owed.
+#[derive(Drop)]
+pub struct Found {
+    pub changed: Sequence<Fid>,
+    pub grants: Sequence<Grant>,
+    pub granted: Sequence<Fid>,
+    pub withdrawn: Vec<Promise>,
+    pub breaks: Vec<OwedBreak>,
 }
 
 /// A promise on a new vnode.
@@ -99,7 +110,7 @@ fn new_grants(alloc: Global, reply: &FsReply) -> Mem<Sequence<Grant>>
 }
 
 /// The fids of promises.
-fn fids_granted(alloc: Global, grants: &[Grant]) -> Mem<Sequence<Fid>>
+pub fn fids_granted(alloc: Global, grants: &[Grant]) -> Mem<Sequence<Fid>>
     ensures { IfOk result (λ fs. fs ≡ fids_granted grants.now) }
 {
     let mut fids = Sequence::new(alloc);
@@ -375,25 +386,6 @@ fn hold(alloc: Global, turn: &mut Turn, reply: SpelledMessage, breaks: &[OwedBre
     Ok(())
 }
 
-/// The reply to the call of this header, which is told this, with a promise where it has a place for one.
-fn reply_told(
-    alloc: Global,
-    boot: u32,
-    head: &Head,
-    told: FsReply,
-    expiry: u32,
-) -> Mem<SpelledMessage>
-    requires head { IsSoundHead head.now }
-    requires opcode { head.now.opcode ≡ reply_number (tell.File told) }
-    requires within { IsWithin cell_replies (tell.File told) }
-    ensures { IfOk result (λ m. m ≡ replied boot head.now (carried.Reply (tell.File (promised_in expiry told)))) }
-{
-    let told = promised(alloc, told, expiry)?;
-    let message = reply(boot, head, told);
-    let spelled = SpelledMessage::of(alloc, &message)?;
-    Ok(spelled)
-}
-
 impl FileServer {
     /// What comes of it that the reply to a change waits for these breaks, and for those on all.
     fn plan_held(
@@ -445,6 +437,64 @@ impl FileServer {
         Ok(Replied { ended, kept })
     }
 
+    /// What a change by this node withdraws and grants.
+    fn found(&self, from: Node, change: &Change, now: u32) -> Mem<Found>
+        requires promised { All IsPromiseToNode self.now.lists.promises }
+        requires draws { self.now.lists.last_owed + length self.now.lists.promises < 4000000000 }
+        ensures changed { IfOk result (λ f. f.changed ≡ fids_changed change.now.versions) }
+        ensures grants { IfOk result (λ f. f.grants ≡ new_grants change.now.reply) }
+        ensures granted { IfOk result (λ f. f.granted ≡ fids_granted (new_grants change.now.reply)) }
+        ensures withdrawn { IfOk result (λ f. f.withdrawn.items ≡ hits_each from f.changed (lasting now self.now.lists.promises)) }
+        ensures breaks { IfOk result (λ f. f.breaks.items ≡ breaks_new from (fids_changed change.now.versions) now self.now.lists) }
+        ensures nodes { IfOk result (λ f. All IsBreakToNode f.breaks.items) }
+    {
+        let changed = fids_changed(self.alloc, change.versions.as_slice())?;
+        let grants = new_grants(self.alloc, &change.reply)?;
+        let granted = fids_granted(self.alloc, grants.as_slice())?;
+        let withdrawn = new_hits(self.alloc, &self.promises, changed.as_slice(), from, now)?;
+        let breaks = new_breaks(self.alloc, &self.promises, &withdrawn)?;
+        Ok(Found {
+            changed,
+            grants,
+            granted,
+            withdrawn,
+            breaks,
+        })
+    }
+
+    /// What comes of it that the call of this header made these versions, withdrew and granted this, and is told this.
+    fn plan_told(
+        &self,
+        server: Node,
+        boot: u32,
+        last: u32,
+        head: &Head,
+        versions: Versions,
+        told: FsReply,
+        found: &Found,
+        now: u32,
+    ) -> Mem<Replied>
+        requires nodes { IsToNodes server self.now }
+        requires clients { All IsBreakToNode found.now.breaks.items }
+        requires head { IsSoundHead head.now }
+        requires opcode { head.now.opcode ≡ reply_number (tell.File told) }
+        requires within { IsWithin cell_replies (tell.File told) }
+        requires few { length versions < 2 ^ 32 }
+        requires now { now ≤ 1000000000 }
+        ensures ends { IfOk result (λ r. (l : Lists) → l.owed ≡ lasting_breaks now self.now.lists.owed ++ found.now.breaks.items → Ends l (pumped server boot (answer_turn (replied boot head.now (carried.Reply (tell.File (promised_in (now + 7200) told)))) (numbers found.now.breaks.items ++ alls (lasting_breaks now self.now.lists.owed)) false (with_lists l (backs_seen self.now last)))) r.ended) }
+        ensures lines { IfOk result (λ r. r.ended.outs.lines ≡ (lines.Change server (key_of head.now) (length versions) ∷ versioned versions []) ++ (map (grant_line server head.now.from (now + 7200)) found.now.grants ++ map (owe_line server) found.now.breaks.items)) }
+        ensures drawn { IfOk result (λ r. last ≤ r.ended.last) }
+        ensures good { IfOk result (λ r. AreGoodCalls server r.ended.callees.items) }
+        ensures kept { IfOk result (λ r. Spells (replied boot head.now (carried.Reply (tell.File (promised_in (now + 7200) told)))) r.kept) }
+    {
+        let expiry = now + PROMISE_TICKS;
+        let grants = found.grants.as_slice();
+        let lines = saved_lines(self.alloc, server, head, versions, grants, expiry, &found.breaks)?;
+        let mut saved = self.plan_saved(server, boot, last, head, told, &found.breaks, now)?;
+        saved.ended.outs.lines = lines;
+        Ok(saved)
+    }
+
     /// What a change of the volume of this number comes to.
     pub(crate) fn plan_change(
         &self,
@@ -467,6 +517,7 @@ impl FileServer {
         requires now { now ≤ 1000000000 }
         ensures { IfOk result (λ p. IsPlanned server boot last now head.now id change self.now p) }
     {
+        let found = self.found(head.from, &change, now)?;
         let Change {
             versions,
             vnodes,
@@ -475,30 +526,17 @@ impl FileServer {
             unique,
             reply,
         } = change;
-        let changed = fids_changed(self.alloc, versions.as_slice())?;
-        let grants = new_grants(self.alloc, &reply)?;
-        let granted = fids_granted(self.alloc, grants.as_slice())?;
-        let withdrawn = new_hits(
-            self.alloc,
-            &self.promises,
-            changed.as_slice(),
-            head.from,
-            now,
-        )?;
-        let breaks = new_breaks(self.alloc, &self.promises, &withdrawn)?;
-        let mut saved = self.plan_saved(server, boot, last, head, reply, &breaks, now)?;
-        saved.ended.outs.lines = saved_lines(
-            self.alloc,
-            server,
-            head,
-            versions,
-            grants.as_slice(),
-            now + PROMISE_TICKS,
-            &breaks,
-        )?;
+        let saved = self.plan_told(server, boot, last, head, versions, reply, &found, now)?;
         let Replied { ended, kept } = saved;
         let copy = kept.copy(self.alloc)?;
         let rec = change_record(head, copy, id, counter, unique, vnodes, removed);
+        let Found {
+            changed,
+            grants: _,
+            granted,
+            withdrawn,
+            breaks: _,
+        } = found;
         Ok(Planned {
             ended,
             kept,

@@ -5,7 +5,7 @@ use Rattle.afs_num.specs.declared.messages.Reply.TheVariants as tell
 use Rattle.afs_model.specs.Messages.{HasSpelling}
 use Rattle.afs_rows.specs.ServerRow.{promised_in, replied}
 use Rattle.afs_server.proofs.Spelled.{promised_number, promised_within, replied_spelled}
-use Rattle.afs_server.proofs.showing.shown_reply.Goals as goal
+use Rattle.afs_server.proofs.answering.reply_told.Goals as goal
 
 pub of-requires : goal.of-requires
 of-requires c =
