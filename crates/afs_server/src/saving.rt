@@ -1,40 +1,32 @@
 //! A change is saved: its record is put on the disk, and what it withdraws is owed.
 
-ghost use Rattle.std.specs.Prelude.{◌≡◌, ◌≤◌, ◌<◌, ◌+◌, ◌^◌, ◌∷◌, ◌++◌, [], ℕ, Some, false, true, length, map, IfOk, IsErrOf, IsSome, OnOk};
+ghost use Rattle.std.specs.Prelude.{◌≡◌, ◌≤◌, ◌<◌, ◌+◌, ◌^◌, ◌∷◌, ◌++◌, [], ℕ, Some, false, true, length, map, IfOk, OnOk};
 ghost use Rattle.std.specs.List.{All, AllByRecursion};
 ghost use Rattle.afs_num.specs.Nodes.{IsNode};
 ghost use Rattle.afs_num.specs.declared.messages.Reply.TheVariants as tell;
 ghost use Rattle.afs_num.specs.declared.records.RecordBody.TheVariants as bodies;
 ghost use Rattle.afs_num.specs.declared.records.StoreRecord as records;
-ghost use Rattle.afs_disk.specs.Disk.{LeavesOnly, PassesAll, SameDisk};
-ghost use Rattle.afs_journal.specs.Log.{SameCounts};
-ghost use Rattle.afs_journal.specs.Records.{whole_records};
 ghost use Rattle.afs_shape.specs.Rows.{IsWithin};
-ghost use Rattle.afs_ideal.specs.Tables.{get};
 ghost use Rattle.afs_ideal.specs.VnodeImage.{image_words, FitsImage};
 ghost use Rattle.afs_xdr.specs.Words.{AreWords};
-ghost use Rattle.afs_model.specs.Calls.{call_seat, paired, runs};
 ghost use Rattle.afs_model.specs.CellRows.{cell_replies, reply_number};
 ghost use Rattle.afs_model.specs.Heads.{IsSoundHead};
-ghost use Rattle.afs_model.specs.Messages.{HasSpelling};
 ghost use Rattle.afs_history.specs.declared.lines.Line.TheVariants as lines;
 ghost use Rattle.afs_breaks.specs.Promises.{expired, lasting, lasting_breaks, owes_from, withdrawn, Lists};
 ghost use Rattle.afs_records.specs.Changes.{keeping};
-ghost use Rattle.afs_records.specs.Durable.{folded};
 ghost use Rattle.afs_records.specs.Records.{FitsRecord};
 ghost use Rattle.afs_promise.specs.Found.{without_found};
 ghost use Rattle.afs_rows.specs.Callbacks.{alls, numbers, owe_line, pumped};
 ghost use Rattle.afs_num.specs.declared.messages.Carried.TheVariants as carried;
 ghost use Rattle.afs_rows.specs.ServerRow.{is_client, key_of, promised_in, replied, versioned};
 ghost use Rattle.afs_server_parts.specs.Called.{AreGoodCalls};
-ghost use Rattle.afs_server_parts.specs.Kept.{IsSpelling, Spells};
+ghost use Rattle.afs_server_parts.specs.Kept.{Spells};
 ghost use Rattle.afs_server_parts.specs.Telling.{grant_line};
 ghost use Rattle.afs_server_parts.specs.Turning.{backs_with, IsBreakToNode, IsFresh, IsTurn};
-ghost use Rattle.afs_volstore.specs.Stores.{LeftAround, Served};
-ghost use Rattle.afs_server.specs.Answering.{answer_turn, with_lists, KeepsReply};
-ghost use Rattle.afs_server.specs.Deciding.{CanBeWritten, HasKind, IsChanged};
+ghost use Rattle.afs_server.specs.Answering.{answer_turn, with_lists};
+ghost use Rattle.afs_server.specs.Deciding.{CanBeWritten, HasKind};
 ghost use Rattle.afs_server.specs.Ending.{Ends};
-ghost use Rattle.afs_server.specs.Saving.{breaks_new, change_kept, fids_changed, fids_granted, has_fid, hits_each, hits_fresh, hits_new, new_grants, IsPlanned, IsTaken, Puts};
+ghost use Rattle.afs_server.specs.Saving.{breaks_new, fids_changed, fids_granted, has_fid, hits_each, hits_fresh, hits_new, new_grants, IsPlanned};
 ghost use Rattle.afs_server.specs.Seen.{backs_seen, IsPromiseToNode, IsToNodes};
 ghost use Rattle.afs_server.specs.declared.faults.NodeFault.TheVariants as faults;
 
@@ -43,11 +35,9 @@ use crate::ending::{Ended, end};
 use crate::faults::NodeFault;
 use crate::server::FileServer;
 use afs_breaks::types::{OwedBreak, Promise};
-use afs_disk::Disk;
-use afs_history::lines::{Line, Lines, Outs};
+use afs_history::lines::{Line, Lines};
 use afs_num::calls::{AfsFetchStatus, FsReply};
 use afs_num::histories::{Version, Versions};
-use afs_num::messages::Message;
 use afs_num::records::{RecordBody, RecordHead, StoreRecord};
 use afs_num::sequences::{Octets, Sequence};
 use afs_num::types::{Fid, Head, Key, Mem, Node};
@@ -489,7 +479,15 @@ impl FileServer {
     {
         let expiry = now + PROMISE_TICKS;
         let grants = found.grants.as_slice();
-        let lines = saved_lines(self.alloc, server, head, versions, grants, expiry, &found.breaks)?;
+        let lines = saved_lines(
+            self.alloc,
+            server,
+            head,
+            versions,
+            grants,
+            expiry,
+            &found.breaks,
+        )?;
         let mut saved = self.plan_saved(server, boot, last, head, told, &found.breaks, now)?;
         saved.ended.outs.lines = lines;
         Ok(saved)
