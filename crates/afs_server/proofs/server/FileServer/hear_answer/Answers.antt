@@ -1,4 +1,4 @@
-use Rattle.std.proofs.Common.{◌≡◌, Option, refl, ap, sym, subst, ◌∙◌}
+use Rattle.std.proofs.Common.{◌≡◌, refl, ap, ◌∙◌}
 use Rattle.afs_rows.specs.Callbacks as row
 use Rattle.afs_server_parts.specs.Called.{call_to}
 use Rattle.afs_server.specs.Hearing.{answered_turn, heard_by, settled_turn}

@@ -1,4 +1,4 @@
-use Rattle.std.proofs.Common.{◌≡◌, ◌≤◌, ◌+◌, List, true, length, arith, lt-ltb, rules, Option, None, Some, refl, ap, sym, subst, ◌∙◌}
+use Rattle.std.proofs.Common.{◌≡◌, ◌≤◌, ◌+◌, List, true, length, arith, lt-ltb, rules, Option, None, Some, ap, sym, subst, ◌∙◌}
 use Rattle.std.specs.Prelude.{nat_lt, Result, Ok, Err}
 use Rattle.afs_history.specs.declared.lines.Outs.{Outs}
 use Rattle.afs_breaks.specs.Promises.{expired, grants_all, lasting, withdrawn, Lists}

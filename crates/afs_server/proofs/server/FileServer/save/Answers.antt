@@ -1,8 +1,7 @@
-use Rattle.std.proofs.Common.{ℕ, ◌≡◌, ◌≤◌, ◌+◌, true, false, Some, length, arith, refl, ap, sym, subst, ◌∙◌}
+use Rattle.std.proofs.Common.{ℕ, ◌≡◌, ◌≤◌, ◌+◌, length, arith, refl, ap, sym, subst, ◌∙◌}
 use Rattle.std.specs.List.{AllByRecursion}
 use Rattle.std.specs.Prelude.{Result, Err, map}
 use Rattle.afs_history.specs.declared.lines.Outs.{Outs}
-use Rattle.afs_num.specs.Nodes.{IsNode}
 use Rattle.afs_num.specs.declared.records.RecordBody.{RecordBody}
 use Rattle.afs_num.specs.declared.records.StoreRecord.{StoreRecord}
 use Rattle.afs_num.specs.declared.types.Node.{Node}

@@ -1,4 +1,4 @@
-use Rattle.std.proofs.Common.{◌≡◌, ◌≤◌, ◌+◌, ℕ, List, [], false, map, arith, ap, sym, subst, refl, lt-ltb, ◌∙◌}
+use Rattle.std.proofs.Common.{◌≡◌, ◌≤◌, ◌+◌, ℕ, [], false, map, arith, ap, sym, subst, refl, lt-ltb, ◌∙◌}
 use Rattle.std.specs.List.{All}
 use Rattle.afs_num.specs.declared.calls.FsReply.{FsReply}
 use Rattle.afs_num.specs.declared.messages.Carried.TheVariants as carried
