@@ -8,7 +8,6 @@ ghost use Rattle.afs_shape.specs.Rows.{IsWithin};
 ghost use Rattle.afs_model.specs.Calls.{call_seat, paired, runs};
 ghost use Rattle.afs_model.specs.CellRows.{cell_replies, reply_number};
 ghost use Rattle.afs_model.specs.Heads.{is_zero, IsSoundHead};
-ghost use Rattle.afs_model.specs.Messages.{HasSpelling};
 ghost use Rattle.afs_breaks.specs.Promises.{expired, lasting_breaks, Lists};
 ghost use Rattle.afs_rows.specs.Callbacks as row;
 ghost use Rattle.afs_rows.specs.Callbacks.{gives_up_all, is_seat_of, pumped};
@@ -26,7 +25,6 @@ use crate::server::FileServer;
 use afs_disk::Disk;
 use afs_history::lines::Outs;
 use afs_num::calls::FsReply;
-use afs_num::messages::Message;
 use afs_num::sequences::{Octets, Sequence};
 use afs_num::types::{Fid, Head, Key, Mem, Node};
 use afs_promise::Promises;
@@ -89,7 +87,7 @@ pub fn reply_told(
 {
     let told = promised(alloc, told, expiry)?;
     let message = reply(boot, head, told);
-    let spelled = SpelledMessage::of(alloc, &message)?;
+    let spelled = SpelledMessage::from_message(alloc, message)?;
     Ok(spelled)
 }
 
@@ -129,24 +127,26 @@ fn keep_answer(callers: &mut Callers, head: &Head, reply: Octets) -> Mem<()>
 }
 
 impl FileServer {
-    /// What comes of it that a message goes out.
-    fn plan_sent(
+    /// What comes of it that a caller is told this server's boot number.
+    fn plan_boot_told(
         &self,
         server: Node,
         boot: u32,
         last: u32,
-        message: &Message,
+        head: &Head,
         now: u32,
     ) -> Mem<Ended>
         requires nodes { IsToNodes server self.now }
-        requires spelling { HasSpelling message.now }
-        ensures ends { IfOk result (λ e. Ends (expired now self.now.lists) (pumped server boot (sent_turn message.now (row.expired now (backs_seen self.now last)))) e) }
+        requires head { IsSoundHead head.now }
+        ensures ends { IfOk result (λ e. Ends (expired now self.now.lists) (pumped server boot (sent_turn (boot_told boot head.now) (row.expired now (backs_seen self.now last)))) e) }
         ensures lines { IfOk result (λ e. e.outs.lines ≡ []) }
         ensures drawn { IfOk result (λ e. last ≤ e.last) }
         ensures good { IfOk result (λ e. AreGoodCalls server e.callees.items) }
     {
+        let message = notice(boot, head);
+        let told = SpelledMessage::from_message(self.alloc, message)?;
         let mut turn = self.turn(last, now)?;
-        turn.send(self.alloc, message)?;
+        turn.send(told)?;
         let ended = end(self.alloc, server, boot, turn)?;
         Ok(ended)
     }
@@ -215,28 +215,6 @@ impl FileServer {
         Ok(Replied { ended, kept })
     }
 
-    /// What comes of a reply to a call that ran.
-    pub(crate) fn plan_reply(
-        &self,
-        server: Node,
-        boot: u32,
-        last: u32,
-        message: &Message,
-        now: u32,
-    ) -> Mem<Replied>
-        requires nodes { IsToNodes server self.now }
-        requires spelling { HasSpelling message.now }
-        ensures ends { IfOk result (λ r. (l : Lists) → l.owed ≡ lasting_breaks now self.now.lists.owed → Ends l (pumped server boot (answer_turn message.now [] false (with_lists l (backs_seen self.now last)))) r.ended) }
-        ensures lines { IfOk result (λ r. r.ended.outs.lines ≡ []) }
-        ensures drawn { IfOk result (λ r. last ≤ r.ended.last) }
-        ensures good { IfOk result (λ r. AreGoodCalls server r.ended.callees.items) }
-        ensures kept { IfOk result (λ r. Spells message.now r.kept) }
-    {
-        let reply = SpelledMessage::of(self.alloc, message)?;
-        let replied = self.plan_spelled(server, boot, last, reply, now)?;
-        Ok(replied)
-    }
-
     /// What comes of it that a call that runs is refused with this code.
     fn plan_refused(
         &self,
@@ -257,7 +235,8 @@ impl FileServer {
         ensures kept { IfOk result (λ r. Spells (refusal boot head.now code) r.kept) }
     {
         let message = refusal(boot, head, code);
-        let replied = self.plan_reply(server, boot, last, &message, now)?;
+        let reply = SpelledMessage::from_message(self.alloc, message)?;
+        let replied = self.plan_spelled(server, boot, last, reply, now)?;
         Ok(replied)
     }
 
@@ -280,7 +259,8 @@ impl FileServer {
         ensures kept { IfOk result (λ r. Spells (read_reply_to boot head.now 0 (given_up_read [])) r.kept) }
     {
         let message = reply(boot, head, FsReply::GiveUpCallBacks);
-        let replied = self.plan_reply(server, boot, last, &message, now)?;
+        let told = SpelledMessage::from_message(self.alloc, message)?;
+        let replied = self.plan_spelled(server, boot, last, told, now)?;
         Ok(replied)
     }
 
@@ -295,12 +275,11 @@ impl FileServer {
         requires head { IsSoundHead head.now }
         ensures { Turns (sent_turn (boot_told store.old.durable.boot head.now) (row.expired now (backs_seen self.old store.old.drawn))) self.old self.new store.old store.new result }
     {
-        let message = notice(store.boot_number(), head);
-        let ended = self.plan_sent(
+        let ended = self.plan_boot_told(
             store.node(),
             store.boot_number(),
             store.last_number(),
-            &message,
+            head,
             now,
         )?;
         let outs = self.keep_at(store, ended, now);
