@@ -5,10 +5,10 @@ use Rattle.afs_num.specs.declared.messages.Reply.TheVariants as tell
 use Rattle.afs_model.specs.Messages.{HasSpelling}
 use Rattle.afs_rows.specs.ServerRow.{promised_in, replied}
 use Rattle.afs_server.proofs.Spelled.{promised_number, promised_within, replied_spelled}
-use Rattle.afs_server.proofs.showing.shown_reply.Goals as goal
+use Rattle.afs_server.proofs.answering.reply_told.Goals as goal
 
-pub of-requires : goal.of-requires
-of-requires c =
+pub from_message-requires : goal.from_message-requires
+from_message-requires c =
     let reply = promised_in c.args.expiry c.args.told in
     let told : c.reply-message.result ≡ replied c.args.boot c.args.head.now (carried.Reply (tell.File reply)) =
     c.reply-message.ensures ∙ ap (λ (x : FsReply). replied c.args.boot c.args.head.now (carried.Reply (tell.File x))) c.in_ok-told.ensures in
