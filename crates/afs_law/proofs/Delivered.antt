@@ -58,7 +58,7 @@ first_ungiven : (me : Node) (x : ClientState) (clock : ℕ) (act : Act) (a : Goi
 first_ungiven me x clock act a gives_back = gives_ungiven me (record x { cache = untrusted_in clock x.cache }) act a (trusted_in clock x.cache) (in_order (map gift_of (trusted_in clock x.cache)))
 first_ungiven me x clock act a need = let w : Walked = walked (most_reads a) clock a x.cache in goes_ungiven me x act w (next w.act)
 
-begun_ungiven : (me : Node) (x : ClientState) (clock : ℕ) (act : Act) → Ungiven (begin_row me x clock act).lines
+pub begun_ungiven : (me : Node) (x : ClientState) (clock : ℕ) (act : Act) → Ungiven (begin_row me x clock act).lines
 unfolding begin_row
 begun_ungiven me x clock act = first_ungiven me (record x { busy = 0 }) clock act (began x.table act) (next (began x.table act))
 
@@ -66,7 +66,7 @@ tries_ungiven : (me : Node) (x : ClientState) (act : Going) (t : Bool) → Ungiv
 tries_ungiven me x act true = refl
 tries_ungiven me x act false = dropped_ungiven me (given_up_in (volume_changed (call_of x act)) x.cache) (lines.Answer me dead_code ∷ []) refl
 
-waited_ungiven : (me : Node) (x : ClientState) (act : Going) → Ungiven (timeout_row me x act).lines
+pub waited_ungiven : (me : Node) (x : ClientState) (act : Going) → Ungiven (timeout_row me x act).lines
 waited_ungiven me x act = tries_ungiven me x act (nat_lt x.tries 2)
 
 -- ---- a server's

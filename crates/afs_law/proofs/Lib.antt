@@ -78,6 +78,8 @@ pub mod Ours
 pub mod Due
 pub mod Codes
 pub mod Using
+pub mod Handling
+pub mod Entering
 pub mod Kept
 pub mod Later
 pub mod Settled
@@ -98,7 +100,6 @@ pub mod Bringing
 pub mod Receiving
 pub mod Beside
 pub mod Watched
-pub mod Entering
 pub mod Trusted
 pub mod Brought
 pub mod Readings

@@ -1268,11 +1268,11 @@ settled_twice h = h.1.1.1.1.1.0.1.1.1.1.1.1.0 (inl (refl, refl))
 -- a client is given its own call
 given_to_another : Legal (entries (start (script 1)) (begins 1 (acts.Open (operands.Fid file)) ∷ []) ++ step_of (Client 1) (lines.Given 1 ∷ []) [] ∷ []) (script 1) → ⊥
 unfolding moved begin_row client_row server_row back_timeout_row wake_row start_row record_bytes head_form volume_form spelled opaque pad word laid_at led name_ok directory_bytes name_bytes rights_of image acl_text digits entry_text directory_of names_at opaque_at word_at counted_at whole_at count_at name_at spelled_at bytes_below
-given_to_another h = no_client (sym (node_of _ _ (h.1.0.1.0.1.1.1 refl)))
+given_to_another h = no_client (sym (node_of _ _ (h.1.0.1.0.1.1.1.0 refl)))
 
 given_unsent : Legal (entries (start (script 1)) (begins 1 (acts.Open (operands.Fid file)) ∷ []) ++ step_of (Server 1) (lines.Given 2 ∷ []) [] ∷ []) (script 1) → ⊥
 unfolding moved begin_row client_row server_row back_timeout_row wake_row start_row record_bytes head_form volume_form spelled opaque pad word laid_at led name_ok directory_bytes name_bytes rights_of image acl_text digits entry_text directory_of names_at opaque_at word_at counted_at whole_at count_at name_at spelled_at bytes_below
-given_unsent h = h.1.0.1.0.1.1.1 refl
+given_unsent h = h.1.0.1.0.1.1.1.0 refl
 
 -- ---- the clock ticks by itself
 
@@ -1359,3 +1359,15 @@ timed_out_when_replaced h = elim (h.1.1.1.0.0.0.0.1.awaited.last 3 _ refl tt ref
 timed_out_four_times : Legal (entries (start (script 2)) (changes_file ++ server_waits 1 (Client 1) ∷ server_waits 1 (Client 1) ∷ server_waits 1 (Client 1) ∷ []) ++ step_of (Server 1) (lines.Timeout (Server 1) (Client 1) 1 1 4 ∷ []) [] ∷ []) (script 2) → ⊥
 unfolding moved begin_row client_row server_row back_timeout_row wake_row start_row record_bytes head_form volume_form spelled opaque pad word laid_at led name_ok directory_bytes name_bytes rights_of image acl_text digits entry_text directory_of names_at opaque_at word_at counted_at whole_at count_at name_at spelled_at bytes_below
 timed_out_four_times h = let e : 4 ≤ 3 = h.1.1.1.1.1.1.1.0.0.0.0.1.few in absurd (omega arith)
+
+-- ---- a client that is given a break drops what it is on
+
+abbrev first_of_server : Key
+first_of_server = record { node = Server 1; epoch = 1; number = 1 }
+
+-- it does nothing, and goes on showing what it holds
+broken_and_kept : Legal (alters 4 (instead (lines.Given 4 ∷ [])) (entries (start (script 2)) (changes_file ++ gives 4 steady ∷ []))) (script 2) → ⊥
+unfolding moved begin_row client_row server_row back_timeout_row wake_row start_row record_bytes head_form volume_form spelled opaque pad word laid_at led name_ok directory_bytes name_bytes rights_of image acl_text digits entry_text directory_of names_at opaque_at word_at counted_at whole_at count_at name_at spelled_at bytes_below
+broken_and_kept h =
+    let none_ : IsToCome (Client 1) first_of_server 1 (past_of (set_up (script 2) ∷ []) (entries (start (script 2)) changes_file)) = ((λ x. no_client x.0.1), ((λ x. x), ((λ x. no_client x.0.1), ((λ x. x), ((λ x. x), tt))))) in
+    (h.1.1.1.1.0.1.0.1.1.1.1 first_of_server (record { boot = 1; up = refl; given = ((tt, refl), (refl, refl)); first = none_ })).0

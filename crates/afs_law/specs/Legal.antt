@@ -15,7 +15,7 @@ use Rattle.afs_num.specs.declared.messages.Carried.{Carried}
 use Rattle.afs_num.specs.declared.messages.Message.{Message}
 use Rattle.afs_ideal.specs.Operations.{Caller, the_user, Result, refused, changes, no_operation, op, code_of, volume_called}
 use Rattle.afs_ideal.specs.Volumes.{Volume, Edit, versions_by}
-use Rattle.afs_law.specs.Breaks.{unbroken_grant, IsNamedIn, AllOwes, HasEnded, HasStopped, HasTimeout, EndedOf, EndedAll, GoodSettle, GoodQuit, live_grant, lines_at, HasOwe, last_number}
+use Rattle.afs_law.specs.Breaks.{HasDrop, unbroken_grant, IsNamedIn, AllOwes, HasEnded, HasStopped, HasTimeout, EndedOf, EndedAll, GoodSettle, GoodQuit, live_grant, lines_at, HasOwe, last_number}
 use Rattle.afs_rows.specs.Going.{Going, Need, answers, asks_for, next, asked, gives_back, reads_rights}
 use Rattle.afs_law.specs.Grants.{is_promised, read_reply, GrantOf, since, until, IsWithdrawn, IsChangedByOther, IsDropped}
 use Rattle.afs_law.specs.Ideal.{last_version, Unless, set_up, IsLast, WasLast, HasBeen, HasVersion, Accepts, clock_of, user_of, seen, change_in, change_key, call_under, callee_under, volume_after}
@@ -590,6 +590,30 @@ abbrev pub GoodRestart : Script → Node → List Line → Type 0
 GoodRestart s (Server i) next = (j : ℕ) → 1 ≤ j → j ≤ s.clients → HasOwe (Server i) (Client j) None next
 GoodRestart s n next = ⊤
 
+-- ---- breaks that a client is given
+
+-- in these lines the client drops each of the fids, or all that the server promised
+abbrev pub AreDroppedIn : Node → Node → List Fid → List Line → Type 0
+AreDroppedIn server c [] ls = ⊤
+AreDroppedIn server c (f ∷ fs) ls = HasDrop server c (Some f) ls × AreDroppedIn server c fs ls
+
+-- what a call of this header breaks
+abbrev pub DropsBroken : Node → Head → Carried → List Line → Type 0
+DropsBroken c head (carried.Call user (ask.File (calls.CallBack fids callbacks))) ls = AreDroppedIn head.from c fids ls
+DropsBroken c head (carried.Call user (ask.File calls.InitCallBackState)) ls = HasDrop head.from c None ls
+DropsBroken c head x ls = ⊤
+
+abbrev pub DropsGiven : Node → Option Message → List Line → Type 0
+DropsGiven c None ls = ⊤
+DropsGiven c (Some m) ls = DropsBroken c m.head m.carried ls
+
+-- a client that runs a call which breaks promises drops in that step what these are on
+abbrev pub HandlesBreaks : Actor → List Entry → List Line → Type 0
+HandlesBreaks (actors.Node (Client j)) past ls = (k : Key) → RunsHere (Client j) k past ls → DropsGiven (Client j) (given_message ls (sent_of past)) ls
+HandlesBreaks who past ls = ⊤
+
+-- ---- what an entry of a restart tells
+
 -- it was down, and its boot is above all that it began before
 abbrev pub IsRising : Line → List Line → Type 0
 IsRising (lines.Restart (Server i) boot) older = (server_boot (Server i) older ≡ None) × (last_boot (Server i) older < boot)
@@ -716,9 +740,9 @@ IsOfScript s actors.Nobody = ⊤
 
 -- An entry lays no volumes, for the set-up alone does; and it is of a node of the script. A server that begins again was down, and is then in
 -- a boot above the last one that it began. A node that is down does nothing but begin again, or fail to. What an entry is given was sent to its
--- node
+-- node; and a client that runs a call which breaks promises drops what these are on
 abbrev pub IsEntryOf : Script → List Entry → Entry → Type 0
-IsEntryOf s past e = ((e.volumes ≡ []) × IsOfScript s e.actor) × (AreRising (lines_of past) e.lines × (IsLivedBy e.actor past e.lines e.sent × IsDelivered e.actor past e.lines))
+IsEntryOf s past e = ((e.volumes ≡ []) × IsOfScript s e.actor) × (AreRising (lines_of past) e.lines × (IsLivedBy e.actor past e.lines e.sent × (IsDelivered e.actor past e.lines × HandlesBreaks e.actor past e.lines)))
 
 abbrev pub LegalAfter : Script → List Entry → List Entry → Type 0
 LegalAfter s past [] = ⊤

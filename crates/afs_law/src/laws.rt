@@ -153,7 +153,7 @@ pub fn calls_are_asked()
 {}
 
 /// Each entry is of a node of the script, and as that is, up or down: one that is down does nothing but begin again, or fail to. What it is
-/// given was sent to its node, and each reply that it sends to a client was run.
+/// given was sent to its node, a client that runs a break drops what this is on, and each reply that is sent to a client was run.
 pub fn entries_are_sound()
     ensures { EntriesAreSound }
 {}
