@@ -79,6 +79,7 @@ pub mod Due
 pub mod Codes
 pub mod Using
 pub mod Handling
+pub mod Present
 pub mod Entering
 pub mod Kept
 pub mod Later

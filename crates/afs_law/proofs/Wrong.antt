@@ -1370,4 +1370,17 @@ broken_and_kept : Legal (alters 4 (instead (lines.Given 4 ∷ [])) (entries (sta
 unfolding moved begin_row client_row server_row back_timeout_row wake_row start_row record_bytes head_form volume_form spelled opaque pad word laid_at led name_ok directory_bytes name_bytes rights_of image acl_text digits entry_text directory_of names_at opaque_at word_at counted_at whole_at count_at name_at spelled_at bytes_below
 broken_and_kept h =
     let none_ : IsToCome (Client 1) first_of_server 1 (past_of (set_up (script 2) ∷ []) (entries (start (script 2)) changes_file)) = ((λ x. no_client x.0.1), ((λ x. x), ((λ x. no_client x.0.1), ((λ x. x), ((λ x. x), tt))))) in
-    (h.1.1.1.1.0.1.0.1.1.1.1 first_of_server (record { boot = 1; up = refl; given = ((tt, refl), (refl, refl)); first = none_ })).0
+    (h.1.1.1.1.0.1.0.1.1.1.1.0 first_of_server (record { boot = 1; up = refl; given = ((tt, refl), (refl, refl)); first = none_ })).0
+
+-- ---- a server answers in the boot in which it is
+
+-- in its next boot it sends again what it had answered to a fetch
+abbrev restarts : List Input
+restarts = stops 1 ∷ starts_again 1 false comes_up ∷ []
+
+answered_from_before : Legal (entries (start (script 1)) (fetch_front ++ restarts) ++ step_of (Server 1) [] (sent_by (start (script 1)) fetch_front) ∷ []) (script 1) → ⊥
+unfolding moved begin_row client_row server_row back_timeout_row wake_row start_row record_bytes head_form volume_form spelled opaque pad word laid_at led name_ok directory_bytes name_bytes rights_of image acl_text digits entry_text directory_of names_at opaque_at word_at counted_at whole_at count_at name_at spelled_at bytes_below
+answered_from_before h = elim (h.1.1.1.1.0.1.0.1.1.1.1.1.0 1 1 (refl, tt) refl refl) [ inl e ↦ absurd (two_boots e) | inr x ↦ x ]
+  where
+    two_boots : ◌≡◌ {A = Option ℕ} (Some 2) (Some 1) → ⊥
+    two_boots e = absurd cc
