@@ -68,6 +68,7 @@ pub mod Queued
 pub mod Timing
 pub mod Lone
 pub mod Silent
+pub mod Located
 pub mod Addressed
 pub mod Truthful
 pub mod Caused
@@ -100,6 +101,7 @@ pub mod Entering
 pub mod Trusted
 pub mod Brought
 pub mod Readings
+pub mod Asking
 pub mod Claims
 pub mod Timed
 pub mod Singly
