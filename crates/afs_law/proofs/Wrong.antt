@@ -603,7 +603,7 @@ entry_by_two e = record e { actor = actor_by_two e.actor; lines = map line_by_tw
 
 granted_by_another_server : Legal (map entry_by_two (entries (start (script 1)) (begins 1 (acts.Open (operands.Fid file)) ∷ gives 1 steady ∷ gives 2 steady ∷ []))) (script 1) → ⊥
 unfolding moved begin_row client_row server_row back_timeout_row wake_row start_row record_bytes head_form volume_form spelled opaque pad word laid_at led name_ok directory_bytes name_bytes rights_of image acl_text digits entry_text directory_of names_at opaque_at word_at counted_at whole_at count_at name_at spelled_at bytes_below
-granted_by_another_server h = elim h.0.1.1.1.0.0.home file.volume refl [ inl x ↦ one_server x.1.1 | inr x ↦ x ]
+granted_by_another_server h = elim (h.0.1.1.1.0.0.home file.volume refl) [ inl x ↦ one_server x.1.1 | inr x ↦ x ]
 
 -- ---- rights are read by an act that needs them, of a reply to its call
 
@@ -963,7 +963,7 @@ server_not_two e = absurd cc
 
 shown_without_the_right : Legal (hidden_front ++ step_of (Client 1) (lines.Given 2 ∷ lines.Read (Client 1) root 1 Fetched (seen.AccessList (codes "1\n0\nann\t127\n")) ∷ []) [] ∷ []) hidden → ⊥
 unfolding moved begin_row client_row server_row back_timeout_row wake_row start_row record_bytes head_form volume_form spelled opaque pad word laid_at led name_ok directory_bytes name_bytes rights_of image acl_text digits entry_text directory_of names_at opaque_at word_at counted_at whole_at count_at name_at spelled_at bytes_below acl_laid acl_at entry_at access.name_at named_at line_number_at access.count_at
-shown_without_the_right h = elim h.0.1.1.1.0.0.home root.volume refl [ inl x ↦ server_not_two x.1.1 | inr x ↦ x ]
+shown_without_the_right h = elim (h.0.1.1.1.0.0.home root.volume refl) [ inl x ↦ server_not_two x.1.1 | inr x ↦ x ]
 
 -- bob may not read the file either: the server refuses his fetch, and promises him the file
 abbrev fetches_all : FsCall
