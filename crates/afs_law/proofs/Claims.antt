@@ -4,7 +4,7 @@ use Rattle.afs_law.proofs.Addressed.{Addressed, IsHome, homes_first, homes_kept}
 use Rattle.afs_law.proofs.Asking.{AsksNow, IsNow, asks_moves, is_at_home, its_last}
 use Rattle.afs_law.proofs.Basics.{ByClient, Each, IfCall, OfCall, OfClient, by_client, client_number, same_key-true}
 use Rattle.afs_law.proofs.KeysOnce.{IsKnown}
-use Rattle.afs_law.proofs.Learning.{HearsLearnt, IsToBegun, LearntIn, learnt_first, learnt_kept}
+use Rattle.afs_law.proofs.Learning.{KnownLearnt, IsToBegun, LearntIn, learnt_first, learnt_kept}
 use Rattle.afs_law.proofs.Moving.{IsKept, each_moved}
 use Rattle.afs_law.proofs.Sent.{call_is, each_front}
 use Rattle.afs_law.proofs.Words.{IsOne}
@@ -111,7 +111,7 @@ claims s callees clients past (m ∷ ms) A h = (
 
 -- what is known of calls, and of the boots to which they are sent
 abbrev Claimed : Script → Cell → List Entry → Type 0
-Claimed s c past = Addressed s c past × HearsLearnt c past
+Claimed s c past = Addressed s c past × KnownLearnt c past
 
 claimed_kept : (s : Script) → IsKept (Claimed s)
 claimed_kept s c past x h = (homes_kept s c past x h.0, learnt_kept c past x h.1)

@@ -1,7 +1,7 @@
 -- Each entry of a run is of a node of its script, and each reply that it sends was run, however many servers a cell has.
 use Rattle.afs_history.specs.declared.scripts.Script.{Script}
 use Rattle.afs_law.proofs.Changing.{run_each}
-use Rattle.afs_law.proofs.Hearing.{HearsIn, first_hears, moved_hears}
+use Rattle.afs_law.proofs.Knowing.{Known, known_first, known_kept}
 use Rattle.afs_law.proofs.SettingUp.{AreEntries}
 use Rattle.afs_law.proofs.Lives.{run_lived}
 use Rattle.afs_law.proofs.Members.{run_entries}
@@ -20,7 +20,7 @@ use Rattle.std.proofs.Common.{◌≡◌, List, [], ◌∷◌, refl}
 abbrev LaysNone : Cell → List Entry → Moved → Type 0
 LaysNone c past m = m.entry.volumes ≡ []
 
-none_laid : EachMove HearsIn LaysNone
+none_laid : EachMove Known LaysNone
 none_laid = record {
   void = λ c past h. refl;
   ticked = λ c past n h. refl;
@@ -57,4 +57,4 @@ join s past (e ∷ es) a b l t = ((((b.0, a.0.0), (a.0.1, l.0)), each_ran (e ∷
 
 pub run_entered : EntriesAreSound
 run_entered s h end r =
-    join s (set_up s ∷ []) h (run_entries s h end r) (run_each HearsIn (λ past e. e.volumes ≡ []) moved_hears (λ c past x k. each_moved HearsIn LaysNone none_laid c past x k) r.inputs (start s) (set_up s ∷ []) h end (first_hears s) r.leads) (run_lived s h end r) (run_true s h end r)
+    join s (set_up s ∷ []) h (run_entries s h end r) (run_each Known (λ past e. e.volumes ≡ []) known_kept (λ c past x k. each_moved Known LaysNone none_laid c past x k) r.inputs (start s) (set_up s ∷ []) h end (known_first s) r.leads) (run_lived s h end r) (run_true s h end r)

@@ -41,7 +41,7 @@ use Rattle.afs_rows.specs.Runs.{Cell, Entry, Input, begins, client_starts, clien
 use Rattle.afs_xdr.specs.Words.{opaque, pad, word, opaque_at, word_at, counted_at}
 use Rattle.afs_law.specs.Ideal.{set_up}
 use Rattle.afs_law.specs.Once.{past_of}
-use Rattle.afs_law.specs.Past.{WasSent, SendsTo, has_sent, is_called, same_key, onto, lines_on, IsCall, server_boot, CalledSince, IsToCome, called_key, Ran, answered_key, code_told, given_message, lines_of, sent_of}
+use Rattle.afs_law.specs.Past.{HasChangeBy, IsLatest, WasSent, SendsTo, has_sent, is_called, same_key, onto, lines_on, IsCall, server_boot, CalledSince, IsToCome, called_key, Ran, answered_key, code_told, given_message, lines_of, sent_of}
 use Rattle.afs_num.specs.declared.calls.FsCall.{FsCall}
 use Rattle.afs_num.specs.declared.calls.FsCall.TheVariants as calls
 use Rattle.afs_num.specs.declared.volume_calls.VolCall.TheVariants as volumes
@@ -1289,3 +1289,60 @@ to_volumes m = record m { carried = carried.Call (codes "guest") (ask.Volume (vo
 changed_by_a_volume_call : Legal (alters 0 (sends_besides to_volumes) (entries (start (script 1)) (begins 1 (acts.Close (operands.Fid file) (Hex (codes "def"))) ∷ [])) ++ step_of (Server 1) (lines.Given 2 ∷ lines.Change (Server 1) (key_of_one 1) 1 ∷ lines.Version (record { fid = file; index = 2; data_version = 2; body = bodies.File (codes "def") }) ∷ []) [] ∷ []) (script 1) → ⊥
 unfolding moved begin_row client_row server_row back_timeout_row wake_row start_row record_bytes head_form volume_form spelled opaque pad word laid_at led name_ok directory_bytes name_bytes rights_of image acl_text digits entry_text directory_of names_at opaque_at word_at counted_at whole_at count_at name_at spelled_at bytes_below
 changed_by_a_volume_call h = h.0.1.1.1.0.1.0
+
+-- ---- a server keeps the reply to what it changed over a restart
+
+-- The server made a store, and went down before its reply came. It runs the call again in its next boot, and has no room for it
+abbrev stores_in : ℕ → Message
+stores_in boot = record {
+  head = record { half = halves.Call; from = Client 1; to = Server 1; epoch = 1; number = 1; boot = boot; stamp = 0; opcode = 133 };
+  carried = carried.Call (codes "guest") (ask.File (stored_whole file (codes "def")));
+}
+
+abbrev head_of_two : Head
+head_of_two = record { half = halves.Reply; from = Server 1; to = Client 1; epoch = 1; number = 1; boot = 2; stamp = 0; opcode = 133 }
+
+abbrev stored_and_stopped : List Entry
+stored_and_stopped =
+    step_of (Client 1) (stores 1 ∷ []) (stores_in 1 ∷ [])
+    ∷ step_of (Server 1) (lines.Given 1 ∷ lines.Change (Server 1) (key_of_one 1) 1 ∷ lines.Version (record { fid = file; index = 2; data_version = 2; body = bodies.File (codes "def") }) ∷ []) []
+    ∷ step_of (Server 1) (lines.Crash (Server 1) ∷ []) []
+    ∷ step_of (Server 1) (lines.Restart (Server 1) 2 ∷ lines.Owe (Server 1) (Client 1) None 1 ∷ []) []
+    ∷ step_of (Client 1) (lines.Timeout (Client 1) (Server 1) 1 1 1 ∷ []) (stores_in 2 ∷ [])
+    ∷ step_of (Server 1) (lines.Given 2 ∷ []) (record { head = head_of_two; carried = carried.Refusal (record { 0 = pos 108 }) } ∷ []) ∷ []
+
+-- what that says of the entry that ran it
+record RanAgain (e : Entry) (older : List Entry) : Type 0 where
+  message : Message
+  given : given_message e.lines (sent_of older) ≡ Some message
+  boot : message.head.boot ≡ 2
+  latest : IsLatest (Server 1) (key_of_one 1) (lines_of older)
+
+ran_again : (past : List Entry) → Ran head_of_two past → Among RanAgain past
+ran_again past r = subst (Among RanAgain) (sym r.split) (is_among RanAgain r.newer r.at r.older (record { message = r.message; given = r.given; boot = r.boot; latest = r.latest }))
+
+abbrev NoneOf : (Entry → List Entry → Type 0) → List Entry → Type 0
+NoneOf P [] = ⊤
+NoneOf P (e ∷ past) = (P e past → ⊥) × NoneOf P past
+
+none_among : (P : Entry → List Entry → Type 0) (past : List Entry) → NoneOf P past → Among P past → ⊥
+none_among P [] h x = x
+none_among P (e ∷ past) h (inl x) = h.0 x
+none_among P (e ∷ past) h (inr x) = none_among P past h.1 x
+
+again_none : (e : Entry) (older : List Entry) → given_message e.lines (sent_of older) ≡ None → RanAgain e older → ⊥
+again_none e older none x = let no_ : None ≡ Some x.message = sym none ∙ x.given in absurd cc
+
+again_first : (e : Entry) (older : List Entry) (m : Message) → given_message e.lines (sent_of older) ≡ Some m → m.head.boot ≡ 1 → RanAgain e older → ⊥
+again_first e older m at one x = let no_ : 1 ≡ 2 = sym one ∙ (ap (λ (q : Message). q.head.boot) (some_of m x.message (sym at ∙ x.given)) ∙ x.boot) in absurd (omega (arith, no_))
+
+again_changed : (e : Entry) (older : List Entry) → HasChangeBy (Server 1) (key_of_one 1) (lines_of older) → RanAgain e older → ⊥
+again_changed e older has x = elim (x.latest (key_of_one 1) has refl) [ inl y ↦ let no_ : 1 < 1 = y in absurd (omega arith) | inr y ↦ let no_ : 1 < 1 = y.1 in absurd (omega arith) ]
+
+refused_what_was_done : Legal stored_and_stopped (script 1) → ⊥
+unfolding moved begin_row client_row server_row back_timeout_row wake_row start_row record_bytes head_form volume_form spelled opaque pad word laid_at led name_ok directory_bytes name_bytes rights_of image acl_text digits entry_text directory_of names_at opaque_at word_at counted_at whole_at count_at name_at spelled_at bytes_below
+refused_what_was_done h =
+    none_among RanAgain (past_of (set_up (script 1) ∷ []) stored_and_stopped) (
+      (λ x. again_changed _ _ (inl (refl, refl)) x),
+      ((λ x. again_none _ _ refl x), ((λ x. again_none _ _ refl x), ((λ x. again_none _ _ refl x), ((λ x. again_first _ _ _ refl refl x), ((λ x. again_none _ _ refl x), ((λ x. again_none _ _ refl x), tt)))))),
+    ) (ran_again _ (h.1.1.1.1.1.0.1.1.0.0 1 1 (refl, tt) refl refl).ran)

@@ -1,3 +1,4 @@
+pub use Rattle.afs_law.specs.Past.{HasChangeBy, IsLater}
 use Rattle.std.specs.Option.{option_map}
 use Rattle.afs_num.specs.Fids.{same_fid}
 use Rattle.afs_rows.specs.ServerRow.{promise_ticks}
@@ -20,7 +21,7 @@ use Rattle.afs_rows.specs.Going.{Going, Need, answers, asks_for, next, asked, gi
 use Rattle.afs_law.specs.Grants.{is_promised, read_reply, GrantOf, since, until, IsWithdrawn, IsChangedByOther, IsDropped}
 use Rattle.afs_law.specs.Ideal.{last_version, Unless, set_up, IsLast, WasLast, HasBeen, HasVersion, Accepts, clock_of, user_of, seen, change_in, change_key, call_under, callee_under, volume_after}
 use Rattle.afs_history.specs.declared.lines.Line.{Line}
-use Rattle.afs_law.specs.Past.{HasBoot, IsUpTo, WasSent, is_down, last_boot, is_new_to_act, called_key, IsCall, IsToCome, is_of_act, lines_of, sent_of, given_message, answered_key, code_told, IsReply, running, has_begun, has_given, Called, CalledSince, IsCallUnder, Ran, server_boot}
+use Rattle.afs_law.specs.Past.{HasBoot, IsLatest, IsUpTo, WasSent, is_down, last_boot, is_new_to_act, called_key, IsCall, IsToCome, is_of_act, lines_of, sent_of, given_message, answered_key, code_told, IsReply, running, has_begun, has_given, Called, CalledSince, IsCallUnder, Ran, server_boot}
 use Rattle.afs_rows.specs.Runs.{Entry}
 use Rattle.afs_history.specs.declared.scripts.Script.{Script}
 use Rattle.afs_num.specs.declared.histories.Actor.{Actor}
@@ -161,16 +162,6 @@ abbrev pub HasChange : Key → List Line → Type 0
 HasChange k [] = ⊥
 HasChange k (l ∷ ls) = IsKey k (change_in l) (HasChange k ls)
 
--- the server changed something under this key
-abbrev pub HasChangeBy : Node → Key → List Line → Type 0
-HasChangeBy s k [] = ⊥
-HasChangeBy s k (lines.Change q l count ∷ ls) = ((q ≡ s) × (l ≡ k)) ⊎ HasChangeBy s k ls
-HasChangeBy s k (l ∷ ls) = HasChangeBy s k ls
-
--- a node's key of a later call
-abbrev pub IsLater : Key → Key → Type 0
-IsLater k l = (l.epoch < k.epoch) ⊎ ((l.epoch ≡ k.epoch) × (l.number < k.number))
-
 -- the versions that stand first
 abbrev pub versions_first : List Line → List Version
 versions_first (lines.Version v ∷ ls) = v ∷ versions_first ls
@@ -194,12 +185,13 @@ AreFailed s [] = ⊤
 AreFailed s (e ∷ past) = (e.actor ≡ actors.Node s → e.lines ≡ lines.Fault s ∷ []) × AreFailed s past
 
 -- this entry was given a call of the key to the server and to the boot in which that is, the first in that boot, and before any
--- later call of its node
+-- later call of its node; and in whichever boot the server changed something for that node before, it did so under an earlier key
 pub record RunsHere (server : Node) (k : Key) (past : List Entry) (own : List Line) : Type 0 where
   pub boot : ℕ
   pub up : server_boot server (lines_of past) ≡ Some boot
   pub given : IsCallUnder server k boot (given_message own (sent_of past))
   pub first : IsToCome server k boot past
+  pub latest : IsLatest server k (lines_of past)
 
 -- the server stopped in the entry that was given it; and this one is the restart that finds what that step left, which it tells
 -- first
@@ -221,7 +213,7 @@ pub record RanBefore (server : Node) (k : Key) (past : List Entry) (own next : L
 -- that follow are just those of the ideal operation on the ideal volume
 pub record IdealChange (s : Script) (server : Node) (k : Key) (count : ℕ) (past : List Entry) (own next : List Line) : Type 0 where
   pub fresh : IsNew k (own ++ lines_of past)
-  pub latest : (l : Key) → HasChangeBy server l (own ++ lines_of past) → l.node ≡ k.node → IsLater k l
+  pub latest : IsLatest server k (own ++ lines_of past)
   pub place : RunsHere server k past own ⊎ RanBefore server k past own next
   pub going : HasStopped server own → ⊥
   pub only : change_key own ≡ None
