@@ -3,7 +3,7 @@ use Rattle.afs_history.specs.declared.scripts.Script.{Script}
 use Rattle.afs_law.proofs.Changing.{run_each}
 use Rattle.afs_law.proofs.Delivered.{run_delivered}
 use Rattle.afs_law.proofs.Handling.{run_handled}
-use Rattle.afs_law.proofs.Hearing.{HearsIn, first_hears, moved_hears}
+use Rattle.afs_law.proofs.Knowing.{Known, known_first, known_kept}
 use Rattle.afs_law.proofs.SettingUp.{AreEntries}
 use Rattle.afs_law.proofs.Hosted.{IsServerLived, run_hosted}
 use Rattle.afs_law.proofs.Lives.{IsClientLived, run_lived}
@@ -29,7 +29,7 @@ use Rattle.std.proofs.Common.{◌≡◌, List, [], ◌∷◌, refl}
 abbrev LaysNone : Cell → List Entry → Moved → Type 0
 LaysNone c past m = m.entry.volumes ≡ []
 
-none_laid : EachMove HearsIn LaysNone
+none_laid : EachMove Known LaysNone
 none_laid = record {
   void = λ c past h. refl;
   ticked = λ c past n h. refl;
@@ -80,5 +80,5 @@ join s past (e ∷ es) a b l h d k v t = ((((b.0, a.0.0), (a.0.1, (lived_by e.ac
 
 pub run_entered : EntriesAreSound
 run_entered s h end r =
-    join s (set_up s ∷ []) h (run_entries s h end r) (run_each HearsIn (λ past e. e.volumes ≡ []) moved_hears (λ c past x k. each_moved HearsIn LaysNone none_laid c past x k) r.inputs (start s) (set_up s ∷ []) h end (first_hears s) r.leads) (run_lived s h end r) (run_hosted s h end r) (run_delivered s h end r) (run_handled s h end r) (run_present s h end r)
+    join s (set_up s ∷ []) h (run_entries s h end r) (run_each Known (λ past e. e.volumes ≡ []) known_kept (λ c past x k. each_moved Known LaysNone none_laid c past x k) r.inputs (start s) (set_up s ∷ []) h end (known_first s) r.leads) (run_lived s h end r) (run_hosted s h end r) (run_delivered s h end r) (run_handled s h end r) (run_present s h end r)
     (run_true s h end r)

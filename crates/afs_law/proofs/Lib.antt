@@ -70,6 +70,7 @@ pub mod Queued
 pub mod Timing
 pub mod Lone
 pub mod Silent
+pub mod Located
 pub mod Addressed
 pub mod Truthful
 pub mod Caused
@@ -104,6 +105,7 @@ pub mod Watched
 pub mod Trusted
 pub mod Brought
 pub mod Readings
+pub mod Asking
 pub mod Claims
 pub mod Counting
 pub mod Timed

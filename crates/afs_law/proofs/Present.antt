@@ -16,10 +16,10 @@ use Rattle.afs_law.proofs.Sending.{run_own}
 use Rattle.afs_law.proofs.Words.{up_boot}
 use Rattle.afs_law.specs.Ideal.{set_up}
 use Rattle.afs_law.specs.Laws.{seat_key}
-use Rattle.afs_law.specs.Legal.{HasChangeBy, IsBy, IsPresent}
+use Rattle.afs_law.specs.Legal.{IsBy, IsPresent}
 use Rattle.afs_law.specs.Lives.{AreCalls}
 use Rattle.afs_law.specs.Parts.{EachEntry, EachSent, IsOwn}
-use Rattle.afs_law.specs.Past.{HasCode, IsCall, IsReply, answered_key, lines_of, onto, server_boot}
+use Rattle.afs_law.specs.Past.{HasChangeBy, HasCode, IsCall, IsReply, answered_key, lines_of, onto, server_boot}
 use Rattle.afs_model.specs.Calls.{call_seat}
 use Rattle.afs_num.specs.declared.histories.Actor.TheVariants as actors
 use Rattle.afs_num.specs.declared.messages.Carried.{Carried}

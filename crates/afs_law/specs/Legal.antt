@@ -1,3 +1,4 @@
+pub use Rattle.afs_law.specs.Past.{HasChangeBy, IsLater}
 use Rattle.std.specs.Option.{option_map}
 use Rattle.afs_num.specs.Fids.{same_fid}
 use Rattle.afs_rows.specs.ServerRow.{promise_ticks}
@@ -20,10 +21,9 @@ use Rattle.afs_rows.specs.Going.{Going, Need, answers, asks_for, next, asked, gi
 use Rattle.afs_law.specs.Grants.{is_promised, read_reply, GrantOf, since, until, IsWithdrawn, IsChangedByOther, IsDropped}
 use Rattle.afs_law.specs.Ideal.{last_version, Unless, set_up, IsLast, WasLast, HasBeen, HasVersion, Accepts, clock_of, user_of, seen, change_in, change_key, call_under, callee_under, volume_after}
 use Rattle.afs_history.specs.declared.lines.Line.{Line}
-use Rattle.afs_law.specs.Past.{IsUpTo}
 use Rattle.afs_rows.specs.Runs.{message_at}
 use Rattle.afs_law.specs.Lives.{IsDelivered, IsHostLived, epoch_after, last_written}
-use Rattle.afs_law.specs.Past.{HasBoot, WasSent, is_down, last_boot, is_new_to_act, called_key, IsCall, IsToCome, is_of_act, lines_of, sent_of, given_message, answered_key, code_told, IsReply, running, has_begun, has_given, Called, CalledSince, IsCallUnder, Ran, server_boot}
+use Rattle.afs_law.specs.Past.{HasBoot, IsLatest, IsUpTo, WasSent, is_down, last_boot, is_new_to_act, called_key, IsCall, IsToCome, is_of_act, lines_of, sent_of, given_message, answered_key, code_told, IsReply, running, has_begun, has_given, Called, CalledSince, IsCallUnder, Ran, server_boot}
 use Rattle.afs_rows.specs.Runs.{Entry}
 use Rattle.afs_history.specs.declared.scripts.Script.{Script}
 use Rattle.afs_num.specs.declared.histories.Actor.{Actor}
@@ -164,16 +164,6 @@ abbrev pub HasChange : Key → List Line → Type 0
 HasChange k [] = ⊥
 HasChange k (l ∷ ls) = IsKey k (change_in l) (HasChange k ls)
 
--- the server changed something under this key
-abbrev pub HasChangeBy : Node → Key → List Line → Type 0
-HasChangeBy s k [] = ⊥
-HasChangeBy s k (lines.Change q l count ∷ ls) = ((q ≡ s) × (l ≡ k)) ⊎ HasChangeBy s k ls
-HasChangeBy s k (l ∷ ls) = HasChangeBy s k ls
-
--- a node's key of a later call
-abbrev pub IsLater : Key → Key → Type 0
-IsLater k l = (l.epoch < k.epoch) ⊎ ((l.epoch ≡ k.epoch) × (l.number < k.number))
-
 -- the versions that stand first
 abbrev pub versions_first : List Line → List Version
 versions_first (lines.Version v ∷ ls) = v ∷ versions_first ls
@@ -197,12 +187,13 @@ AreFailed s [] = ⊤
 AreFailed s (e ∷ past) = (e.actor ≡ actors.Node s → e.lines ≡ lines.Fault s ∷ []) × AreFailed s past
 
 -- this entry was given a call of the key to the server and to the boot in which that is, the first in that boot, and before any
--- later call of its node
+-- later call of its node; and in whichever boot the server changed something for that node before, it did so under an earlier key
 pub record RunsHere (server : Node) (k : Key) (past : List Entry) (own : List Line) : Type 0 where
   pub boot : ℕ
   pub up : server_boot server (lines_of past) ≡ Some boot
   pub given : IsCallUnder server k boot (given_message own (sent_of past))
   pub first : IsToCome server k boot past
+  pub latest : IsLatest server k (lines_of past)
 
 -- the server stopped in the entry that was given it; and this one is the restart that finds what that step left, which it tells
 -- first
@@ -224,7 +215,7 @@ pub record RanBefore (server : Node) (k : Key) (past : List Entry) (own next : L
 -- that follow are just those of the ideal operation on the ideal volume
 pub record IdealChange (s : Script) (server : Node) (k : Key) (count : ℕ) (past : List Entry) (own next : List Line) : Type 0 where
   pub fresh : IsNew k (own ++ lines_of past)
-  pub latest : (l : Key) → HasChangeBy server l (own ++ lines_of past) → l.node ≡ k.node → IsLater k l
+  pub latest : IsLatest server k (own ++ lines_of past)
   pub place : RunsHere server k past own ⊎ RanBefore server k past own next
   pub going : HasStopped server own → ⊥
   pub only : change_key own ≡ None
@@ -576,15 +567,48 @@ abbrev pub IsBootOf : Node → ℕ → List Line → Type 0
 IsBootOf (Server i) boot ls = HasBoot (Server i) boot ls
 IsBootOf n boot ls = ⊤
 
--- A client's file call is made for its user, and is the one under its key, to the one callee: what is sent again is the same call. The boot to
--- which it is sent its server began
+-- the node accepts stores of the volume of each of these fids
+abbrev pub AcceptsEach : Script → Node → List Fid → List Line → Type 0
+AcceptsEach s n [] ls = ⊤
+AcceptsEach s n (f ∷ fs) ls = Accepts s f.volume n ls × AcceptsEach s n fs ls
+
+-- the node accepts stores of the volume of which the call asks, or of each, where it asks for several statuses; some calls ask of none
+abbrev pub IsAtHome : Script → Node → FsCall → List Line → Type 0
+IsAtHome s n (calls.BulkStatus fids) ls = AcceptsEach s n fids ls
+IsAtHome s n call ls = (id : ℕ) → volume_called call ≡ Some id → Accepts s id n ls
+
+-- none of these messages is a call of this call's sender under a later pair of epoch and number
+abbrev pub IsItsLast : Head → List Message → Type 0
+IsItsLast head [] = ⊤
+IsItsLast head (m ∷ ms) = (IsCall m.carried → m.head.from ≡ head.from → IsUpTo m.head.epoch m.head.number head.epoch head.number) × IsItsLast head ms
+
+-- A client sends a file call for its user while an act runs there that asks for just this call, which the header names too. Of all calls that it
+-- sent so far none has a later pair. It is the call under its key, to the one callee: what is sent again is the same call. That callee accepts
+-- stores of the volumes of which it asks; and it is sent to a boot that its callee, where a server, has begun
+pub record OwnFileCall (s : Script) (c : Node) (head : Head) (user : List ℕ) (call : FsCall) (past : List Entry) : Type 0 where
+  pub own_user : user ≡ user_of s c
+  pub act : Going
+  pub runs : running s c (lines_of past) ≡ Some act
+  pub asks : as_asked call ≡ asked act
+  pub opcode : head.opcode ≡ call_number call
+  pub last : IsItsLast head (sent_of past)
+  pub one : call_under (called_key head) (sent_of past) ≡ Some (user, call)
+  pub one_callee : callee_under (called_key head) (sent_of past) ≡ Some head.to
+  pub home : IsAtHome s head.to call (lines_of past)
+  pub boot : IsBootOf head.to head.boot (lines_of past)
+
 abbrev pub OwnCallOf : Script → Node → Head → List ℕ → FsCall → List Entry → Type 0
-OwnCallOf s (Client j) head user call past =
-    (user ≡ user_of s (Client j)) × ((call_under (called_key head) (sent_of past) ≡ Some (user, call)) × ((callee_under (called_key head) (sent_of past) ≡ Some head.to) × IsBootOf head.to head.boot (lines_of past)))
+OwnCallOf s (Client j) head user call past = OwnFileCall s (Client j) head user call past
 OwnCallOf s n head user call past = ⊤
 
+abbrev pub IsNoClient : Node → Type 0
+IsNoClient (Client j) = ⊥
+IsNoClient n = ⊤
+
+-- a client calls file servers alone
 abbrev pub OwnCall : Script → Head → Carried → List Entry → Type 0
 OwnCall s head (carried.Call user (ask.File call)) past = OwnCallOf s head.from head user call past
+OwnCall s head (carried.Call user call) past = IsNoClient head.from
 OwnCall s head c past = ⊤
 
 abbrev pub AreOwnCalls : Script → List Entry → List Message → Type 0
