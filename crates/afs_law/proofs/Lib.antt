@@ -98,6 +98,7 @@ pub mod Beside
 pub mod Watched
 pub mod Entering
 pub mod Trusted
+pub mod Learned
 pub mod Brought
 pub mod OneRun
 pub mod Readings

@@ -1187,12 +1187,24 @@ stat_front = begins 1 (acts.Stat (operands.Fid file)) ∷ gives 1 steady ∷ giv
 read_what_was_only_looked_at : Legal (entries (start (script 1)) stat_front ++ step_of (Client 1) (begun 1 ∷ shown Cached ∷ answer 1 ∷ []) [] ∷ []) (script 1) → ⊥
 unfolding moved begin_row client_row server_row back_timeout_row wake_row start_row record_bytes head_form volume_form spelled opaque pad word laid_at led name_ok directory_bytes name_bytes rights_of image acl_text digits entry_text directory_of names_at opaque_at word_at counted_at whole_at count_at name_at spelled_at bytes_below
 read_what_was_only_looked_at h =
-    elim h.1.1.1.0.0.0.1.0.1.brought [
+    elim h.1.1.1.0.0.0.1.0.1.brought.1 [
       | inl x ↦ x.1.1
       | inr y ↦ elim y [
         | inl x ↦ let e : seen.Status status ≡ seen.Contents (bodies.File (codes "abc")) = x.1.1.1 in absurd cc
         | inr x ↦ x
       ]
+    ]
+
+-- a client looks at a file whose mode another sets; it shows the new mode from its cache, of which nothing came to it
+abbrev mode_front : List Input
+mode_front = stat_front ++ begins 2 (acts.SetMode (operands.Fid file) 384) ∷ gives 3 steady ∷ []
+
+status_that_never_came : Legal (entries (start (script 2)) mode_front ++ step_of (Client 1) (lines.Begin (Client 1) (acts.Stat (operands.Fid file)) ∷ lines.Read (Client 1) file 2 Cached (seen.Status (record status { mode = 384 })) ∷ answer 1 ∷ []) [] ∷ []) (script 2) → ⊥
+unfolding moved begin_row client_row server_row back_timeout_row wake_row start_row record_bytes head_form volume_form spelled opaque pad word laid_at led name_ok directory_bytes name_bytes rights_of image acl_text digits entry_text directory_of names_at opaque_at word_at counted_at whole_at count_at name_at spelled_at bytes_below
+status_that_never_came h =
+    elim h.1.1.1.1.1.0.0.0.1.0.1.brought.0 [
+      | inl x ↦ x.1.1
+      | inr y ↦ elim y [ inl x ↦ let e : 1 ≡ 2 = x.1.1.0 in absurd (omega (arith, e)) | inr x ↦ x ]
     ]
 
 -- or by the reply that brings its status

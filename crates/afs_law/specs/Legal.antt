@@ -18,7 +18,7 @@ use Rattle.afs_ideal.specs.Operations.{Caller, the_user, Result, refused, change
 use Rattle.afs_ideal.specs.Volumes.{Volume, Edit, versions_by}
 use Rattle.afs_law.specs.Breaks.{unbroken_grant, IsNamedIn, AllOwes, HasEnded, HasStopped, HasTimeout, EndedOf, EndedAll, GoodSettle, GoodQuit, live_grant, lines_at, HasOwe, last_number}
 use Rattle.afs_rows.specs.Going.{Going, Need, answers, asks_for, next, asked, gives_back, reads_rights}
-use Rattle.afs_law.specs.Grants.{is_promised, read_reply, GrantOf, since, until, IsWithdrawn, IsChangedByOther, IsDropped}
+use Rattle.afs_law.specs.Grants.{change_below, is_promised, read_reply, GrantOf, since, until, IsWithdrawn, IsChangedByOther, IsDropped}
 use Rattle.afs_law.specs.Ideal.{last_version, Unless, set_up, IsLast, WasLast, HasBeen, HasVersion, Accepts, clock_of, user_of, seen, change_in, change_key, call_under, callee_under, volume_after}
 use Rattle.afs_history.specs.declared.acts.Act.TheVariants as acts
 use Rattle.afs_history.specs.declared.lines.Line.{Line}
@@ -107,10 +107,36 @@ HasBrought s c f body (lines.Answer m code ∷ older) = ((m ≡ c) × ((code.0 �
 HasBrought s c f body (lines.Crash n ∷ older) = Unless (same_node n c) (HasBrought s c f body older)
 HasBrought s c f body (l ∷ older) = HasBrought s c f body older
 
--- contents that are read from the cache came to the client
-abbrev pub IsBrought : Script → Node → Fid → ReadSource → ReadBody → List Line → Type 0
-IsBrought s c f Cached (shows.Contents body) ls = HasBrought s c f body ls
-IsBrought s c f source body ls = ⊤
+-- it is a change of this node's own call
+abbrev pub IsOwnChange : Node → Option (Node × Key) → Type 0
+IsOwnChange c None = ⊥
+IsOwnChange c (Some change) = change.1.node ≡ c
+
+-- by these lines, the newest first, a call of the client's own made the version of this index since the client last began an act
+abbrev pub HasMadeItself : Node → Fid → ℕ → List Line → Type 0
+HasMadeItself c f index [] = ⊥
+HasMadeItself c f index (lines.Version v ∷ older) = ((v.fid ≡ f) × ((v.index ≡ index) × IsOwnChange c (change_below older))) ⊎ HasMadeItself c f index older
+HasMadeItself c f index (lines.Begin m act ∷ older) = Unless (same_node m c) (HasMadeItself c f index older)
+HasMadeItself c f index (l ∷ older) = HasMadeItself c f index older
+
+-- by these lines, the newest first, the version of this index came to the client since it last crashed: by a read of its contents or its
+-- status that was fetched, or by an own act that made it and was answered 0
+abbrev pub HasLearned : Node → Fid → ℕ → List Line → Type 0
+HasLearned c f index [] = ⊥
+HasLearned c f index (lines.Read m g i source shown ∷ older) = ((m ≡ c) × ((g ≡ f) × ((i ≡ index) × ((source ≡ Fetched) × (is_promised shown ≡ true))))) ⊎ HasLearned c f index older
+HasLearned c f index (lines.Answer m code ∷ older) = ((m ≡ c) × ((code.0 ≡ pos 0) × HasMadeItself c f index older)) ⊎ HasLearned c f index older
+HasLearned c f index (lines.Crash n ∷ older) = Unless (same_node n c) (HasLearned c f index older)
+HasLearned c f index (l ∷ older) = HasLearned c f index older
+
+-- contents came to the client as just this body, of whichever version
+abbrev pub AreBrought : Script → Node → Fid → ReadBody → List Line → Type 0
+AreBrought s c f (shows.Contents body) ls = HasBrought s c f body ls
+AreBrought s c f body ls = ⊤
+
+-- what is read from the cache came to the client: the version of this index, and contents
+abbrev pub IsBrought : Script → Node → Fid → ℕ → ReadSource → ReadBody → List Line → Type 0
+IsBrought s c f index Cached body ls = HasLearned c f index ls × AreBrought s c f body ls
+IsBrought s c f index Fetched body ls = ⊤
 
 -- a version of this index was told, whatever its body
 abbrev pub HasIndex : Fid → ℕ → List Line → Type 0
@@ -129,12 +155,13 @@ Shows f index body past own = HasIndex f index (own ++ lines_of past) × HasBeen
 -- A read shows one stored version, whole. It is not older than what the client saw, or than the last one when the promise was made. The
 -- promise is of the server that accepts stores of the volume; it lasts, and since then the client didn't drop what it is on. The version is the
 -- last one, unless the promise was withdrawn. A fetched read has a reply with code 0 to a call of the running act for such a thing, and shows
--- the version that the promise tells, which was made where that call ran. Contents that are cached came to the client before
+-- the version that the promise tells, which was made where that call ran. A cached read is of a version that came to the client before, and so did
+-- its contents
 pub record GoodRead (s : Script) (c : Node) (f : Fid) (index : ℕ) (source : ReadSource) (body : ReadBody) (past : List Entry) (own : List Line) : Type 0 where
   pub whole : Shows f index body past own
   pub not_older : seen c f past own ≤ index
   pub used : source ≡ Fetched → IsUse s c f body past own
-  pub brought : IsBrought s c f source body (own ++ lines_of past)
+  pub brought : IsBrought s c f index source body (own ++ lines_of past)
   pub reply : Message
   pub by : read_reply c f source past own ≡ Some reply
   pub expiry : ℕ
