@@ -695,6 +695,18 @@ changed_twice : Legal changes_twice (script 1) → ⊥
 unfolding moved begin_row client_row server_row back_timeout_row wake_row start_row record_bytes head_form volume_form spelled opaque pad word laid_at led name_ok directory_bytes name_bytes rights_of image acl_text digits entry_text directory_of names_at opaque_at word_at counted_at whole_at count_at name_at spelled_at bytes_below
 changed_twice h = h.1.1.1.1.1.0.0.0.1.0.1.alone (past_of [] (drop 1 (take 5 changes_twice))) (past_of (set_up (script 1) ∷ []) (take 1 changes_twice)) refl refl (key_of_one 1) (inl refl) refl
 
+-- ---- an act begins first in its entry, while none runs
+
+-- a client begins an act while another runs, which would never be answered
+begun_while_one_runs : Legal (entries (start (script 1)) (begins 1 (acts.Open (operands.Fid file)) ∷ []) ++ step_of (Client 1) (stores 1 ∷ []) [] ∷ []) (script 1) → ⊥
+unfolding moved begin_row client_row server_row back_timeout_row wake_row start_row record_bytes head_form volume_form spelled opaque pad word laid_at led name_ok directory_bytes name_bytes rights_of image acl_text digits entry_text directory_of names_at opaque_at word_at counted_at whole_at count_at name_at spelled_at bytes_below
+begun_while_one_runs h = let e : Some (began (locations (script 1)) (acts.Open (operands.Fid file))) ≡ None = h.1.0.0.0.0.1.1 in absurd cc
+
+-- an idle client is given a reply once more, and begins an act in that step
+begun_behind_a_message : Legal (alters 3 (instead (lines.Given 2 ∷ begun 1 ∷ [])) (entries (start (script 1)) (open_front ++ gives 2 steady ∷ []))) (script 1) → ⊥
+unfolding moved begin_row client_row server_row back_timeout_row wake_row start_row record_bytes head_form volume_form spelled opaque pad word laid_at led name_ok directory_bytes name_bytes rights_of image acl_text digits entry_text directory_of names_at opaque_at word_at counted_at whole_at count_at name_at spelled_at bytes_below
+begun_behind_a_message h = let e : lines.Given 2 ∷ [] ≡ [] = h.1.1.1.0.0.0.1.0.1.0 in absurd cc
+
 -- ---- a step that times a call out is given no message
 
 timed_out_beside_a_reply : Legal (alters 2 (instead (lines.Given 2 ∷ lines.Timeout (Client 1) (Server 1) 1 1 1 ∷ [])) (entries (start (script 1)) open_front)) (script 1) → ⊥

@@ -98,8 +98,8 @@ abbrev pub StoresBy : Option Going → Fid → Body → Type 0
 StoresBy None f body = ⊥
 StoresBy (Some act) f body = Stores (asked act) f body
 
--- by these lines, the newest first, this body of the object came to the client since it last crashed: by a read that was fetched, or by its
--- own store, which was answered 0
+-- by these lines, the newest first, this body of the object, of whichever version, came to the client since it last crashed: by a read that
+-- was fetched, or by its own store, which was answered 0
 abbrev pub HasBrought : Script → Node → Fid → Body → List Line → Type 0
 HasBrought s c f body [] = ⊥
 HasBrought s c f body (lines.Read m g index source shown ∷ older) = ((m ≡ c) × ((g ≡ f) × ((source ≡ Fetched) × (shown ≡ shows.Contents body)))) ⊎ HasBrought s c f body older
@@ -312,7 +312,7 @@ pub record GoodOwe (s : Script) (server c : Node) (what : Option Fid) (n : ℕ) 
   pub number : last_number server (own ++ lines_of past) < n
   pub cause : IsOwedFor s server c what past own
 
--- an entry owes a client one break on one thing, and a break is settled or given up once
+-- no entry owes a client two breaks on one thing, and in a boot no number is settled or given up twice
 abbrev pub IsForOnce : Line → List Entry → List Line → Type 0
 IsForOnce (lines.Owe server c what n) past own = HasOwe server c what own → ⊥
 IsForOnce (lines.Settle server c n) past own = HasEnded server n (own ++ lines_of past) → ⊥
@@ -437,19 +437,19 @@ pub record IsCaused (s : Script) (c : Node) (act : Going) (code : ℤ) (past : L
   pub ends : code ≡ pos 0 → EndsAct (next act)
 
 -- the act needs no more, and answers so by its read lines; it began in this entry, which was given nothing, or the entry was
--- given a reply with code 0 to its call, and read what the act still needed
+-- given a reply with code 0 to a call of the act, and reads something
 pub record IsDone (s : Script) (c : Node) (act : Going) (code : ℤ) (past : List Entry) (own : List Line) : Type 0 where
   pub number : ℕ
   pub is : code ≡ pos number
   pub by : next act ≡ answers number
   pub last : IsAtOnce c own ⊎ (HasUsed s c past own × (has_read c own ≡ true))
 
--- the act isn't at its end
+-- the act needs something still
 abbrev pub IsOpen : Need → Type 0
 IsOpen (answers code) = ⊥
 IsOpen need = ⊤
 
--- a call of this very act, which isn't at its end, was timed out for the third time in this entry: it is dead
+-- the act isn't at its end, and a call that it needs now, which its client sent since it began, was timed out for the third time in this entry
 pub record IsDead (s : Script) (c : Node) (act : Going) (code : ℤ) (past : List Entry) (own : List Line) : Type 0 where
   pub is : code ≡ negsuc 0
   pub callee : Node
@@ -700,13 +700,18 @@ IsOfServer who n = ⊥
 abbrev pub IsTimed : Node → List Line → List Line → Type 0
 IsTimed c own next = ((has_given own ≡ false) × (has_begun c own ≡ false)) × ((has_given next ≡ false) × (has_begun c next ≡ false))
 
+-- an act begins first in its entry, while none runs
+abbrev pub IsBegun : Script → Node → List Entry → List Line → Type 0
+IsBegun s c past own = (own ≡ []) × (running s c (lines_of past) ≡ None)
+
 -- Each line stands in an entry of its own node: a begin, a read, an answer, a drop in one of its client, a change, a grant, a break in
--- one of its server, a tick in the clock's, and that nothing happened in nobody's. An entry is given one message at most; a version
+-- one of its server, a tick in the clock's, and that nothing happened in nobody's. An act begins first in its entry, while none runs. An
+-- entry is given one message at most; a version
 -- stands under its change; an act runs where a client reads or answers; a timeout stands in an entry that is given no message and in
 -- which its node begins no act; and a server that begins again owes each client of the script a break on all. A crash is of any node, a
 -- fault of a server alone, for clients have no disk
 abbrev pub IsInPlace : Script → Actor → Line → List Entry → List Line → List Line → Type 0
-IsInPlace s who (lines.Begin c act) past own next = IsOfClient who c
+IsInPlace s who (lines.Begin c act) past own next = IsOfClient who c × IsBegun s c past own
 IsInPlace s who (lines.Given place) past own next = has_given own ≡ false
 IsInPlace s who (lines.Grant server c f index expiry) past own next = IsOfServer who server
 IsInPlace s who (lines.Change server k count) past own next = IsOfServer who server
