@@ -182,7 +182,7 @@ begin_front : (j : ℕ) (table : List Location) (act : Act) → Front j table No
 begin_front j table act = record {
   of = λ ls q. one_of j (all_lines (is_of j) ls) q;
   comes = λ S t o r. record { to = lines.Begin (Client j) act ∷ o; runs = ap (λ (b : Bool). cond b (Some (began (locations S) act)) (running S (Client j) o)) (same_node-refl (Client j)) ∙ ap (λ (l : List Location). Some (began l act)) (sym t); on = λ ls. refl };
-  each = λ S past ls t r tail k. (refl, k (lines.Begin (Client j) act ∷ []) (ap (λ (b : Bool). cond b (Some (began (locations S) act)) (running S (Client j) (lines_of past))) (same_node-refl (Client j)) ∙ ap (λ (l : List Location). Some (began l act)) (sym t)));
+  each = λ S past ls t r tail k. ((refl, (refl, r)), k (lines.Begin (Client j) act ∷ []) (ap (λ (b : Bool). cond b (Some (began (locations S) act)) (running S (Client j) (lines_of past))) (same_node-refl (Client j)) ∙ ap (λ (l : List Location). Some (began l act)) (sym t)));
 }
 
 timeout_front : (j : ℕ) (c : ClientState) (table : List Location) (g : Going) (count : ℕ) → Front j table (Some g) g (λ ls. timeout_line (Client j) c count ∷ ls)

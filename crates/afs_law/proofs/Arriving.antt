@@ -182,6 +182,7 @@ brings_of s c past n act m r B a is reading =
 pub record IsFetched (s : Script) (n : ℕ) (m : Message) (from : Node) (k : Key) (past : List Entry) (f : Fid) (index : ℕ) (status : ReadStatus) (body : Option Body) (expiry : ℕ) : Type 0 where
   pub grant : GrantOf (Client n) f expiry m past
   pub server : grant.server ≡ from
+  pub exact : grant.index ≡ index
   pub home : is_at f.volume from s.volumes
   pub whole : IsWhole f index status body past
   pub least : index_in (last_version f (until (Client n) f expiry m past grant)) ≤ index
@@ -264,14 +265,15 @@ fetched s c past n act m z f index status body expiry B a x named unspoiled W =
     let behind : IsBehind u.newer ran.newer ran.at = stands_behind k u.newer u.at u.older ran.newer ran.at ran.older (sym u.split ∙ ran.split) u.first (sent_given k ran.at.lines (sent_of ran.older) ran.message ran.given its) in
     let r : HasRunAt m.head.from n ran.at ran.older = run_at n m past ran a.to x.going in
     let same : last_version f (lines_of (ran.at ∷ ran.older)) ≡ last_version f (lines_of ran.older) = blank_last f ran.at.lines (lines_of ran.older) x.blank in
-    let least : last_version f (onto (lines_of ran.older) x.line.before) ≡ last_version f (lines_of ran.older) = blank_last f x.line.before (lines_of ran.older) (blank_front x.line.before (lines.Grant m.head.from (Client n) f x.given expiry) x.line.after (subst AreBlank x.line.split x.blank)) in
+    let least : last_version f (onto (lines_of ran.older) x.line.before) ≡ last_version f (lines_of ran.older) = blank_last f x.line.before (lines_of ran.older) (blank_front x.line.before (lines.Grant m.head.from (Client n) f index expiry) x.line.after (subst AreBlank x.line.split x.blank)) in
     subst (λ (p : Node). IsFetched s n m p k past f index status body expiry) a.from (record {
       grant = g;
       server = refl;
+      exact = refl;
       home = x.home;
       whole = x.whole;
       least = last_up_to (last_version f (onto (lines_of ran.older) x.line.before)) index (ap (option_map (λ (v : Version). v.index)) least ∙ x.last);
-      kept = λ d. u.kept unspoiled f named (subst (λ (p : Node). IsDropped p (Client n) f (lines_on [] u.newer)) a.from (since_sent m.head.from (Client n) f u.newer ran.newer ran.at x.line.before x.line.after (lines.Grant m.head.from (Client n) f x.given expiry) behind x.line.split d));
+      kept = λ d. u.kept unspoiled f named (subst (λ (p : Node). IsDropped p (Client n) f (lines_on [] u.newer)) a.from (since_sent m.head.from (Client n) f u.newer ran.newer ran.at x.line.before x.line.after (lines.Grant m.head.from (Client n) f index expiry) behind x.line.split d));
       low = subst (λ (i : ℕ). Seen n f i past) (index_is (last_version f (lines_of ran.older)) index x.last) (W.given ran.newer ran.at ran.older ran.split (subst (IsKeyed k) (sym ran.given) its) f);
       newest = elim (fate s m.head.from n f (onto [] x.line.after) ran.newer ran.at ran.older (subst (AreRecorded s) ran.split B.recorded.all) x.home r) [
         | inl w ↦ inl w

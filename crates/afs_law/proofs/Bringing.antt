@@ -80,6 +80,7 @@ fetched_shown s n clock m from k past f index status body expiry b ls blank tick
       by = by;
       expiry = expiry;
       grant = F.grant;
+      exact = λ e. F.exact;
       home = any_home s f.volume F.grant.server (until (Client n) f expiry m past F.grant) (subst (λ (q : Node). is_at f.volume q s.volumes) (sym F.server) F.home);
       granted = λ v z. granted_in _ v index F.least z;
       lasts = subst (λ (o : List Line). clock_of o < expiry) (own_lines ls (lines_of past)) (subst (λ (t : ℕ). t < expiry) (sym ticks) lasts);
@@ -103,7 +104,7 @@ body_whole f index status None None past A w h = w
 body_whole f index status None (Some o) past A w h = kept_by (nat_eq o.index index) f index status o past refl A w (h o refl)
 
 with_body : (s : Script) (n : ℕ) (m : Message) (from : Node) (k : Key) (past : List Entry) (f : Fid) (index : ℕ) (status : ReadStatus) (a b : Option Body) (expiry : ℕ) → IsWhole f index status b past → IsFetched s n m from k past f index status a expiry → IsFetched s n m from k past f index status b expiry
-with_body s n m from k past f index status a b expiry w F = record { grant = F.grant; server = F.server; home = F.home; whole = w; least = F.least; kept = F.kept; low = F.low; newest = F.newest; ran = F.ran; key = F.key }
+with_body s n m from k past f index status a b expiry w F = record { grant = F.grant; server = F.server; exact = F.exact; home = F.home; whole = w; least = F.least; kept = F.kept; low = F.low; newest = F.newest; ran = F.ran; key = F.key }
 
 -- one entry, of its fid
 abbrev pub IsBrought : Script → ℕ → ClientState → Message → List Entry → CacheEntry → Type 0
@@ -395,7 +396,7 @@ rights_front s c past n place act m f index release text B T a R =
       shown = λ tail w. (
         tt,
         (
-          record { whole = ((R.is, has_given n f index R.is place past R.told), R.been); not_older = low; was = within_line (Client n) f index (lines.Given place) (lines_of past) refl was },
+          record { whole = ((R.is, has_given n f index R.is place past R.told), R.been); not_older = low; was = within_line (Client n) f index (lines.Given place) (lines_of past) refl was; reply = m; by = a.0.1; ran = ran; exact = R.last },
           drops_shown s (actors.Node (Client n)) n past es (l ∷ lines.Given place ∷ []) tail w,
         ),
       );

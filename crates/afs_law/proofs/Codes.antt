@@ -24,9 +24,11 @@ use Rattle.afs_law.specs.Legal.{Cause, GoodCode, HasChange, HasNothing, IsCaused
 use Rattle.afs_law.specs.Parts.{EachEntry, EachLine}
 use Rattle.afs_law.specs.Past.{CalledSince, IsReply, Sends, answered_key, called_key, code_told, given_message, lines_of, sent_of}
 use Rattle.afs_law.specs.ServerParts.{IsCodeGood}
-use Rattle.afs_law.specs.Legal.{IsKind}
+use Rattle.afs_law.specs.Legal.{GivesAllBack, IsKind}
+use Rattle.afs_law.proofs.Returning.{IsReturned, ReturnedIn, run_returned}
 use Rattle.afs_num.specs.declared.calls.FsCall.{FsCall}
 use Rattle.afs_num.specs.declared.histories.Actor.{Actor}
+use Rattle.afs_num.specs.declared.histories.Actor.TheVariants as actors
 use Rattle.afs_num.specs.declared.messages.Call.TheVariants as ask
 use Rattle.afs_num.specs.declared.messages.Carried.TheVariants as carried
 use Rattle.afs_num.specs.declared.messages.Message.{Message}
@@ -160,8 +162,8 @@ caused_by s c past own j act code h q =
 nothing_given : (s : Script) (c : Node) (act : Going) (code : ℤ) (own : List Line) → IsOfCell s → IsGivenAtOnce s c act code own → HasNothing c act code own
 nothing_given s c act code own cell q = record { is = q.is; by = q.by; begun = q.begun; none = q.none cell }
 
-good_code : (s : Script) (c : Cell) (past : List Entry) (own : List Line) (j : ℕ) (code : Code) → IsOfCell s → Truthful s c past → IsDueCode s (Client j) code past own → GoodCode s (Client j) code past own
-good_code s c past own j code cell h d = record {
+good_code : (s : Script) (c : Cell) (past : List Entry) (own : List Line) (j : ℕ) (code : Code) → IsOfCell s → Truthful s c past → GivesAllBack s (Client j) code.0 past own → IsDueCode s (Client j) code past own → GoodCode s (Client j) code past own
+good_code s c past own j code cell h g d = record {
   act = d.act;
   runs = d.runs;
   cause = elim d.cause [
@@ -171,22 +173,27 @@ good_code s c past own j code cell h d = record {
       | inr y ↦ inr (elim y [ inl dead ↦ inl dead | inr none ↦ inr (nothing_given s (Client j) d.act code.0 own cell none) ])
     ])
   ];
+  gives = g;
 }
 
 -- it stands in an entry of its client
-good_by : (s : Script) (c : Cell) (past : List Entry) (own : List Line) (who : Actor) (n : Node) (code : Code) → IsOfCell s → Truthful s c past → IsOfClient who n → IsDueCode s n code past own → GoodCode s n code past own
-good_by s c past own who (Client j) code cell h of d = good_code s c past own j code cell h d
-good_by s c past own who (Server i) code cell h of d = absurd of
-good_by s c past own who (Admin i) code cell h of d = absurd of
-good_by s c past own who Loc code cell h of d = absurd of
+-- the lines of an entry of a client give all back
+abbrev AreReturned : Script → Actor → List Entry → List Line → List Line → Type 0
+AreReturned s who past own ls = (j : ℕ) → who ≡ actors.Node (Client j) → EachLine (IsReturned s) who past own ls
 
-good_line : (s : Script) (c : Cell) (past : List Entry) (own next : List Line) (who : Actor) (l : Line) → IsOfCell s → Truthful s c past → IsInPlace s who l past own next → IsDue s who l past own next → IsCodeGood s who l past own next
-good_line s c past own next who (lines.Answer n code) cell h place due = good_by s c past own who n code cell h place.0 due
-good_line s c past own next who l cell h place due = tt
+good_by : (s : Script) (c : Cell) (past : List Entry) (own next : List Line) (who : Actor) (n : Node) (code : Code) → IsOfCell s → Truthful s c past → IsOfClient who n → ((j : ℕ) → who ≡ actors.Node (Client j) → IsReturned s who (lines.Answer n code) past own next) → IsDueCode s n code past own → GoodCode s n code past own
+good_by s c past own next who (Client j) code cell h of g d = good_code s c past own j code cell h (g j of) d
+good_by s c past own next who (Server i) code cell h of g d = absurd of
+good_by s c past own next who (Admin i) code cell h of g d = absurd of
+good_by s c past own next who Loc code cell h of g d = absurd of
 
-good_lines : (s : Script) (c : Cell) (past : List Entry) (own ls : List Line) (who : Actor) → IsOfCell s → Truthful s c past → EachLine (IsInPlace s) who past own ls → EachLine (IsDue s) who past own ls → EachLine (IsCodeGood s) who past own ls
-good_lines s c past own [] who cell h place due = tt
-good_lines s c past own (l ∷ ls) who cell h place due = (good_line s c past own ls who l cell h place.0 due.0, good_lines s c past (l ∷ own) ls who cell h place.1 due.1)
+good_line : (s : Script) (c : Cell) (past : List Entry) (own next : List Line) (who : Actor) (l : Line) → IsOfCell s → Truthful s c past → IsInPlace s who l past own next → ((j : ℕ) → who ≡ actors.Node (Client j) → IsReturned s who l past own next) → IsDue s who l past own next → IsCodeGood s who l past own next
+good_line s c past own next who (lines.Answer n code) cell h place g due = good_by s c past own next who n code cell h place.0 g due
+good_line s c past own next who l cell h place g due = tt
+
+good_lines : (s : Script) (c : Cell) (past : List Entry) (own ls : List Line) (who : Actor) → IsOfCell s → Truthful s c past → EachLine (IsInPlace s) who past own ls → AreReturned s who past own ls → EachLine (IsDue s) who past own ls → EachLine (IsCodeGood s) who past own ls
+good_lines s c past own [] who cell h place g due = tt
+good_lines s c past own (l ∷ ls) who cell h place g due = (good_line s c past own ls who l cell h place.0 (λ j z. (g j z).0) due.0, good_lines s c past (l ∷ own) ls who cell h place.1 (λ j z. (g j z).1) due.1)
 
 -- ---- the law
 
@@ -194,10 +201,10 @@ good_lines s c past own (l ∷ ls) who cell h place due = (good_line s c past ow
 abbrev TrueBefore : Script → List Entry → Entry → Type 0
 TrueBefore s past e = (c : Cell) × Truthful s c past
 
-codes_from : (s : Script) (past es : List Entry) → IsOfCell s → EachEntry (λ before e. EachLine (IsInPlace s) e.actor before [] e.lines) past es → EachEntry (λ before e. EachLine (IsDue s) e.actor before [] e.lines) past es → EachEntry (TrueBefore s) past es → EachEntry (λ before e. EachLine (IsCodeGood s) e.actor before [] e.lines) past es
-codes_from s past [] cell place due h = tt
-codes_from s past (e ∷ es) cell place due h = (good_lines s h.0.0 past [] e.lines e.actor cell h.0.1 place.0 due.0, codes_from s (e ∷ past) es cell place.1 due.1 h.1)
+codes_from : (s : Script) (past es : List Entry) → IsOfCell s → EachEntry (λ before e. EachLine (IsInPlace s) e.actor before [] e.lines) past es → EachEntry (ReturnedIn s) past es → EachEntry (λ before e. EachLine (IsDue s) e.actor before [] e.lines) past es → EachEntry (TrueBefore s) past es → EachEntry (λ before e. EachLine (IsCodeGood s) e.actor before [] e.lines) past es
+codes_from s past [] cell place back due h = tt
+codes_from s past (e ∷ es) cell place back due h = (good_lines s h.0.0 past [] e.lines e.actor cell h.0.1 place.0 (back.0 cell) due.0, codes_from s (e ∷ past) es cell place.1 back.1 due.1 h.1)
 
 pub run_codes : AnswersAreGood
 run_codes s h end cell r =
-    codes_from s (set_up s ∷ []) h cell (run_placed s h end r) (run_due s h end r) (run_each (Truthful s) (TrueBefore s) (truthful_kept s) (λ c past x k. (c, k)) r.inputs (start s) (set_up s ∷ []) h end (truthful_first s) r.leads)
+    codes_from s (set_up s ∷ []) h cell (run_placed s h end r) (run_returned s h end r) (run_due s h end r) (run_each (Truthful s) (TrueBefore s) (truthful_kept s) (λ c past x k. (c, k)) r.inputs (start s) (set_up s ∷ []) h end (truthful_first s) r.leads)

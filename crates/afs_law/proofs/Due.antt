@@ -534,10 +534,10 @@ waits_due s c past n act false A W r e = dead_due s c past n act (given_up_in (v
 
 -- ---- what a client keeps is of its cell's servers
 
-abbrev OursIn : Script → Cell → List Entry → Type 0
+abbrev pub OursIn : Script → Cell → List Entry → Type 0
 OursIn s c past = IsOfCell s → (j : ℕ) → Ours (c.clients j)
 
-abbrev DueFacts : Script → Cell → List Entry → Type 0
+abbrev pub DueFacts : Script → Cell → List Entry → Type 0
 DueFacts s c past = GivenWaits s c past × OursIn s c past
 
 near_now : (s : Script) (c : Cell) (past : List Entry) (n : ℕ) → GivenWaits s c past → IsOfCell s → AreNear (c.clients n)
@@ -568,7 +568,7 @@ ours_moves s = record {
   full = λ c past i after fall h down. h.1;
 }
 
-due_kept : (s : Script) → IsKept (DueFacts s)
+pub due_kept : (s : Script) → IsKept (DueFacts s)
 due_kept s c past x h = (waits_kept s c past x h.0, each_moved (DueFacts s) (Behind (OursIn s)) (ours_moves s) c past x h)
 
 -- ---- every step
@@ -617,5 +617,8 @@ due_moves s = record {
   full = λ c past i after fall h down. works_due s i past _ (idle_works any_message i (c.hosts i).state _ _ (disk_works any_message (Server i) (c.hosts i).state after fall (lines.Full (Server i) ∷ []) (any_cut fall) (one_from (Server i) true refl)));
 }
 
+pub due_first : (s : Script) → DueFacts s (start s) (set_up s ∷ [])
+due_first s = (waits_first s, λ z j. record { cache = tt; callee = λ act e. absurd cc })
+
 pub run_due : AnswersAreDue
-run_due s h end r = run_each (DueFacts s) (λ past e. EachLine (IsDue s) e.actor past [] e.lines) (due_kept s) (λ c past x k. each_moved (DueFacts s) (DueStep s) (due_moves s) c past x k) r.inputs (start s) (set_up s ∷ []) h end (waits_first s, λ z j. record { cache = tt; callee = λ act e. absurd cc }) r.leads
+run_due s h end r = run_each (DueFacts s) (λ past e. EachLine (IsDue s) e.actor past [] e.lines) (due_kept s) (λ c past x k. each_moved (DueFacts s) (DueStep s) (due_moves s) c past x k) r.inputs (start s) (set_up s ∷ []) h end (due_first s) r.leads

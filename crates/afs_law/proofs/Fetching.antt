@@ -73,8 +73,7 @@ pub record IsBy (j : ℕ) (m : Message) (past : List Entry) : Type 0 where
 -- what it brings of an object: what that was, under its last index, and the promise of the volume's server; and that server told no version
 -- there, and didn't stop
 pub record IsSight (s : Script) (j : ℕ) (m : Message) (past : List Entry) (q : IsBy j m past) (f : Fid) (index : ℕ) (status : ReadStatus) (body : Option Body) (expiry : ℕ) : Type 0 where
-  pub given : ℕ
-  pub line : HasGrant m.head.from (Client j) f given expiry q.ran.at.lines
+  pub line : HasGrant m.head.from (Client j) f index expiry q.ran.at.lines
   pub home : is_at f.volume m.head.from s.volumes
   pub whole : IsWhole f index status body past
   pub last : IsLast f index (lines_of q.ran.older)
@@ -89,7 +88,7 @@ grant_by s j m past q f index status body expiry x = record {
   ran = q.ran;
   server = m.head.from;
   node = q.ran.node ∙ ap actors.Node q.ran.callee;
-  index = x.given;
+  index = index;
   before = x.line.before;
   after = x.line.after;
   line = x.line.split;
@@ -121,7 +120,6 @@ sight s j m past q expiry f st b A at found g blank going home body =
     let back : body_told (type_of f.vnode.kind) (bytes_by f.vnode.kind f.vnode) ≡ body_of f.vnode = told_kind f.fid.vnode f.vnode.kind f.vnode ((A.fine f.fid.volume st.volume at).readable f.fid.vnode f.vnode (own_found f.fid.unique _ f.vnode found)) in
     let on : (P : List Entry → Type 0) → P (q.ran.newer ++ (q.ran.at ∷ older)) → P past = λ P h. subst P (sym q.ran.split) h in
     record {
-      given = f.vnode.index;
       line = subst (λ (n : Node). HasGrant m.head.from n f.fid f.vnode.index expiry q.ran.at.lines) q.to g;
       home = subst (λ (n : Node). is_at f.fid.volume n s.volumes) (sym home) (A.home f.fid.volume st.volume at);
       whole = record {

@@ -43,7 +43,7 @@ boot_since s (y ∷ newer) at older b h e =
 
 -- ---- the calls that it was given there
 
-to_come_at : (s : Node) (k : Key) (b : ℕ) (newer : List Entry) (at : Entry) (older : List Entry) → IsToCome s k b (newer ++ (at ∷ older)) → IsCallFrom s k b (given_message at.lines (sent_of older)) → ⊥
+pub to_come_at : (s : Node) (k : Key) (b : ℕ) (newer : List Entry) (at : Entry) (older : List Entry) → IsToCome s k b (newer ++ (at ∷ older)) → IsCallFrom s k b (given_message at.lines (sent_of older)) → ⊥
 to_come_at s k b [] at older h x = h.0 x
 to_come_at s k b (y ∷ newer) at older h x = to_come_at s k b newer at older h.1 x
 

@@ -103,9 +103,12 @@ pub mod Receiving
 pub mod Beside
 pub mod Watched
 pub mod Trusted
+pub mod Learned
 pub mod Brought
+pub mod OneRun
 pub mod Readings
 pub mod Asking
+pub mod Returning
 pub mod Claims
 pub mod Counting
 pub mod Timed

@@ -14,13 +14,13 @@ use Rattle.afs_law.specs.Grants.{GrantOf, IsDropped, IsWithdrawn, is_promised, r
 use Rattle.afs_law.specs.Ideal.{Accepts, HasVersion, IsLast, Reach, WasLast, clock_of, is_at, is_zero_code, last_version, raised, reach, reach_over, seen}
 use Rattle.afs_law.specs.Legal.{Shows}
 use Rattle.afs_law.specs.Parts.{EachLine, LineRule}
-use Rattle.afs_law.specs.Past.{has_begun, lines_of, onto}
+use Rattle.afs_law.specs.Past.{Ran, given_message, has_begun, lines_of, onto, sent_of}
 use Rattle.afs_num.specs.Fids.{same_fid}
 use Rattle.afs_num.specs.Nodes.{same_node}
 use Rattle.afs_num.specs.declared.histories.Actor.{Actor}
 use Rattle.afs_num.specs.declared.histories.ReadBody.{ReadBody}
 use Rattle.afs_num.specs.declared.histories.ReadSource.{ReadSource}
-use Rattle.afs_num.specs.declared.histories.ReadSource.TheVariants.{Cached}
+use Rattle.afs_num.specs.declared.histories.ReadSource.TheVariants.{Cached, Fetched}
 use Rattle.afs_num.specs.declared.histories.Version.{Version}
 use Rattle.afs_num.specs.declared.messages.Message.{Message}
 use Rattle.afs_num.specs.declared.types.Fid.{Fid}
@@ -103,6 +103,7 @@ pub record ShownRead (s : Script) (c : Node) (f : Fid) (index : ℕ) (source : R
   pub by : read_reply c f source past own ≡ Some reply
   pub expiry : ℕ
   pub grant : GrantOf c f expiry reply past
+  pub exact : source ≡ Fetched → grant.index ≡ index
   pub home : Accepts s f.volume grant.server (until c f expiry reply past grant)
   pub granted : (v : Version) → last_version f (until c f expiry reply past grant) ≡ Some v → v.index ≤ index
   pub lasts : clock_of (own ++ lines_of past) < expiry
@@ -113,6 +114,10 @@ pub record ShownRights (c : Node) (f : Fid) (index : ℕ) (body : ReadBody) (pas
   pub whole : Shows f index body past own
   pub not_older : seen c f past own ≤ index
   pub was : WasLast c f index (own ++ lines_of past)
+  pub reply : Message
+  pub by : given_message own (sent_of past) ≡ Some reply
+  pub ran : Ran reply.head past
+  pub exact : IsLast f index (lines_of ran.older)
 
 abbrev pub ShownBy : Script → Bool → Node → Fid → ℕ → ReadSource → ReadBody → List Entry → List Line → Type 0
 ShownBy s true c f index source body past own = ShownRead s c f index source body past own
@@ -167,6 +172,7 @@ ready_good s n clock past ls need e body ticks lasts shown r =
       by = r.by;
       expiry = e.expiry;
       grant = r.grant;
+      exact = λ e. absurd cc;
       home = any_home s e.fid.volume r.grant.server (until (Client n) e.fid e.expiry r.reply past r.grant) r.home;
       granted = λ v z. granted_in _ v e.index r.least z;
       lasts = subst (λ (o : List Line). clock_of o < e.expiry) (own_lines ls (lines_of past)) (subst (λ (t : ℕ). t < e.expiry) (sym ticks) lasts);

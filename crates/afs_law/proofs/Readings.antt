@@ -6,7 +6,10 @@ use Rattle.afs_law.proofs.Placing.{run_placed}
 use Rattle.afs_law.specs.ClientParts.{AreAskedFor}
 use Rattle.afs_law.specs.Legal.{Cause, IsBrought, IsInPlace, IsOfClient, as_asked}
 use Rattle.afs_law.specs.Ideal.{user_of}
-use Rattle.afs_law.specs.Past.{lines_of}
+use Rattle.afs_law.specs.Past.{Ran, lines_of}
+use Rattle.afs_law.proofs.Basics.{some_of}
+use Rattle.afs_law.proofs.OneRun.{ran_same}
+use Rattle.afs_num.specs.declared.messages.Message.{Message}
 use Rattle.afs_rows.specs.Going.{asked, call_for}
 use Rattle.afs_num.specs.declared.calls.FsCall.TheVariants as calls
 use Rattle.afs_history.specs.declared.lines.Line.{Line}
@@ -22,7 +25,7 @@ use Rattle.afs_law.proofs.Trusted.{trusted_good}
 use Rattle.afs_law.proofs.Trusting.{Trusts}
 use Rattle.afs_law.proofs.Watched.{Watched, shown_now, watched_first, watched_kept}
 use Rattle.afs_law.specs.ClientParts.{IsDue, IsUsed, ReadsAreGood}
-use Rattle.afs_law.specs.Ideal.{set_up}
+use Rattle.afs_law.specs.Ideal.{IsLast, set_up}
 use Rattle.afs_law.specs.Laws.{TrustedIsGood}
 use Rattle.afs_law.specs.Legal.{GoodReadBy}
 use Rattle.afs_law.specs.Once.{past_of}
@@ -35,7 +38,7 @@ use Rattle.afs_num.specs.declared.types.Fid.{Fid}
 use Rattle.afs_num.specs.declared.types.Node.{Node}
 use Rattle.afs_num.specs.declared.types.Node.TheVariants.{Admin, Client, Loc, Server}
 use Rattle.afs_rows.specs.Runs.{Cell, Entry, RunsTo, start}
-use Rattle.std.proofs.Common.{ℕ, Bool, true, false, List, [], ◌∷◌, ◌++◌, ◌≡◌, ◌∙◌, ap, sym, pos}
+use Rattle.std.proofs.Common.{ℕ, Bool, true, false, List, [], ◌∷◌, ◌++◌, ◌≡◌, ◌∙◌, ap, sym, subst, pos}
 use Rattle.std.specs.Prelude.{⊤}
 use Rattle.afs_law.specs.Grants.{is_promised}
 
@@ -58,7 +61,12 @@ cause_for : (s : Script) (x : Cell) (past : List Entry) (own : List Line) (who :
 cause_for s x past own who true c f source body h of u = tt
 cause_for s x past own who false c f source body h of u = rights_of_client s x past own who c f source body h of u
 
-read_good : (s : Script) (t : Bool) (c : Node) (f : Fid) (index : ℕ) (source : ReadSource) (body : ReadBody) (past : List Entry) (own : List Line) → ShownBy s t c f index source body past own → (u : IsUsed s t c f source body past own) → CauseFor s t c f source body past own u → IsBrought s c f source body (own ++ lines_of past) → GoodReadBy s t c f index source body past own
+-- what was the last version where the call ran
+last_there : (f : Fid) (index : ℕ) (past : List Entry) (m q : Message) → m ≡ q → (r : Ran m.head past) (t : Ran q.head past) → IsLast f index (lines_of r.older) → IsLast f index (lines_of t.older)
+last_there f index past m q same = subst (λ (x : Message). (r : Ran x.head past) (t : Ran q.head past) → IsLast f index (lines_of r.older) → IsLast f index (lines_of t.older)) (sym same)
+    (λ r t h. subst (λ (p : List Entry). IsLast f index (lines_of p)) (ran_same q.head past r t) h)
+
+read_good : (s : Script) (t : Bool) (c : Node) (f : Fid) (index : ℕ) (source : ReadSource) (body : ReadBody) (past : List Entry) (own : List Line) → ShownBy s t c f index source body past own → (u : IsUsed s t c f source body past own) → CauseFor s t c f source body past own u → IsBrought s c f index source body (own ++ lines_of past) → GoodReadBy s t c f index source body past own
 read_good s true c f index source body past own w u k b = record {
   whole = w.whole;
   not_older = w.not_older;
@@ -68,6 +76,7 @@ read_good s true c f index source body past own w u k b = record {
   by = w.by;
   expiry = w.expiry;
   grant = w.grant;
+  exact = w.exact;
   home = w.home;
   granted = w.granted;
   lasts = w.lasts;
@@ -86,6 +95,7 @@ read_good s false c f index source body past own w u k b = record {
   was = w.was;
   cause = k.0;
   own_user = k.1;
+  exact = last_there f index past w.reply u.used.reply (some_of w.reply u.used.reply (sym w.by ∙ u.used.by)) w.ran k.0.ran w.exact;
 }
 
 lines_good : (s : Script) (x : Cell) (who : Actor) (past : List Entry) (own ls : List Line) → Truthful s x past → EachLine (IsInPlace s) who past own ls → EachLine (IsShown s) who past own ls → EachLine (IsDue s) who past own ls → EachLine (IsBroughtGood s) who past own ls → EachLine (IsReadGood s) who past own ls

@@ -9,7 +9,7 @@ use Rattle.afs_law.proofs.Basics.{Above, Each, IfCall, LastSeat, OfCall, at_put,
 use Rattle.afs_law.proofs.Acting.{begins_acts, given_acts, waits_acts}
 use Rattle.afs_law.proofs.Choosing.{granted_from, is_from, risen_lines}
 use Rattle.afs_law.proofs.Cutting.{comes_first, now_up, blow_stopped, same_cut}
-use Rattle.afs_law.proofs.Words.{IsOne}
+use Rattle.afs_law.proofs.Words.{IsOne, is_passing}
 use Rattle.afs_law.proofs.Firm.{IsSentBy}
 use Rattle.afs_law.proofs.Hearing.{ran_later, no_server}
 use Rattle.afs_law.proofs.Housed.{HomesIn, IsHome, home_held}
@@ -340,7 +340,7 @@ refused_told s c past e i j place m code h p older at r n same ls fresh =
         | inl y ↦ inl (y.0, told_still k (answers_in (held_by (c.hosts i).state) r.user r.call) (lines_of (e ∷ past)) y.1)
         | inr y ↦ inr (y.0, (y.1, (subst (λ (l : List Line). HasChange k l → ⊥) (sym alone) (λ z. z), subst (λ (l : List Line). HasStopped m.head.to l → ⊥) (sym alone) (λ z. z))))
       ]);
-      kind = tt;
+      kind = λ z. (let no_ : true ≡ false = sym (ap is_passing z) ∙ n.some in absurd cc);
       says = inl (record { refused = tt; first = λ z. fresh (subst (λ (q : List Entry). HasChange k (lines_of q)) older (subst (λ (l : List Line). HasChange k (onto (lines_of p.older) l)) alone z)) });
     }
 

@@ -31,8 +31,8 @@ use Rattle.afs_law.specs.Grants.{GrantOf, IsDropped, until}
 use Rattle.afs_num.specs.declared.histories.Actor.{Actor}
 use Rattle.afs_num.specs.declared.types.Node.{Node}
 use Rattle.afs_law.proofs.Worked.{apart_numbers, home, by_lines, stores, alters, answer, begun, entries, file, root, script, six_front}
-use Rattle.afs_law.specs.Breaks.{HasStopped, IsCarried}
-use Rattle.afs_law.specs.Legal.{Answered, Brings, IsKind, IsOpen, IsPromisedBy, Cause, EndsAct, IsResult, Legal, answer_at, code_given}
+use Rattle.afs_law.specs.Breaks.{HasStopped, IsCarried, IsNamedIn}
+use Rattle.afs_law.specs.Legal.{Answered, Brings, IsKind, IsOpen, IsPromisedBy, Cause, EndsAct, IsGivenBack, IsResult, Legal, answer_at, code_given}
 use Rattle.afs_model.specs.Messages.{spelled}
 use Rattle.afs_num.specs.Names.{name_ok}
 use Rattle.afs_num.specs.declared.types.Fid.{Fid}
@@ -40,9 +40,12 @@ use Rattle.afs_rows.specs.ClientRow.{begin_row, client_row}
 use Rattle.afs_rows.specs.Going.{Going, began, nothing_set, answers, asked, asks_for, gives_back, next, reads, stored_whole}
 use Rattle.afs_rows.specs.Runs.{Cell, Entry, Input, begins, client_starts, client_stops, comes_up, gives, locations, moved, nothing, server_waits, sets_stop, start, starts_again, steady, stops, ticks, waits}
 use Rattle.afs_xdr.specs.Words.{opaque, pad, word, opaque_at, word_at, counted_at}
-use Rattle.afs_law.specs.Ideal.{set_up}
+use Rattle.afs_law.specs.Ideal.{IsLast, last_version, set_up}
+use Rattle.afs_num.specs.declared.histories.Version.{Version}
+use Rattle.std.specs.Option.{option_map}
 use Rattle.afs_law.specs.Once.{past_of}
-use Rattle.afs_law.specs.Past.{HasChangeBy, IsLatest, WasSent, SendsTo, has_sent, is_called, same_key, onto, lines_on, IsCall, server_boot, CalledSince, IsToCome, called_key, Ran, answered_key, code_told, given_message, lines_of, sent_of}
+use Rattle.afs_law.specs.Past.{HasChangeBy, IsLatest, WasSent, SendsTo, has_begun, has_sent, is_called, same_key, onto, lines_on, IsCall, server_boot, CalledSince, IsToCome, called_key, Ran, answered_key, code_told, given_message, lines_of, sent_of}
+use Rattle.afs_num.specs.declared.calls.AfsCallBack.{AfsCallBack}
 use Rattle.afs_num.specs.declared.calls.FsCall.{FsCall}
 use Rattle.afs_num.specs.declared.calls.FsCall.TheVariants as calls
 use Rattle.afs_num.specs.declared.volume_calls.VolCall.TheVariants as volumes
@@ -60,7 +63,7 @@ use Rattle.afs_num.specs.declared.messages.Message.{Message}
 use Rattle.afs_num.specs.declared.types.Node.TheVariants.{Client, Server}
 use Rattle.std.proofs.Common.{arith, ◌<◌, ◌≤◌, ◌≡◌, ◌∙◌, true, false, cond, not, nat_eq, Bool, ℕ, ℤ, List, [], ◌∷◌, ◌++◌, ◌⊎◌, Option, None, Some, ap, sym, subst, refl, inl, inr, negsuc, pos}
 use Rattle.std.specs.Fmt.{digits}
-use Rattle.std.specs.Prelude.{⊤, codes, drop, map, take}
+use Rattle.std.specs.Prelude.{⊤, ◌&&◌, codes, drop, map, take}
 
 -- an entry with other lines, which sends nothing
 abbrev instead : List Line → Entry → Entry
@@ -685,6 +688,18 @@ changed_twice : Legal changes_twice (script 1) → ⊥
 unfolding moved begin_row client_row server_row back_timeout_row wake_row start_row record_bytes head_form volume_form spelled opaque pad word laid_at led name_ok directory_bytes name_bytes rights_of image acl_text digits entry_text directory_of names_at opaque_at word_at counted_at whole_at count_at name_at spelled_at bytes_below
 changed_twice h = h.1.1.1.1.1.0.0.0.1.0.1.alone (past_of [] (drop 2 (take 5 changes_twice))) (past_of (set_up (script 1) ∷ []) (take 2 changes_twice)) refl refl (key_of_one 1) (inl refl) refl
 
+-- ---- an act begins first in its entry, while none runs
+
+-- a client begins an act while another runs, which would never be answered
+begun_while_one_runs : Legal (entries (start (script 1)) (begins 1 (acts.Open (operands.Fid file)) ∷ []) ++ step_of (Client 1) (stores 1 ∷ []) [] ∷ []) (script 1) → ⊥
+unfolding moved begin_row client_row server_row back_timeout_row wake_row start_row record_bytes head_form volume_form spelled opaque pad word laid_at led name_ok directory_bytes name_bytes rights_of image acl_text digits entry_text directory_of names_at opaque_at word_at counted_at whole_at count_at name_at spelled_at bytes_below
+begun_while_one_runs h = let e : Some (began (locations (script 1)) (acts.Open (operands.Fid file))) ≡ None = h.1.0.0.0.0.1.1 in absurd cc
+
+-- an idle client is given a reply once more, and begins an act in that step
+begun_behind_a_message : Legal (alters 3 (instead (lines.Given 2 ∷ begun 1 ∷ [])) (entries (start (script 1)) (open_front ++ gives 2 steady ∷ []))) (script 1) → ⊥
+unfolding moved begin_row client_row server_row back_timeout_row wake_row start_row record_bytes head_form volume_form spelled opaque pad word laid_at led name_ok directory_bytes name_bytes rights_of image acl_text digits entry_text directory_of names_at opaque_at word_at counted_at whole_at count_at name_at spelled_at bytes_below
+begun_behind_a_message h = let e : lines.Given 2 ∷ [] ≡ [] = h.1.1.1.0.0.0.1.0.1.0 in absurd cc
+
 -- ---- a step that times a call out is given no message
 
 timed_out_beside_a_reply : Legal (alters 2 (instead (lines.Given 2 ∷ lines.Timeout (Client 1) (Server 1) 1 1 1 ∷ [])) (entries (start (script 1)) open_front)) (script 1) → ⊥
@@ -790,6 +805,34 @@ granted_on_the_old_unique h =
     let old : file ≡ record { volume = home; vnode = 2; unique = 3 } =
     subst (λ (u : List ℕ). IsPromisedBy file makes_b (answer_at u makes_b made_past) made_past) (sym (one_user _ _ _ _ same)) (subst (λ (k : FsCall). IsPromisedBy file k (answer_at g.user k made_past) made_past) (sym (one_call _ _ _ _ same)) g.promises) in
     apart_numbers 2 3 refl (ap (λ (f : Fid). f.unique) old)
+
+-- ---- all that an act drops when it begins is given back
+
+-- a client drops a file and its directory, gives back the file alone, and is answered that all was given back
+abbrev two_opened : List Input
+two_opened = begins 1 (acts.Open (operands.Fid file)) ∷ gives 1 steady ∷ gives 2 steady ∷ begins 1 (acts.Open (operands.Fid root)) ∷ gives 3 steady ∷ gives 4 steady ∷ begins 1 acts.GiveUp ∷ gives 5 steady ∷ []
+
+abbrev names_the_file : Entry → Entry
+names_the_file e = record e { sent = map (λ (m : Message). record m { carried = carried.Call (codes "guest") (ask.File (calls.GiveUpCallBacks (file ∷ []) [])) }) e.sent }
+
+fids_of : (a b : List Fid) (c d : List AfsCallBack) → calls.GiveUpCallBacks a c ≡ calls.GiveUpCallBacks b d → a ≡ b
+fids_of a b c d e = cc
+
+abbrev gave_less_past : List Entry
+gave_less_past = past_of (set_up (script 1) ∷ []) (alters 6 names_the_file (entries (start (script 1)) two_opened))
+
+gave_back_less : Legal (alters 6 names_the_file (entries (start (script 1)) (two_opened ++ gives 6 steady ∷ []))) (script 1) → ⊥
+unfolding moved begin_row client_row server_row back_timeout_row wake_row start_row record_bytes head_form volume_form spelled opaque pad word laid_at led name_ok directory_bytes name_bytes rights_of image acl_text digits entry_text directory_of names_at opaque_at word_at counted_at whole_at count_at name_at spelled_at bytes_below
+gave_back_less h =
+    let g = h.1.1.1.1.1.1.1.1.0.0.0.1.0.1 in
+    let x : IsGivenBack (script 1) (Client 1) gave_less_past root = g.gives g.act root g.runs (ap (λ (a : Going). a.act) (sym (some_of _ _ g.runs))) refl refl (inl refl) in
+    elim x.called [
+      | inl y ↦ elim y.1 [ inl z ↦ let e : carried.Reply (tell.File replies.GiveUpCallBacks) ≡ carried.Call (codes "guest") (ask.File (calls.GiveUpCallBacks x.fids x.callbacks)) = z.1 in absurd cc | inr z ↦ z ]
+      | inr y ↦ elim y.1 [
+        | inl z ↦ elim z.1 [ inl w ↦ elim (subst (IsNamedIn root) (sym (fids_of _ _ _ _ (one_call _ _ _ _ w.1))) x.named) [ inl e ↦ file_apart e | inr e ↦ e ] | inr w ↦ w ]
+        | inr z ↦ let e : true ≡ false = subst (λ (n : Node). has_begun n (lines.Begin (Client 1) acts.GiveUp ∷ lines.Drop (Client 1) root ∷ lines.Drop (Client 1) file ∷ []) ≡ false) x.node z.0 in absurd cc
+      ]
+    ]
 
 -- ---- a restart owes the clients of the script, and nobody else
 
@@ -1118,12 +1161,24 @@ stat_front = begins 1 (acts.Stat (operands.Fid file)) ∷ gives 1 steady ∷ giv
 read_what_was_only_looked_at : Legal (entries (start (script 1)) stat_front ++ step_of (Client 1) (begun 1 ∷ shown Cached ∷ answer 1 ∷ []) [] ∷ []) (script 1) → ⊥
 unfolding moved begin_row client_row server_row back_timeout_row wake_row start_row record_bytes head_form volume_form spelled opaque pad word laid_at led name_ok directory_bytes name_bytes rights_of image acl_text digits entry_text directory_of names_at opaque_at word_at counted_at whole_at count_at name_at spelled_at bytes_below
 read_what_was_only_looked_at h =
-    elim h.1.1.1.0.0.0.1.0.1.brought [
+    elim h.1.1.1.0.0.0.1.0.1.brought.1 [
       | inl x ↦ x.1.1
       | inr y ↦ elim y [
         | inl x ↦ let e : seen.Status status ≡ seen.Contents (bodies.File (codes "abc")) = x.1.1.1 in absurd cc
         | inr x ↦ x
       ]
+    ]
+
+-- a client looks at a file whose mode another sets; it shows the new mode from its cache, of which nothing came to it
+abbrev mode_front : List Input
+mode_front = stat_front ++ begins 2 (acts.SetMode (operands.Fid file) 384) ∷ gives 3 steady ∷ []
+
+status_that_never_came : Legal (entries (start (script 2)) mode_front ++ step_of (Client 1) (lines.Begin (Client 1) (acts.Stat (operands.Fid file)) ∷ lines.Read (Client 1) file 2 Cached (seen.Status (record status { mode = 384 })) ∷ answer 1 ∷ []) [] ∷ []) (script 2) → ⊥
+unfolding moved begin_row client_row server_row back_timeout_row wake_row start_row record_bytes head_form volume_form spelled opaque pad word laid_at led name_ok directory_bytes name_bytes rights_of image acl_text digits entry_text directory_of names_at opaque_at word_at counted_at whole_at count_at name_at spelled_at bytes_below
+status_that_never_came h =
+    elim h.1.1.1.1.1.0.0.0.1.0.1.brought.0 [
+      | inl x ↦ x.1.1
+      | inr y ↦ elim y [ inl x ↦ let e : 1 ≡ 2 = x.1.1.0 in absurd (omega (arith, e)) | inr x ↦ x ]
     ]
 
 -- or by the reply that brings its status
@@ -1170,6 +1225,74 @@ read_over_a_crash h =
     let g = h.1.1.1.1.1.0.0.0.1.0.1 in
     g.kept (crash_since g.grant.server _ _ _ g.grant.ran.newer g.grant.ran.at g.grant.ran.older g.grant.ran.message (onto [] g.grant.after) g.grant.ran.split g.grant.ran.given refl refl)
 
+-- ---- what is fetched is what its reply brought
+
+-- each line of these entries meets this test
+abbrev all_told : (Line → Bool) → List Entry → Bool
+all_told q [] = true
+all_told q (e ∷ past) = all_lines q e.lines && all_told q past
+
+told_at : (q : Line → Bool) (newer : List Entry) (at : Entry) (older : List Entry) → all_told q (newer ++ (at ∷ older)) ≡ true → all_lines q at.lines ≡ true
+told_at q [] at older h = (both (all_lines q at.lines) (all_told q older) h).0
+told_at q (e ∷ newer) at older h = told_at q newer at older (both (all_lines q e.lines) (all_told q (newer ++ (at ∷ older))) h).1
+
+-- no promise of this index was made
+abbrev is_other_grant : ℕ → Line → Bool
+is_other_grant n (lines.Grant s c f index expiry) = not (nat_eq index n)
+is_other_grant n l = true
+
+no_such_grant : (n : ℕ) (c : Node) (f : Fid) (x : ℕ) (reply : Message) (past : List Entry) → (g : GrantOf c f x reply past) → all_told (is_other_grant n) past ≡ true → not (nat_eq n n) ≡ false → g.index ≡ n → ⊥
+no_such_grant n c f x reply past g none own same =
+    no_such_owe g.before g.after g.ran.at.lines (lines.Grant g.server c f g.index x) (is_other_grant n) (told_at (is_other_grant n) g.ran.newer g.ran.at g.ran.older (subst (λ (p : List Entry). all_told (is_other_grant n) p ≡ true) g.ran.split none)) g.line (ap (λ (i : ℕ). not (nat_eq i n)) same ∙ own)
+
+-- a file is stored anew while the reply with its old contents is under way; its client shows the new ones, which no message brought
+fetched_what_came_later : Legal (alters 4 (instead (lines.Given 2 ∷ lines.Read (Client 1) file 2 Fetched (seen.Contents (bodies.File (codes "def"))) ∷ answer 1 ∷ [])) (entries (start (script 2)) (changes_file ++ gives 2 steady ∷ []))) (script 2) → ⊥
+unfolding moved begin_row client_row server_row back_timeout_row wake_row start_row record_bytes head_form volume_form spelled opaque pad word laid_at led name_ok directory_bytes name_bytes rights_of image acl_text digits entry_text directory_of names_at opaque_at word_at counted_at whole_at count_at name_at spelled_at bytes_below
+fetched_what_came_later h = let g = h.1.1.1.1.0.0.0.1.0.1 in no_such_grant 2 _ _ _ _ _ g.grant refl refl (g.exact refl)
+
+-- what the cause of a read of rights says of the entry that ran its call
+record RanForRights (e : Entry) (older : List Entry) : Type 0 where
+  message : Message
+  given : given_message e.lines (sent_of older) ≡ Some message
+  key : called_key message.head ≡ key_of_one 1
+  last : IsLast root 2 (lines_of older)
+
+rights_none : (e : Entry) (older : List Entry) → given_message e.lines (sent_of older) ≡ None → RanForRights e older → ⊥
+rights_none e older none x = let no_ : None ≡ Some x.message = sym none ∙ x.given in absurd cc
+
+rights_of_another : (e : Entry) (older : List Entry) (m : Message) → given_message e.lines (sent_of older) ≡ Some m → m.head.from ≡ Client 2 → RanForRights e older → ⊥
+rights_of_another e older m at two x = two_clients (sym two ∙ (ap (λ (q : Message). q.head.from) (some_of m x.message (sym at ∙ x.given)) ∙ ap (λ (k : Key). k.node) x.key))
+
+rights_before : (e : Entry) (older : List Entry) → option_map (λ (v : Version). v.index) (last_version root (lines_of older)) ≡ Some 1 → RanForRights e older → ⊥
+rights_before e older one x = let no_ : 1 ≡ 2 = some_of 1 2 (sym one ∙ x.last) in absurd (omega (arith, no_))
+
+-- a list of rights is stored anew while the reply with the old one is under way; its client shows the new one
+abbrev ann_alone : List ℕ
+ann_alone = codes "1\n0\nann\t127\n"
+
+abbrev listed_anew : List Input
+listed_anew = begins 1 (acts.GetAccessList (operands.Fid root)) ∷ gives 1 steady ∷ begins 2 (acts.SetAccessList (operands.Fid root) (Hex ann_alone)) ∷ gives 3 steady ∷ []
+
+abbrev listed_past : List Entry
+listed_past = past_of (set_up (script 2) ∷ []) (entries (start (script 2)) listed_anew)
+
+rights_of_another_moment : Legal (alters 4 (instead (lines.Given 2 ∷ lines.Read (Client 1) root 2 Fetched (seen.AccessList ann_alone) ∷ answer 1 ∷ [])) (entries (start (script 2)) (listed_anew ++ gives 2 steady ∷ []))) (script 2) → ⊥
+unfolding moved begin_row client_row server_row back_timeout_row wake_row start_row record_bytes head_form volume_form spelled opaque pad word laid_at led name_ok directory_bytes name_bytes rights_of image acl_text digits entry_text directory_of names_at opaque_at word_at counted_at whole_at count_at name_at spelled_at bytes_below acl_laid acl_at entry_at access.name_at named_at line_number_at access.count_at
+rights_of_another_moment h =
+    let g = h.1.1.1.1.0.0.0.1.0.1 in
+    let c = g.cause in
+    let there : Among RanForRights listed_past = subst (Among RanForRights) (sym c.ran.split) (is_among RanForRights c.ran.newer c.ran.at c.ran.older (record { message = c.ran.message; given = c.ran.given; key = c.ran.key ∙ ap (λ (m : Message). answered_key m.head) (sym (some_of _ _ g.used.by)); last = g.exact })) in
+    elim there [
+      | inl x ↦ rights_of_another _ _ _ refl refl x
+      | inr y ↦ elim y [
+        | inl x ↦ rights_none _ _ refl x
+        | inr z ↦ elim z [
+          | inl x ↦ rights_before _ _ refl x
+          | inr w ↦ elim w [ inl x ↦ rights_none _ _ refl x | inr v ↦ elim v [ inl x ↦ rights_none _ _ refl x | inr u ↦ u ] ]
+        ]
+      ]
+    ]
+
 -- ---- a reply is of its call's kind
 
 abbrev tells_the_time : Entry → Entry
@@ -1183,6 +1306,18 @@ unfolding moved begin_row client_row server_row back_timeout_row wake_row start_
 answered_by_another_kind h =
     elim (ran_for _ _ (h.1.0.1.1.0.0 1 1 (refl, tt) refl refl)) [
       | inl x ↦ for_call _ _ _ _ _ (codes "guest") (calls.FetchData file (pos 0) (pos 2147483647)) (pos 0) refl refl refl x (λ result kind. a_fetch_tells_no_time kind)
+      | inr y ↦ elim y [ inl x ↦ for_none _ _ _ _ refl x | inr z ↦ elim z [ inl x ↦ for_none _ _ _ _ refl x | inr w ↦ w ] ]
+    ]
+
+-- a server refuses with code 0, which tells nothing of what its client asked
+abbrev refuses_with_zero : Entry → Entry
+refuses_with_zero e = record e { sent = map (λ (m : Message). record m { carried = carried.Refusal (record { 0 = pos 0 }) }) e.sent }
+
+refused_with_zero : Legal (alters 1 refuses_with_zero (entries (start (script 1)) fetch_front)) (script 1) → ⊥
+unfolding moved begin_row client_row server_row back_timeout_row wake_row start_row record_bytes head_form volume_form spelled opaque pad word laid_at led name_ok directory_bytes name_bytes rights_of image acl_text digits entry_text directory_of names_at opaque_at word_at counted_at whole_at count_at name_at spelled_at bytes_below
+refused_with_zero h =
+    elim (ran_for _ _ (h.1.0.1.1.0.0 1 1 (refl, tt) refl refl)) [
+      | inl x ↦ for_call _ _ _ _ _ (codes "guest") (calls.FetchData file (pos 0) (pos 2147483647)) (pos 0) refl refl refl x (λ result kind. kind refl)
       | inr y ↦ elim y [ inl x ↦ for_none _ _ _ _ refl x | inr z ↦ elim z [ inl x ↦ for_none _ _ _ _ refl x | inr w ↦ w ] ]
     ]
 

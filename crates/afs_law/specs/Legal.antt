@@ -10,6 +10,7 @@ use Rattle.afs_num.specs.declared.types.Head.{Head}
 use Rattle.afs_num.specs.declared.types.Key.{Key}
 use Rattle.afs_num.specs.declared.types.Node.{Node}
 use Rattle.afs_num.specs.declared.types.Node.TheVariants.{Server, Client}
+use Rattle.afs_num.specs.declared.calls.AfsCallBack.{AfsCallBack}
 use Rattle.afs_num.specs.declared.calls.FsCall.{FsCall}
 use Rattle.afs_num.specs.declared.calls.FsCall.TheVariants as calls
 use Rattle.afs_num.specs.declared.messages.Carried.{Carried}
@@ -18,8 +19,9 @@ use Rattle.afs_ideal.specs.Operations.{Caller, the_user, Result, refused, change
 use Rattle.afs_ideal.specs.Volumes.{Volume, Edit, versions_by}
 use Rattle.afs_law.specs.Breaks.{HasDrop, unbroken_grant, IsNamedIn, AllOwes, HasEnded, HasStopped, HasTimeout, EndedOf, EndedAll, GoodSettle, GoodQuit, live_grant, lines_at, HasOwe, last_number}
 use Rattle.afs_rows.specs.Going.{Going, Need, answers, asks_for, next, asked, gives_back, reads_rights}
-use Rattle.afs_law.specs.Grants.{is_promised, read_reply, GrantOf, since, until, IsWithdrawn, IsChangedByOther, IsDropped}
+use Rattle.afs_law.specs.Grants.{change_below, is_promised, read_reply, GrantOf, since, until, IsWithdrawn, IsChangedByOther, IsDropped}
 use Rattle.afs_law.specs.Ideal.{last_version, Unless, set_up, IsLast, WasLast, HasBeen, HasVersion, Accepts, clock_of, user_of, seen, change_in, change_key, call_under, callee_under, volume_after}
+use Rattle.afs_history.specs.declared.acts.Act.TheVariants as acts
 use Rattle.afs_history.specs.declared.lines.Line.{Line}
 use Rattle.afs_rows.specs.Runs.{message_at}
 use Rattle.afs_law.specs.Lives.{IsDelivered, IsHostLived, epoch_after, last_written}
@@ -63,7 +65,8 @@ has_read c [] = false
 has_read c (lines.Read m f index source body ∷ own) = if same_node m c then true else has_read c own
 has_read c (l ∷ own) = has_read c own
 
--- the entry was given a reply with code 0, by the callee of a call that the client sent since its act began, which was in an entry before
+-- the entry was given a reply with code 0, by the first callee of a call which the client sent for its user since it last began an act, in an
+-- entry before
 pub record HasUsed (s : Script) (c : Node) (past : List Entry) (own : List Line) : Type 0 where
   pub reply : Message
   pub by : given_message own (sent_of past) ≡ Some reply
@@ -98,8 +101,8 @@ abbrev pub StoresBy : Option Going → Fid → Body → Type 0
 StoresBy None f body = ⊥
 StoresBy (Some act) f body = Stores (asked act) f body
 
--- by these lines, the newest first, this body of the object came to the client since it last crashed: by a read that was fetched, or by its
--- own store, which was answered 0
+-- by these lines, the newest first, this body of the object, of whichever version, came to the client since it last crashed: by a read that
+-- was fetched, or by its own store, which was answered 0
 abbrev pub HasBrought : Script → Node → Fid → Body → List Line → Type 0
 HasBrought s c f body [] = ⊥
 HasBrought s c f body (lines.Read m g index source shown ∷ older) = ((m ≡ c) × ((g ≡ f) × ((source ≡ Fetched) × (shown ≡ shows.Contents body)))) ⊎ HasBrought s c f body older
@@ -107,10 +110,36 @@ HasBrought s c f body (lines.Answer m code ∷ older) = ((m ≡ c) × ((code.0 �
 HasBrought s c f body (lines.Crash n ∷ older) = Unless (same_node n c) (HasBrought s c f body older)
 HasBrought s c f body (l ∷ older) = HasBrought s c f body older
 
--- contents that are read from the cache came to the client
-abbrev pub IsBrought : Script → Node → Fid → ReadSource → ReadBody → List Line → Type 0
-IsBrought s c f Cached (shows.Contents body) ls = HasBrought s c f body ls
-IsBrought s c f source body ls = ⊤
+-- it is a change of this node's own call
+abbrev pub IsOwnChange : Node → Option (Node × Key) → Type 0
+IsOwnChange c None = ⊥
+IsOwnChange c (Some change) = change.1.node ≡ c
+
+-- by these lines, the newest first, a call of the client's own made the version of this index since the client last began an act
+abbrev pub HasMadeItself : Node → Fid → ℕ → List Line → Type 0
+HasMadeItself c f index [] = ⊥
+HasMadeItself c f index (lines.Version v ∷ older) = ((v.fid ≡ f) × ((v.index ≡ index) × IsOwnChange c (change_below older))) ⊎ HasMadeItself c f index older
+HasMadeItself c f index (lines.Begin m act ∷ older) = Unless (same_node m c) (HasMadeItself c f index older)
+HasMadeItself c f index (l ∷ older) = HasMadeItself c f index older
+
+-- by these lines, the newest first, the version of this index came to the client since it last crashed: by a read of its contents or its
+-- status that was fetched, or by an own act that made it and was answered 0
+abbrev pub HasLearned : Node → Fid → ℕ → List Line → Type 0
+HasLearned c f index [] = ⊥
+HasLearned c f index (lines.Read m g i source shown ∷ older) = ((m ≡ c) × ((g ≡ f) × ((i ≡ index) × ((source ≡ Fetched) × (is_promised shown ≡ true))))) ⊎ HasLearned c f index older
+HasLearned c f index (lines.Answer m code ∷ older) = ((m ≡ c) × ((code.0 ≡ pos 0) × HasMadeItself c f index older)) ⊎ HasLearned c f index older
+HasLearned c f index (lines.Crash n ∷ older) = Unless (same_node n c) (HasLearned c f index older)
+HasLearned c f index (l ∷ older) = HasLearned c f index older
+
+-- contents came to the client as just this body, of whichever version
+abbrev pub AreBrought : Script → Node → Fid → ReadBody → List Line → Type 0
+AreBrought s c f (shows.Contents body) ls = HasBrought s c f body ls
+AreBrought s c f body ls = ⊤
+
+-- what is read from the cache came to the client: the version of this index, and contents
+abbrev pub IsBrought : Script → Node → Fid → ℕ → ReadSource → ReadBody → List Line → Type 0
+IsBrought s c f index Cached body ls = HasLearned c f index ls × AreBrought s c f body ls
+IsBrought s c f index Fetched body ls = ⊤
 
 -- a version of this index was told, whatever its body
 abbrev pub HasIndex : Fid → ℕ → List Line → Type 0
@@ -126,18 +155,21 @@ abbrev pub Shows : Fid → ℕ → ReadBody → List Entry → List Line → Typ
 Shows f index (shows.Contents body) past own = IsThere body × HasVersion f index body (own ++ lines_of past)
 Shows f index body past own = HasIndex f index (own ++ lines_of past) × HasBeen f index body past
 
--- a read is whole: it shows a version; it is not older than any that the client has seen; and it is the newest unless its
--- grant, which lasts, was not given up, and came from a server that accepted stores of the volume, was withdrawn. One that was
--- fetched just now is of a reply to a call of the running act that brings just that, and contents that are cached came to the client before
+-- A read shows one stored version, whole. It is not older than what the client saw, or than the last one when the promise was made. The
+-- promise is of the server that accepts stores of the volume; it lasts, and since then the client didn't drop what it is on. The version is the
+-- last one, unless the promise was withdrawn. A fetched read has a reply with code 0 to a call of the running act for such a thing, and shows
+-- the version that the promise tells, which was made where that call ran. A cached read is of a version that came to the client before, and so did
+-- its contents
 pub record GoodRead (s : Script) (c : Node) (f : Fid) (index : ℕ) (source : ReadSource) (body : ReadBody) (past : List Entry) (own : List Line) : Type 0 where
   pub whole : Shows f index body past own
   pub not_older : seen c f past own ≤ index
   pub used : source ≡ Fetched → IsUse s c f body past own
-  pub brought : IsBrought s c f source body (own ++ lines_of past)
+  pub brought : IsBrought s c f index source body (own ++ lines_of past)
   pub reply : Message
   pub by : read_reply c f source past own ≡ Some reply
   pub expiry : ℕ
   pub grant : GrantOf c f expiry reply past
+  pub exact : source ≡ Fetched → grant.index ≡ index
   pub home : Accepts s f.volume grant.server (until c f expiry reply past grant)
   pub granted : (v : Version) → last_version f (until c f expiry reply past grant) ≡ Some v → v.index ≤ index
   pub lasts : clock_of (own ++ lines_of past) < expiry
@@ -274,7 +306,7 @@ pub record GoodOwe (s : Script) (server c : Node) (what : Option Fid) (n : ℕ) 
   pub number : n ≡ last_number server (own ++ lines_of past) + 1
   pub cause : IsOwedFor s server c what past own
 
--- an entry owes a client one break on one thing, and a break is settled or given up once
+-- no entry owes a client two breaks on one thing, and in a boot no number is settled or given up twice
 abbrev pub IsForOnce : Line → List Entry → List Line → Type 0
 IsForOnce (lines.Owe server c what n) past own = HasOwe server c what own → ⊥
 IsForOnce (lines.Settle server c n) past own = HasEnded server n (own ++ lines_of past) → ⊥
@@ -359,8 +391,8 @@ pub record Cause (reply : Message) (code : ℤ) (asks_for : FsCall) (past : List
   pub result : IsResult reply.head.from code (answer_at user call ran.older) (answered_key reply.head) ran.at.lines (own ++ lines_of past)
 
 -- Rights are read without a promise: the act needs them, and the entry was given a reply with code 0 to its call for them. That is the code of the
--- ideal operation where the call ran, for the client's user. The read is whole, not older than any that the client has seen, and was the newest
--- at some line since its act began
+-- ideal operation where the call ran, for the client's user. The read is whole, and not older than any that the client has seen. It shows the
+-- version that was the last one where that call ran, and so at some line since the act began
 pub record GoodRights (s : Script) (c : Node) (f : Fid) (index : ℕ) (source : ReadSource) (body : ReadBody) (past : List Entry) (own : List Line) : Type 0 where
   pub fetched : source ≡ Fetched
   pub act : Going
@@ -373,6 +405,7 @@ pub record GoodRights (s : Script) (c : Node) (f : Fid) (index : ℕ) (source : 
   pub was : WasLast c f index (own ++ lines_of past)
   pub cause : Cause used.reply (pos 0) (asked act) past own
   pub own_user : cause.user ≡ user_of s c
+  pub exact : IsLast f index (lines_of cause.ran.older)
 
 abbrev pub GoodReadBy : Script → Bool → Node → Fid → ℕ → ReadSource → ReadBody → List Entry → List Line → Type 0
 GoodReadBy s true c f index source body past own = GoodRead s c f index source body past own
@@ -398,19 +431,19 @@ pub record IsCaused (s : Script) (c : Node) (act : Going) (code : ℤ) (past : L
   pub ends : code ≡ pos 0 → EndsAct (next act)
 
 -- the act needs no more, and answers so by its read lines; it began in this entry, which was given nothing, or the entry was
--- given a reply with code 0 to its call, and read what the act still needed
+-- given a reply with code 0 to a call of the act, and reads something
 pub record IsDone (s : Script) (c : Node) (act : Going) (code : ℤ) (past : List Entry) (own : List Line) : Type 0 where
   pub number : ℕ
   pub is : code ≡ pos number
   pub by : next act ≡ answers number
   pub last : IsAtOnce c own ⊎ (HasUsed s c past own × (has_read c own ≡ true))
 
--- the act isn't at its end
+-- the act needs something still
 abbrev pub IsOpen : Need → Type 0
 IsOpen (answers code) = ⊥
 IsOpen need = ⊤
 
--- a call of this very act, which isn't at its end, was timed out for the third time in this entry: it is dead
+-- the act isn't at its end, and a call that it needs now, which its client sent since it began, was timed out for the third time in this entry
 pub record IsDead (s : Script) (c : Node) (act : Going) (code : ℤ) (past : List Entry) (own : List Line) : Type 0 where
   pub is : code ≡ negsuc 0
   pub callee : Node
@@ -436,12 +469,40 @@ pub record HasNothing (c : Node) (act : Going) (code : ℤ) (own : List Line) : 
   pub begun : has_begun c own ≡ true
   pub none : has_dropped c own ≡ false
 
--- an act runs, and its answer has its cause: the reply to its call, for 0 that it was done from the cache or that there was
--- nothing to give back, or for -1 that its call was given up
+-- ---- promises that are given back
+
+-- the fids that the client gave up by themselves in these lines
+abbrev pub drops_in : Node → List Line → List Fid
+drops_in c [] = []
+drops_in c (lines.Drop m f ∷ ls) = if same_node m c then f ∷ drops_in c ls else drops_in c ls
+drops_in c (l ∷ ls) = drops_in c ls
+
+-- those of the entry in which it last began an act
+abbrev pub dropped_first : Node → List Entry → List Fid
+dropped_first c [] = []
+dropped_first c (e ∷ past) = if has_begun c e.lines then drops_in c e.lines else dropped_first c past
+
+-- a call that the client sent since it began its act gives back what it was promised on f
+pub record IsGivenBack (s : Script) (c : Node) (past : List Entry) (f : Fid) : Type 0 where
+  pub key : Key
+  pub node : key.node ≡ c
+  pub fids : List Fid
+  pub callbacks : List AfsCallBack
+  pub called : CalledSince key (user_of s c) (calls.GiveUpCallBacks fids callbacks) past
+  pub named : IsNamedIn f fids
+
+-- an act that gives promises back is answered 0, in a later entry than that in which it began, only where its calls gave back all that
+-- its client gave up when it began
+abbrev pub GivesAllBack : Script → Node → ℤ → List Entry → List Line → Type 0
+GivesAllBack s c code past own = (act : Going) (f : Fid) → running s c (own ++ lines_of past) ≡ Some act → act.act ≡ acts.GiveUp → code ≡ pos 0 → has_begun c own ≡ false → IsNamedIn f (dropped_first c past) → IsGivenBack s c past f
+
+-- An act runs, and its answer has its cause: the reply to its call, for 0 that it was done from the cache or that there was
+-- nothing to give back, or for -1 that its call was given up. Where promises are given back, 0 tells that all were
 pub record GoodCode (s : Script) (c : Node) (code : Code) (past : List Entry) (own : List Line) : Type 0 where
   pub act : Going
   pub runs : running s c (own ++ lines_of past) ≡ Some act
   pub cause : IsCaused s c act code.0 past own ⊎ (IsDone s c act code.0 past own ⊎ (IsDead s c act code.0 past own ⊎ HasNothing c act code.0 own))
+  pub gives : GivesAllBack s c code.0 past own
 
 -- ---- grants
 
@@ -540,14 +601,14 @@ abbrev pub AreGoodSent : List Entry → List Message → Type 0
 AreGoodSent past [] = ⊤
 AreGoodSent past (m ∷ ms) = GoodMessage past m × AreGoodSent past ms
 
--- a refusal answers any call, and a reply one of its kind
+-- a refusal answers any call, by a code that isn't 0, and a reply one of its kind
 abbrev pub IsKind : FsCall → Carried → Type 0
-IsKind call (carried.Refusal code) = ⊤
+IsKind call (carried.Refusal code) = code.0 ≡ pos 0 → ⊥
 IsKind call (carried.Reply (tell.File reply)) = reply_number reply ≡ call_number call
 IsKind call c = ⊥
 
 -- What is sent as a server's reply to a client is that of the entry which ran its call, one before or the one that sends it. It has the code
--- of the ideal operation there, and, unless it is a refusal, it is of that call's kind
+-- that `IsResult` allows there, and is a refusal with another code than 0, or of that call's kind
 pub record Answered (m : Message) (past : List Entry) : Type 0 where
   pub ran : Ran m.head past
   pub user : List ℕ
@@ -718,13 +779,18 @@ IsOfServer who n = ⊥
 abbrev pub IsTimed : Node → List Line → List Line → Type 0
 IsTimed c own next = ((has_given own ≡ false) × (has_begun c own ≡ false)) × ((has_given next ≡ false) × (has_begun c next ≡ false))
 
+-- an act begins first in its entry, while none runs
+abbrev pub IsBegun : Script → Node → List Entry → List Line → Type 0
+IsBegun s c past own = (own ≡ []) × (running s c (lines_of past) ≡ None)
+
 -- Each line stands in an entry of its own node: a begin, a read, an answer, a drop in one of its client, a change, a grant, a break in
--- one of its server, a tick, which isn't of 0 and is alone, in the clock's, and that nothing happened in nobody's. An entry is given one message at most; a version
+-- one of its server, a tick, which isn't of 0 and is alone, in the clock's, and that nothing happened in nobody's. An act begins first in its
+-- entry, while none runs. An entry is given one message at most; a version
 -- stands under its change; an act runs where a client reads or answers; a timeout stands in an entry that is given no message and in
 -- which its node begins no act; and a server that begins again owes each client of the script a break on all. A crash is of any node, a
 -- fault of a server alone, for clients have no disk
 abbrev pub IsInPlace : Script → Actor → Line → List Entry → List Line → List Line → Type 0
-IsInPlace s who (lines.Begin c act) past own next = IsOfClient who c
+IsInPlace s who (lines.Begin c act) past own next = IsOfClient who c × IsBegun s c past own
 IsInPlace s who (lines.Given place) past own next = has_given own ≡ false
 IsInPlace s who (lines.Grant server c f index expiry) past own next = IsOfServer who server
 IsInPlace s who (lines.Change server k count) past own next = IsOfServer who server

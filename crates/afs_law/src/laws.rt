@@ -187,7 +187,7 @@ pub fn answers_are_good()
 {}
 
 /// Each read is good: it is whole, no older than what its client saw, rests on a promise that lasts, and shows the newest version unless
-/// that promise was withdrawn; of rights it was the newest since the act began.
+/// that promise was withdrawn; of rights it was the newest where the call for them ran.
 pub fn reads_are_good()
     ensures { ReadsAreGood }
 {}
@@ -241,7 +241,7 @@ pub fn timeouts_are_good()
     ensures { TimeoutsAreGood }
 {}
 
-/// Contents that a client reads from its cache came to it since it last crashed: by a read that was fetched, or by its own store.
+/// What a client reads from its cache came to it since it last crashed: by a read that was fetched, or by its own store.
 pub fn cached_are_brought()
     ensures { CachedAreBrought }
 {}

@@ -1,0 +1,670 @@
+-- An act that gives promises back is answered 0 only where its calls gave back all that its client gave up when it began.
+use Rattle.afs_history.specs.declared.acts.Act.{Act}
+use Rattle.afs_history.specs.declared.acts.Act.TheVariants as acts
+use Rattle.afs_history.specs.declared.lines.Line.{Line}
+use Rattle.afs_history.specs.declared.lines.Line.TheVariants as lines
+use Rattle.afs_history.specs.declared.scripts.Script.{Script}
+use Rattle.afs_ideal.specs.Operations.{volume_changed}
+use Rattle.afs_law.proofs.Acting.{Acts, begins_acts, falls_acts, given_acts, is_of, last_key, rises_acts, waits_acts, who_at}
+use Rattle.afs_law.proofs.Arriving.{Based, arrives, based_first, based_kept}
+use Rattle.afs_law.proofs.Backing.{all_lines}
+use Rattle.afs_law.proofs.Basics.{at_put, both, same_node-refl, same_node-true}
+use Rattle.afs_law.proofs.Changing.{run_each}
+use Rattle.afs_law.proofs.Choosing.{disk_works, one_from, risen_from, risen_lines, serves_works, starts_works, times_works, wakes_works}
+use Rattle.afs_law.proofs.Due.{DueFacts, due_first, due_kept}
+use Rattle.afs_law.proofs.KeysOnce.{IsKnown, any_told, by_key}
+use Rattle.afs_law.proofs.Moving.{Behind, EachMove, IsKept, each_moved}
+use Rattle.afs_law.proofs.Origins.{any_cut, any_message, blow_idle, idle_leaves, idle_works, is_idle, of_client, other_leaves}
+use Rattle.afs_law.proofs.Ours.{AreOurs, IsOurs, trusted_ours'}
+use Rattle.afs_law.proofs.Silent.{GivenSilent}
+use Rattle.afs_law.proofs.Words.{fids_of_gifts}
+use Rattle.afs_law.specs.Breaks.{IsNamedIn}
+use Rattle.afs_law.specs.Cells.{IsOfCell}
+use Rattle.afs_law.specs.Ideal.{set_up, user_of}
+use Rattle.afs_law.specs.Legal.{GivesAllBack, IsGivenBack, IsKind, drops_in, dropped_first}
+use Rattle.afs_law.specs.Parts.{EachEntry, EachLine, LineRule}
+use Rattle.afs_law.specs.Past.{CalledSince, HasCode, has_begun, lines_of, running}
+use Rattle.afs_model.specs.Calls as pairs
+use Rattle.afs_model.specs.Calls.{Admitted, admitted}
+use Rattle.afs_model.specs.FsRows.{call_number, reply_number}
+use Rattle.afs_num.specs.Nodes.{same_node}
+use Rattle.afs_num.specs.declared.calls.AfsCallBack.{AfsCallBack}
+use Rattle.afs_num.specs.declared.calls.AfsFetchStatus.{AfsFetchStatus}
+use Rattle.afs_num.specs.declared.calls.AfsVolSync.{AfsVolSync}
+use Rattle.afs_num.specs.declared.calls.FsCall.{FsCall}
+use Rattle.afs_num.specs.declared.calls.FsCall.TheVariants as calls
+use Rattle.afs_num.specs.declared.calls.FsReply.{FsReply}
+use Rattle.afs_num.specs.declared.calls.FsReply.TheVariants as replies
+use Rattle.afs_num.specs.declared.histories.Actor.{Actor}
+use Rattle.afs_num.specs.declared.histories.Actor.TheVariants as actors
+use Rattle.afs_num.specs.declared.histories.Body.{Body}
+use Rattle.afs_num.specs.declared.histories.Body.TheVariants as bodies
+use Rattle.afs_num.specs.declared.histories.ReadBody.{ReadBody}
+use Rattle.afs_num.specs.declared.histories.ReadBody.TheVariants as seen
+use Rattle.afs_num.specs.declared.histories.ReadSource.TheVariants.{Fetched}
+use Rattle.afs_num.specs.declared.messages.Call.TheVariants as ask
+use Rattle.afs_num.specs.declared.messages.Carried.{Carried}
+use Rattle.afs_num.specs.declared.messages.Carried.TheVariants as carried
+use Rattle.afs_num.specs.declared.messages.Message.{Message}
+use Rattle.afs_num.specs.declared.messages.Received.TheVariants.{Whole}
+use Rattle.afs_num.specs.declared.messages.Reply.TheVariants as tell
+use Rattle.afs_num.specs.declared.types.Code.{Code}
+use Rattle.afs_num.specs.declared.types.Fid.{Fid}
+use Rattle.afs_num.specs.declared.types.Head.{Head}
+use Rattle.afs_num.specs.declared.types.Node.{Node}
+use Rattle.afs_num.specs.declared.types.Node.TheVariants.{Admin, Client, Loc, Server}
+use Rattle.afs_rows.specs.Callbacks.{put}
+use Rattle.afs_rows.specs.ClientRow.{Look, Walked, admits_call, answers_step, awaits, batch, batch_to, begin_row, begins_by, behind_batch, body_told, breaks, call_by, call_of, calls_again, client_row, counts, dead_code, drop_line, dropped, dropped_after, entries_told, entry_told, find_cached, gift_call, gift_of, gifts_to, given, given_promise, given_up_in, gives_by, gives_up, goes_by, hears, ignores, in_order, is_awaited, is_below, is_busy_code, is_older, is_spent, is_trusted, look_at, looked, most_busy, most_given, most_reads, put_entries, put_entry, read_lines, reborn, refuses, runs_carried, status_look, status_told, takes, takes_bulk, takes_bytes, takes_data, takes_entries, takes_entry, takes_given, takes_list, takes_plain, takes_rights, takes_set, takes_shown, takes_status, takes_stored, timeout_row, tries_again, trusted_in, untrusted_in, walked, walked_at, walked_by, walked_with, walks_on, whole, with_statuses, zero_code}
+use Rattle.afs_rows.specs.Going.{ClientState, Going, Need, answers, began, gives_back, next, read_on, reads, reads_status, with_read}
+use Rattle.afs_rows.specs.Runs.{Cell, Entry, Moved, RunsTo, at_rest, begun_by_disk, blow_line, in_boot, in_step, locations, message_at, server_falls, server_moves, server_rises, server_set, server_stays, start, ticked, voided}
+use Rattle.afs_rows.specs.ServerSteps.{back_timeout_row, server_row, wake_row}
+use Rattle.afs_rows.specs.States.{CacheEntry, Gift}
+use Rattle.afs_rows.specs.Steps.{Step}
+use Rattle.std.proofs.Common.{zero, suc, ◌≡◌, ◌+◌, ◌≤◌, ◌⊎◌, inl, inr, ℕ, ℤ, pos, negsuc, Bool, true, false, cond, nat_eq, eq-eqb, List, [], ◌∷◌, ◌++◌, map, Option, Some, None, refl, sym, ap, subst, ◌∙◌, arith, drop, filter, length, not}
+use Rattle.std.specs.List.{list_any}
+use Rattle.std.specs.Prelude.{⊤, ◌&&◌, nat_lt}
+
+-- ---- what a batch leaves
+
+abbrev Has : Fid → List Gift → Type 0
+Has f gs = IsNamedIn f (fids_of_gifts gs)
+
+batch_case : (t : Bool) (g : Gift) (gs b : List Gift) (f : Fid) → Has f (g ∷ gs) → (Has f gs → Has f b ⊎ Has f (drop (length b) gs)) → Has f (cond t (g ∷ b) []) ⊎ Has f (drop (length (cond t (g ∷ b) [])) (g ∷ gs))
+batch_case true g gs b f (inl e) w = inl (inl e)
+batch_case true g gs b f (inr h) w = elim (w h) [ inl x ↦ inl (inr x) | inr x ↦ inr x ]
+batch_case false g gs b f h w = inr h
+
+batch_by : (server : Node) (k : ℕ) (gs : List Gift) (f : Fid) → Has f gs → Has f (batch_to server k gs) ⊎ Has f (drop (length (batch_to server k gs)) gs)
+batch_by server zero gs f h = inr h
+batch_by server (suc k) [] f h = absurd h
+batch_by server (suc k) (g ∷ gs) f h = batch_case (same_node g.server server) g gs (batch_to server k gs) f h (batch_by server k gs f)
+
+batch_has : (gs : List Gift) (f : Fid) → Has f gs → Has f (batch gs) ⊎ Has f (behind_batch gs)
+batch_has [] f h = absurd h
+batch_has (g ∷ gs) f h = batch_by g.server most_given (g ∷ gs) f h
+
+-- ---- all that is given up is given back
+
+more_to : (t : Bool) (g : Gift) (gs : List Gift) (f : Fid) → Has f gs → Has f (cond t (g ∷ gs) gs)
+more_to true g gs f h = inr h
+more_to false g gs f h = h
+
+has_left : (f : Fid) (a b : List Gift) → Has f a → Has f (a ++ b)
+has_left f [] b h = absurd h
+has_left f (g ∷ a) b (inl e) = inl e
+has_left f (g ∷ a) b (inr h) = inr (has_left f a b h)
+
+has_right : (f : Fid) (a b : List Gift) → Has f b → Has f (a ++ b)
+has_right f [] b h = h
+has_right f (g ∷ a) b h = inr (has_right f a b h)
+
+in_order_has : (gs : List Gift) (k : ℕ) (f : Fid) → 1 ≤ k → k ≤ 8 → Has f (gifts_to gs k) → Has f (in_order gs)
+in_order_has gs zero f a b h = absurd (omega (arith, a))
+in_order_has gs (suc zero) f a b h = has_left f (gifts_to gs 1) _ h
+in_order_has gs (suc (suc zero)) f a b h = has_right f (gifts_to gs 1) _ (has_left f (gifts_to gs 2) _ h)
+in_order_has gs (suc (suc (suc zero))) f a b h = has_right f (gifts_to gs 1) _ (has_right f (gifts_to gs 2) _ (has_left f (gifts_to gs 3) _ h))
+in_order_has gs (suc (suc (suc (suc zero)))) f a b h = has_right f (gifts_to gs 1) _ (has_right f (gifts_to gs 2) _ (has_right f (gifts_to gs 3) _ (has_left f (gifts_to gs 4) _ h)))
+in_order_has gs (suc (suc (suc (suc (suc zero))))) f a b h = has_right f (gifts_to gs 1) _ (has_right f (gifts_to gs 2) _ (has_right f (gifts_to gs 3) _ (has_right f (gifts_to gs 4) _ (has_left f (gifts_to gs 5) _ h))))
+in_order_has gs (suc (suc (suc (suc (suc (suc zero)))))) f a b h = has_right f (gifts_to gs 1) _ (has_right f (gifts_to gs 2) _ (has_right f (gifts_to gs 3) _ (has_right f (gifts_to gs 4) _ (has_right f (gifts_to gs 5) _ (has_left f (gifts_to gs 6) _ h)))))
+in_order_has gs (suc (suc (suc (suc (suc (suc (suc zero))))))) f a b h = has_right f (gifts_to gs 1) _ (has_right f (gifts_to gs 2) _ (has_right f (gifts_to gs 3) _ (has_right f (gifts_to gs 4) _ (has_right f (gifts_to gs 5) _ (has_right f (gifts_to gs 6) _ (has_left f (gifts_to gs 7) _ h))))))
+in_order_has gs (suc (suc (suc (suc (suc (suc (suc (suc zero)))))))) f a b h = has_right f (gifts_to gs 1) _ (has_right f (gifts_to gs 2) _ (has_right f (gifts_to gs 3) _ (has_right f (gifts_to gs 4) _ (has_right f (gifts_to gs 5) _ (has_right f (gifts_to gs 6) _ (has_right f (gifts_to gs 7) _ (has_left f (gifts_to gs 8) _ h)))))))
+in_order_has gs (suc (suc (suc (suc (suc (suc (suc (suc (suc k))))))))) f a b h = absurd (omega (arith, b))
+
+-- it is given back to a server of the eight
+record HasServer (f : Fid) (gs : List Gift) : Type 0 where
+  number : ℕ
+  low : 1 ≤ number
+  high : number ≤ 8
+  has : Has f (gifts_to gs number)
+
+own_server : (g : Gift) (gs : List Gift) (n : Node) → g.server ≡ n → IsOurs n → HasServer g.fid (g ∷ gs)
+own_server g gs (Server k) e h = record {
+  number = k;
+  low = h.0;
+  high = h.1;
+  has = subst (λ (t : Bool). Has g.fid (cond t (g ∷ gifts_to gs k) (gifts_to gs k))) (sym (ap (λ (q : Node). same_node q (Server k)) e ∙ same_node-refl (Server k))) (inl refl);
+}
+own_server g gs (Client j) e h = absurd h
+own_server g gs (Admin j) e h = absurd h
+own_server g gs Loc e h = absurd h
+
+has_server : (es : List CacheEntry) (f : Fid) → AreOurs es → Has f (map gift_of es) → HasServer f (map gift_of es)
+has_server [] f h x = absurd x
+has_server (e ∷ es) f h (inl same) = subst (λ (g : Fid). HasServer g (map gift_of (e ∷ es))) same (own_server (gift_of e) (map gift_of es) e.server refl h.0)
+has_server (e ∷ es) f h (inr x) = let y : HasServer f (map gift_of es) = has_server es f h.1 x in record { number = y.number; low = y.low; high = y.high; has = more_to (same_node e.server (Server y.number)) (gift_of e) (gifts_to (map gift_of es) y.number) f y.has }
+
+all_in_order : (es : List CacheEntry) (f : Fid) → AreOurs es → Has f (map gift_of es) → Has f (in_order (map gift_of es))
+all_in_order es f h x = let y : HasServer f (map gift_of es) = has_server es f h x in in_order_has (map gift_of es) y.number f y.low y.high y.has
+
+-- ---- what is dropped
+
+drop_case : (t : Bool) (g f : Fid) (fs : List Fid) (X : Type 0) → t ≡ true → IsNamedIn f (cond t (g ∷ fs) fs) → (g ≡ f → X) → (IsNamedIn f fs → X) → X
+drop_case true g f fs X e h a b = elim h [ inl x ↦ a x | inr x ↦ b x ]
+drop_case false g f fs X e h a b = absurd cc
+
+dropped_names : (n : ℕ) (es : List CacheEntry) (tail : List Line) (f : Fid) → drops_in (Client n) tail ≡ [] → IsNamedIn f (drops_in (Client n) (dropped (Client n) es tail)) → Has f (map gift_of es)
+dropped_names n [] tail f none h = absurd (subst (IsNamedIn f) none h)
+dropped_names n (e ∷ es) tail f none h = drop_case (same_node (Client n) (Client n)) e.fid f (drops_in (Client n) (dropped (Client n) es tail)) (Has f (map gift_of (e ∷ es))) (same_node-refl (Client n)) h (λ x. inl x) (λ x. inr (dropped_names n es tail f none x))
+
+-- ---- no act begins in these lines
+
+dropped_begins : (n : ℕ) (m : Node) (es : List CacheEntry) (ls : List Line) → has_begun (Client n) (dropped m es ls) ≡ has_begun (Client n) ls
+dropped_begins n m [] ls = refl
+dropped_begins n m (e ∷ es) ls = dropped_begins n m es ls
+
+looked_begins : (n : ℕ) (m : Node) (looks : List Look) (ls : List Line) → has_begun (Client n) (looked m looks ls) ≡ has_begun (Client n) ls
+looked_begins n m [] ls = refl
+looked_begins n m (l ∷ looks) ls = looked_begins n m looks ls
+
+drops_begins : (n : ℕ) (m : Node) (fs : List Fid) → has_begun (Client n) (map (drop_line m) fs) ≡ false
+drops_begins n m [] = refl
+drops_begins n m (f ∷ fs) = drops_begins n m fs
+
+abbrev Quiet : ℕ → (List Line → List Line) → Type 0
+Quiet n front = (ls : List Line) → has_begun (Client n) (front ls) ≡ has_begun (Client n) ls
+
+-- ---- what a step leaves to be given back
+
+record Keeps (n : ℕ) (o : Option Going) (gs : List Gift) (s : Step ClientState) : Type 0 where
+  goes : (b : Going) → s.state.running ≡ Some b → (a : Going) × ((o ≡ Some a) × ((b.act ≡ a.act) × ((f : Fid) → Has f gs → Has f s.state.gifts ⊎ Has f (batch gs))))
+  begins : has_begun (Client n) s.lines ≡ false
+
+same_keeps : (n : ℕ) (o : Option Going) (gs : List Gift) (s : Step ClientState) → s.state.running ≡ o → s.state.gifts ≡ gs → has_begun (Client n) s.lines ≡ false → Keeps n o gs s
+same_keeps n o gs s r g q = record { goes = λ b e. (b, (sym r ∙ e, (refl, λ f h. inl (subst (Has f) (sym g) h)))); begins = q }
+
+none_keeps : (n : ℕ) (o : Option Going) (gs : List Gift) (s : Step ClientState) → s.state.running ≡ None → has_begun (Client n) s.lines ≡ false → Keeps n o gs s
+none_keeps n o gs s r q = record { goes = λ b e. (let no_ : None ≡ Some b = sym r ∙ e in absurd cc); begins = q }
+
+one_going : (a b : Going) → Some a ≡ Some b → a ≡ b
+one_going a b e = cc
+
+-- the act that goes on is the one that ran
+runs_keeps : (n : ℕ) (o : Option Going) (gs : List Gift) (s : Step ClientState) (a b : Going) → o ≡ Some a → s.state.running ≡ Some b → b.act ≡ a.act → ((f : Fid) → Has f gs → Has f s.state.gifts ⊎ Has f (batch gs)) → has_begun (Client n) s.lines ≡ false → Keeps n o gs s
+runs_keeps n o gs s a b e r same w q = record { goes = λ c p. (a, (e, (subst (λ (x : Going). x.act ≡ a.act) (one_going b c (sym r ∙ p)) same, w))); begins = q }
+
+either_keeps : (t : Bool) (n : ℕ) (o : Option Going) (gs : List Gift) (a b : Step ClientState) → Keeps n o gs a → Keeps n o gs b → Keeps n o gs (cond t a b)
+either_keeps true n o gs a b h k = h
+either_keeps false n o gs a b h k = k
+
+-- reads leave the act
+with_act : (more : Going → List CacheEntry → Walked) (act : Going) (cache : List CacheEntry) (e : CacheEntry) (o : Option ReadBody) → ((b : Going) (cs : List CacheEntry) → (more b cs).act.act ≡ b.act) → (walked_with more act cache e o).act.act ≡ act.act
+with_act more act cache e None w = refl
+with_act more act cache e (Some body) w = w (with_read e.fid body act) _
+
+trusted_act : (t : Bool) (a b : Walked) (act : Going) → a.act.act ≡ act.act → b.act.act ≡ act.act → (cond t a b).act.act ≡ act.act
+trusted_act true a b act h k = h
+trusted_act false a b act h k = k
+
+at_act : (more : Going → List CacheEntry → Walked) (clock : ℕ) (act : Going) (cache : List CacheEntry) (need : Need) (o : Option CacheEntry) → ((b : Going) (cs : List CacheEntry) → (more b cs).act.act ≡ b.act) → (walked_at more clock act cache need o).act.act ≡ act.act
+at_act more clock act cache need None w = refl
+at_act more clock act cache need (Some e) w = trusted_act (is_trusted clock e) _ _ act (with_act more act cache e _ w) refl
+
+by_act : (more : Going → List CacheEntry → Walked) (clock : ℕ) (act : Going) (cache : List CacheEntry) (need : Need) → ((b : Going) (cs : List CacheEntry) → (more b cs).act.act ≡ b.act) → (walked_by more clock act cache need).act.act ≡ act.act
+by_act more clock act cache (reads f) w = at_act more clock act cache (reads f) (find_cached f cache) w
+by_act more clock act cache (reads_status f) w = at_act more clock act cache (reads_status f) (find_cached f cache) w
+by_act more clock act cache need w = refl
+
+walked_act : (n clock : ℕ) (act : Going) (cache : List CacheEntry) → (walked n clock act cache).act.act ≡ act.act
+walked_act zero clock act cache = refl
+walked_act (suc n) clock act cache = by_act (walked n clock) clock act cache (next act) (walked_act n clock)
+
+statuses_act : (es : List CacheEntry) (act : Going) → (with_statuses es act).act ≡ act.act
+statuses_act [] act = refl
+statuses_act (e ∷ es) act = statuses_act es (with_read e.fid (seen.Status e.status) act)
+
+goes_keeps : (o : Option Going) (n : ℕ) (c : ClientState) (front : List Line → List Line) (w : Walked) (need : Need) (a : Going) → Quiet n front → o ≡ Some a → w.act.act ≡ a.act → Keeps n o c.gifts (goes_by (Client n) c front w need)
+goes_keeps o n c front w (answers k) a q e same = none_keeps n o c.gifts _ refl (q (looked (Client n) w.looks (lines.Answer (Client n) (record { 0 = pos k }) ∷ [])) ∙ looked_begins n (Client n) w.looks (lines.Answer (Client n) (record { 0 = pos k }) ∷ []))
+goes_keeps o n c front w need a q e same = runs_keeps n o c.gifts _ a w.act e refl same (λ f h. inl h) (q (looked (Client n) w.looks []) ∙ looked_begins n (Client n) w.looks [])
+
+walks_keeps : (o : Option Going) (n : ℕ) (c : ClientState) (clock : ℕ) (front : List Line → List Line) (act : Going) (cache : List CacheEntry) (a : Going) → Quiet n front → o ≡ Some a → act.act ≡ a.act → Keeps n o c.gifts (walks_on (Client n) c clock front act cache)
+walks_keeps o n c clock front act cache a q e same = goes_keeps o n c front (walked (most_reads act) clock act cache) (next (walked (most_reads act) clock act cache).act) a q e (walked_act (most_reads act) clock act cache ∙ same)
+
+gives_keeps : (n : ℕ) (c : ClientState) (front : List Line → List Line) (act : Going) (gs : List Gift) → Quiet n front → c.running ≡ Some act → ((f : Fid) → Has f c.gifts → Has f gs ⊎ Has f (batch c.gifts)) → Keeps n c.running c.gifts (gives_by (Client n) c front act gs)
+gives_keeps n c front act [] q r w = none_keeps n c.running c.gifts _ refl (q (lines.Answer (Client n) zero_code ∷ []))
+gives_keeps n c front act (g ∷ gs) q r w = runs_keeps n c.running c.gifts _ act act r refl refl w (q [])
+
+again_keeps : (n : ℕ) (c : ClientState) (place : ℕ) (act : Going) → c.running ≡ Some act → Keeps n c.running c.gifts (calls_again (Client n) c place act)
+again_keeps n c place act r = runs_keeps n c.running c.gifts _ act act r refl refl (λ f h. inl h) refl
+
+plain_keeps : (n : ℕ) (c : ClientState) (place : ℕ) (call : FsCall) → Keeps n c.running c.gifts (takes_plain (Client n) c place call)
+plain_keeps n c place call = none_keeps n c.running c.gifts _ refl (dropped_begins n (Client n) (dropped_after call c.cache) (lines.Answer (Client n) zero_code ∷ []))
+
+entry_keeps : (n : ℕ) (c : ClientState) (clock place : ℕ) (act : Going) (e : CacheEntry) (body : ReadBody) → c.running ≡ Some act → Keeps n c.running c.gifts (takes_entry (Client n) c clock place act e body)
+entry_keeps n c clock place act e body r = either_keeps (is_trusted clock e) n c.running c.gifts _ _ (walks_keeps c.running n c clock (read_lines (Client n) place (look_at Fetched e body)) (with_read e.fid body act) (put_entry c.capacity e c.cache) act (λ ls. refl) r refl) (again_keeps n c place act r)
+
+entries_keeps : (n : ℕ) (c : ClientState) (clock place : ℕ) (act : Going) (es : List CacheEntry) → c.running ≡ Some act → Keeps n c.running c.gifts (takes_entries (Client n) c clock place act es)
+entries_keeps n c clock place act es r = either_keeps (list_any (λ e. not (is_trusted clock e)) es) n c.running c.gifts _ _ (again_keeps n c place act r) (walks_keeps c.running n c clock (λ ls. given place (looked (Client n) (map status_look es) ls)) (with_statuses es act) (put_entries c.capacity es c.cache) act (λ ls. looked_begins n (Client n) (map status_look es) ls) r (statuses_act es act))
+
+rights_keeps : (n : ℕ) (c : ClientState) (clock place : ℕ) (act : Going) (f : Fid) (index release : ℕ) (text : List ℕ) → c.running ≡ Some act → Keeps n c.running c.gifts (takes_rights (Client n) c clock place act f index release text)
+rights_keeps n c clock place act f index release text r =
+    walks_keeps c.running n c clock (λ ls. read_lines (Client n) place (record { fid = f; index = index; source = Fetched; body = seen.AccessList text }) (dropped (Client n) (filter (is_older f index release) c.cache) ls)) (with_read f (seen.AccessList text) act) (filter (λ e. not (is_older f index release e)) c.cache) act (λ ls. dropped_begins n (Client n) (filter (is_older f index release) c.cache) ls) r refl
+
+bytes_keeps : (n : ℕ) (c : ClientState) (clock place : ℕ) (f : Fid) (status : AfsFetchStatus) (contents : List ℕ) (call : FsCall) → Keeps n c.running c.gifts (takes_bytes (Client n) c clock place f status contents call)
+bytes_keeps n c clock place f status contents call = either_keeps c.spoiled n c.running c.gifts (takes_plain (Client n) c place call) (takes_stored (Client n) c clock place f status.sync_counter (status_told status) (λ body. Some (bodies.File contents))) (plain_keeps n c place call) (none_keeps n c.running c.gifts _ refl refl)
+
+status_keeps : (n : ℕ) (c : ClientState) (clock place : ℕ) (f : Fid) (status : AfsFetchStatus) (call : FsCall) → Keeps n c.running c.gifts (takes_status (Client n) c clock place f status call)
+status_keeps n c clock place f status call = either_keeps (not c.spoiled && is_below clock status.sync_counter (find_cached f c.cache)) n c.running c.gifts (takes_stored (Client n) c clock place f status.sync_counter (status_told status) (λ body. body)) (takes_plain (Client n) c place call) (none_keeps n c.running c.gifts _ refl refl) (plain_keeps n c place call)
+
+data_keeps : (n : ℕ) (c : ClientState) (clock place : ℕ) (act : Going) (contents : List ℕ) (status : AfsFetchStatus) (callback : AfsCallBack) (sync : AfsVolSync) (call : FsCall) → c.running ≡ Some act → Keeps n c.running c.gifts (takes_data (Client n) c clock place act contents status callback sync call)
+data_keeps n c clock place act contents status callback sync (calls.FetchData f position wanted) r = entry_keeps n c clock place act (entry_told c.callee f status callback sync (Some (body_told status.file_type contents))) (seen.Contents (body_told status.file_type contents)) r
+data_keeps n c clock place act contents status callback sync call r = plain_keeps n c place call
+
+shown_keeps : (n : ℕ) (c : ClientState) (clock place : ℕ) (act : Going) (status : AfsFetchStatus) (callback : AfsCallBack) (sync : AfsVolSync) (call : FsCall) → c.running ≡ Some act → Keeps n c.running c.gifts (takes_shown (Client n) c clock place act status callback sync call)
+shown_keeps n c clock place act status callback sync (calls.FetchStatus f) r = entry_keeps n c clock place act (entry_told c.callee f status callback sync None) (seen.Status (status_told status)) r
+shown_keeps n c clock place act status callback sync call r = plain_keeps n c place call
+
+list_keeps : (n : ℕ) (c : ClientState) (clock place : ℕ) (act : Going) (text : List ℕ) (status : AfsFetchStatus) (sync : AfsVolSync) (call : FsCall) → c.running ≡ Some act → Keeps n c.running c.gifts (takes_list (Client n) c clock place act text status sync call)
+list_keeps n c clock place act text status sync (calls.FetchAcl f) r = rights_keeps n c clock place act f status.sync_counter sync.release text r
+list_keeps n c clock place act text status sync call r = plain_keeps n c place call
+
+set_keeps : (n : ℕ) (c : ClientState) (clock place : ℕ) (status : AfsFetchStatus) (call : FsCall) → Keeps n c.running c.gifts (takes_set (Client n) c clock place status call)
+set_keeps n c clock place status (calls.StoreData f set position wanted file_length contents) = bytes_keeps n c clock place f status contents (calls.StoreData f set position wanted file_length contents)
+set_keeps n c clock place status (calls.StoreAcl f acl) = status_keeps n c clock place f status (calls.StoreAcl f acl)
+set_keeps n c clock place status (calls.StoreStatus f set) = status_keeps n c clock place f status (calls.StoreStatus f set)
+set_keeps n c clock place status call = plain_keeps n c place call
+
+bulk_keeps : (n : ℕ) (c : ClientState) (clock place : ℕ) (act : Going) (statuses : List AfsFetchStatus) (callbacks : List AfsCallBack) (sync : AfsVolSync) (call : FsCall) → c.running ≡ Some act → Keeps n c.running c.gifts (takes_bulk (Client n) c clock place act statuses callbacks sync call)
+bulk_keeps n c clock place act statuses callbacks sync (calls.BulkStatus fids) r = entries_keeps n c clock place act (entries_told c.callee sync fids statuses callbacks) r
+bulk_keeps n c clock place act statuses callbacks sync call r = plain_keeps n c place call
+
+given_keeps : (n : ℕ) (c : ClientState) (place : ℕ) (act : Going) (call : FsCall) → c.running ≡ Some act → Keeps n c.running c.gifts (takes_given (Client n) c place act call)
+given_keeps n c place act (calls.GiveUpCallBacks fids callbacks) r = gives_keeps n c (given place) act (behind_batch c.gifts) (λ ls. refl) r (λ f h. elim (batch_has c.gifts f h) [ inl x ↦ inr x | inr x ↦ inl x ])
+given_keeps n c place act call r = plain_keeps n c place call
+
+takes_keeps : (n : ℕ) (c : ClientState) (clock place : ℕ) (act : Going) (call : FsCall) (reply : FsReply) → c.running ≡ Some act → Keeps n c.running c.gifts (takes (Client n) c clock place act call reply)
+takes_keeps n c clock place act call (replies.FetchData contents status callback sync) r = data_keeps n c clock place act contents status callback sync call r
+takes_keeps n c clock place act call (replies.FetchAcl text status sync) r = list_keeps n c clock place act text status sync call r
+takes_keeps n c clock place act call (replies.FetchStatus status callback sync) r = shown_keeps n c clock place act status callback sync call r
+takes_keeps n c clock place act call (replies.BulkStatus statuses callbacks sync) r = bulk_keeps n c clock place act statuses callbacks sync call r
+takes_keeps n c clock place act call (replies.StoreData status sync) r = set_keeps n c clock place status call
+takes_keeps n c clock place act call (replies.StoreAcl status sync) r = set_keeps n c clock place status call
+takes_keeps n c clock place act call (replies.StoreStatus status sync) r = set_keeps n c clock place status call
+takes_keeps n c clock place act call replies.GiveUpCallBacks r = given_keeps n c place act call r
+takes_keeps n c clock place act call reply r = plain_keeps n c place call
+
+refuses_keeps : (n : ℕ) (c : ClientState) (place : ℕ) (act : Going) (code : Code) → c.running ≡ Some act → Keeps n c.running c.gifts (refuses (Client n) c place act code)
+refuses_keeps n c place act code r = either_keeps (is_busy_code code && nat_lt c.busy most_busy) n c.running c.gifts (calls_again (Client n) (record c { busy = c.busy + 1 }) place act) (answers_step (Client n) c place code) (runs_keeps n c.running c.gifts _ act act r refl refl (λ f h. inl h) refl) (none_keeps n c.running c.gifts _ refl refl)
+
+counts_keeps : (n : ℕ) (c : ClientState) (clock place : ℕ) (act : Going) (head : Head) (x : Carried) → c.running ≡ Some act → Keeps n c.running c.gifts (counts (Client n) c clock place act head x)
+counts_keeps n c clock place act head (carried.Call user call) r = same_keeps n c.running c.gifts _ refl refl refl
+counts_keeps n c clock place act head (carried.Refusal code) r = either_keeps (is_spent c act) n c.running c.gifts _ _ (again_keeps n c place act r) (refuses_keeps n c place act code r)
+counts_keeps n c clock place act head (carried.Reply (tell.File reply)) r = either_keeps (is_spent c act) n c.running c.gifts _ _ (again_keeps n c place act r) (takes_keeps n c clock place act (call_of c act) reply r)
+counts_keeps n c clock place act head (carried.Reply reply) r = same_keeps n c.running c.gifts _ refl refl refl
+counts_keeps n c clock place act head carried.Notice r = same_keeps n c.running c.gifts _ refl refl refl
+
+awaits_keeps : (n : ℕ) (c : ClientState) (clock place : ℕ) (head : Head) (x : Carried) (o : Option Going) → c.running ≡ o → Keeps n c.running c.gifts (awaits (Client n) c clock place head x o)
+awaits_keeps n c clock place head x None r = same_keeps n c.running c.gifts _ refl refl refl
+awaits_keeps n c clock place head x (Some act) r = either_keeps (is_awaited c act head) n c.running c.gifts _ _ (counts_keeps n c clock place act head x r) (same_keeps n c.running c.gifts _ refl refl refl)
+
+breaks_keeps : (n : ℕ) (c : ClientState) (place : ℕ) (head : Head) (call : FsCall) → Keeps n c.running c.gifts (breaks (Client n) c place head call)
+breaks_keeps n c place head (calls.CallBack fs callbacks) = same_keeps n c.running c.gifts _ refl refl (drops_begins n (Client n) fs)
+breaks_keeps n c place head calls.InitCallBackState = same_keeps n c.running c.gifts _ refl refl refl
+breaks_keeps n c place head calls.Probe = same_keeps n c.running c.gifts _ refl refl refl
+breaks_keeps n c place head call = same_keeps n c.running c.gifts _ refl refl refl
+
+carried_keeps : (n : ℕ) (c : ClientState) (place : ℕ) (head : Head) (x : Carried) → Keeps n c.running c.gifts (runs_carried (Client n) c place head x)
+carried_keeps n c place head (carried.Call user (ask.File call)) = breaks_keeps n c place head call
+carried_keeps n c place head (carried.Call user call) = same_keeps n c.running c.gifts _ refl refl refl
+carried_keeps n c place head x = same_keeps n c.running c.gifts _ refl refl refl
+
+admits_keeps : (n : ℕ) (c : ClientState) (place : ℕ) (head : Head) (x : Carried) (o : Admitted Message) → Keeps n c.running c.gifts (admits_call (Client n) c place head (whole head x) o)
+admits_keeps n c place head x pairs.runs = carried_keeps n c place head x
+admits_keeps n c place head x (pairs.kept reply) = same_keeps n c.running c.gifts _ refl refl refl
+admits_keeps n c place head x pairs.in_progress = same_keeps n c.running c.gifts _ refl refl refl
+admits_keeps n c place head x pairs.older = same_keeps n c.running c.gifts _ refl refl refl
+admits_keeps n c place head x (pairs.wrong_boot boot) = same_keeps n c.running c.gifts _ refl refl refl
+
+hears_keeps : (n : ℕ) (c : ClientState) (clock place : ℕ) (head : Head) (x : Carried) → Keeps n c.running c.gifts (hears (Client n) c clock place head x)
+hears_keeps n c clock place head (carried.Call user call) = admits_keeps n c place head (carried.Call user call) (admitted c.epoch c.seats head)
+hears_keeps n c clock place head x = awaits_keeps n c clock place head x c.running refl
+
+told_keeps : (n : ℕ) (c : ClientState) (clock place : ℕ) (m : Message) → Keeps n c.running c.gifts (client_row (Client n) c clock place (Whole m))
+unfolding client_row
+told_keeps n c clock place m = either_keeps (same_node m.head.to (Client n)) n c.running c.gifts _ _ (hears_keeps n c clock place m.head m.carried) (same_keeps n c.running c.gifts _ refl refl refl)
+
+-- ---- what is to be given back at a client
+
+-- of what it gave up when its act began, each is still to be given back, or was
+abbrev Returns : Script → ℕ → ClientState → List Entry → Type 0
+Returns s j x past = (a : Going) → x.running ≡ Some a → a.act ≡ acts.GiveUp → (f : Fid) → IsNamedIn f (dropped_first (Client j) past) → Has f x.gifts ⊎ IsGivenBack s (Client j) past f
+
+abbrev ReturnsOf : Script → (ℕ → ClientState) → List Entry → Type 0
+ReturnsOf s clients past = (j : ℕ) → Returns s j (clients j) past
+
+abbrev ReturnsIn : Script → Cell → List Entry → Type 0
+ReturnsIn s c past = IsOfCell s → ReturnsOf s c.clients past
+
+abbrev Returned : Script → Cell → List Entry → Type 0
+Returned s c past = (Based s c past × DueFacts s c past) × ReturnsIn s c past
+
+first_by : (t : Bool) (f : Fid) (own older : List Fid) → t ≡ false → IsNamedIn f (cond t own older) → IsNamedIn f older
+first_by true f own older e h = absurd cc
+first_by false f own older e h = h
+
+-- an entry in which the client begins no act
+given_more : (s : Script) (c : Node) (e : Entry) (past : List Entry) (f : Fid) → has_begun c e.lines ≡ false → IsGivenBack s c past f → IsGivenBack s c (e ∷ past) f
+given_more s c e past f none g = record { key = g.key; node = g.node; fids = g.fids; callbacks = g.callbacks; called = inr (subst (λ (n : Node). has_begun n e.lines ≡ false) (sym g.node) none, g.called); named = g.named }
+
+other_returns : (s : Script) (j : ℕ) (x : ClientState) (e : Entry) (past : List Entry) → has_begun (Client j) e.lines ≡ false → Returns s j x past → Returns s j x (e ∷ past)
+other_returns s j x e past none h a r is f named = elim (h a r is f (first_by (has_begun (Client j) e.lines) f (drops_in (Client j) e.lines) (dropped_first (Client j) past) none named)) [ inl y ↦ inl y | inr y ↦ inr (given_more s (Client j) e past f none y) ]
+
+-- the call of an act that gives back names the first batch
+gift_is : (c : ClientState) (a : Going) → a.act ≡ acts.GiveUp → call_of c a ≡ gift_call (batch c.gifts)
+gift_is c a is = ap (call_by c.gifts) (ap (λ (y : Act). next (record a { act = y })) is)
+
+-- the call that it waits for gives its batch back
+batch_back : (s : Script) (n : ℕ) (c : ClientState) (past : List Entry) (a : Going) (f : Fid) → CalledSince (last_key n c) (user_of s (Client n)) (call_of c a) past → a.act ≡ acts.GiveUp → Has f (batch c.gifts) → IsGivenBack s (Client n) past f
+batch_back s n c past a f called is h = record {
+  key = last_key n c;
+  node = refl;
+  fids = fids_of_gifts (batch c.gifts);
+  callbacks = map given_promise (batch c.gifts);
+  called = subst (λ (k : FsCall). CalledSince (last_key n c) (user_of s (Client n)) k past) (gift_is c a is) called;
+  named = h;
+}
+
+-- what its act asks was sent since it began
+abbrev IsAsking : Script → ℕ → ClientState → List Entry → Type 0
+IsAsking s n c past = (a : Going) → c.running ≡ Some a → CalledSince (last_key n c) (user_of s (Client n)) (call_of c a) past
+
+told_returns : (s : Script) (n place : ℕ) (c : ClientState) (clock : ℕ) (m : Message) (past : List Entry) (e : Entry) → e.lines ≡ (client_row (Client n) c clock place (Whole m)).lines → IsAsking s n c past → Returns s n c past → Returns s n (client_row (Client n) c clock place (Whole m)).state (e ∷ past)
+told_returns s n place c clock m past e are asking h b rb is f named =
+    let K : Keeps n c.running c.gifts (client_row (Client n) c clock place (Whole m)) = told_keeps n c clock place m in
+    let none : has_begun (Client n) e.lines ≡ false = ap (has_begun (Client n)) are ∙ K.begins in
+    let k = K.goes b rb in
+    let was : k.0.act ≡ acts.GiveUp = sym k.1.1.0 ∙ is in
+    elim (h k.0 k.1.0 was f (first_by (has_begun (Client n) e.lines) f (drops_in (Client n) e.lines) (dropped_first (Client n) past) none named)) [
+      | inl y ↦ elim (k.1.1.1 f y) [ inl z ↦ inl z | inr z ↦ inr (given_more s (Client n) e past f none (batch_back s n c past k.0 f (asking k.0 k.1.0) was z)) ]
+      | inr y ↦ inr (given_more s (Client n) e past f none y)
+    ]
+
+-- an act begins: what it drops is to be given back
+first_case : (t : Bool) (f : Fid) (own older : List Fid) → t ≡ true → IsNamedIn f (cond t own older) → IsNamedIn f own
+first_case true f own older e h = h
+first_case false f own older e h = absurd cc
+
+gives_all_case : (s : Script) (n : ℕ) (y : ClientState) (act : Going) (es : List CacheEntry) (gs : List Gift) (past : List Entry) (e : Entry) → AreOurs es → in_order (map gift_of es) ≡ gs → e.lines ≡ (gives_by (Client n) y (λ ls. lines.Begin (Client n) acts.GiveUp ∷ dropped (Client n) es ls) act gs).lines → Returns s n (gives_by (Client n) y (λ ls. lines.Begin (Client n) acts.GiveUp ∷ dropped (Client n) es ls) act gs).state (e ∷ past)
+gives_all_case s n y act es [] past e ours is are b r give f named = let no_ : None ≡ Some b = r in absurd cc
+gives_all_case s n y act es (g ∷ gs) past e ours is are b r give f named =
+    let begun : has_begun (Client n) e.lines ≡ true = ap (has_begun (Client n)) are ∙ ap (λ (t : Bool). cond t true (has_begun (Client n) (dropped (Client n) es []))) (same_node-refl (Client n)) in
+    let own : IsNamedIn f (drops_in (Client n) e.lines) = first_case (has_begun (Client n) e.lines) f (drops_in (Client n) e.lines) (dropped_first (Client n) past) begun named in
+    let there : Has f (map gift_of es) = dropped_names n es [] f refl (subst (λ (ls : List Line). IsNamedIn f (drops_in (Client n) ls)) are own) in
+    inl (subst (Has f) is (all_in_order es f ours there))
+
+-- an act that begins is the one that runs
+goes_act : (n : ℕ) (c : ClientState) (front : List Line → List Line) (w : Walked) (need : Need) (b : Going) → (goes_by (Client n) c front w need).state.running ≡ Some b → b.act ≡ w.act.act
+goes_act n c front w (answers k) b e = let no_ : None ≡ Some b = e in absurd cc
+goes_act n c front w need b e = sym (ap (λ (x : Going). x.act) (one_going w.act b e))
+
+gives_act : (n : ℕ) (c : ClientState) (front : List Line → List Line) (act : Going) (gs : List Gift) (b : Going) → (gives_by (Client n) c front act gs).state.running ≡ Some b → b.act ≡ act.act
+gives_act n c front act [] b e = let no_ : None ≡ Some b = e in absurd cc
+gives_act n c front act (g ∷ gs) b e = sym (ap (λ (x : Going). x.act) (one_going act b e))
+
+begins_act : (n : ℕ) (c : ClientState) (clock : ℕ) (front : List Line → List Line) (act : Going) (need : Need) (b : Going) → (begins_by (Client n) c clock front act need).state.running ≡ Some b → b.act ≡ act.act
+begins_act n c clock front act gives_back b e = gives_act n (record c { cache = untrusted_in clock c.cache }) (λ ls. front (dropped (Client n) (trusted_in clock c.cache) ls)) act (in_order (map gift_of (trusted_in clock c.cache))) b e
+begins_act n c clock front act need b e = goes_act n c front (walked (most_reads act) clock act c.cache) (next (walked (most_reads act) clock act c.cache).act) b e ∙ walked_act (most_reads act) clock act c.cache
+
+abbrev is_give : Act → Bool
+is_give acts.GiveUp = true
+is_give act = false
+
+not_give : (act : Act) → is_give act ≡ false → act ≡ acts.GiveUp → ⊥
+not_give act h e = let no_ : true ≡ false = sym (ap is_give e) ∙ h in absurd cc
+
+begun_returns : (s : Script) (n clock : ℕ) (c : ClientState) (act : Act) (past : List Entry) (e : Entry) → AreOurs c.cache → e.lines ≡ (begin_row (Client n) c clock act).lines → Returns s n (begin_row (Client n) c clock act).state (e ∷ past)
+unfolding begin_row
+begun_returns s n clock c acts.GiveUp past e ours are = gives_all_case s n (record c { busy = 0; cache = untrusted_in clock c.cache }) (began c.table acts.GiveUp) (trusted_in clock c.cache) (in_order (map gift_of (trusted_in clock c.cache))) past e (trusted_ours' clock c.cache ours) refl are
+begun_returns s n clock c act past e ours are = λ b r give f named. absurd (not_give act refl (sym (begins_act n (record c { busy = 0 }) clock (λ ls. lines.Begin (Client n) act ∷ ls) (began c.table act) (next (began c.table act)) b r) ∙ give))
+
+waited_begins : (n : ℕ) (c : ClientState) (act : Going) (t : Bool) → has_begun (Client n) (cond t (tries_again (Client n) c act) (gives_up (Client n) c (call_of c act))).lines ≡ false
+waited_begins n c act true = refl
+waited_begins n c act false = dropped_begins n (Client n) (given_up_in (volume_changed (call_of c act)) c.cache) (lines.Answer (Client n) dead_code ∷ [])
+
+waited_returns : (s : Script) (n : ℕ) (c : ClientState) (act : Going) (past : List Entry) (e : Entry) (t : Bool) → has_begun (Client n) e.lines ≡ false → Returns s n c past → Returns s n (cond t (tries_again (Client n) c act) (gives_up (Client n) c (call_of c act))).state (e ∷ past)
+waited_returns s n c act past e true none h a r is f named = other_returns s n c e past none h a r is f named
+waited_returns s n c act past e false none h a r is f named = let no_ : None ≡ Some a = r in absurd cc
+
+-- ---- every step
+
+idle_returns : (s : Script) (c : Cell) (past : List Entry) (e : Entry) → Returned s c past → all_lines is_idle e.lines ≡ true → IsOfCell s → ReturnsOf s c.clients (e ∷ past)
+idle_returns s c past e h idle cell j = other_returns s j (c.clients j) e past (idle_leaves s j e.lines (lines_of past) idle).begins (h.1 cell j)
+
+client_returns : (s : Script) (c : Cell) (past : List Entry) (n : ℕ) (st : Step ClientState) → Returned s c past → all_lines (is_of n) st.lines ≡ true → (IsOfCell s → Returns s n st.state (of_client n st ∷ past)) → IsOfCell s → ReturnsOf s (put n st.state c.clients) (of_client n st ∷ past)
+client_returns s c past n st h of own cell j =
+    at_put n j (λ (x : ClientState). Returns s j x (of_client n st ∷ past)) st.state c.clients
+    (λ same. subst (λ (i : ℕ). Returns s i st.state (of_client n st ∷ past)) same (own cell))
+    (λ other. other_returns s j (c.clients j) (of_client n st) past (other_leaves s n j st.lines (lines_of past) of other).begins (h.1 cell j))
+
+abbrev silents : (s : Script) (c : Cell) (past : List Entry) → Returned s c past → GivenSilent s c past
+silents s c past h = h.0.0.silent
+
+told_of : (s : Script) (c : Cell) (past : List Entry) (n place : ℕ) (m : Message) → GivenSilent s c past → Acts n (who_at (c.clients n)) (c.clients n).gifts (client_row (Client n) (c.clients n) c.clock place (Whole m))
+told_of s c past n place m h = given_acts (by_key (IsKnown h.0.0.0.0.0.keys.callees c.clients)) any_told n (c.clients n) c.clock place m (h.0.0.0.0.0.keys.replies n) (h.0.0.0.0.1.seats n)
+
+ended_returns : (s : Script) (n : ℕ) (x : ClientState) (past : List Entry) → x.running ≡ None → Returns s n x past
+ended_returns s n x past none a r give f named = let no_ : None ≡ Some a = sym none ∙ r in absurd cc
+
+returns_moves : (s : Script) → EachMove (Returned s) (Behind (ReturnsIn s))
+returns_moves s = record {
+  void = λ c past h. idle_returns s c past (voided c).entry h refl;
+  ticked = λ c past n h. idle_returns s c past (ticked c (suc n)).entry h refl;
+  begun = λ c past n act h r. client_returns s c past n _ h (begins_acts n (c.clients n) c.clock act r).of (λ cell. begun_returns s n c.clock (c.clients n) act past _ (h.0.1.1 cell n).cache refl);
+  told = λ c past n place m h at to. client_returns s c past n _ h (told_of s c past n place m (silents s c past h)).of (λ cell. told_returns s n place (c.clients n) c.clock m past _ refl (λ a r. (silents s c past h).0.0.0.0.1.asked n a r) (h.1 cell n));
+  waited = λ c past n act h r. client_returns s c past n _ h (waits_acts n (c.clients n) act r).of (λ cell. waited_returns s n (c.clients n) act past _ (nat_lt (c.clients n).tries 2) (waited_begins n (c.clients n) act (nat_lt (c.clients n).tries 2)) (h.1 cell n));
+  fallen = λ c past n h. client_returns s c past n _ h (falls_acts n (c.clients n)).of (λ cell. ended_returns s n (reborn (c.clients n)) _ refl);
+  risen = λ c past n h. client_returns s c past n _ h (rises_acts n (c.clients n)).of (λ cell. other_returns s n (c.clients n) _ past refl (h.1 cell n));
+  served = λ c past i place m armed h up at to. idle_returns s c past (server_moves c i armed (server_row (Server i) (c.hosts i).state c.clock place (Whole m))).entry h (idle_works any_message i (c.hosts i).state _ _ (serves_works any_message (Server i) (c.hosts i).state c.clock place m (λ rest. tt)));
+  cut = λ c past i place m t h up at to. idle_returns s c past (server_falls c i (lines.Given place ∷ blow_line i t ∷ []) (in_step m c.clock)).entry h (blow_idle i t);
+  stopped = λ c past i h up. idle_returns s c past (server_falls c i (lines.Crash (Server i) ∷ []) at_rest).entry h refl;
+  stop_set = λ c past i calls pick armed h up. idle_returns s c past (server_set c i (lines.Stop (Server i) calls pick) armed).entry h refl;
+  fail_set = λ c past i call armed h up. idle_returns s c past (server_set c i (lines.Fail (Server i) call) armed).entry h refl;
+  timed = λ c past i n b armed h up at. idle_returns s c past (server_moves c i armed (back_timeout_row (Server i) (c.hosts i).state c.clock n b)).entry h (idle_works any_message i (c.hosts i).state _ _ (times_works any_message (Server i) (c.hosts i).state c.clock n b));
+  woken = λ c past i armed h up. idle_returns s c past (server_moves c i armed (wake_row (Server i) (c.hosts i).state c.clock)).entry h (idle_works any_message i (c.hosts i).state _ _ (wakes_works any_message (Server i) (c.hosts i).state c.clock));
+  started = λ c past i after fall h down. idle_returns s c past (server_rises c i (begun_by_disk (Server i) (c.hosts i).state after fall)).entry h (idle_works any_message i (c.hosts i).state _ _ (starts_works any_message (Server i) (c.hosts i).state c.clock c.count (begun_by_disk (Server i) (c.hosts i).state after fall) (disk_works any_message (Server i) (c.hosts i).state after fall (risen_lines (Server i) c.clock c.count (begun_by_disk (Server i) (c.hosts i).state after fall)) (any_cut fall) (risen_from (Server i) c.clock c.count (begun_by_disk (Server i) (c.hosts i).state after fall)))));
+  early = λ c past i fall h down. idle_returns s c past (server_falls c i (lines.Fault (Server i) ∷ []) fall).entry h refl;
+  midway = λ c past i after fall h down. idle_returns s c past (server_stays c i (begun_by_disk (Server i) (c.hosts i).state after fall) (lines.Fault (Server i)) in_boot).entry h (idle_works any_message i (c.hosts i).state _ _ (disk_works any_message (Server i) (c.hosts i).state after fall (lines.Fault (Server i) ∷ []) (any_cut fall) (one_from (Server i) true refl)));
+  full = λ c past i after fall h down. idle_returns s c past (server_stays c i (begun_by_disk (Server i) (c.hosts i).state after fall) (lines.Full (Server i)) at_rest).entry h (idle_works any_message i (c.hosts i).state _ _ (disk_works any_message (Server i) (c.hosts i).state after fall (lines.Full (Server i) ∷ []) (any_cut fall) (one_from (Server i) true refl)));
+}
+
+returned_kept : (s : Script) → IsKept (Returned s)
+returned_kept s c past x h = ((based_kept s c past x h.0.0, due_kept s c past x h.0.1), each_moved (Returned s) (Behind (ReturnsIn s)) (returns_moves s) c past x h)
+
+-- ---- the answers
+
+-- an act that gives promises back
+abbrev Gives : Option Going → Type 0
+Gives o = (a : Going) × ((o ≡ Some a) × (a.act ≡ acts.GiveUp))
+
+read_gives : (t : Bool) (f : Fid) (body : ReadBody) (o : Option Going) → Gives (read_on t f body o) → Gives o
+read_gives true f body None h = h
+read_gives true f body (Some b) h = (b, (refl, ap (λ (x : Going). x.act) (one_going (with_read f body b) h.0 h.1.0) ∙ h.1.1))
+read_gives false f body o h = h
+
+ended_gives : (t : Bool) (o : Option Going) → Gives (cond t None o) → Gives o
+ended_gives true o h = let no_ : None ≡ Some h.0 = h.1.0 in absurd cc
+ended_gives false o h = h
+
+begun_gives : (t x : Bool) (a : Going) (o : Option Going) → cond t true x ≡ false → Gives (cond t (Some a) o) → (x ≡ false) × Gives o
+begun_gives true x a o e h = absurd cc
+begun_gives false x a o e h = (e, h)
+
+-- it ran before these lines, in which none begins
+gives_before : (s : Script) (c : Node) (own o : List Line) → has_begun c own ≡ false → Gives (running s c (own ++ o)) → Gives (running s c o)
+gives_before s c [] o none h = h
+gives_before s c (lines.Begin m act ∷ own) o none h = let p = begun_gives (same_node m c) (has_begun c own) (began (locations s) act) (running s c (own ++ o)) none h in gives_before s c own o p.0 p.1
+gives_before s c (lines.Read m f index source body ∷ own) o none h = gives_before s c own o none (read_gives (same_node m c) f body (running s c (own ++ o)) h)
+gives_before s c (lines.Answer m code ∷ own) o none h = gives_before s c own o none (ended_gives (same_node m c) (running s c (own ++ o)) h)
+gives_before s c (lines.Crash m ∷ own) o none h = gives_before s c own o none (ended_gives (same_node m c) (running s c (own ++ o)) h)
+gives_before s c (l ∷ own) o none h = gives_before s c own o none h
+
+-- an answer with this code is among the lines
+abbrev HasAnswer : Code → List Line → Type 0
+HasAnswer code [] = ⊥
+HasAnswer code (lines.Answer c k ∷ ls) = (k ≡ code) ⊎ HasAnswer code ls
+HasAnswer code (l ∷ ls) = HasAnswer code ls
+
+dropped_answer : (m : Node) (es : List CacheEntry) (code k : Code) → HasAnswer code (dropped m es (lines.Answer m k ∷ [])) → k ≡ code
+dropped_answer m [] code k (inl e) = e
+dropped_answer m [] code k (inr h) = absurd h
+dropped_answer m (e ∷ es) code k h = dropped_answer m es code k h
+
+drops_answer : (m : Node) (fs : List Fid) (code : Code) → HasAnswer code (map (drop_line m) fs) → ⊥
+drops_answer m [] code h = h
+drops_answer m (f ∷ fs) code h = drops_answer m fs code h
+
+-- what a step answers with code 0 while the act gives promises back, it answers where all that was left is in the call that was answered
+abbrev IsAll : ClientState → Type 0
+IsAll c = (f : Fid) → Has f c.gifts → Has f (batch c.gifts)
+
+abbrev IsAllBehind : ClientState → Code → List Line → Type 0
+IsAllBehind c code ls = HasAnswer code ls → IsAll c
+
+either_all : (t : Bool) (c : ClientState) (code : Code) (a b : Step ClientState) → IsAllBehind c code a.lines → IsAllBehind c code b.lines → IsAllBehind c code (cond t a b).lines
+either_all true c code a b h k = h
+either_all false c code a b h k = k
+
+rest_all : (n : ℕ) (c : ClientState) (place : ℕ) (act : Going) (code : Code) (gs : List Gift) → ((f : Fid) → Has f c.gifts → Has f (batch c.gifts) ⊎ Has f gs) → IsAllBehind c code (gives_by (Client n) c (given place) act gs).lines
+rest_all n c place act code [] w h f x = elim (w f x) [ inl y ↦ y | inr y ↦ absurd y ]
+rest_all n c place act code (g ∷ gs) w h f x = absurd h
+
+differ : (n k : ℕ) → nat_eq n k ≡ false → n ≡ k → ⊥
+differ n k apart e = let no_ : true ≡ false = sym (eq-eqb n k e) ∙ apart in absurd cc
+
+takes_all : (n : ℕ) (c : ClientState) (clock place : ℕ) (act : Going) (code : Code) (fids : List Fid) (callbacks : List AfsCallBack) (reply : FsReply) → reply_number reply ≡ 147 → IsAllBehind c code (takes (Client n) c clock place act (calls.GiveUpCallBacks fids callbacks) reply).lines
+takes_all n c clock place act code fids callbacks replies.GiveUpCallBacks kind = rest_all n c place act code (behind_batch c.gifts) (λ f h. batch_has c.gifts f h)
+takes_all n c clock place act code fids callbacks reply kind = λ h. absurd (differ (reply_number reply) 147 refl kind)
+
+refuses_all : (n : ℕ) (c : ClientState) (place : ℕ) (act : Going) (code k : Code) → (k.0 ≡ pos 0 → ⊥) → code.0 ≡ pos 0 → IsAllBehind c code (refuses (Client n) c place act k).lines
+refuses_all n c place act code k some zero_told = either_all (is_busy_code k && nat_lt c.busy most_busy) c code (calls_again (Client n) (record c { busy = c.busy + 1 }) place act) (answers_step (Client n) c place k) (λ h. absurd h) (λ h. elim h [ inl e ↦ absurd (some (ap (λ (x : Code). x.0) e ∙ zero_told)) | inr x ↦ absurd x ])
+
+abbrev IsGiftKind : Carried → Type 0
+IsGiftKind x = IsKind (calls.GiveUpCallBacks [] []) x
+
+counts_all : (n : ℕ) (c : ClientState) (clock place : ℕ) (act : Going) (head : Head) (x : Carried) (code : Code) → act.act ≡ acts.GiveUp → (HasCode x → IsGiftKind x) → code.0 ≡ pos 0 → IsAllBehind c code (counts (Client n) c clock place act head x).lines
+counts_all n c clock place act head (carried.Call user call) code is kind z = λ h. absurd h
+counts_all n c clock place act head (carried.Refusal k) code is kind z = either_all (is_spent c act) c code _ _ (λ h. absurd h) (refuses_all n c place act code k (kind tt) z)
+counts_all n c clock place act head (carried.Reply (tell.File reply)) code is kind z =
+    either_all (is_spent c act) c code _ _ (λ h. absurd h)
+    (subst (λ (call : FsCall). IsAllBehind c code (takes (Client n) c clock place act call reply).lines) (sym (gift_is c act is)) (takes_all n c clock place act code (fids_of_gifts (batch c.gifts)) (map given_promise (batch c.gifts)) reply (kind tt)))
+counts_all n c clock place act head (carried.Reply reply) code is kind z = λ h. absurd h
+counts_all n c clock place act head carried.Notice code is kind z = λ h. absurd h
+
+awaited_all : (n : ℕ) (c : ClientState) (clock place : ℕ) (act : Going) (head : Head) (x : Carried) (code : Code) (t : Bool) → is_awaited c act head ≡ t → act.act ≡ acts.GiveUp → (is_awaited c act head ≡ true → HasCode x → IsGiftKind x) → code.0 ≡ pos 0 → IsAllBehind c code (cond t (counts (Client n) c clock place act head x) (ignores c place)).lines
+awaited_all n c clock place act head x code true e is kind z = counts_all n c clock place act head x code is (kind e) z
+awaited_all n c clock place act head x code false e is kind z = λ h. absurd h
+
+awaits_all : (n : ℕ) (c : ClientState) (clock place : ℕ) (act : Going) (head : Head) (x : Carried) (code : Code) → c.running ≡ Some act → act.act ≡ acts.GiveUp → (is_awaited c act head ≡ true → HasCode x → IsGiftKind x) → code.0 ≡ pos 0 → IsAllBehind c code (awaits (Client n) c clock place head x c.running).lines
+awaits_all n c clock place act head x code r is kind z = subst (λ (o : Option Going). IsAllBehind c code (awaits (Client n) c clock place head x o).lines) (sym r) (awaited_all n c clock place act head x code (is_awaited c act head) refl is kind z)
+
+breaks_all : (n : ℕ) (c : ClientState) (place : ℕ) (head : Head) (call : FsCall) (code : Code) → IsAllBehind c code (breaks (Client n) c place head call).lines
+breaks_all n c place head (calls.CallBack fs callbacks) code h = absurd (drops_answer (Client n) fs code h)
+breaks_all n c place head calls.InitCallBackState code h = absurd h
+breaks_all n c place head calls.Probe code h = absurd h
+breaks_all n c place head call code h = absurd h
+
+carried_all : (n : ℕ) (c : ClientState) (place : ℕ) (head : Head) (x : Carried) (code : Code) → IsAllBehind c code (runs_carried (Client n) c place head x).lines
+carried_all n c place head (carried.Call user (ask.File call)) code = breaks_all n c place head call code
+carried_all n c place head (carried.Call user call) code = λ h. absurd h
+carried_all n c place head x code = λ h. absurd h
+
+admits_all : (n : ℕ) (c : ClientState) (place : ℕ) (head : Head) (x : Carried) (o : Admitted Message) (code : Code) → IsAllBehind c code (admits_call (Client n) c place head (whole head x) o).lines
+admits_all n c place head x pairs.runs code = carried_all n c place head x code
+admits_all n c place head x (pairs.kept reply) code = λ h. absurd h
+admits_all n c place head x pairs.in_progress code = λ h. absurd h
+admits_all n c place head x pairs.older code = λ h. absurd h
+admits_all n c place head x (pairs.wrong_boot boot) code = λ h. absurd h
+
+hears_all : (n : ℕ) (c : ClientState) (clock place : ℕ) (act : Going) (head : Head) (x : Carried) (code : Code) → c.running ≡ Some act → act.act ≡ acts.GiveUp → (is_awaited c act head ≡ true → HasCode x → IsGiftKind x) → code.0 ≡ pos 0 → IsAllBehind c code (hears (Client n) c clock place head x).lines
+hears_all n c clock place act head (carried.Call user call) code r is kind z = admits_all n c place head (carried.Call user call) (admitted c.epoch c.seats head) code
+hears_all n c clock place act head x code r is kind z = awaits_all n c clock place act head x code r is kind z
+
+told_all : (n : ℕ) (c : ClientState) (clock place : ℕ) (act : Going) (m : Message) (code : Code) → c.running ≡ Some act → act.act ≡ acts.GiveUp → (is_awaited c act m.head ≡ true → HasCode m.carried → IsGiftKind m.carried) → code.0 ≡ pos 0 → IsAllBehind c code (client_row (Client n) c clock place (Whole m)).lines
+unfolding client_row
+told_all n c clock place act m code r is kind z = either_all (same_node m.head.to (Client n)) c code _ _ (hears_all n c clock place act m.head m.carried code r is kind z) (λ h. absurd h)
+
+-- the reply for which it waits is of the kind of what gives promises back
+gift_kind : (call : FsCall) (fids : List Fid) (callbacks : List AfsCallBack) (x : Carried) → call ≡ calls.GiveUpCallBacks fids callbacks → IsKind call x → IsGiftKind x
+gift_kind call fids callbacks (carried.Refusal code) e h = h
+gift_kind call fids callbacks (carried.Reply (tell.File reply)) e h = h ∙ ap call_number e
+gift_kind call fids callbacks (carried.Reply (tell.Volume reply)) e h = h
+gift_kind call fids callbacks (carried.Reply (tell.Location reply)) e h = h
+gift_kind call fids callbacks (carried.Call user c) e h = h
+gift_kind call fids callbacks carried.Notice e h = h
+
+-- an answer in an entry of a client gives all back
+abbrev pub IsReturned : Script → LineRule
+IsReturned s who (lines.Answer c code) past own next = GivesAllBack s c code.0 past own
+IsReturned s who l past own next = ⊤
+
+-- what was given up when the act began was given back, where these lines answer with code 0
+abbrev IsBackBehind : Script → ℕ → List Entry → List Line → Type 0
+IsBackBehind s n past ls = (code : Code) → HasAnswer code ls → code.0 ≡ pos 0 → Gives (running s (Client n) (lines_of past)) → (f : Fid) → IsNamedIn f (dropped_first (Client n) past) → IsGivenBack s (Client n) past f
+
+back_line : (s : Script) (who : Actor) (n : ℕ) (l : Line) (past : List Entry) (own ls : List Line) → is_of n l ≡ true → IsBackBehind s n past (l ∷ ls) → IsReturned s who l past own ls
+back_line s who n (lines.Answer c code) past own ls of w = λ act f r give zero_told none named.
+    let same : c ≡ Client n = same_node-true c (Client n) of in
+    subst (λ (m : Node). IsGivenBack s m past f) (sym same) (w code (inl refl) zero_told (gives_before s (Client n) own (lines_of past) (subst (λ (m : Node). has_begun m own ≡ false) same none) (act, (subst (λ (m : Node). running s m (own ++ lines_of past) ≡ Some act) same r, give))) f (subst (λ (m : Node). IsNamedIn f (dropped_first m past)) same named))
+back_line s who n l past own ls of w = tt
+
+back_rest : (s : Script) (n : ℕ) (past : List Entry) (l : Line) (ls : List Line) → IsBackBehind s n past (l ∷ ls) → IsBackBehind s n past ls
+back_rest s n past (lines.Answer c code) ls w k h = w k (inr h)
+back_rest s n past l ls w k h = w k h
+
+back_lines : (s : Script) (who : Actor) (n : ℕ) (past : List Entry) (own ls : List Line) → all_lines (is_of n) ls ≡ true → IsBackBehind s n past ls → EachLine (IsReturned s) who past own ls
+back_lines s who n past own [] of w = tt
+back_lines s who n past own (l ∷ ls) of w = let p = both (is_of n l) (all_lines (is_of n) ls) of in (back_line s who n l past own ls p.0 w, back_lines s who n past (l ∷ own) ls p.1 (back_rest s n past l ls w))
+
+abbrev pub ReturnedIn : Script → List Entry → Entry → Type 0
+ReturnedIn s past e = IsOfCell s → (j : ℕ) → e.actor ≡ actors.Node (Client j) → EachLine (IsReturned s) e.actor past [] e.lines
+
+abbrev ReturnedStep : Script → Cell → List Entry → Moved → Type 0
+ReturnedStep s c past m = ReturnedIn s past m.entry
+
+told_back : (s : Script) (c : Cell) (past : List Entry) (n place : ℕ) (m : Message) → IsOfCell s → Returned s c past → message_at c.sent place ≡ Some m → m.head.to ≡ Client n → IsBackBehind s n past (client_row (Client n) (c.clients n) c.clock place (Whole m)).lines
+told_back s c past n place m cell h at to code has zero_told give f named =
+    let a : Going = give.0 in
+    let A = (silents s c past h).0.0.0.0.1 in
+    let runs : (c.clients n).running ≡ Some a = sym (A.acts n) ∙ give.1.0 in
+    elim (h.1 cell n a runs give.1.1 f named) [
+      | inl y ↦
+          batch_back s n (c.clients n) past a f (A.asked n a runs) give.1.1
+          (told_all n (c.clients n) c.clock place a m code runs give.1.1
+          (λ w has_code. (let t = arrives s c past n place a m h.0.0 at has_code to runs w in gift_kind t.tells.call (fids_of_gifts (batch (c.clients n).gifts)) (map given_promise (batch (c.clients n).gifts)) m.carried (t.call ∙ gift_is (c.clients n) a give.1.1) t.tells.kind)) zero_told has f y)
+      | inr y ↦ y
+    ]
+
+waited_answer : (n : ℕ) (c : ClientState) (act : Going) (t : Bool) (code : Code) → HasAnswer code (cond t (tries_again (Client n) c act) (gives_up (Client n) c (call_of c act))).lines → code.0 ≡ pos 0 → ⊥
+waited_answer n c act true code h z = h
+waited_answer n c act false code h z = let no_ : negsuc 0 ≡ pos 0 = ap (λ (k : Code). k.0) (dropped_answer (Client n) (given_up_in (volume_changed (call_of c act)) c.cache) code dead_code h) ∙ z in absurd cc
+
+begun_back : (s : Script) (c : Cell) (past : List Entry) (n : ℕ) (ls : List Line) → running s (Client n) (lines_of past) ≡ None → IsBackBehind s n past ls
+begun_back s c past n ls none code h z give f named = let no_ : None ≡ Some give.0 = sym none ∙ give.1.0 in absurd cc
+
+server_apart : (s : Script) (past : List Entry) (e : Entry) → ((j : ℕ) → e.actor ≡ actors.Node (Client j) → ⊥) → ReturnedIn s past e
+server_apart s past e ne cell j z = absurd (ne j z)
+
+answers_moves : (s : Script) → EachMove (Returned s) (ReturnedStep s)
+answers_moves s = record {
+  void = λ c past h. server_apart s past (voided c).entry (λ j z. absurd cc);
+  ticked = λ c past n h. server_apart s past (ticked c (suc n)).entry (λ j z. absurd cc);
+  begun = λ c past n act h r cell j z. back_lines s (actors.Node (Client n)) n past [] (begin_row (Client n) (c.clients n) c.clock act).lines (begins_acts n (c.clients n) c.clock act r).of (begun_back s c past n (begin_row (Client n) (c.clients n) c.clock act).lines ((silents s c past h).0.0.0.0.1.acts n ∙ r));
+  told = λ c past n place m h at to cell j z. back_lines s (actors.Node (Client n)) n past [] (client_row (Client n) (c.clients n) c.clock place (Whole m)).lines (told_of s c past n place m (silents s c past h)).of (told_back s c past n place m cell h at to);
+  waited = λ c past n act h r cell j z. back_lines s (actors.Node (Client n)) n past [] (timeout_row (Client n) (c.clients n) act).lines (waits_acts n (c.clients n) act r).of (λ code has zero_told give f named. absurd (waited_answer n (c.clients n) act (nat_lt (c.clients n).tries 2) code has zero_told));
+  fallen = λ c past n h cell j z. (tt, tt);
+  risen = λ c past n h cell j z. (tt, tt);
+  served = λ c past i place m armed h up at to. server_apart s past (server_moves c i armed (server_row (Server i) (c.hosts i).state c.clock place (Whole m))).entry (λ j z. absurd cc);
+  cut = λ c past i place m t h up at to. server_apart s past (server_falls c i (lines.Given place ∷ blow_line i t ∷ []) (in_step m c.clock)).entry (λ j z. absurd cc);
+  stopped = λ c past i h up. server_apart s past (server_falls c i (lines.Crash (Server i) ∷ []) at_rest).entry (λ j z. absurd cc);
+  stop_set = λ c past i calls pick armed h up. server_apart s past (server_set c i (lines.Stop (Server i) calls pick) armed).entry (λ j z. absurd cc);
+  fail_set = λ c past i call armed h up. server_apart s past (server_set c i (lines.Fail (Server i) call) armed).entry (λ j z. absurd cc);
+  timed = λ c past i n b armed h up at. server_apart s past (server_moves c i armed (back_timeout_row (Server i) (c.hosts i).state c.clock n b)).entry (λ j z. absurd cc);
+  woken = λ c past i armed h up. server_apart s past (server_moves c i armed (wake_row (Server i) (c.hosts i).state c.clock)).entry (λ j z. absurd cc);
+  started = λ c past i after fall h down. server_apart s past (server_rises c i (begun_by_disk (Server i) (c.hosts i).state after fall)).entry (λ j z. absurd cc);
+  early = λ c past i fall h down. server_apart s past (server_falls c i (lines.Fault (Server i) ∷ []) fall).entry (λ j z. absurd cc);
+  midway = λ c past i after fall h down. server_apart s past (server_stays c i (begun_by_disk (Server i) (c.hosts i).state after fall) (lines.Fault (Server i)) in_boot).entry (λ j z. absurd cc);
+  full = λ c past i after fall h down. server_apart s past (server_stays c i (begun_by_disk (Server i) (c.hosts i).state after fall) (lines.Full (Server i)) at_rest).entry (λ j z. absurd cc);
+}
+
+pub run_returned : (s : Script) (h : List Entry) (end : Cell) → RunsTo h s end → EachEntry (ReturnedIn s) (set_up s ∷ []) h
+run_returned s h end r =
+    run_each (Returned s) (ReturnedIn s) (returned_kept s) (λ c past x k. each_moved (Returned s) (ReturnedStep s) (answers_moves s) c past x k) r.inputs (start s) (set_up s ∷ []) h end ((based_first s, due_first s), λ cell j. ended_returns s j ((start s).clients j) (set_up s ∷ []) refl) r.leads
