@@ -59,7 +59,7 @@ IsBreakOnce who l past own next = IsForOnce l past own
 abbrev pub BreaksAreOnce : Type 0
 BreaksAreOnce = (s : Script) (history : List Entry) (end : Cell) → RunsTo history s end → AllLines IsBreakOnce s history
 
--- so is each line of a run
+-- each break of a run is good in all that `IsBreakGood` asks
 abbrev pub BreaksAreGood : Type 0
 BreaksAreGood = (s : Script) (history : List Entry) (end : Cell) → RunsTo history s end → AllLines (IsBreakGood s) s history
 
