@@ -14,6 +14,7 @@ use Rattle.afs_law.specs.Legal.{IsInPlace}
 use Rattle.afs_law.specs.Parts.{EachLine}
 use Rattle.afs_law.specs.Past.{HasCode, has_begun, has_given, lines_of, onto, running}
 use Rattle.afs_model.specs.Calls as pairs
+use Rattle.afs_model.specs.FsRows.{call_number}
 use Rattle.afs_model.specs.Calls.{Admitted, admitted}
 use Rattle.afs_num.specs.Nodes.{same_node}
 use Rattle.afs_num.specs.declared.calls.AfsCallBack.{AfsCallBack}
@@ -94,6 +95,7 @@ pub record IsTheCall (j : ℕ) (c : ClientState) (head : Head) (user : List ℕ)
   pub user' : user ≡ c.user
   pub asks : call ≡ call_of c act
   pub to : head.to ≡ c.callee
+  pub opcode : head.opcode ≡ call_number call
 
 -- it has the pair that it had, and goes on with the act that ran or with none; or it asks for an act, under the next pair; or it stopped
 pub record Rests (j : ℕ) (x : Who) (gs : List Gift) (s : Step ClientState) : Type 0 where
@@ -180,7 +182,7 @@ begin_front : (j : ℕ) (table : List Location) (act : Act) → Front j table No
 begin_front j table act = record {
   of = λ ls q. one_of j (all_lines (is_of j) ls) q;
   comes = λ S t o r. record { to = lines.Begin (Client j) act ∷ o; runs = ap (λ (b : Bool). cond b (Some (began (locations S) act)) (running S (Client j) o)) (same_node-refl (Client j)) ∙ ap (λ (l : List Location). Some (began l act)) (sym t); on = λ ls. refl };
-  each = λ S past ls t r tail k. (refl, k (lines.Begin (Client j) act ∷ []) (ap (λ (b : Bool). cond b (Some (began (locations S) act)) (running S (Client j) (lines_of past))) (same_node-refl (Client j)) ∙ ap (λ (l : List Location). Some (began l act)) (sym t)));
+  each = λ S past ls t r tail k. ((refl, (refl, r)), k (lines.Begin (Client j) act ∷ []) (ap (λ (b : Bool). cond b (Some (began (locations S) act)) (running S (Client j) (lines_of past))) (same_node-refl (Client j)) ∙ ap (λ (l : List Location). Some (began l act)) (sym t)));
 }
 
 timeout_front : (j : ℕ) (c : ClientState) (table : List Location) (g : Going) (count : ℕ) → Front j table (Some g) g (λ ls. timeout_line (Client j) c count ∷ ls)
@@ -411,7 +413,7 @@ counts_acts j c clock place act head (carried.Call user call) r = ignores_acts j
 counts_acts j c clock place act head (carried.Refusal code) r = either_acts (is_spent c act) j (who_at c) c.gifts _ _ (again_acts j c.gifts c place act r) (refuses_acts j c.gifts c place act code r)
 counts_acts j c clock place act head (carried.Reply (tell.File reply)) r = either_acts (is_spent c act) j (who_at c) c.gifts _ _ (again_acts j c.gifts c place act r) (takes_acts j c.gifts c clock place act _ reply r)
 counts_acts j c clock place act head (carried.Reply reply) r = ignores_acts j c place
-counts_acts j c clock place act head carried.Notice r = record { user = refl; table = refl; of = refl; runs = λ S t o q. q; goes = inl (record { epoch = refl; last = refl; act = inr (refl, (refl, refl)); sent = (record { key = refl; act = act; runs = r; user' = refl; asks = refl; to = refl }, tt) }); each = λ S past t q. (refl, tt); seats = λ k. k; from = (record { from = refl; half = λ z. refl; firm = tt; gift = λ z ls. absurd cc }, tt) }
+counts_acts j c clock place act head carried.Notice r = record { user = refl; table = refl; of = refl; runs = λ S t o q. q; goes = inl (record { epoch = refl; last = refl; act = inr (refl, (refl, refl)); sent = (record { key = refl; act = act; runs = r; user' = refl; asks = refl; to = refl; opcode = refl }, tt) }); each = λ S past t q. (refl, tt); seats = λ k. k; from = (record { from = refl; half = λ z. refl; firm = tt; gift = λ z ls. absurd cc }, tt) }
 
 awaited_acts : (t : Bool) (j : ℕ) (c : ClientState) (clock place : ℕ) (act : Going) (head : Head) (x : Carried) → c.running ≡ Some act → Acts j (who_at c) c.gifts (cond t (counts (Client j) c clock place act head x) (ignores c place))
 awaited_acts true j c clock place act head x r = counts_acts j c clock place act head x r
@@ -476,7 +478,7 @@ begins_acts j c clock act r = first_acts j c.gifts (record c { busy = 0 }) clock
 
 pub waits_acts : (j : ℕ) (c : ClientState) (act : Going) → c.running ≡ Some act → Acts j (who_at c) c.gifts (timeout_row (Client j) c act)
 waits_acts j c act r = either_acts (nat_lt c.tries 2) j (who_at c) c.gifts _ _
-    (record { user = refl; table = refl; of = one_of j true refl; runs = λ S t o q. q; goes = inl (record { epoch = refl; last = refl; act = inr (refl, (refl, refl)); sent = (record { key = refl; act = act; runs = r; user' = refl; asks = refl; to = refl }, tt) }); each = λ S past t q. ((refl, ((refl, refl), (refl, refl))), tt); seats = λ k. k; from = (record { from = refl; half = λ z. refl; firm = tt; gift = λ z ls. absurd cc }, tt) })
+    (record { user = refl; table = refl; of = one_of j true refl; runs = λ S t o q. q; goes = inl (record { epoch = refl; last = refl; act = inr (refl, (refl, refl)); sent = (record { key = refl; act = act; runs = r; user' = refl; asks = refl; to = refl; opcode = refl }, tt) }); each = λ S past t q. ((refl, ((refl, refl), (refl, refl))), tt); seats = λ k. k; from = (record { from = refl; half = λ z. refl; firm = tt; gift = λ z ls. absurd cc }, tt) })
     (ends_acts j c.gifts c _ (λ ls. timeout_line (Client j) c 3 ∷ dropped (Client j) (given_up_in (volume_changed (call_of c act)) c.cache) ls) dead_code act
     (subst (λ (o : Option Going). Front j c.table o act (λ ls. timeout_line (Client j) c 3 ∷ dropped (Client j) (given_up_in (volume_changed (call_of c act)) c.cache) ls)) (sym r)
     (then_front j c.table (Some act) act act (λ ls. timeout_line (Client j) c 3 ∷ ls) (dropped (Client j) (given_up_in (volume_changed (call_of c act)) c.cache)) (timeout_front j c c.table act 3) (dropped_more j act (given_up_in (volume_changed (call_of c act)) c.cache)))))

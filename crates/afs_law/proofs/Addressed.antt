@@ -16,8 +16,10 @@ use Rattle.afs_law.proofs.KeysOnce.{IsKnown, any_told, by_key}
 use Rattle.afs_law.proofs.Knowing.{served_uncalled, started_uncalled, timed_uncalled, woken_uncalled}
 use Rattle.afs_law.proofs.Moving.{Behind, EachMove, IsKept, each_moved}
 use Rattle.afs_law.proofs.Nexts.{asks_change}
-use Rattle.afs_law.proofs.Origins.{the_calls}
+use Rattle.afs_law.proofs.Located.{AreHomesOf, IsHomeOf, IsLaid, homes_laid, running_homes}
+use Rattle.afs_law.proofs.Origins.{of_client, the_calls}
 use Rattle.afs_law.specs.Ideal.{set_up}
+use Rattle.afs_law.specs.Past.{lines_of, running}
 use Rattle.afs_num.specs.declared.calls.FsCall.{FsCall}
 use Rattle.afs_num.specs.declared.calls.FsCall.TheVariants as calls
 use Rattle.afs_num.specs.declared.directories.Name.{Name}
@@ -27,11 +29,11 @@ use Rattle.afs_num.specs.declared.histories.ReadStatus.{ReadStatus}
 use Rattle.afs_num.specs.declared.messages.Message.{Message}
 use Rattle.afs_num.specs.declared.types.Fid.{Fid}
 use Rattle.afs_num.specs.declared.types.Head.{Head}
-use Rattle.afs_num.specs.declared.types.Node.TheVariants.{Server}
+use Rattle.afs_num.specs.declared.types.Node.TheVariants.{Client, Server}
 use Rattle.afs_num.specs.declared.types.Node.{Node}
 use Rattle.afs_rows.specs.Callbacks.{put}
 use Rattle.afs_rows.specs.ClientRow.{call_by, callee_by, first_server_of, number_or_none, server_at, volume_asked}
-use Rattle.afs_rows.specs.Going.{ClientState, Going, Homes, Need, Parted, Shown, Taken, act_needs, answers, asks_for, at_parent, by_body, by_kind, by_statuses, call_for, fid_of, first_body, by_status, first_status, gives_back, has_rights, in_directory, in_home, is_even, is_last_name, is_root, looked_up, named_first, next, of_one, parted, reading, reading_rights, reading_status, reading_statuses, reads, reads_rights, reads_status, reads_statuses, root_of, shows, statuses_in, step_to, to_object, to_parent, walk}
+use Rattle.afs_rows.specs.Going.{ClientState, Going, Homes, Need, Parted, Shown, Taken, act_needs, answers, asks_for, at_parent, by_body, by_kind, by_statuses, call_for, fid_of, first_body, by_status, first_status, gives_back, has_rights, homes_of, in_directory, in_home, is_even, is_last_name, is_root, looked_up, named_first, next, of_one, parted, reading, reading_rights, reading_status, reading_statuses, reads, reads_rights, reads_status, reads_statuses, root_of, shows, statuses_in, step_to, to_object, to_parent, walk}
 use Rattle.afs_rows.specs.Runs.{Cell, Entry, locations, start}
 use Rattle.afs_rows.specs.States.{Gift, Location}
 use Rattle.afs_rows.specs.Steps.{Step}
@@ -50,122 +52,130 @@ AsksOf calls.GetTime id = ⊥
 AsksOf (calls.BulkStatus fids) id = IsOneIn id fids
 AsksOf call id = volume_called call ≡ Some id
 
--- ---- the statuses that an act needs at once are of one volume
+-- ---- what an act needs is of volumes that it names, and the statuses that it needs at once are of one
 
 abbrev AreIn : ℕ → List Fid → Type 0
 AreIn v [] = ⊤
 AreIn v (f ∷ fs) = (f.volume ≡ v) × AreIn v fs
 
-abbrev OfOne : Need → Type 0
-OfOne (reads_statuses fids) = (v : ℕ) × AreIn v fids
-OfOne need = ⊤
+abbrev IsOf : (ℕ → Type 0) → Need → Type 0
+IsOf K (reads f) = K f.volume
+IsOf K (reads_status f) = K f.volume
+IsOf K (reads_statuses fids) = (v : ℕ) × (K v × AreIn v fids)
+IsOf K (reads_rights f) = K f.volume
+IsOf K (asks_for call) = (id : ℕ) → volume_called call ≡ Some id → K id
+IsOf K need = ⊤
 
 all_named : (v : ℕ) (ns : List Name) → AreIn v (map (fid_of v) ns)
 all_named v [] = tt
 all_named v (n ∷ ns) = (refl, all_named v ns)
 
-if_one : (t : Bool) (a b : Need) → OfOne a → OfOne b → OfOne (cond t a b)
-if_one true a b h k = h
-if_one false a b h k = k
+if_of : (K : ℕ → Type 0) (t : Bool) (a b : Need) → IsOf K a → IsOf K b → IsOf K (cond t a b)
+if_of K true a b h k = h
+if_of K false a b h k = k
 
-body_one : (f : Fid) (more : Body → List Shown → Need) (o : Option (Taken Body)) → ((b : Body) (rest : List Shown) → OfOne (more b rest)) → OfOne (by_body f more o)
-body_one f more None w = tt
-body_one f more (Some t) w = w t.found t.rest
+body_of : (K : ℕ → Type 0) (f : Fid) (more : Body → List Shown → Need) (o : Option (Taken Body)) → K f.volume → ((b : Body) (rest : List Shown) → IsOf K (more b rest)) → IsOf K (by_body f more o)
+body_of K f more None k w = k
+body_of K f more (Some t) k w = w t.found t.rest
 
-reading_one : (f : Fid) (rs : List Shown) (more : Body → List Shown → Need) → ((b : Body) (rest : List Shown) → OfOne (more b rest)) → OfOne (reading f rs more)
-reading_one f rs more w = body_one f more (first_body f rs) w
+reading_of : (K : ℕ → Type 0) (f : Fid) (rs : List Shown) (more : Body → List Shown → Need) → K f.volume → ((b : Body) (rest : List Shown) → IsOf K (more b rest)) → IsOf K (reading f rs more)
+reading_of K f rs more k w = body_of K f more (first_body f rs) k w
 
-step_one : (inner : Bool) (more : Fid → Need) (volume : ℕ) (o : Option (Option Name)) → ((f : Fid) → OfOne (more f)) → OfOne (step_to inner more volume o)
-step_one inner more volume None w = tt
-step_one inner more volume (Some None) w = tt
-step_one inner more volume (Some (Some n)) w = if_one (inner && is_even n.vnode) (answers 20) (more (fid_of volume n)) tt (w (fid_of volume n))
+step_of : (K : ℕ → Type 0) (inner : Bool) (more : Fid → Need) (volume : ℕ) (o : Option (Option Name)) → K volume → ((f : Fid) → K f.volume → IsOf K (more f)) → IsOf K (step_to inner more volume o)
+step_of K inner more volume None k w = tt
+step_of K inner more volume (Some None) k w = tt
+step_of K inner more volume (Some (Some n)) k w = if_of K (inner && is_even n.vnode) (answers 20) (more (fid_of volume n)) tt (w (fid_of volume n) k)
 
-abbrev Ones : (Fid → List Shown → Need) → Type 0
-Ones more = (f : Fid) (rest : List Shown) → OfOne (more f rest)
+abbrev Objects : (ℕ → Type 0) → (Fid → List Shown → Need) → Type 0
+Objects K more = (f : Fid) (rest : List Shown) → K f.volume → IsOf K (more f rest)
 
-walk_one : (all : Bool) (more : Fid → List Shown → Need) (names : List (List ℕ)) (rs : List Shown) (d : Fid) → Ones more → OfOne (walk all more names rs d)
-walk_one all more [] rs d w = w d rs
-walk_one all more (name ∷ names) rs d w =
-    reading_one d rs (λ b rest. step_to (all || not (is_last_name names)) (walk all more names rest) d.volume (looked_up name b))
-    (λ b rest. step_one (all || not (is_last_name names)) (walk all more names rest) d.volume (looked_up name b) (λ f. walk_one all more names rest f w))
+walk_of : (K : ℕ → Type 0) (all : Bool) (more : Fid → List Shown → Need) (names : List (List ℕ)) (rs : List Shown) (d : Fid) → K d.volume → Objects K more → IsOf K (walk all more names rs d)
+walk_of K all more [] rs d k w = w d rs k
+walk_of K all more (name ∷ names) rs d k w =
+    reading_of K d rs (λ b rest. step_to (all || not (is_last_name names)) (walk all more names rest) d.volume (looked_up name b)) k
+    (λ b rest. step_of K (all || not (is_last_name names)) (walk all more names rest) d.volume (looked_up name b) k (λ f h. walk_of K all more names rest f h w))
 
-home_one : (home : Option ℕ) (more : ℕ → Need) → ((id : ℕ) → OfOne (more id)) → OfOne (in_home home more)
-home_one None more w = tt
-home_one (Some id) more w = w id
+home_of : (K : ℕ → Type 0) (home : Option ℕ) (more : ℕ → Need) → ((id : ℕ) → home ≡ Some id → IsOf K (more id)) → IsOf K (in_home home more)
+home_of K None more w = tt
+home_of K (Some id) more w = w id refl
 
-object_one : (home : Option ℕ) (o : Operand) (rs : List Shown) (more : Fid → List Shown → Need) → Ones more → OfOne (to_object home o rs more)
-object_one home (operands.Fid f) rs more w = home_one home (λ id. more f rs) (λ id. w f rs)
-object_one home (operands.Path p) rs more w = home_one home (λ id. walk false more p.names rs (root_of id)) (λ id. walk_one false more p.names rs (root_of id) w)
+object_of : (K : ℕ → Type 0) (home : Option ℕ) (o : Operand) (rs : List Shown) (more : Fid → List Shown → Need) → IsHomeOf K home o → Objects K more → IsOf K (to_object home o rs more)
+object_of K home (operands.Fid f) rs more h w = home_of K home (λ id. more f rs) (λ id e. w f rs (h id e))
+object_of K home (operands.Path p) rs more h w = home_of K home (λ id. walk false more p.names rs (root_of id)) (λ id e. walk_of K false more p.names rs (root_of id) (h id e) w)
 
-directory_one : (need : Need) (b : Body) → OfOne need → OfOne (in_directory need b)
-directory_one need (bodies.Dir names) h = h
-directory_one need b h = tt
+directory_of : (K : ℕ → Type 0) (need : Need) (b : Body) → IsOf K need → IsOf K (in_directory need b)
+directory_of K need (bodies.Dir names) h = h
+directory_of K need b h = tt
 
-abbrev Parents : (Fid → List ℕ → List Shown → Need) → Type 0
-Parents more = (d : Fid) (name : List ℕ) (rest : List Shown) → OfOne (more d name rest)
+abbrev Parents : (ℕ → Type 0) → (Fid → List ℕ → List Shown → Need) → Type 0
+Parents K more = (d : Fid) (name : List ℕ) (rest : List Shown) → K d.volume → IsOf K (more d name rest)
 
-parent_one : (home : Option ℕ) (rs : List Shown) (more : Fid → List ℕ → List Shown → Need) (o : Option Parted) → Parents more → OfOne (at_parent home rs more o)
-parent_one home rs more None w = tt
-parent_one home rs more (Some p) w =
-    home_one home (λ id. walk true (λ d rest. reading d rest (λ b later. in_directory (more d p.last later) b)) p.front rs (root_of id))
-    (λ id. walk_one true (λ d rest. reading d rest (λ b later. in_directory (more d p.last later) b)) p.front rs (root_of id)
-    (λ d rest. reading_one d rest (λ b later. in_directory (more d p.last later) b) (λ b later. directory_one (more d p.last later) b (w d p.last later))))
+parent_of : (K : ℕ → Type 0) (home : Option ℕ) (rs : List Shown) (more : Fid → List ℕ → List Shown → Need) (o : Option Parted) → ((id : ℕ) → home ≡ Some id → K id) → Parents K more → IsOf K (at_parent home rs more o)
+parent_of K home rs more None h w = tt
+parent_of K home rs more (Some p) h w =
+    home_of K home (λ id. walk true (λ d rest. reading d rest (λ b later. in_directory (more d p.last later) b)) p.front rs (root_of id))
+    (λ id e. walk_of K true (λ d rest. reading d rest (λ b later. in_directory (more d p.last later) b)) p.front rs (root_of id) (h id e)
+    (λ d rest k. reading_of K d rest (λ b later. in_directory (more d p.last later) b) k (λ b later. directory_of K (more d p.last later) b (w d p.last later k))))
 
-to_one : (home : Option ℕ) (p : Path) (rs : List Shown) (more : Fid → List ℕ → List Shown → Need) → Parents more → OfOne (to_parent home p rs more)
-to_one home p rs more w = parent_one home rs more (parted p.names) w
+to_of : (K : ℕ → Type 0) (home : Option ℕ) (p : Path) (rs : List Shown) (more : Fid → List ℕ → List Shown → Need) → IsHomeOf K home (operands.Path p) → Parents K more → IsOf K (to_parent home p rs more)
+to_of K home p rs more h w = parent_of K home rs more (parted p.names) h w
 
-kind_one : (file directory link : ℕ) (b : Body) → OfOne (by_kind file directory link b)
-kind_one file directory link (bodies.File bytes) = tt
-kind_one file directory link (bodies.Dir names) = tt
-kind_one file directory link b = tt
+kind_of : (K : ℕ → Type 0) (file directory link : ℕ) (b : Body) → IsOf K (by_kind file directory link b)
+kind_of K file directory link (bodies.File bytes) = tt
+kind_of K file directory link (bodies.Dir names) = tt
+kind_of K file directory link b = tt
 
-shows_one : (file directory link : ℕ) (home : Option ℕ) (o : Operand) (rs : List Shown) → OfOne (shows file directory link home o rs)
-shows_one file directory link home o rs =
-    object_one home o rs (λ f rest. reading f rest (λ b later. by_kind file directory link b)) (λ f rest. reading_one f rest (λ b later. by_kind file directory link b) (λ b later. kind_one file directory link b))
+shows_of : (K : ℕ → Type 0) (file directory link : ℕ) (home : Option ℕ) (o : Operand) (rs : List Shown) → IsHomeOf K home o → IsOf K (shows file directory link home o rs)
+shows_of K file directory link home o rs h =
+    object_of K home o rs (λ f rest. reading f rest (λ b later. by_kind file directory link b)) h (λ f rest k. reading_of K f rest (λ b later. by_kind file directory link b) k (λ b later. kind_of K file directory link b))
 
-statuses_by_one : (all : List Fid) (more : List Shown → Need) (o : Option (Taken ReadStatus)) → (v : ℕ) → AreIn v all → ((rest : List Shown) → OfOne (more rest)) → OfOne (by_statuses all more o)
-statuses_by_one all more None v h w = (v, h)
-statuses_by_one all more (Some t) v h w = w t.rest
+statuses_by_of : (K : ℕ → Type 0) (all : List Fid) (more : List Shown → Need) (o : Option (Taken ReadStatus)) → (v : ℕ) → K v → AreIn v all → ((rest : List Shown) → IsOf K (more rest)) → IsOf K (by_statuses all more o)
+statuses_by_of K all more None v k h w = (v, (k, h))
+statuses_by_of K all more (Some t) v k h w = w t.rest
 
-statuses_one : (v : ℕ) (all fs : List Fid) (rs : List Shown) → AreIn v all → OfOne (reading_statuses all fs rs)
-statuses_one v all [] rs h = tt
-statuses_one v all (f ∷ fs) rs h = statuses_by_one all (reading_statuses all fs) (first_status f rs) v h (λ rest. statuses_one v all fs rest h)
+statuses_of : (K : ℕ → Type 0) (v : ℕ) (all fs : List Fid) (rs : List Shown) → K v → AreIn v all → IsOf K (reading_statuses all fs rs)
+statuses_of K v all [] rs k h = tt
+statuses_of K v all (f ∷ fs) rs k h = statuses_by_of K all (reading_statuses all fs) (first_status f rs) v k h (λ rest. statuses_of K v all fs rest k h)
 
-shown_one : (volume : ℕ) (rs : List Shown) (b : Body) → OfOne (statuses_in volume rs b)
-shown_one volume rs (bodies.Dir names) = statuses_one volume (named_first volume names) (named_first volume names) rs (all_named volume _)
-shown_one volume rs b = tt
+shown_of : (K : ℕ → Type 0) (volume : ℕ) (rs : List Shown) (b : Body) → K volume → IsOf K (statuses_in volume rs b)
+shown_of K volume rs (bodies.Dir names) k = statuses_of K volume (named_first volume names) (named_first volume names) rs k (all_named volume _)
+shown_of K volume rs b k = tt
 
-status_one : (f : Fid) (o : Option (Taken ReadStatus)) → OfOne (by_status f o)
-status_one f None = tt
-status_one f (Some t) = tt
+status_of : (K : ℕ → Type 0) (f : Fid) (o : Option (Taken ReadStatus)) → K f.volume → IsOf K (by_status f o)
+status_of K f None k = k
+status_of K f (Some t) k = tt
 
-volume_one : (f g : Fid) (need : Need) → OfOne need → OfOne (of_one f g need)
-volume_one f g need h = if_one (nat_eq f.volume g.volume) need (answers 22) h tt
+volume_of : (K : ℕ → Type 0) (f g : Fid) (need : Need) → IsOf K need → IsOf K (of_one f g need)
+volume_of K f g need h = if_of K (nat_eq f.volume g.volume) need (answers 22) h tt
 
-needs_one : (h : Homes) (act : Act) (rs : List Shown) → OfOne (act_needs h act rs)
-needs_one h (acts.Open o) rs = shows_one 0 21 22 h.first o rs
-needs_one h (acts.ListNames o) rs = shows_one 20 0 20 h.first o rs
-needs_one h (acts.ReadLink o) rs = shows_one 22 21 0 h.first o rs
-needs_one h (acts.Close o contents) rs = object_one h.first o rs _ (λ f rest. tt)
-needs_one h (acts.SetMode o mode) rs = object_one h.first o rs _ (λ f rest. tt)
-needs_one h (acts.SetAccessList o text) rs = object_one h.first o rs _ (λ f rest. tt)
-needs_one h (acts.Make p) rs = to_one h.first p rs _ (λ d name rest. tt)
-needs_one h (acts.MakeDirectory p) rs = to_one h.first p rs _ (λ d name rest. tt)
-needs_one h (acts.Symlink p target) rs = to_one h.first p rs _ (λ d name rest. tt)
-needs_one h (acts.Remove p) rs = to_one h.first p rs _ (λ d name rest. tt)
-needs_one h (acts.RemoveDirectory p) rs = to_one h.first p rs _ (λ d name rest. tt)
-needs_one h (acts.Move p q) rs =
-    if_one (is_root p || is_root q) (answers 22) (to_parent h.first p rs (λ d old rest. to_parent h.second q rest (λ e new later. of_one d e (asks_for (calls.Rename d old e new))))) tt
-    (to_one h.first p rs (λ d old rest. to_parent h.second q rest (λ e new later. of_one d e (asks_for (calls.Rename d old e new))))
-    (λ d old rest. to_one h.second q rest (λ e new later. of_one d e (asks_for (calls.Rename d old e new))) (λ e new later. volume_one d e (asks_for (calls.Rename d old e new)) tt)))
-needs_one h (acts.Link p q) rs =
-    if_one (is_root q) (answers 22) (to_object h.first (operands.Path p) rs (λ f rest. to_parent h.second q rest (λ d name later. of_one f d (asks_for (calls.Link d name f))))) tt
-    (object_one h.first (operands.Path p) rs (λ f rest. to_parent h.second q rest (λ d name later. of_one f d (asks_for (calls.Link d name f))))
-    (λ f rest. to_one h.second q rest (λ d name later. of_one f d (asks_for (calls.Link d name f))) (λ d name later. volume_one f d (asks_for (calls.Link d name f)) tt)))
-needs_one h (acts.Stat o) rs = object_one h.first o rs (λ f rest. reading_status f rest) (λ f rest. status_one f (first_status f rest))
-needs_one h (acts.StatAll o) rs = object_one h.first o rs (λ f rest. reading f rest (λ b later. statuses_in f.volume later b)) (λ f rest. reading_one f rest (λ b later. statuses_in f.volume later b) (λ b later. shown_one f.volume later b))
-needs_one h (acts.GetAccessList o) rs = object_one h.first o rs (λ f rest. reading_rights f rest) (λ f rest. if_one (has_rights f rest) (answers 0) (reads_rights f) tt tt)
-needs_one h acts.GiveUp rs = tt
+-- a call is of the volume of its fid
+call_of : (K : ℕ → Type 0) (v : ℕ) → K v → (id : ℕ) → Some v ≡ Some id → K id
+call_of K v k id e = subst K (some_of v id e) k
+
+needs_of : (K : ℕ → Type 0) (h : Homes) (act : Act) (rs : List Shown) → AreHomesOf K h act → IsOf K (act_needs h act rs)
+needs_of K h (acts.Open o) rs k = shows_of K 0 21 22 h.first o rs k
+needs_of K h (acts.ListNames o) rs k = shows_of K 20 0 20 h.first o rs k
+needs_of K h (acts.ReadLink o) rs k = shows_of K 22 21 0 h.first o rs k
+needs_of K h (acts.Close o contents) rs k = object_of K h.first o rs _ k (λ f rest x. call_of K f.volume x)
+needs_of K h (acts.SetMode o mode) rs k = object_of K h.first o rs _ k (λ f rest x. call_of K f.volume x)
+needs_of K h (acts.SetAccessList o text) rs k = object_of K h.first o rs _ k (λ f rest x. call_of K f.volume x)
+needs_of K h (acts.Make p) rs k = to_of K h.first p rs _ k (λ d name rest x. call_of K d.volume x)
+needs_of K h (acts.MakeDirectory p) rs k = to_of K h.first p rs _ k (λ d name rest x. call_of K d.volume x)
+needs_of K h (acts.Symlink p target) rs k = to_of K h.first p rs _ k (λ d name rest x. call_of K d.volume x)
+needs_of K h (acts.Remove p) rs k = to_of K h.first p rs _ k (λ d name rest x. call_of K d.volume x)
+needs_of K h (acts.RemoveDirectory p) rs k = to_of K h.first p rs _ k (λ d name rest x. call_of K d.volume x)
+needs_of K h (acts.Move p q) rs k =
+    if_of K (is_root p || is_root q) (answers 22) (to_parent h.first p rs (λ d old rest. to_parent h.second q rest (λ e new later. of_one d e (asks_for (calls.Rename d old e new))))) tt
+    (to_of K h.first p rs (λ d old rest. to_parent h.second q rest (λ e new later. of_one d e (asks_for (calls.Rename d old e new)))) k.0
+    (λ d old rest x. to_of K h.second q rest (λ e new later. of_one d e (asks_for (calls.Rename d old e new))) k.1 (λ e new later y. volume_of K d e (asks_for (calls.Rename d old e new)) (call_of K d.volume x))))
+needs_of K h (acts.Link p q) rs k =
+    if_of K (is_root q) (answers 22) (to_object h.first (operands.Path p) rs (λ f rest. to_parent h.second q rest (λ d name later. of_one f d (asks_for (calls.Link d name f))))) tt
+    (object_of K h.first (operands.Path p) rs (λ f rest. to_parent h.second q rest (λ d name later. of_one f d (asks_for (calls.Link d name f)))) k.0
+    (λ f rest x. to_of K h.second q rest (λ d name later. of_one f d (asks_for (calls.Link d name f))) k.1 (λ d name later y. volume_of K f d (asks_for (calls.Link d name f)) (call_of K d.volume y))))
+needs_of K h (acts.Stat o) rs k = object_of K h.first o rs (λ f rest. reading_status f rest) k (λ f rest x. status_of K f (first_status f rest) x)
+needs_of K h (acts.StatAll o) rs k = object_of K h.first o rs (λ f rest. reading f rest (λ b later. statuses_in f.volume later b)) k (λ f rest x. reading_of K f rest (λ b later. statuses_in f.volume later b) x (λ b later. shown_of K f.volume later b x))
+needs_of K h (acts.GetAccessList o) rs k = object_of K h.first o rs (λ f rest. reading_rights f rest) k (λ f rest x. if_of K (has_rights f rest) (answers 0) (reads_rights f) tt x)
+needs_of K h acts.GiveUp rs k = tt
 
 -- ---- the callee
 
@@ -174,21 +184,37 @@ one_in v id [] h x = absurd x
 one_in v id (f ∷ fs) h (inl e) = sym h.0 ∙ e
 one_in v id (f ∷ fs) h (inr x) = one_in v id fs h.1 x
 
+plain_call : (call : FsCall) (id : ℕ) → (volume_changed call ≡ None → ⊥) → AsksOf call id → volume_called call ≡ Some id
+plain_call (calls.GiveUpCallBacks fids callbacks) id w h = absurd h
+plain_call calls.GetTime id w h = absurd h
+plain_call (calls.BulkStatus fids) id w h = absurd (w refl)
+plain_call call id w h = h
+
 plain_volume : (call : FsCall) (id : ℕ) → (volume_changed call ≡ None → ⊥) → AsksOf call id → volume_asked call ≡ id
 plain_volume (calls.GiveUpCallBacks fids callbacks) id w h = absurd h
 plain_volume calls.GetTime id w h = absurd h
 plain_volume (calls.BulkStatus fids) id w h = absurd (w refl)
 plain_volume call id w h = ap number_or_none h
 
-to_volume : (c : ClientState) (need : Need) (id : ℕ) → OfOne need → ((call : FsCall) → need ≡ asks_for call → volume_changed call ≡ None → ⊥) → AsksOf (call_by c.gifts need) id → callee_by c need ≡ Server (server_at c.table id)
-to_volume c (reads f) id h w x = ap (λ (v : ℕ). Server (server_at c.table v)) (some_of f.volume id x)
-to_volume c (reads_status f) id h w x = ap (λ (v : ℕ). Server (server_at c.table v)) (some_of f.volume id x)
-to_volume c (reads_statuses []) id h w x = absurd x
-to_volume c (reads_statuses (f ∷ fs)) id h w x = ap (λ (v : ℕ). Server (server_at c.table v)) (h.1.0 ∙ one_in h.0 id (f ∷ fs) h.1 x)
-to_volume c (reads_rights f) id h w x = ap (λ (v : ℕ). Server (server_at c.table v)) (some_of f.volume id x)
-to_volume c (asks_for call) id h w x = ap (λ (v : ℕ). Server (server_at c.table v)) (plain_volume call id (w call refl) x)
-to_volume c gives_back id h w x = absurd x
-to_volume c (answers k) id h w x = absurd x
+to_volume : (K : ℕ → Type 0) (c : ClientState) (need : Need) (id : ℕ) → IsOf K need → ((call : FsCall) → need ≡ asks_for call → volume_changed call ≡ None → ⊥) → AsksOf (call_by c.gifts need) id → callee_by c need ≡ Server (server_at c.table id)
+to_volume K c (reads f) id h w x = ap (λ (v : ℕ). Server (server_at c.table v)) (some_of f.volume id x)
+to_volume K c (reads_status f) id h w x = ap (λ (v : ℕ). Server (server_at c.table v)) (some_of f.volume id x)
+to_volume K c (reads_statuses []) id h w x = absurd x
+to_volume K c (reads_statuses (f ∷ fs)) id h w x = ap (λ (v : ℕ). Server (server_at c.table v)) (h.1.1.0 ∙ one_in h.0 id (f ∷ fs) h.1.1 x)
+to_volume K c (reads_rights f) id h w x = ap (λ (v : ℕ). Server (server_at c.table v)) (some_of f.volume id x)
+to_volume K c (asks_for call) id h w x = ap (λ (v : ℕ). Server (server_at c.table v)) (plain_volume call id (w call refl) x)
+to_volume K c gives_back id h w x = absurd x
+to_volume K c (answers k) id h w x = absurd x
+
+-- a volume of which the call asks is one that the act names
+asked_of : (K : ℕ → Type 0) (gs : List Gift) (need : Need) (id : ℕ) → IsOf K need → ((call : FsCall) → need ≡ asks_for call → volume_changed call ≡ None → ⊥) → AsksOf (call_by gs need) id → K id
+asked_of K gs (reads f) id h w x = call_of K f.volume h id x
+asked_of K gs (reads_status f) id h w x = call_of K f.volume h id x
+asked_of K gs (reads_statuses fids) id h w x = subst K (one_in h.0 id fids h.1.1 x) h.1.0
+asked_of K gs (reads_rights f) id h w x = call_of K f.volume h id x
+asked_of K gs (asks_for call) id h w x = h id (plain_call call id (w call refl) x)
+asked_of K gs gives_back id h w x = absurd x
+asked_of K gs (answers k) id h w x = absurd x
 
 callee_same : (x y : ClientState) (need : Need) → y.table ≡ x.table → y.gifts ≡ x.gifts → callee_by x need ≡ callee_by y need
 callee_same x y gives_back t g = ap first_server_of (sym g)
@@ -233,12 +259,17 @@ step_callee n c st h a f act run = elim a.goes [
 pub record IsHome (s : Script) (head : Head) (user : List ℕ) (call : FsCall) : Type 0 where
   pub server : IsServer head.to
   pub to : (id : ℕ) → AsksOf call id → head.to ≡ Server (server_at (locations s) id)
+  pub laid : (id : ℕ) → AsksOf call id → IsLaid s.volumes id
 
-new_home : (s : Script) (n : ℕ) (y : ClientState) → y.table ≡ locations s → AreOfServers y.gifts → ((act : Going) → y.running ≡ Some act → y.callee ≡ callee_by y (next act)) → (head : Head) (user : List ℕ) (call : FsCall) → IsTheCall n y head user call → IsHome s head user call
-new_home s n y t g h head user call x = record {
-  server = subst IsServer (sym (x.to ∙ h x.act x.runs)) (asked_server y (next x.act) g);
-  to = λ id w. x.to ∙ (h x.act x.runs ∙ (to_volume y (next x.act) id (needs_one x.act.homes x.act.act x.act.reads) (asks_change x.act) (subst (λ (f : FsCall). AsksOf f id) x.asks w) ∙ ap (λ (ls : List Location). Server (server_at ls id)) t));
-}
+new_home : (s : Script) (n : ℕ) (y : ClientState) → y.table ≡ locations s → AreOfServers y.gifts → ((act : Going) → y.running ≡ Some act → y.callee ≡ callee_by y (next act)) → ((act : Going) → y.running ≡ Some act → act.homes ≡ homes_of (locations s) act.act) → (head : Head) (user : List ℕ) (call : FsCall) → IsTheCall n y head user call → IsHome s head user call
+new_home s n y t g h at head user call x =
+    let K : ℕ → Type 0 = IsLaid s.volumes in
+    let of : IsOf K (next x.act) = needs_of K x.act.homes x.act.act x.act.reads (subst (λ (z : Homes). AreHomesOf K z x.act.act) (sym (at x.act x.runs)) (homes_laid s.volumes x.act.act)) in
+    record {
+      server = subst IsServer (sym (x.to ∙ h x.act x.runs)) (asked_server y (next x.act) g);
+      to = λ id w. x.to ∙ (h x.act x.runs ∙ (to_volume K y (next x.act) id of (asks_change x.act) (subst (λ (f : FsCall). AsksOf f id) x.asks w) ∙ ap (λ (ls : List Location). Server (server_at ls id)) t));
+      laid = λ id w. asked_of K y.gifts (next x.act) id of (asks_change x.act) (subst (λ (f : FsCall). AsksOf f id) x.asks w);
+    }
 
 abbrev pub HomesIn : Script → Cell → List Entry → Type 0
 HomesIn s c past = (CalleesOf c.clients × GiversOf c.clients) × Each (IfCall (IsHome s)) c.sent
@@ -246,15 +277,16 @@ HomesIn s c past = (CalleesOf c.clients × GiversOf c.clients) × Each (IfCall (
 abbrev pub Addressed : Script → Cell → List Entry → Type 0
 Addressed s c past = Given s c past × HomesIn s c past
 
-client_homes : (s : Script) (c : Cell) (past : List Entry) (n : ℕ) (st : Step ClientState) → (c.clients n).table ≡ locations s → HomesIn s c past → Acts n (who_at (c.clients n)) (c.clients n).gifts st → Follows n (c.clients n) st → (CalleesOf (put n st.state c.clients) × GiversOf (put n st.state c.clients)) × Each (IfCall (IsHome s)) (c.sent ++ st.sent)
-client_homes s c past n st t h a f =
+client_homes : (s : Script) (c : Cell) (past : List Entry) (n : ℕ) (st : Step ClientState) → (c.clients n).table ≡ locations s → running s (Client n) (lines_of past) ≡ (c.clients n).running → HomesIn s c past → Acts n (who_at (c.clients n)) (c.clients n).gifts st → Follows n (c.clients n) st → (CalleesOf (put n st.state c.clients) × GiversOf (put n st.state c.clients)) × Each (IfCall (IsHome s)) (c.sent ++ st.sent)
+client_homes s c past n st t r h a f =
     let now : (act : Going) → st.state.running ≡ Some act → st.state.callee ≡ callee_by st.state (next act) = step_callee n (c.clients n) st (h.0.0 n) a f in
-    let gifts : AreOfServers st.state.gifts = f.servers (h.0.1 n) in (
+    let gifts : AreOfServers st.state.gifts = f.servers (h.0.1 n) in
+    let homes : (act : Going) → st.state.running ≡ Some act → act.homes ≡ homes_of (locations s) act.act = λ act run. running_homes s (Client n) (lines_of (of_client n st ∷ past)) act (a.runs s t (lines_of past) r ∙ run) in (
       (
         λ j. at_put n j (λ (x : ClientState). (act : Going) → x.running ≡ Some act → x.callee ≡ callee_by x (next act)) st.state c.clients (λ same. now) (λ other. h.0.0 j),
         λ j. at_put n j (λ (x : ClientState). AreOfServers x.gifts) st.state c.clients (λ same. gifts) (λ other. h.0.1 j),
       ),
-      each_more (IfCall (IsHome s)) c.sent st.sent h.1 (each_map (IfCall (IsTheCall n st.state)) (IfCall (IsHome s)) (if_call (IsTheCall n st.state) (IsHome s) (new_home s n st.state (a.table ∙ t) gifts now)) st.sent (the_calls n (c.clients n) st a.goes)),
+      each_more (IfCall (IsHome s)) c.sent st.sent h.1 (each_map (IfCall (IsTheCall n st.state)) (IfCall (IsHome s)) (if_call (IsTheCall n st.state) (IsHome s) (new_home s n st.state (a.table ∙ t) gifts now homes)) st.sent (the_calls n (c.clients n) st a.goes)),
     )
 
 server_homes : (s : Script) (c : Cell) (past : List Entry) (ms : List Message) → HomesIn s c past → Each IsUncalled ms → (CalleesOf c.clients × GiversOf c.clients) × Each (IfCall (IsHome s)) (c.sent ++ ms)
@@ -264,11 +296,11 @@ homes_moves : (s : Script) → EachMove (Addressed s) (Behind (HomesIn s))
 homes_moves s = record {
   void = λ c past h. h.1;
   ticked = λ c past n h. h.1;
-  begun = λ c past n act h r. client_homes s c past n _ (h.0.0.0.0.1.table n) h.1 (begins_acts n (c.clients n) c.clock act r) (begins_follow n (c.clients n) c.clock act (h.0.1 n).0 r);
-  told = λ c past n place m h at to. client_homes s c past n _ (h.0.0.0.0.1.table n) h.1 (given_acts (by_key (IsKnown h.0.0.0.0.0.keys.callees c.clients)) any_told n (c.clients n) c.clock place m (h.0.0.0.0.0.keys.replies n) (h.0.0.0.0.1.seats n)) (given_follow n (c.clients n) c.clock place m (h.0.1 n).0 (each_at (λ m. IsFirm m.head m.carried) c.sent place m at h.0.0.1));
-  waited = λ c past n act h r. client_homes s c past n _ (h.0.0.0.0.1.table n) h.1 (waits_acts n (c.clients n) act r) (waits_follow n (c.clients n) act (h.0.1 n).0);
-  fallen = λ c past n h. client_homes s c past n _ (h.0.0.0.0.1.table n) h.1 (falls_acts n (c.clients n)) (falls_follow n (c.clients n));
-  risen = λ c past n h. client_homes s c past n _ (h.0.0.0.0.1.table n) h.1 (rises_acts n (c.clients n)) (rises_follow n (c.clients n) (h.0.1 n).0);
+  begun = λ c past n act h r. client_homes s c past n _ (h.0.0.0.0.1.table n) (h.0.0.0.0.1.acts n) h.1 (begins_acts n (c.clients n) c.clock act r) (begins_follow n (c.clients n) c.clock act (h.0.1 n).0 r);
+  told = λ c past n place m h at to. client_homes s c past n _ (h.0.0.0.0.1.table n) (h.0.0.0.0.1.acts n) h.1 (given_acts (by_key (IsKnown h.0.0.0.0.0.keys.callees c.clients)) any_told n (c.clients n) c.clock place m (h.0.0.0.0.0.keys.replies n) (h.0.0.0.0.1.seats n)) (given_follow n (c.clients n) c.clock place m (h.0.1 n).0 (each_at (λ m. IsFirm m.head m.carried) c.sent place m at h.0.0.1));
+  waited = λ c past n act h r. client_homes s c past n _ (h.0.0.0.0.1.table n) (h.0.0.0.0.1.acts n) h.1 (waits_acts n (c.clients n) act r) (waits_follow n (c.clients n) act (h.0.1 n).0);
+  fallen = λ c past n h. client_homes s c past n _ (h.0.0.0.0.1.table n) (h.0.0.0.0.1.acts n) h.1 (falls_acts n (c.clients n)) (falls_follow n (c.clients n));
+  risen = λ c past n h. client_homes s c past n _ (h.0.0.0.0.1.table n) (h.0.0.0.0.1.acts n) h.1 (rises_acts n (c.clients n)) (rises_follow n (c.clients n) (h.0.1 n).0);
   served = λ c past i place m armed h up at to. server_homes s c past _ h.1 (served_uncalled c past i place m h.0.0.0.0.0 at);
   cut = λ c past i place m t h up at to. h.1;
   stopped = λ c past i h up. h.1;

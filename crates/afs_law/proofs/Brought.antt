@@ -10,7 +10,11 @@ use Rattle.afs_law.proofs.Backing.{all_lines}
 use Rattle.afs_law.proofs.Basics.{at_put, both, found-cached-fid, found-refreshed, same_fid-true, some_of}
 use Rattle.afs_law.proofs.Changing.{run_each}
 use Rattle.afs_law.proofs.Choosing.{disk_works, one_from, risen_from, risen_lines, serves_works, starts_works, times_works, wakes_works}
-use Rattle.afs_law.proofs.Kept.{GivenKept, kept_first, kept_kept, mapped}
+use Rattle.afs_law.proofs.Arriving.{Based, arrives, based_first, based_kept}
+use Rattle.afs_law.proofs.Kept.{mapped}
+use Rattle.afs_law.proofs.Learned.{store_made}
+use Rattle.afs_law.proofs.Ops.{stored_fid}
+use Rattle.afs_law.proofs.Storing.{status_in}
 use Rattle.afs_law.proofs.KeysOnce.{IsKnown, any_told, by_key}
 use Rattle.afs_law.proofs.Looking.{AreLooks, walked_looks}
 use Rattle.afs_law.proofs.Moving.{EachMove, IsKept, each_moved}
@@ -19,9 +23,10 @@ use Rattle.afs_law.proofs.Sent.{call_is}
 use Rattle.afs_law.proofs.Walking.{looked_more, walked_found}
 use Rattle.afs_law.proofs.Words.{AreApart}
 use Rattle.afs_law.specs.Ideal.{Unless, set_up}
-use Rattle.afs_law.specs.Legal.{HasBrought, IsBrought, Stores, StoresBy, as_asked}
+use Rattle.afs_law.specs.Grants.{is_promised}
+use Rattle.afs_law.specs.Legal.{HasBrought, HasLearned, HasMadeItself, IsBrought, Stores, StoresBy, as_asked}
 use Rattle.afs_law.specs.Parts.{EachLine}
-use Rattle.afs_law.specs.Past.{lines_of, onto, running}
+use Rattle.afs_law.specs.Past.{HasCode, lines_of, onto, running}
 use Rattle.afs_law.specs.ServerParts.{CachedAreBrought, IsBroughtGood}
 use Rattle.afs_model.specs.Calls as pairs
 use Rattle.afs_model.specs.Calls.{Admitted, admitted}
@@ -54,9 +59,9 @@ use Rattle.afs_num.specs.declared.types.Head.{Head}
 use Rattle.afs_num.specs.declared.types.Node.{Node}
 use Rattle.afs_num.specs.declared.types.Node.TheVariants.{Client, Server}
 use Rattle.afs_rows.specs.Callbacks.{put}
-use Rattle.afs_rows.specs.ClientRow.{Look, Walked, admits_call, awaits, begin_row, begins_by, behind_batch, body_kept, body_seen, body_told, breaks, call_of, client_row, counts, dead_code, drop_line, dropped, dropped_after, ended, entries_told, entry_told, find_cached, given, given_up_in, gives_by, gives_up, goes_by, hears, in_order, gift_of, is_awaited, is_below, is_busy_code, is_named, is_older, is_spent, is_trusted, left_after, left_in, look_at, looked, most_busy, most_reads, put_entries, put_entry, read_lines, refreshed, runs_carried, shown_by, status_look, status_told, takes, takes_bulk, takes_data, takes_entries, takes_entry, takes_given, takes_list, takes_set, takes_shown, takes_status, timeout_row, tries_again, trusted_in, untrusted_in, walked, walks_on, whole, with_statuses, zero_code}
+use Rattle.afs_rows.specs.ClientRow.{Look, Walked, admits_call, awaits, begin_row, begins_by, behind_batch, body_kept, body_seen, body_told, breaks, call_of, client_row, counts, dead_code, drop_line, dropped, dropped_after, ended, entries_told, entry_told, find_cached, gift_of, given, given_up_in, gives_by, gives_up, goes_by, hears, ignores, in_order, is_awaited, is_below, is_busy_code, is_named, is_older, is_spent, is_trusted, left_after, left_in, look_at, looked, most_busy, most_reads, put_entries, put_entry, read_lines, refreshed, runs_carried, shown_by, status_look, status_told, takes, takes_bulk, takes_data, takes_entries, takes_entry, takes_given, takes_list, takes_set, takes_shown, takes_status, timeout_row, tries_again, trusted_in, untrusted_in, walked, walks_on, whole, with_statuses, zero_code}
 use Rattle.afs_rows.specs.Going.{ClientState, Going, Need, answers, asked, asks_for, began, gives_back, next, reads, reads_rights, reads_status, reads_statuses, with_read}
-use Rattle.afs_rows.specs.Runs.{Cell, Entry, Moved, at_rest, begun_by_disk, blow_line, in_boot, in_step, server_falls, server_moves, server_rises, server_set, server_stays, start, ticked, voided}
+use Rattle.afs_rows.specs.Runs.{Cell, Entry, Moved, at_rest, begun_by_disk, blow_line, in_boot, in_step, message_at, server_falls, server_moves, server_rises, server_set, server_stays, start, ticked, voided}
 use Rattle.afs_rows.specs.Scopes.{is_in_scope}
 use Rattle.afs_rows.specs.ServerSteps.{back_timeout_row, server_row, wake_row}
 use Rattle.afs_rows.specs.States.{CacheEntry, Gift}
@@ -96,15 +101,32 @@ brought_onto : (s : Script) (c : Node) (f : Fid) (b : Body) (ls o : List Line) �
 brought_onto s c f b [] o h k = k
 brought_onto s c f b (l ∷ ls) o h k = let q = both (is_steady l) (all_lines is_steady ls) h in brought_onto s c f b ls (l ∷ o) q.1 (brought_line s c f b l o q.0 k)
 
--- what stands in the cache came to the client
+learned_line : (c : Node) (f : Fid) (i : ℕ) (l : Line) (o : List Line) → is_steady l ≡ true → HasLearned c f i o → HasLearned c f i (l ∷ o)
+learned_line c f i (lines.Crash n) o h k = absurd cc
+learned_line c f i (lines.Read m g index source body) o h k = inr k
+learned_line c f i (lines.Answer m code) o h k = inr k
+learned_line c f i l o h k = k
+
+learned_onto : (c : Node) (f : Fid) (i : ℕ) (ls o : List Line) → all_lines is_steady ls ≡ true → HasLearned c f i o → HasLearned c f i (onto o ls)
+learned_onto c f i [] o h k = k
+learned_onto c f i (l ∷ ls) o h k = let q = both (is_steady l) (all_lines is_steady ls) h in learned_onto c f i ls (l ∷ o) q.1 (learned_line c f i l o q.0 k)
+
+-- what stands in the cache came to the client: its version, and its body
+abbrev pub IsHad : Script → ℕ → Fid → CacheEntry → List Line → Type 0
+IsHad s n f e o = HasLearned (Client n) f e.index o × ((b : Body) → e.body ≡ Some b → HasBrought s (Client n) f b o)
+
 abbrev pub Had : Script → ℕ → List CacheEntry → List Line → Type 0
-Had s n cache o = (f : Fid) (e : CacheEntry) (b : Body) → find_cached f cache ≡ Some e → e.body ≡ Some b → HasBrought s (Client n) f b o
+Had s n cache o = (f : Fid) (e : CacheEntry) → find_cached f cache ≡ Some e → IsHad s n f e o
+
+-- behind a line that brings nothing
+had_behind : (s : Script) (n : ℕ) (cache : List CacheEntry) (l : Line) (o : List Line) → is_steady l ≡ true → Had s n cache o → Had s n cache (l ∷ o)
+had_behind s n cache l o h k f e x = (learned_line (Client n) f e.index l o h (k f e x).0, λ b y. brought_line s (Client n) f b l o h ((k f e x).1 b y))
 
 abbrev Within : List CacheEntry → List CacheEntry → Type 0
 Within a b = (f : Fid) (e : CacheEntry) → find_cached f a ≡ Some e → find_cached f b ≡ Some e
 
 had_onto : (s : Script) (n : ℕ) (cache : List CacheEntry) (ls o : List Line) → all_lines is_steady ls ≡ true → Had s n cache o → Had s n cache (onto o ls)
-had_onto s n cache ls o h k f e b x y = brought_onto s (Client n) f b ls o h (k f e b x y)
+had_onto s n cache ls o h k f e x = (learned_onto (Client n) f e.index ls o h (k f e x).0, λ b y. brought_onto s (Client n) f b ls o h ((k f e x).1 b y))
 
 abbrev Told : Script → ℕ → List Entry → List Line → List Line → Type 0
 Told s n past own ls = EachLine (IsBroughtGood s) (actors.Node (Client n)) past own ls
@@ -129,7 +151,7 @@ record IsNow (s : Script) (n : ℕ) (c : ClientState) (past : List Entry) : Type
   runs : running s (Client n) (lines_of past) ≡ c.running
 
 bare_step : (s : Script) (n : ℕ) (c : ClientState) (past : List Entry) (st : Step ClientState) → IsNow s n c past → all_lines is_bare st.lines ≡ true → Within st.state.cache c.cache → Carries s n past st
-bare_step s n c past st N h w = record { told = bare_told s (actors.Node (Client n)) past [] st.lines h; after = had_onto s n st.state.cache st.lines (lines_of past) (bare_steady st.lines h) (λ f e b x y. N.had f e b (w f e x) y) }
+bare_step s n c past st N h w = record { told = bare_told s (actors.Node (Client n)) past [] st.lines h; after = had_onto s n st.state.cache st.lines (lines_of past) (bare_steady st.lines h) (λ f e x. N.had f e (w f e x)) }
 
 either_carries : (t : Bool) (s : Script) (n : ℕ) (past : List Entry) (a b : Step ClientState) → Carries s n past a → Carries s n past b → Carries s n past (cond t a b)
 either_carries true s n past a b h k = h
@@ -169,16 +191,16 @@ shown_body (asks_for call) e x h = absurd cc
 shown_body gives_back e x h = absurd cc
 shown_body (answers code) e x h = absurd cc
 
-pub brought_shown : (s : Script) (n : ℕ) (need : Need) (e : CacheEntry) (body : ReadBody) (o : List Line) → shown_by need e ≡ Some body → ((b : Body) → e.body ≡ Some b → HasBrought s (Client n) e.fid b o) → IsBrought s (Client n) e.fid Cached body o
-brought_shown s n need e (seen.Contents x) o h w = w x (shown_body need e x h)
-brought_shown s n need e (seen.Status x) o h w = tt
-brought_shown s n need e (seen.AccessList x) o h w = tt
+pub brought_shown : (s : Script) (n : ℕ) (need : Need) (e : CacheEntry) (body : ReadBody) (o : List Line) → shown_by need e ≡ Some body → IsHad s n e.fid e o → IsBrought s (Client n) e.fid e.index Cached body o
+brought_shown s n need e (seen.Contents x) o h w = (w.0, w.1 x (shown_body need e x h))
+brought_shown s n need e (seen.Status x) o h w = (w.0, tt)
+brought_shown s n need e (seen.AccessList x) o h w = (w.0, tt)
 
 looks_told : (s : Script) (n clock : ℕ) (past : List Entry) (first : List CacheEntry) (looks : List Look) (own tail : List Line) → AreLooks clock first looks → Had s n first (own ++ lines_of past) → ((o : List Line) → Told s n past o tail) → Told s n past own (looked (Client n) looks tail)
 looks_told s n clock past first [] own tail h had t = t own
 looks_told s n clock past first (l ∷ looks) own tail h had t = (
-  subst (λ (k : Look). IsBrought s (Client n) k.fid k.source k.body (own ++ lines_of past)) (sym h.0.same) (brought_shown s n h.0.need h.0.entry l.body (own ++ lines_of past) h.0.shown (λ b e. had h.0.entry.fid h.0.entry b h.0.found e)),
-  looks_told s n clock past first looks (lines.Read (Client n) l.fid l.index l.source l.body ∷ own) tail h.1 (λ f e b x y. inr (had f e b x y)) t,
+  subst (λ (k : Look). IsBrought s (Client n) k.fid k.index k.source k.body (own ++ lines_of past)) (sym h.0.same) (brought_shown s n h.0.need h.0.entry l.body (own ++ lines_of past) h.0.shown (had h.0.entry.fid h.0.entry h.0.found)),
+  looks_told s n clock past first looks (lines.Read (Client n) l.fid l.index l.source l.body ∷ own) tail h.1 (had_behind s n first (lines.Read (Client n) l.fid l.index l.source l.body) (own ++ lines_of past) refl had) t,
 )
 
 -- these lines stand before what is read on, and the cache is then this
@@ -190,7 +212,7 @@ record Opens (s : Script) (n : ℕ) (past : List Entry) (front : List Line → L
 reads_on : (s : Script) (n clock : ℕ) (past : List Entry) (front : List Line → List Line) (own : List Line) (first : List CacheEntry) (looks : List Look) (tail : List Line) (st : Step ClientState) → st.lines ≡ front (looked (Client n) looks tail) → all_lines is_bare tail ≡ true → Within st.state.cache first → AreLooks clock first looks → Opens s n past front own first → Carries s n past st
 reads_on s n clock past front own first looks tail st is bare w h o = record {
   told = subst (Told s n past []) (sym is) (o.rule (looked (Client n) looks tail) (looks_told s n clock past first looks own tail h o.had (λ p. bare_told s (actors.Node (Client n)) past p tail bare)));
-  after = λ f e b x y. subst (HasBrought s (Client n) f b) (sym (ap (onto (lines_of past)) is ∙ o.comes (looked (Client n) looks tail))) (brought_onto s (Client n) f b (looked (Client n) looks tail) (own ++ lines_of past) (looked_steady (Client n) looks tail (bare_steady tail bare)) (o.had f e b (w f e x) y));
+  after = subst (Had s n st.state.cache) (sym (ap (onto (lines_of past)) is ∙ o.comes (looked (Client n) looks tail))) (had_onto s n st.state.cache (looked (Client n) looks tail) (own ++ lines_of past) (looked_steady (Client n) looks tail (bare_steady tail bare)) (λ f e x. o.had f e (w f e x)));
 }
 
 goes_carries : (s : Script) (n clock : ℕ) (y : ClientState) (past : List Entry) (front : List Line → List Line) (own : List Line) (first : List CacheEntry) (w : Walked) (need : Need) → AreLooks clock first w.looks → Within w.cache first → Opens s n past front own first → Carries s n past (goes_by (Client n) y front w need)
@@ -214,23 +236,26 @@ kept_by None index (Some u) b e = inr (u, (refl, same_by (nat_eq u.index index) 
     same_by false o b e = absurd cc
 
 -- of an entry that is put beside what the cache has
-put_had : (s : Script) (n capacity : ℕ) (u : CacheEntry) (cache : List CacheEntry) (o : List Line) → Had s n cache o → ((b : Body) → u.body ≡ Some b → HasBrought s (Client n) u.fid b o) → Had s n (put_entry capacity u cache) o
-put_had s n capacity u cache o h new f e b found body = elim (put_found capacity f u cache e found) [
-  | inl x ↦ subst (λ (g : Fid). HasBrought s (Client n) g b o) x.0 (elim (kept_by u.body u.index (find_cached u.fid cache) b (ap (λ (v : CacheEntry). v.body) x.1 ∙ body)) [
-    | inl y ↦ new b y
-    | inr y ↦ h u.fid y.0 b y.1.0 y.1.1
-  ])
-  | inr x ↦ h f e b x.1 body
+put_had : (s : Script) (n capacity : ℕ) (u : CacheEntry) (cache : List CacheEntry) (o : List Line) → Had s n cache o → HasLearned (Client n) u.fid u.index o → ((b : Body) → u.body ≡ Some b → HasBrought s (Client n) u.fid b o) → Had s n (put_entry capacity u cache) o
+put_had s n capacity u cache o h learned new f e found = elim (put_found capacity f u cache e found) [
+  | inl x ↦ (
+    subst (λ (g : Fid). HasLearned (Client n) g e.index o) x.0 (subst (λ (i : ℕ). HasLearned (Client n) u.fid i o) (ap (λ (v : CacheEntry). v.index) x.1) learned),
+    λ b body. subst (λ (g : Fid). HasBrought s (Client n) g b o) x.0 (elim (kept_by u.body u.index (find_cached u.fid cache) b (ap (λ (v : CacheEntry). v.body) x.1 ∙ body)) [
+      | inl y ↦ new b y
+      | inr y ↦ (h u.fid y.0 y.1.0).1 b y.1.1
+    ]),
+  )
+  | inr x ↦ h f e x.1
 ]
 
-entry_carries : (s : Script) (n clock place : ℕ) (c : ClientState) (past : List Entry) (act : Going) (u : CacheEntry) (body : ReadBody) → ((b : Body) → u.body ≡ Some b → body ≡ seen.Contents b) → IsNow s n c past → Carries s n past (takes_entry (Client n) c clock place act u body)
-entry_carries s n clock place c past act u body is N =
+entry_carries : (s : Script) (n clock place : ℕ) (c : ClientState) (past : List Entry) (act : Going) (u : CacheEntry) (body : ReadBody) → is_promised body ≡ true → ((b : Body) → u.body ≡ Some b → body ≡ seen.Contents b) → IsNow s n c past → Carries s n past (takes_entry (Client n) c clock place act u body)
+entry_carries s n clock place c past act u body p is N =
     let own : List Line = lines.Read (Client n) u.fid u.index Fetched body ∷ lines.Given place ∷ [] in
     either_carries (is_trusted clock u) s n past _ _
     (walks_carry s n clock c past (read_lines (Client n) place (look_at Fetched u body)) own (with_read u.fid body act) (put_entry c.capacity u c.cache) (record {
       rule = λ tail h. (tt, (tt, h));
       comes = λ tail. refl;
-      had = put_had s n c.capacity u c.cache (own ++ lines_of past) (λ f e b x y. inr (N.had f e b x y)) (λ b e. inl (refl, (refl, (refl, is b e))));
+      had = put_had s n c.capacity u c.cache (own ++ lines_of past) (had_onto s n c.cache (lines.Given place ∷ lines.Read (Client n) u.fid u.index Fetched body ∷ []) (lines_of past) refl N.had) (inl (refl, (refl, (refl, (refl, p))))) (λ b e. inl (refl, (refl, (refl, is b e))));
     }))
     (bare_step s n c past _ N refl (λ f e x. x))
 
@@ -239,9 +264,20 @@ abbrev AreBodiless : List CacheEntry → Type 0
 AreBodiless [] = ⊤
 AreBodiless (e ∷ es) = (e.body ≡ None) × AreBodiless es
 
-puts_had : (s : Script) (n capacity : ℕ) (es cache : List CacheEntry) (o : List Line) → AreBodiless es → Had s n cache o → Had s n (put_entries capacity es cache) o
-puts_had s n capacity [] cache o h k = k
-puts_had s n capacity (u ∷ es) cache o h k = puts_had s n capacity es (put_entry capacity u cache) o h.1 (put_had s n capacity u cache o k (λ b e. (let no_ : None ≡ Some b = sym h.0 ∙ e in absurd cc)))
+-- their versions came
+abbrev AreLearned : ℕ → List CacheEntry → List Line → Type 0
+AreLearned n [] o = ⊤
+AreLearned n (e ∷ es) o = HasLearned (Client n) e.fid e.index o × AreLearned n es o
+
+reads_learned : (n : ℕ) (es : List CacheEntry) (o : List Line) → AreLearned n es (onto o (looked (Client n) (map status_look es) []))
+reads_learned n [] o = tt
+reads_learned n (e ∷ es) o =
+    let x : Line = lines.Read (Client n) e.fid e.index Fetched (seen.Status e.status) in
+    (learned_onto (Client n) e.fid e.index (looked (Client n) (map status_look es) []) (x ∷ o) (looked_steady (Client n) (map status_look es) [] refl) (inl (refl, (refl, (refl, (refl, refl))))), reads_learned n es (x ∷ o))
+
+puts_had : (s : Script) (n capacity : ℕ) (es cache : List CacheEntry) (o : List Line) → AreBodiless es → AreLearned n es o → Had s n cache o → Had s n (put_entries capacity es cache) o
+puts_had s n capacity [] cache o h l k = k
+puts_had s n capacity (u ∷ es) cache o h l k = puts_had s n capacity es (put_entry capacity u cache) o h.1 l.1 (put_had s n capacity u cache o k l.0 (λ b e. (let no_ : None ≡ Some b = sym h.0 ∙ e in absurd cc)))
 
 bodiless : (server : Node) (sync : AfsVolSync) (fs : List Fid) (ss : List AfsFetchStatus) (cs : List AfsCallBack) → AreBodiless (entries_told server sync fs ss cs)
 bodiless server sync [] ss cs = tt
@@ -271,7 +307,8 @@ entries_carry s n clock place c past act es none N =
     (walks_carry s n clock c past (λ ls. given place (looked (Client n) (map status_look es) ls)) own (with_statuses es act) (put_entries c.capacity es c.cache) (record {
       rule = λ tail h. (tt, statuses_told s n past es (lines.Given place ∷ []) tail h);
       comes = λ tail. ap (onto (lines.Given place ∷ lines_of past)) (looked_more (Client n) (map status_look es) tail) ∙ (onto_more (lines.Given place ∷ lines_of past) seen_ tail ∙ ap (λ (o : List Line). onto o tail) on);
-      had = subst (Had s n (put_entries c.capacity es c.cache)) on (had_onto s n (put_entries c.capacity es c.cache) seen_ (lines.Given place ∷ lines_of past) (looked_steady (Client n) (map status_look es) [] refl) (puts_had s n c.capacity es c.cache (lines.Given place ∷ lines_of past) none N.had));
+      had = subst (Had s n (put_entries c.capacity es c.cache)) on (puts_had s n c.capacity es c.cache (onto (lines.Given place ∷ lines_of past) seen_) none (reads_learned n es (lines.Given place ∷ lines_of past))
+          (had_onto s n c.cache seen_ (lines.Given place ∷ lines_of past) (looked_steady (Client n) (map status_look es) [] refl) (had_behind s n c.cache (lines.Given place) (lines_of past) refl N.had)));
     }))
 
 -- ---- changes
@@ -283,16 +320,29 @@ made_by : (t : Bool) (u x e : CacheEntry) (b : Body) → cond t x u ≡ e → e.
 made_by true u x e b is h = inl (refl, ap (λ (v : CacheEntry). v.body) is ∙ h)
 made_by false u x e b is h = inr (ap (λ (v : CacheEntry). v.body) is ∙ h)
 
-stored_carries : (s : Script) (n place clock : ℕ) (c : ClientState) (past : List Entry) (g : Fid) (index : ℕ) (status : ReadStatus) (made : Option Body → Option Body) → ((f : Fid) (u : CacheEntry) (b : Body) → g ≡ f → find_cached f c.cache ≡ Some u → made u.body ≡ Some b → HasBrought s (Client n) f b (lines.Answer (Client n) zero_code ∷ lines.Given place ∷ lines_of past)) → IsNow s n c past
+index_by : (t : Bool) (u x e : CacheEntry) → cond t x u ≡ e → ((t ≡ true) × (x.index ≡ e.index)) ⊎ (u.index ≡ e.index)
+index_by true u x e is = inl (refl, ap (λ (v : CacheEntry). v.index) is)
+index_by false u x e is = inr (ap (λ (v : CacheEntry). v.index) is)
+
+-- the client's own store made this version
+stored_carries : (s : Script) (n place clock : ℕ) (c : ClientState) (past : List Entry) (g : Fid) (index : ℕ) (status : ReadStatus) (made : Option Body → Option Body) → HasMadeItself (Client n) g index (lines_of past) → ((f : Fid) (u : CacheEntry) (b : Body) → g ≡ f → find_cached f c.cache ≡ Some u → made u.body ≡ Some b → HasBrought s (Client n) f b (lines.Answer (Client n) zero_code ∷ lines.Given place ∷ lines_of past)) → IsNow s n c past
     → Carries s n past (record { state = ended c (map (refreshed clock g index status made) c.cache); lines = given place (lines.Answer (Client n) zero_code ∷ []); sent = [] })
-stored_carries s n place clock c past g index status made new N = record {
+stored_carries s n place clock c past g index status made itself new N = record {
   told = (tt, (tt, tt));
-  after = λ f e b found body.
+  after = λ f e found.
       let u = mapped (find_cached f c.cache) (refreshed clock g index status made) e (sym (found-refreshed clock g f index status made c.cache) ∙ found) in
-      elim (made_by (same_fid u.0.fid g && is_trusted clock u.0) u.0 (record u.0 { index = index; status = status; body = made u.0.body }) e b u.1.1 body) [
-        | inl x ↦ new f u.0 b (sym (same_fid-true u.0.fid g (both (same_fid u.0.fid g) (is_trusted clock u.0) x.0).0) ∙ same_fid-true u.0.fid f (found-cached-fid f c.cache u.0 u.1.0)) u.1.0 x.1
-        | inr x ↦ inr (N.had f u.0 b u.1.0 x)
-      ];
+      let t : Bool = same_fid u.0.fid g && is_trusted clock u.0 in
+      let x : CacheEntry = record u.0 { index = index; status = status; body = made u.0.body } in
+      let fid : t ≡ true → g ≡ f = λ z. sym (same_fid-true u.0.fid g (both (same_fid u.0.fid g) (is_trusted clock u.0) z).0) ∙ same_fid-true u.0.fid f (found-cached-fid f c.cache u.0 u.1.0) in (
+        elim (index_by t u.0 x e u.1.1) [
+          | inl y ↦ inl (refl, (refl, subst (λ (i : ℕ). HasMadeItself (Client n) f i (lines.Given place ∷ lines_of past)) y.1 (subst (λ (h : Fid). HasMadeItself (Client n) h index (lines_of past)) (fid y.0) itself)))
+          | inr y ↦ inr (subst (λ (i : ℕ). HasLearned (Client n) f i (lines_of past)) y (N.had f u.0 u.1.0).0)
+        ],
+        λ b body. elim (made_by t u.0 x e b u.1.1 body) [
+          | inl y ↦ new f u.0 b (fid y.0) u.1.0 y.1
+          | inr y ↦ inr ((N.had f u.0 u.1.0).1 b y)
+        ],
+      );
 }
 
 -- the store of an act
@@ -301,29 +351,33 @@ stores_by s n place c past act call f b runs run same plain h =
     let asks : asked act ≡ call = sym (call_is c act) ∙ (ap as_asked same ∙ plain) in
     inl (refl, (refl, subst (λ (o : Option Going). StoresBy o f b) (sym (runs ∙ run)) (subst (λ (k : FsCall). Stores k f b) (sym asks) h)))
 
-status_carries : (s : Script) (n clock place : ℕ) (c : ClientState) (past : List Entry) (f : Fid) (status : AfsFetchStatus) (call : FsCall) → IsNow s n c past → Carries s n past (takes_status (Client n) c clock place f status call)
-status_carries s n clock place c past f status call N =
+status_carries : (s : Script) (n clock place : ℕ) (c : ClientState) (past : List Entry) (f : Fid) (status : AfsFetchStatus) (call : FsCall) → HasMadeItself (Client n) f status.sync_counter (lines_of past) → IsNow s n c past → Carries s n past (takes_status (Client n) c clock place f status call)
+status_carries s n clock place c past f status call itself N =
     either_carries (not c.spoiled && is_below clock status.sync_counter (find_cached f c.cache)) s n past _ _
-    (stored_carries s n place clock c past f status.sync_counter (status_told status) (λ body. body) (λ g u b e found body. inr (N.had g u b found body)) N)
+    (stored_carries s n place clock c past f status.sync_counter (status_told status) (λ body. body) itself (λ g u b e found body. inr ((N.had g u found).1 b body)) N)
     (plain_carries s n place c past call zero_code N)
 
-set_carries : (s : Script) (n clock place : ℕ) (c : ClientState) (past : List Entry) (act : Going) (status : AfsFetchStatus) (call : FsCall) → c.running ≡ Some act → call_of c act ≡ call → IsNow s n c past → Carries s n past (takes_set (Client n) c clock place status call)
-set_carries s n clock place c past act status (calls.StoreData f set position wanted file_length contents) run same N =
+-- what the act's store made, by the status in its reply
+abbrev Made : ℕ → List Entry → FsCall → AfsFetchStatus → Type 0
+Made n past call status = (f : Fid) → stored_fid call ≡ Some f → HasMadeItself (Client n) f status.sync_counter (lines_of past)
+
+set_carries : (s : Script) (n clock place : ℕ) (c : ClientState) (past : List Entry) (act : Going) (status : AfsFetchStatus) (call : FsCall) → Made n past call status → c.running ≡ Some act → call_of c act ≡ call → IsNow s n c past → Carries s n past (takes_set (Client n) c clock place status call)
+set_carries s n clock place c past act status (calls.StoreData f set position wanted file_length contents) M run same N =
     either_carries c.spoiled s n past _ _ (plain_carries s n place c past (calls.StoreData f set position wanted file_length contents) zero_code N)
-    (stored_carries s n place clock c past f status.sync_counter (status_told status) (λ body. Some (bodies.File contents)) (λ g u b e found body. stores_by s n place c past act (calls.StoreData f set position wanted file_length contents) g b N.runs run same refl (e, sym (some_of (bodies.File contents) b body))) N)
-set_carries s n clock place c past act status (calls.StoreAcl f acl) run same N = status_carries s n clock place c past f status (calls.StoreAcl f acl) N
-set_carries s n clock place c past act status (calls.StoreStatus f set) run same N = status_carries s n clock place c past f status (calls.StoreStatus f set) N
-set_carries s n clock place c past act status call run same N = plain_carries s n place c past call zero_code N
+    (stored_carries s n place clock c past f status.sync_counter (status_told status) (λ body. Some (bodies.File contents)) (M f refl) (λ g u b e found body. stores_by s n place c past act (calls.StoreData f set position wanted file_length contents) g b N.runs run same refl (e, sym (some_of (bodies.File contents) b body))) N)
+set_carries s n clock place c past act status (calls.StoreAcl f acl) M run same N = status_carries s n clock place c past f status (calls.StoreAcl f acl) (M f refl) N
+set_carries s n clock place c past act status (calls.StoreStatus f set) M run same N = status_carries s n clock place c past f status (calls.StoreStatus f set) (M f refl) N
+set_carries s n clock place c past act status call M run same N = plain_carries s n place c past call zero_code N
 
 -- ---- replies, by their calls
 
 data_carries : (s : Script) (n clock place : ℕ) (c : ClientState) (past : List Entry) (act : Going) (contents : List ℕ) (status : AfsFetchStatus) (callback : AfsCallBack) (sync : AfsVolSync) (call : FsCall) → IsNow s n c past → Carries s n past (takes_data (Client n) c clock place act contents status callback sync call)
 data_carries s n clock place c past act contents status callback sync (calls.FetchData f position wanted) N =
-    entry_carries s n clock place c past act (entry_told c.callee f status callback sync (Some (body_told status.file_type contents))) (seen.Contents (body_told status.file_type contents)) (λ b e. ap seen.Contents (some_of (body_told status.file_type contents) b e)) N
+    entry_carries s n clock place c past act (entry_told c.callee f status callback sync (Some (body_told status.file_type contents))) (seen.Contents (body_told status.file_type contents)) refl (λ b e. ap seen.Contents (some_of (body_told status.file_type contents) b e)) N
 data_carries s n clock place c past act contents status callback sync call N = plain_carries s n place c past call zero_code N
 
 shown_carries : (s : Script) (n clock place : ℕ) (c : ClientState) (past : List Entry) (act : Going) (status : AfsFetchStatus) (callback : AfsCallBack) (sync : AfsVolSync) (call : FsCall) → IsNow s n c past → Carries s n past (takes_shown (Client n) c clock place act status callback sync call)
-shown_carries s n clock place c past act status callback sync (calls.FetchStatus f) N = entry_carries s n clock place c past act (entry_told c.callee f status callback sync None) (seen.Status (status_told status)) (λ b e. absurd cc) N
+shown_carries s n clock place c past act status callback sync (calls.FetchStatus f) N = entry_carries s n clock place c past act (entry_told c.callee f status callback sync None) (seen.Status (status_told status)) refl (λ b e. absurd cc) N
 shown_carries s n clock place c past act status callback sync call N = plain_carries s n place c past call zero_code N
 
 drops_more : (m : Node) (es : List CacheEntry) (tail : List Line) → dropped m es tail ≡ dropped m es [] ++ tail
@@ -345,7 +399,7 @@ list_carries s n clock place c past act text status sync (calls.FetchAcl g) N =
     walks_carry s n clock c past (λ ls. read_lines (Client n) place (record { fid = g; index = status.sync_counter; source = Fetched; body = seen.AccessList text }) (dropped (Client n) es ls)) own (with_read g (seen.AccessList text) act) kept_ (record {
       rule = λ tail h. (tt, (tt, drops_told s n past es (r ∷ lines.Given place ∷ []) tail h));
       comes = λ tail. ap (onto (r ∷ lines.Given place ∷ lines_of past)) (drops_more (Client n) es tail) ∙ (onto_more (r ∷ lines.Given place ∷ lines_of past) gone tail ∙ ap (λ (o : List Line). onto o tail) on);
-      had = subst (Had s n kept_) on (had_onto s n kept_ gone (r ∷ lines.Given place ∷ lines_of past) (dropped_steady (Client n) es [] refl) (λ f e b x y. inr (N.had f e b (within_filter (λ e. not (is_older g status.sync_counter sync.release e)) c.cache N.apart f e x) y)));
+      had = subst (Had s n kept_) on (had_onto s n kept_ gone (r ∷ lines.Given place ∷ lines_of past) (dropped_steady (Client n) es [] refl) (had_onto s n kept_ (lines.Given place ∷ r ∷ []) (lines_of past) refl (λ f e x. N.had f e (within_filter (λ e. not (is_older g status.sync_counter sync.release e)) c.cache N.apart f e x))));
     })
 list_carries s n clock place c past act text status sync call N = plain_carries s n place c past call zero_code N
 
@@ -361,30 +415,42 @@ given_carries : (s : Script) (n place : ℕ) (c : ClientState) (past : List Entr
 given_carries s n place c past act (calls.GiveUpCallBacks fids callbacks) N = gives_carry s n place c past act (behind_batch c.gifts) N
 given_carries s n place c past act call N = plain_carries s n place c past call zero_code N
 
-takes_carry : (s : Script) (n clock place : ℕ) (c : ClientState) (past : List Entry) (act : Going) (call : FsCall) (reply : FsReply) → c.running ≡ Some act → call_of c act ≡ call → IsNow s n c past → Carries s n past (takes (Client n) c clock place act call reply)
-takes_carry s n clock place c past act call (replies.FetchData contents status callback sync) run same N = data_carries s n clock place c past act contents status callback sync call N
-takes_carry s n clock place c past act call (replies.FetchAcl text status sync) run same N = list_carries s n clock place c past act text status sync call N
-takes_carry s n clock place c past act call (replies.FetchStatus status callback sync) run same N = shown_carries s n clock place c past act status callback sync call N
-takes_carry s n clock place c past act call (replies.StoreData status sync) run same N = set_carries s n clock place c past act status call run same N
-takes_carry s n clock place c past act call (replies.StoreAcl status sync) run same N = set_carries s n clock place c past act status call run same N
-takes_carry s n clock place c past act call (replies.StoreStatus status sync) run same N = set_carries s n clock place c past act status call run same N
-takes_carry s n clock place c past act call (replies.BulkStatus statuses callbacks sync) run same N = bulk_carries s n clock place c past act statuses callbacks sync call N
-takes_carry s n clock place c past act call replies.GiveUpCallBacks run same N = given_carries s n place c past act call N
-takes_carry s n clock place c past act call reply run same N = plain_carries s n place c past call zero_code N
+takes_carry : (s : Script) (n clock place : ℕ) (c : ClientState) (past : List Entry) (act : Going) (call : FsCall) (reply : FsReply) → ((status : AfsFetchStatus) → status_in (carried.Reply (tell.File reply)) ≡ Some status → Made n past call status) → c.running ≡ Some act → call_of c act ≡ call → IsNow s n c past → Carries s n past (takes (Client n) c clock place act call reply)
+takes_carry s n clock place c past act call (replies.FetchData contents status callback sync) M run same N = data_carries s n clock place c past act contents status callback sync call N
+takes_carry s n clock place c past act call (replies.FetchAcl text status sync) M run same N = list_carries s n clock place c past act text status sync call N
+takes_carry s n clock place c past act call (replies.FetchStatus status callback sync) M run same N = shown_carries s n clock place c past act status callback sync call N
+takes_carry s n clock place c past act call (replies.StoreData status sync) M run same N = set_carries s n clock place c past act status call (M status refl) run same N
+takes_carry s n clock place c past act call (replies.StoreAcl status sync) M run same N = set_carries s n clock place c past act status call (M status refl) run same N
+takes_carry s n clock place c past act call (replies.StoreStatus status sync) M run same N = set_carries s n clock place c past act status call (M status refl) run same N
+takes_carry s n clock place c past act call (replies.BulkStatus statuses callbacks sync) M run same N = bulk_carries s n clock place c past act statuses callbacks sync call N
+takes_carry s n clock place c past act call replies.GiveUpCallBacks M run same N = given_carries s n place c past act call N
+takes_carry s n clock place c past act call reply M run same N = plain_carries s n place c past call zero_code N
 
-counts_carry : (s : Script) (n clock place : ℕ) (c : ClientState) (act : Going) (head : Head) (x : Carried) (past : List Entry) → c.running ≡ Some act → IsNow s n c past → Carries s n past (counts (Client n) c clock place act head x)
-counts_carry s n clock place c act head (carried.Call user call) past run N = bare_step s n c past _ N refl (λ f e z. z)
-counts_carry s n clock place c act head (carried.Refusal code) past run N =
+-- what the reply for which the act waits tells of its store
+abbrev AllMade : ℕ → ClientState → Going → Carried → List Entry → Type 0
+AllMade n c act x past = (r : FsReply) (status : AfsFetchStatus) → x ≡ carried.Reply (tell.File r) → status_in x ≡ Some status → Made n past (call_of c act) status
+
+counts_carry : (s : Script) (n clock place : ℕ) (c : ClientState) (act : Going) (head : Head) (x : Carried) (past : List Entry) → AllMade n c act x past → c.running ≡ Some act → IsNow s n c past → Carries s n past (counts (Client n) c clock place act head x)
+counts_carry s n clock place c act head (carried.Call user call) past M run N = bare_step s n c past _ N refl (λ f e z. z)
+counts_carry s n clock place c act head (carried.Refusal code) past M run N =
     either_carries (is_spent c act) s n past _ _ (bare_step s n c past _ N refl (λ f e z. z))
     (either_carries (is_busy_code code && nat_lt c.busy most_busy) s n past _ _ (bare_step s n c past _ N refl (λ f e z. z)) (bare_step s n c past _ N refl (λ f e z. z)))
-counts_carry s n clock place c act head (carried.Reply (tell.File reply)) past run N =
-    either_carries (is_spent c act) s n past _ _ (bare_step s n c past _ N refl (λ f e z. z)) (takes_carry s n clock place c past act (call_of c act) reply run refl N)
-counts_carry s n clock place c act head (carried.Reply reply) past run N = bare_step s n c past _ N refl (λ f e z. z)
-counts_carry s n clock place c act head carried.Notice past run N = bare_step s n c past _ N refl (λ f e z. z)
+counts_carry s n clock place c act head (carried.Reply (tell.File reply)) past M run N =
+    either_carries (is_spent c act) s n past _ _ (bare_step s n c past _ N refl (λ f e z. z)) (takes_carry s n clock place c past act (call_of c act) reply (λ status e. M reply status refl e) run refl N)
+counts_carry s n clock place c act head (carried.Reply reply) past M run N = bare_step s n c past _ N refl (λ f e z. z)
+counts_carry s n clock place c act head carried.Notice past M run N = bare_step s n c past _ N refl (λ f e z. z)
 
-awaits_carry : (s : Script) (n clock place : ℕ) (c : ClientState) (head : Head) (x : Carried) (past : List Entry) (o : Option Going) → c.running ≡ o → IsNow s n c past → Carries s n past (awaits (Client n) c clock place head x o)
-awaits_carry s n clock place c head x past None run N = bare_step s n c past _ N refl (λ f e z. z)
-awaits_carry s n clock place c head x past (Some act) run N = either_carries (is_awaited c act head) s n past _ _ (counts_carry s n clock place c act head x past run N) (bare_step s n c past _ N refl (λ f e z. z))
+awaited_carry : (s : Script) (n clock place : ℕ) (c : ClientState) (act : Going) (head : Head) (x : Carried) (past : List Entry) (t : Bool) → is_awaited c act head ≡ t → (is_awaited c act head ≡ true → AllMade n c act x past) → c.running ≡ Some act → IsNow s n c past → Carries s n past (cond t (counts (Client n) c clock place act head x) (ignores c place))
+awaited_carry s n clock place c act head x past true e M run N = counts_carry s n clock place c act head x past (M e) run N
+awaited_carry s n clock place c act head x past false e M run N = bare_step s n c past _ N refl (λ f e z. z)
+
+-- of whichever act runs
+abbrev AnyMade : ℕ → ClientState → Head → Carried → List Entry → Type 0
+AnyMade n c head x past = (act : Going) → c.running ≡ Some act → is_awaited c act head ≡ true → AllMade n c act x past
+
+awaits_carry : (s : Script) (n clock place : ℕ) (c : ClientState) (head : Head) (x : Carried) (past : List Entry) (o : Option Going) → AnyMade n c head x past → c.running ≡ o → IsNow s n c past → Carries s n past (awaits (Client n) c clock place head x o)
+awaits_carry s n clock place c head x past None M run N = bare_step s n c past _ N refl (λ f e z. z)
+awaits_carry s n clock place c head x past (Some act) M run N = awaited_carry s n clock place c act head x past (is_awaited c act head) refl (M act run) run N
 
 -- ---- calls to it
 
@@ -406,15 +472,15 @@ admits_carry s n place c head x pairs.in_progress past N = bare_step s n c past 
 admits_carry s n place c head x pairs.older past N = bare_step s n c past _ N refl (λ f e z. z)
 admits_carry s n place c head x (pairs.wrong_boot boot) past N = bare_step s n c past _ N refl (λ f e z. z)
 
-hears_carry : (s : Script) (n clock place : ℕ) (c : ClientState) (head : Head) (x : Carried) (past : List Entry) → IsNow s n c past → Carries s n past (hears (Client n) c clock place head x)
-hears_carry s n clock place c head (carried.Call user call) past N = admits_carry s n place c head (carried.Call user call) (admitted c.epoch c.seats head) past N
-hears_carry s n clock place c head x past N = awaits_carry s n clock place c head x past c.running refl N
+hears_carry : (s : Script) (n clock place : ℕ) (c : ClientState) (head : Head) (x : Carried) (past : List Entry) → AnyMade n c head x past → IsNow s n c past → Carries s n past (hears (Client n) c clock place head x)
+hears_carry s n clock place c head (carried.Call user call) past M N = admits_carry s n place c head (carried.Call user call) (admitted c.epoch c.seats head) past N
+hears_carry s n clock place c head x past M N = awaits_carry s n clock place c head x past c.running M refl N
 
 -- ---- its steps
 
-told_carries : (s : Script) (n clock place : ℕ) (c : ClientState) (m : Message) (past : List Entry) → IsNow s n c past → Carries s n past (client_row (Client n) c clock place (Whole m))
+told_carries : (s : Script) (n clock place : ℕ) (c : ClientState) (m : Message) (past : List Entry) → AnyMade n c m.head m.carried past → IsNow s n c past → Carries s n past (client_row (Client n) c clock place (Whole m))
 unfolding client_row
-told_carries s n clock place c m past N = either_carries (same_node m.head.to (Client n)) s n past _ _ (hears_carry s n clock place c m.head m.carried past N) (bare_step s n c past _ N refl (λ f e z. z))
+told_carries s n clock place c m past M N = either_carries (same_node m.head.to (Client n)) s n past _ _ (hears_carry s n clock place c m.head m.carried past M N) (bare_step s n c past _ N refl (λ f e z. z))
 
 first_gives : (s : Script) (n clock : ℕ) (c y : ClientState) (act : Act) (g : Going) (past : List Entry) (gs : List Gift) → y.cache ≡ c.cache → IsNow s n c past → Carries s n past (gives_by (Client n) (record y { cache = untrusted_in clock y.cache }) (λ ls. lines.Begin (Client n) act ∷ dropped (Client n) (trusted_in clock y.cache) ls) g gs)
 first_gives s n clock c y act g past [] same N =
@@ -446,10 +512,17 @@ abbrev pub BroughtIn : Script → Cell → List Entry → Type 0
 BroughtIn s c past = (j : ℕ) → Had s j (c.clients j).cache (lines_of past)
 
 abbrev pub GivenBrought : Script → Cell → List Entry → Type 0
-GivenBrought s c past = GivenKept s c past × BroughtIn s c past
+GivenBrought s c past = Based s c past × BroughtIn s c past
 
 now_at : (s : Script) (c : Cell) (past : List Entry) (n : ℕ) → GivenBrought s c past → IsNow s n (c.clients n) past
-now_at s c past n h = record { apart = (h.0.1 n).0; had = h.1 n; runs = h.0.0.0.0.0.1.acts n }
+now_at s c past n h = record { apart = (h.0.kept.1 n).0; had = h.1 n; runs = h.0.kept.0.0.0.0.1.acts n }
+
+-- the reply for which the client waits
+reply_code : (x : Carried) (r : FsReply) → x ≡ carried.Reply (tell.File r) → HasCode x
+reply_code x r e = subst HasCode (sym e) tt
+
+any_made : (s : Script) (c : Cell) (past : List Entry) (n place : ℕ) (m : Message) → Based s c past → message_at c.sent place ≡ Some m → m.head.to ≡ Client n → AnyMade n (c.clients n) m.head m.carried past
+any_made s c past n place m B at to act run awaited r status file told f is = store_made s c past n act m r (call_of (c.clients n) act) f status B (arrives s c past n place act m B at (reply_code m.carried r file) to run awaited) file refl is told
 
 -- another node's lines crash another
 else_line : (s : Script) (j : ℕ) (f : Fid) (b : Body) (l : Line) (o : List Line) → ((n : Node) → l ≡ lines.Crash n → same_node n (Client j) ≡ false) → HasBrought s (Client j) f b o → HasBrought s (Client j) f b (l ∷ o)
@@ -458,21 +531,30 @@ else_line s j f b (lines.Read m g index source body) o h k = inr k
 else_line s j f b (lines.Answer m code) o h k = inr k
 else_line s j f b l o h k = k
 
+else_learned : (j : ℕ) (f : Fid) (i : ℕ) (l : Line) (o : List Line) → ((n : Node) → l ≡ lines.Crash n → same_node n (Client j) ≡ false) → HasLearned (Client j) f i o → HasLearned (Client j) f i (l ∷ o)
+else_learned j f i (lines.Crash n) o h k = subst (λ (t : Bool). Unless t (HasLearned (Client j) f i o)) (sym (h n refl)) k
+else_learned j f i (lines.Read m g index source body) o h k = inr k
+else_learned j f i (lines.Answer m code) o h k = inr k
+else_learned j f i l o h k = k
+
 other_crash : (i j : ℕ) (l : Line) → is_of i l ≡ true → (i ≡ j → ⊥) → (n : Node) → l ≡ lines.Crash n → same_node n (Client j) ≡ false
 other_crash i j l h ne n e = other_node n i j (ap (is_of i) (sym e) ∙ h) ne
 
-other_onto : (s : Script) (i j : ℕ) (f : Fid) (b : Body) (ls o : List Line) → all_lines (is_of i) ls ≡ true → (i ≡ j → ⊥) → HasBrought s (Client j) f b o → HasBrought s (Client j) f b (onto o ls)
-other_onto s i j f b [] o h ne k = k
-other_onto s i j f b (l ∷ ls) o h ne k = let q = both (is_of i l) (all_lines (is_of i) ls) h in other_onto s i j f b ls (l ∷ o) q.1 ne (else_line s j f b l o (other_crash i j l q.0 ne) k)
+else_had : (s : Script) (j : ℕ) (cache : List CacheEntry) (l : Line) (o : List Line) → ((n : Node) → l ≡ lines.Crash n → same_node n (Client j) ≡ false) → Had s j cache o → Had s j cache (l ∷ o)
+else_had s j cache l o h k f e x = (else_learned j f e.index l o h (k f e x).0, λ b y. else_line s j f b l o h ((k f e x).1 b y))
+
+other_onto : (s : Script) (i j : ℕ) (cache : List CacheEntry) (ls o : List Line) → all_lines (is_of i) ls ≡ true → (i ≡ j → ⊥) → Had s j cache o → Had s j cache (onto o ls)
+other_onto s i j cache [] o h ne k = k
+other_onto s i j cache (l ∷ ls) o h ne k = let q = both (is_of i l) (all_lines (is_of i) ls) h in other_onto s i j cache ls (l ∷ o) q.1 ne (else_had s j cache l o (other_crash i j l q.0 ne) k)
 
 no_client : (n : Node) (j : ℕ) → is_idle (lines.Crash n) ≡ true → same_node n (Client j) ≡ false
 no_client (Server i) j h = refl
 no_client (Client i) j h = absurd cc
 no_client n j h = absurd cc
 
-idle_onto : (s : Script) (j : ℕ) (f : Fid) (b : Body) (ls o : List Line) → all_lines is_idle ls ≡ true → HasBrought s (Client j) f b o → HasBrought s (Client j) f b (onto o ls)
-idle_onto s j f b [] o h k = k
-idle_onto s j f b (l ∷ ls) o h k = let q = both (is_idle l) (all_lines is_idle ls) h in idle_onto s j f b ls (l ∷ o) q.1 (else_line s j f b l o (λ n e. no_client n j (ap is_idle (sym e) ∙ q.0)) k)
+idle_onto : (s : Script) (j : ℕ) (cache : List CacheEntry) (ls o : List Line) → all_lines is_idle ls ≡ true → Had s j cache o → Had s j cache (onto o ls)
+idle_onto s j cache [] o h k = k
+idle_onto s j cache (l ∷ ls) o h k = let q = both (is_idle l) (all_lines is_idle ls) h in idle_onto s j cache ls (l ∷ o) q.1 (else_had s j cache l o (λ n e. no_client n j (ap is_idle (sym e) ∙ q.0)) k)
 
 idle_told : (s : Script) (who : Actor) (past : List Entry) (own ls : List Line) → all_lines is_idle ls ≡ true → EachLine (IsBroughtGood s) who past own ls
 idle_told s who past own [] h = tt
@@ -490,22 +572,22 @@ own_had : (s : Script) (c : Cell) (past : List Entry) (n : ℕ) (st : Step Clien
 own_had s c past n st h a k j =
     at_put n j (λ (x : ClientState). Had s j x.cache (onto (lines_of past) st.lines)) st.state c.clients
     (λ same. subst (λ (i : ℕ). Had s i st.state.cache (onto (lines_of past) st.lines)) same k)
-    (λ other f e b x y. other_onto s n j f b st.lines (lines_of past) a.of other (h.1 j f e b x y))
+    (λ other. other_onto s n j (c.clients j).cache st.lines (lines_of past) a.of other (h.1 j))
 
 client_done : (s : Script) (c : Cell) (past : List Entry) (n : ℕ) (st : Step ClientState) → GivenBrought s c past → Acts n (who_at (c.clients n)) (c.clients n).gifts st → Carries s n past st → (j : ℕ) → Had s j (put n st.state c.clients j).cache (lines_of (of_client n st ∷ past))
 client_done s c past n st h a k = own_had s c past n st h a k.after
 
 idle_had : (s : Script) (c : Cell) (past : List Entry) (y : Entry) → GivenBrought s c past → all_lines is_idle y.lines ≡ true → BroughtIn s c (y ∷ past)
-idle_had s c past y h idle j f e b x z = idle_onto s j f b y.lines (lines_of past) idle (h.1 j f e b x z)
+idle_had s c past y h idle j = idle_onto s j (c.clients j).cache y.lines (lines_of past) idle (h.1 j)
 
 brought_moves : (s : Script) → EachMove (GivenBrought s) (BroughtStep s)
 brought_moves s = record {
   void = λ c past h. record { had = idle_had s c past (voided c).entry h refl; told = (tt, tt) };
   ticked = λ c past n h. record { had = idle_had s c past (ticked c (suc n)).entry h refl; told = (tt, tt) };
   begun = λ c past n act h r. (let k = begun_carries s n c.clock (c.clients n) act past (now_at s c past n h) in record { had = client_done s c past n _ h (begins_acts n (c.clients n) c.clock act r) k; told = k.told });
-  told = λ c past n place m h at to. (let k = told_carries s n c.clock place (c.clients n) m past (now_at s c past n h) in record { had = client_done s c past n _ h (given_acts (by_key (IsKnown h.0.0.0.0.0.0.keys.callees c.clients)) any_told n (c.clients n) c.clock place m (h.0.0.0.0.0.0.keys.replies n) (h.0.0.0.0.0.1.seats n)) k; told = k.told });
+  told = λ c past n place m h at to. (let k = told_carries s n c.clock place (c.clients n) m past (any_made s c past n place m h.0 at to) (now_at s c past n h) in record { had = client_done s c past n _ h (given_acts (by_key (IsKnown h.0.kept.0.0.0.0.0.keys.callees c.clients)) any_told n (c.clients n) c.clock place m (h.0.kept.0.0.0.0.0.keys.replies n) (h.0.kept.0.0.0.0.1.seats n)) k; told = k.told });
   waited = λ c past n act h r. (let k = waits_carry s n (c.clients n) act past (now_at s c past n h) in record { had = client_done s c past n _ h (waits_acts n (c.clients n) act r) k; told = k.told });
-  fallen = λ c past n h. record { had = own_had s c past n _ h (falls_acts n (c.clients n)) (λ f e b x y. absurd cc); told = (tt, tt) };
+  fallen = λ c past n h. record { had = own_had s c past n _ h (falls_acts n (c.clients n)) (λ f e x. absurd cc); told = (tt, tt) };
   risen = λ c past n h. record { had = own_had s c past n _ h (rises_acts n (c.clients n)) (h.1 n); told = (tt, tt) };
   served = λ c past i place m armed h up at to. (let z = idle_works any_message i (c.hosts i).state _ _ (serves_works any_message (Server i) (c.hosts i).state c.clock place m (λ rest. tt)) in record { had = idle_had s c past (server_moves c i armed (server_row (Server i) (c.hosts i).state c.clock place (Whole m))).entry h z; told = idle_told s (actors.Node (Server i)) past [] _ z });
   cut = λ c past i place m t h up at to. record { had = idle_had s c past (server_falls c i (lines.Given place ∷ blow_line i t ∷ []) (in_step m c.clock)).entry h (blow_idle i t); told = idle_told s (actors.Node (Server i)) past [] (lines.Given place ∷ blow_line i t ∷ []) (blow_idle i t) };
@@ -523,10 +605,10 @@ brought_moves s = record {
 }
 
 pub brought_kept : (s : Script) → IsKept (GivenBrought s)
-brought_kept s c past x h = (kept_kept s c past x h.0, (each_moved (GivenBrought s) (BroughtStep s) (brought_moves s) c past x h).had)
+brought_kept s c past x h = (based_kept s c past x h.0, (each_moved (GivenBrought s) (BroughtStep s) (brought_moves s) c past x h).had)
 
 pub brought_first : (s : Script) → GivenBrought s (start s) (set_up s ∷ [])
-brought_first s = (kept_first s, λ j f e b x y. absurd cc)
+brought_first s = (based_first s, λ j f e x. absurd cc)
 
 pub run_brought : CachedAreBrought
 run_brought s h end r =

@@ -8,20 +8,20 @@ use Rattle.afs_law.proofs.Acting.{begins_acts, given_acts, is_of, waits_acts}
 use Rattle.afs_law.proofs.Backing.{all_lines}
 use Rattle.afs_law.proofs.Basics.{Above, IfCall, both, each_at, runs_admitted}
 use Rattle.afs_law.proofs.Choosing.{Saves, Works, disk_works, is_from, risen_from, risen_lines, serves_works, starts_works, times_works, wakes_works}
-use Rattle.afs_law.proofs.Cutting.{CutOf, CutsIn, HearsCuts, comes_first, cuts_moves, now_up}
+use Rattle.afs_law.proofs.Cutting.{CutOf, CutsIn, KnownCuts, comes_first, cuts_moves, now_up}
 use Rattle.afs_law.proofs.Edits.{on_top}
 use Rattle.afs_law.proofs.Words.{IsOne, Origin}
 use Rattle.afs_law.proofs.Ideals.{AreBlank, CutIs, Held, IsCalled, IsSent, Saved, blank_by, blank_key, blow_blank, cut_by, found_volume, from_blank, held_kept, is_blank, no_more, of_blank, of_this, own_from, saved_at, volumes_first}
-use Rattle.afs_law.proofs.KeysOnce.{HasRun, IsKnown, any_told, by_key, new_key, not_run, of_change, server_number}
+use Rattle.afs_law.proofs.KeysOnce.{HasRun, IsKnown, any_told, by_key, latest_by, new_key, not_run}
 use Rattle.afs_law.proofs.SettingUp.{any_home}
 use Rattle.afs_law.proofs.Moving.{Behind, EachMove, IsKept, each_moved}
 use Rattle.afs_law.proofs.Origins.{asked_first}
-use Rattle.afs_law.proofs.Saving.{first_on, later_by}
+use Rattle.afs_law.proofs.Saving.{first_on}
 use Rattle.afs_law.specs.Breaks.{HasStopped}
 use Rattle.afs_law.specs.Ideal.{change_key, set_up, user_of}
 use Rattle.afs_law.specs.Legal.{EndsBoot, HasChangeBy, IdealChange, IsNew, as_asked, versions_first}
 use Rattle.afs_law.specs.Parts.{ChangesAreIdeal, EachEntry, EachLine, IsIdeal}
-use Rattle.afs_law.specs.Past.{Called, IsCall, IsCallUnder, IsToCome, given_message, lines_of, onto, sent_of}
+use Rattle.afs_law.specs.Past.{IsLatest, Called, IsCall, IsCallUnder, IsToCome, given_message, lines_of, onto, sent_of}
 use Rattle.afs_model.specs.Calls.{call_seat}
 use Rattle.afs_num.specs.declared.calls.FsCall.{FsCall}
 use Rattle.afs_num.specs.declared.calls.FsCall.TheVariants as calls
@@ -164,15 +164,14 @@ change_ideal s c past i b ls h S =
     let first : versions_first (versioned vs S.rest) ≡ vs = first_on vs S.rest (none_first S.rest rest) in
     record {
       fresh = new_over k own (lines_of past) blank (new_key (HasRun callees c.clients c.hosts) k (lines_of past) (not_run callees c.clients c.hosts i k known above) h.0.0.keys.ran);
-      latest = λ l y node. let r : HasRun callees c.clients c.hosts (Server i) l = of_change (HasRun callees c.clients c.hosts) (Server i) l (lines_of past) (by_over (Server i) l own (lines_of past) blank y) h.0.0.keys.ran in
-          later_by (call_seat k.node x.lasting.kept) k l above
-          (λ z. r.ran (subst (λ (n : ℕ). Above (call_seat l.node (c.hosts n).state.lasting.kept) l.epoch l.number) (server_number i r.server r.is) (subst (λ (n : Node). Above (call_seat n x.lasting.kept) l.epoch l.number) (sym node) z)));
+      latest = λ l y node. latest_by c.clients c.hosts c.sent (lines_of past) i k h.0.0.keys above l (by_over (Server i) l own (lines_of past) blank y) node;
       place = elim S.given.1 [
         | inl y ↦ inl (record {
           boot = x.lasting.boot;
           up = now_up c past i h.0.0.hears y.up;
           given = subst (IsCallUnder (Server i) k x.lasting.boot) (sym (own_given c past i m S.front h.0.0.hears.told y)) (under x.lasting.boot refl);
           first = subst (λ (l : Key). IsToCome (Server i) l x.lasting.boot past) key (comes_first c past i m j h.0.0.hears y.up S.chosen.from S.chosen.runs);
+          latest = latest_by c.clients c.hosts c.sent (lines_of past) i k h.0.0.keys above;
         })
         | inr y ↦ inr (record {
           alone = ap (onto []) y.front';
@@ -187,6 +186,7 @@ change_ideal s c past i b ls h S =
             up = y.cut.up;
             given = subst (IsCallUnder (Server i) k x.lasting.boot) (sym y.cut.given) (under x.lasting.boot refl);
             first = subst (λ (l : Key). IsToCome (Server i) l x.lasting.boot y.cut.older) key (y.cut.first j S.chosen.from S.chosen.runs);
+            latest = subst (λ (l : Key). IsLatest (Server i) l (lines_of y.cut.older)) key (y.cut.latest S.chosen.runs);
           };
           stopped = y.cut.stopped;
           since = y.cut.since;
@@ -269,7 +269,7 @@ ideal_moves s = record {
 }
 
 pub cuts_kept : (s : Script) → IsKept (HeldCuts s)
-cuts_kept s c past x h = (held_kept s c past x h.0, each_moved HearsCuts (Behind CutsIn) cuts_moves c past x (h.0.0.0.hears, h.1))
+cuts_kept s c past x h = (held_kept s c past x h.0, each_moved KnownCuts (Behind CutsIn) cuts_moves c past x (h.0.0.0, h.1))
 
 pub cuts_first : (s : Script) → HeldCuts s (start s) (set_up s ∷ [])
 cuts_first s = ((asked_first s, volumes_first s), λ i m clock e. absurd cc)

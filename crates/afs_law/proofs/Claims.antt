@@ -1,18 +1,19 @@
--- A client's file call is made for its user, and is the one under its key, to the one callee and to a boot that this began, however many
--- servers a cell has.
+-- A client's file call is all that a legal history asks of it, however many servers a cell has.
 use Rattle.afs_history.specs.declared.scripts.Script.{Script}
-use Rattle.afs_law.proofs.Basics.{ByClient, Each, IfCall, OfCall, OfClient, by_client, same_key-true}
+use Rattle.afs_law.proofs.Addressed.{Addressed, IsHome, homes_first, homes_kept}
+use Rattle.afs_law.proofs.Asking.{AsksNow, IsNow, asks_moves, is_at_home, its_last}
+use Rattle.afs_law.proofs.Basics.{ByClient, Each, IfCall, OfCall, OfClient, by_client, client_number, same_key-true}
 use Rattle.afs_law.proofs.KeysOnce.{IsKnown}
-use Rattle.afs_law.proofs.Learning.{HearsLearnt, IsToBegun, LearntIn, learnt_first, learnt_kept}
-use Rattle.afs_law.proofs.Moving.{IsKept}
-use Rattle.afs_law.proofs.Sent.{each_front}
-use Rattle.afs_law.proofs.Words.{IsOne, Origin}
+use Rattle.afs_law.proofs.Learning.{KnownLearnt, IsToBegun, LearntIn, learnt_first, learnt_kept}
+use Rattle.afs_law.proofs.Moving.{IsKept, each_moved}
+use Rattle.afs_law.proofs.Sent.{call_is, each_front}
+use Rattle.afs_law.proofs.Words.{IsOne}
 use Rattle.afs_law.proofs.Changing.{run_each}
-use Rattle.afs_law.proofs.Origins.{KnownAsked, asked_first, asked_kept}
-use Rattle.afs_law.specs.Ideal.{call_in, call_under, callee_under, set_up, user_of}
-use Rattle.afs_law.specs.Legal.{OwnCall, OwnCallOf}
+use Rattle.afs_law.proofs.Origins.{KnownAsked}
+use Rattle.afs_law.specs.Ideal.{call_in, call_under, callee_under, set_up}
+use Rattle.afs_law.specs.Legal.{OwnCall, OwnCallOf, as_asked}
 use Rattle.afs_law.specs.Parts.{CallsAreOwn, EachSent, IsOwnCall}
-use Rattle.afs_law.specs.Past.{called_key, is_called, sent_of}
+use Rattle.afs_law.specs.Past.{called_key, is_called, lines_of, running, sent_of}
 use Rattle.afs_num.specs.declared.calls.FsCall.{FsCall}
 use Rattle.afs_num.specs.declared.messages.Call.TheVariants as ask
 use Rattle.afs_num.specs.declared.messages.Carried.{Carried}
@@ -23,7 +24,7 @@ use Rattle.afs_num.specs.declared.types.Key.{Key}
 use Rattle.afs_num.specs.declared.types.Node.{Node}
 use Rattle.afs_num.specs.declared.types.Node.TheVariants.{Admin, Client, Loc, Server}
 use Rattle.afs_rows.specs.Going.{ClientState}
-use Rattle.afs_rows.specs.Runs.{Cell, Entry, moved, start}
+use Rattle.afs_rows.specs.Runs.{Cell, Entry, moved, start, user_at}
 use Rattle.afs_rows.specs.ServerRow.{key_of}
 use Rattle.std.proofs.Common.{ℕ, Bool, true, false, cond, List, [], ◌∷◌, Option, Some, ◌≡◌, ◌∙◌, ap, refl, subst, sym}
 
@@ -56,51 +57,80 @@ callee_is callees clients n k x (m ∷ sent) node e h =
 
 -- ---- what an entry sends
 
--- of all that was sent
-abbrev AreSent : Script → (Key → Node) → (ℕ → ClientState) → List Entry → List Message → Type 0
-AreSent s callees clients past ms = Each (IfCall (IsOne (sent_of past))) ms × (Each (IfCall (Origin s past)) ms × (Each (IfCall (KnownBy callees clients)) ms × Each (IfCall (IsToBegun past)) ms))
+-- what is known of a cell behind the entry
+record Around (s : Script) (callees : Key → Node) (clients : ℕ → ClientState) (past : List Entry) : Type 0 where
+  all : Each (IfCall (KnownBy callees clients)) (sent_of past)
+  acts : (j : ℕ) → running s (Client j) (lines_of past) ≡ (clients j).running
+  users : (j : ℕ) → (clients j).user ≡ user_at s j
 
-own_by : (s : Script) (callees : Key → Node) (clients : ℕ → ClientState) (past : List Entry) (head : Head) (user : List ℕ) (call : FsCall) (n : Node) → head.from ≡ n → Each (IfCall (KnownBy callees clients)) (sent_of past)
-    → OfClient head.from (IsOne (sent_of past) head user call) → OfClient head.from (Origin s past head user call) → OfClient head.from (KnownBy callees clients head user call) → OfClient head.from (IsToBegun past head user call) → OwnCallOf s n head user call past
-own_by s callees clients past head user call (Client j) e all one o q b =
-    let under : call_under (called_key head) (sent_of past) ≡ Some (user, call) = by_client j head.from (IsOne (sent_of past) head user call) e one in (
-      (by_client j head.from (Origin s past head user call) e o).own_user ∙ ap (user_of s) e,
-      (under, (callee_is callees clients j (called_key head) (user, call) (sent_of past) e under all ∙ ap Some (sym (by_client j head.from (KnownBy callees clients head user call) e q).called), by_client j head.from (IsToBegun past head user call) e b)),
-    )
-own_by s callees clients past head user call (Server i) e all one o q b = tt
-own_by s callees clients past head user call (Admin i) e all one o q b = tt
-own_by s callees clients past head user call Loc e all one o q b = tt
+-- and of messages
+record AreSent (s : Script) (callees : Key → Node) (clients : ℕ → ClientState) (past : List Entry) (ms : List Message) : Type 0 where
+  ones : Each (IfCall (IsOne (sent_of past))) ms
+  known : Each (IfCall (KnownBy callees clients)) ms
+  homes : Each (IfCall (IsHome s)) ms
+  boots : Each (IfCall (IsToBegun past)) ms
+  now : Each (IfCall (IsNow clients)) ms
 
-claim_of : (s : Script) (callees : Key → Node) (clients : ℕ → ClientState) (past : List Entry) (head : Head) (x : Carried) → Each (IfCall (KnownBy callees clients)) (sent_of past)
-    → OfCall (ByClient (IsOne (sent_of past))) head x → OfCall (ByClient (Origin s past)) head x → OfCall (ByClient (KnownBy callees clients)) head x → OfCall (ByClient (IsToBegun past)) head x → OwnCall s head x past
-claim_of s callees clients past head (carried.Call user (ask.File call)) all h k q b = own_by s callees clients past head user call head.from refl all h k q b
-claim_of s callees clients past head (carried.Call user (ask.Volume call)) all h k q b = tt
-claim_of s callees clients past head (carried.Call user (ask.Location call)) all h k q b = tt
-claim_of s callees clients past head (carried.Refusal code) all h k q b = tt
-claim_of s callees clients past head (carried.Reply reply) all h k q b = tt
-claim_of s callees clients past head carried.Notice all h k q b = tt
+own_by : (s : Script) (callees : Key → Node) (clients : ℕ → ClientState) (past : List Entry) (head : Head) (user : List ℕ) (call : FsCall) (n : Node) → head.from ≡ n → Around s callees clients past
+    → OfClient head.from (IsOne (sent_of past) head user call) → OfClient head.from (KnownBy callees clients head user call) → OfClient head.from (IsHome s head user call) → OfClient head.from (IsToBegun past head user call) → OfClient head.from (IsNow clients head user call) → OwnCallOf s n head user call past
+own_by s callees clients past head user call (Client j) e A one q home b now =
+    let under : call_under (called_key head) (sent_of past) ≡ Some (user, call) = by_client j head.from (IsOne (sent_of past) head user call) e one in
+    let x : IsNow clients head user call = by_client j head.from (IsNow clients head user call) e now in
+    let same : x.client ≡ j = client_number x.client j (sym (ap (λ (k : Key). k.node) x.its.key) ∙ e) in
+    record {
+      own_user = x.its.user' ∙ (A.users x.client ∙ ap (user_at s) same);
+      act = x.its.act;
+      runs = subst (λ (k : ℕ). running s (Client k) (lines_of past) ≡ Some x.its.act) same (A.acts x.client ∙ x.its.runs);
+      asks = ap as_asked x.its.asks ∙ call_is (clients x.client) x.its.act;
+      opcode = x.its.opcode;
+      last = its_last callees clients x.client head (sent_of past) x.its.key A.all;
+      one = under;
+      one_callee = callee_is callees clients j (called_key head) (user, call) (sent_of past) e under A.all ∙ ap Some (sym (by_client j head.from (KnownBy callees clients head user call) e q).called);
+      home = is_at_home s head user call (lines_of past) (by_client j head.from (IsHome s head user call) e home);
+      boot = by_client j head.from (IsToBegun past head user call) e b;
+    }
+own_by s callees clients past head user call (Server i) e A one q home b now = tt
+own_by s callees clients past head user call (Admin i) e A one q home b now = tt
+own_by s callees clients past head user call Loc e A one q home b now = tt
 
-claims : (s : Script) (callees : Key → Node) (clients : ℕ → ClientState) (past : List Entry) (ms : List Message) → Each (IfCall (KnownBy callees clients)) (sent_of past) → AreSent s callees clients past ms → EachSent (IsOwnCall s) past ms
-claims s callees clients past [] all h = tt
-claims s callees clients past (m ∷ ms) all h = (claim_of s callees clients past m.head m.carried all h.0.0 h.1.0.0 h.1.1.0.0 h.1.1.1.0, claims s callees clients past ms all (h.0.1, (h.1.0.1, (h.1.1.0.1, h.1.1.1.1))))
+claim_of : (s : Script) (callees : Key → Node) (clients : ℕ → ClientState) (past : List Entry) (head : Head) (x : Carried) → Around s callees clients past
+    → OfCall (ByClient (IsOne (sent_of past))) head x → OfCall (ByClient (KnownBy callees clients)) head x → OfCall (ByClient (IsHome s)) head x → OfCall (ByClient (IsToBegun past)) head x → OfCall (ByClient (IsNow clients)) head x → OwnCall s head x past
+claim_of s callees clients past head (carried.Call user (ask.File call)) A h q o b w = own_by s callees clients past head user call head.from refl A h q o b w
+claim_of s callees clients past head (carried.Call user (ask.Volume call)) A h q o b w = absurd h
+claim_of s callees clients past head (carried.Call user (ask.Location call)) A h q o b w = absurd h
+claim_of s callees clients past head (carried.Refusal code) A h q o b w = tt
+claim_of s callees clients past head (carried.Reply reply) A h q o b w = tt
+claim_of s callees clients past head carried.Notice A h q o b w = tt
+
+claims : (s : Script) (callees : Key → Node) (clients : ℕ → ClientState) (past : List Entry) (ms : List Message) → Around s callees clients past → AreSent s callees clients past ms → EachSent (IsOwnCall s) past ms
+claims s callees clients past [] A h = tt
+claims s callees clients past (m ∷ ms) A h = (
+  claim_of s callees clients past m.head m.carried A h.ones.0 h.known.0 h.homes.0 h.boots.0 h.now.0,
+  claims s callees clients past ms A (record { ones = h.ones.1; known = h.known.1; homes = h.homes.1; boots = h.boots.1; now = h.now.1 }),
+)
 
 -- what is known of calls, and of the boots to which they are sent
 abbrev Claimed : Script → Cell → List Entry → Type 0
-Claimed s c past = KnownAsked s c past × HearsLearnt c past
+Claimed s c past = Addressed s c past × KnownLearnt c past
 
 claimed_kept : (s : Script) → IsKept (Claimed s)
-claimed_kept s c past x h = (asked_kept s c past x h.0, learnt_kept c past x h.1)
+claimed_kept s c past x h = (homes_kept s c past x h.0, learnt_kept c past x h.1)
 
-claims_behind : (s : Script) (c : Cell) (e : Entry) (past : List Entry) → KnownAsked s c (e ∷ past) → LearntIn c (e ∷ past) → EachSent (IsOwnCall s) (e ∷ past) e.sent
-claims_behind s c e past K L =
+claims_behind : (s : Script) (c : Cell) (e : Entry) (past : List Entry) → Claimed s c (e ∷ past) → Each (IfCall (IsNow c.clients)) e.sent → EachSent (IsOwnCall s) (e ∷ past) e.sent
+claims_behind s c e past h now =
+    let K : KnownAsked s c (e ∷ past) = h.0.0.0.0.0 in
     let told : sent_of (e ∷ past) ≡ c.sent = K.0.hears.told in
-    let P : Message → Type 0 = IfCall (KnownBy K.0.keys.callees c.clients) in
-    let all : Each P (sent_of (e ∷ past)) = subst (Each P) (sym told) K.0.keys.calls in
-    claims s K.0.keys.callees c.clients (e ∷ past) e.sent all (
-      (each_front (IfCall (IsOne (sent_of (e ∷ past)))) (sent_of past) e.sent (subst (λ (ms : List Message). Each (IfCall (IsOne ms)) ms) (sym told) K.1.ones)).1,
-      ((each_front (IfCall (Origin s (e ∷ past))) (sent_of past) e.sent (subst (Each (IfCall (Origin s (e ∷ past)))) (sym told) K.1.origins)).1, ((each_front P (sent_of past) e.sent all).1, (each_front (IfCall (IsToBegun (e ∷ past))) (sent_of past) e.sent (subst (Each (IfCall (IsToBegun (e ∷ past)))) (sym told) L.calls)).1)),
-    )
+    let each : (P : Message → Type 0) → Each P c.sent → Each P (sent_of (e ∷ past)) = λ P. subst (Each P) (sym told) in
+    let new : (P : Message → Type 0) → Each P c.sent → Each P e.sent = λ P x. (each_front P (sent_of past) e.sent (each P x)).1 in
+    claims s K.0.keys.callees c.clients (e ∷ past) e.sent (record { all = each (IfCall (KnownBy K.0.keys.callees c.clients)) K.0.keys.calls; acts = K.1.acts; users = K.1.user }) (record {
+      ones = new (IfCall (IsOne (sent_of (e ∷ past)))) (subst (λ (ms : List Message). Each (IfCall (IsOne ms)) c.sent) (sym told) K.1.ones);
+      known = new (IfCall (KnownBy K.0.keys.callees c.clients)) K.0.keys.calls;
+      homes = new (IfCall (IsHome s)) h.0.1.1;
+      boots = new (IfCall (IsToBegun (e ∷ past))) h.1.1.calls;
+      now = now;
+    })
 
 pub run_claims : CallsAreOwn
 run_claims s h end r =
-    run_each (Claimed s) (λ past e. EachSent (IsOwnCall s) (e ∷ past) e.sent) (claimed_kept s) (λ c past x k. (let b : Claimed s (moved c x).cell ((moved c x).entry ∷ past) = claimed_kept s c past x k in claims_behind s (moved c x).cell (moved c x).entry past b.0 b.1.1)) r.inputs (start s) (set_up s ∷ []) h end (asked_first s, learnt_first s) r.leads
+    run_each (Claimed s) (λ past e. EachSent (IsOwnCall s) (e ∷ past) e.sent) (claimed_kept s)
+    (λ c past x k. claims_behind s (moved c x).cell (moved c x).entry past (claimed_kept s c past x k) (each_moved (KnownAsked s) AsksNow (asks_moves s) c past x k.0.0.0.0.0)) r.inputs (start s) (set_up s ∷ []) h end (homes_first s, learnt_first s) r.leads

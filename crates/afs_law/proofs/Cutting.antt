@@ -5,11 +5,13 @@ use Rattle.afs_history.specs.declared.lines.Line.TheVariants as lines
 use Rattle.afs_law.proofs.Basics.{Above, above_up, at_put, runs_admitted}
 use Rattle.afs_law.proofs.Words.{MayRun, up_boot}
 use Rattle.afs_law.proofs.Hearing.{HearsIn}
+use Rattle.afs_law.proofs.KeysOnce.{admitted_latest}
+use Rattle.afs_law.proofs.Knowing.{Known}
 use Rattle.afs_law.proofs.Moving.{Behind, EachMove}
 use Rattle.afs_law.proofs.Passing.{to_come}
 use Rattle.afs_law.specs.Breaks.{HasStopped}
 use Rattle.afs_law.specs.Legal.{AreFailed}
-use Rattle.afs_law.specs.Past.{IsToCome, called_key, given_message, lines_of, sent_of, server_boot}
+use Rattle.afs_law.specs.Past.{IsLatest, IsToCome, called_key, given_message, lines_of, sent_of, server_boot}
 use Rattle.afs_model.specs.Calls as pairs
 use Rattle.afs_model.specs.Calls.{admitted, call_seat}
 use Rattle.afs_num.specs.declared.histories.Actor.TheVariants as actors
@@ -32,6 +34,7 @@ pub record CutOf (i : ℕ) (x : ServerState) (m : Message) (past : List Entry) :
   pub since : AreFailed (Server i) newer
   pub up : server_boot (Server i) (lines_of older) ≡ Some x.lasting.boot
   pub first : (j : ℕ) → m.head.from ≡ Client j → admitted x.lasting.boot x.seats m.head ≡ pairs.runs → IsToCome (Server i) (called_key m.head) x.lasting.boot older
+  pub latest : admitted x.lasting.boot x.seats m.head ≡ pairs.runs → IsLatest (Server i) (called_key m.head) (lines_of older)
 
 abbrev pub CutsAt : (ℕ → Host) → List Entry → Type 0
 CutsAt hosts past = (i : ℕ) (m : Message) (clock : ℕ) → (hosts i).down ≡ Some (in_step m clock) → CutOf i (hosts i).state m past
@@ -53,7 +56,7 @@ comes_first c past i m j H up from runs =
 -- ---- an entry more
 
 cut_later : (i : ℕ) (x : ServerState) (m : Message) (e : Entry) (past : List Entry) → (e.actor ≡ actors.Node (Server i) → e.lines ≡ lines.Fault (Server i) ∷ []) → CutOf i x m past → CutOf i x m (e ∷ past)
-cut_later i x m e past w h = record { newer = e ∷ h.newer; at = h.at; older = h.older; split = ap (λ (es : List Entry). e ∷ es) h.split; actor = h.actor; given = h.given; stopped = h.stopped; since = (w, h.since); up = h.up; first = h.first }
+cut_later i x m e past w h = record { newer = e ∷ h.newer; at = h.at; older = h.older; split = ap (λ (es : List Entry). e ∷ es) h.split; actor = h.actor; given = h.given; stopped = h.stopped; since = (w, h.since); up = h.up; first = h.first; latest = h.latest }
 
 -- of no server
 other_cuts : (hosts : ℕ → Host) (past : List Entry) (e : Entry) → ((i : ℕ) → e.actor ≡ actors.Node (Server i) → ⊥) → CutsAt hosts past → CutsAt hosts (e ∷ past)
@@ -89,26 +92,27 @@ pub same_cut : (m k : Message) (a b : ℕ) → Some (in_step m a) ≡ Some (in_s
 same_cut m k a b e = cc
 
 -- where it is cut short
-cut_here : (c : Cell) (past : List Entry) (i place : ℕ) (m : Message) (t : Bool) (e : Entry) → HearsIn c past → (c.hosts i).down ≡ None → message_at c.sent place ≡ Some m → e.actor ≡ actors.Node (Server i) → e.lines ≡ lines.Given place ∷ blow_line i t ∷ [] → CutOf i (c.hosts i).state m (e ∷ past)
-cut_here c past i place m t e H up at actor ls = record {
+cut_here : (c : Cell) (past : List Entry) (i place : ℕ) (m : Message) (t : Bool) (e : Entry) → Known c past → (c.hosts i).down ≡ None → message_at c.sent place ≡ Some m → e.actor ≡ actors.Node (Server i) → e.lines ≡ lines.Given place ∷ blow_line i t ∷ [] → CutOf i (c.hosts i).state m (e ∷ past)
+cut_here c past i place m t e K up at actor ls = record {
   newer = [];
   at = e;
   older = past;
   split = refl;
   actor = actor;
-  given = ap (λ (l : List Line). given_message l (sent_of past)) ls ∙ (ap (λ (ms : List Message). message_at ms place) H.told ∙ at);
+  given = ap (λ (l : List Line). given_message l (sent_of past)) ls ∙ (ap (λ (ms : List Message). message_at ms place) K.hears.told ∙ at);
   stopped = subst (HasStopped (Server i)) (sym ls) (blow_stopped i place t);
   since = tt;
-  up = now_up c past i H up;
-  first = λ j from runs. comes_first c past i m j H up from runs;
+  up = now_up c past i K.hears up;
+  first = λ j from runs. comes_first c past i m j K.hears up from runs;
+  latest = λ runs. admitted_latest c (lines_of past) i m.head K.keys runs;
 }
 
 -- ---- every step
 
-abbrev pub HearsCuts : Cell → List Entry → Type 0
-HearsCuts c past = HearsIn c past × CutsIn c past
+abbrev pub KnownCuts : Cell → List Entry → Type 0
+KnownCuts c past = Known c past × CutsIn c past
 
-pub cuts_moves : EachMove HearsCuts (Behind CutsIn)
+pub cuts_moves : EachMove KnownCuts (Behind CutsIn)
 cuts_moves = record {
   void = λ c past h. other_cuts c.hosts past _ nobody h.1;
   ticked = λ c past n h. other_cuts c.hosts past _ no_clock h.1;

@@ -9,7 +9,8 @@ use Rattle.afs_law.proofs.Backing.{all_lines}
 use Rattle.afs_law.proofs.Basics.{both}
 use Rattle.afs_law.proofs.Changing.{run_each}
 use Rattle.afs_law.proofs.Choosing.{risen_lines}
-use Rattle.afs_law.proofs.Hearing.{HearsIn, client_given, first_hears, moved_hears, served_given}
+use Rattle.afs_law.proofs.Hearing.{client_given, served_given}
+use Rattle.afs_law.proofs.Knowing.{Known, known_first, known_kept}
 use Rattle.afs_law.proofs.Moving.{EachMove, each_moved}
 use Rattle.afs_law.proofs.Owed.{disk_lines}
 use Rattle.afs_law.specs.Ideal.{set_up}
@@ -58,7 +59,7 @@ first_ungiven : (me : Node) (x : ClientState) (clock : ℕ) (act : Act) (a : Goi
 first_ungiven me x clock act a gives_back = gives_ungiven me (record x { cache = untrusted_in clock x.cache }) act a (trusted_in clock x.cache) (in_order (map gift_of (trusted_in clock x.cache)))
 first_ungiven me x clock act a need = let w : Walked = walked (most_reads a) clock a x.cache in goes_ungiven me x act w (next w.act)
 
-begun_ungiven : (me : Node) (x : ClientState) (clock : ℕ) (act : Act) → Ungiven (begin_row me x clock act).lines
+pub begun_ungiven : (me : Node) (x : ClientState) (clock : ℕ) (act : Act) → Ungiven (begin_row me x clock act).lines
 unfolding begin_row
 begun_ungiven me x clock act = first_ungiven me (record x { busy = 0 }) clock act (began x.table act) (next (began x.table act))
 
@@ -66,7 +67,7 @@ tries_ungiven : (me : Node) (x : ClientState) (act : Going) (t : Bool) → Ungiv
 tries_ungiven me x act true = refl
 tries_ungiven me x act false = dropped_ungiven me (given_up_in (volume_changed (call_of x act)) x.cache) (lines.Answer me dead_code ∷ []) refl
 
-waited_ungiven : (me : Node) (x : ClientState) (act : Going) → Ungiven (timeout_row me x act).lines
+pub waited_ungiven : (me : Node) (x : ClientState) (act : Going) → Ungiven (timeout_row me x act).lines
 waited_ungiven me x act = tries_ungiven me x act (nat_lt x.tries 2)
 
 -- ---- a server's
@@ -120,17 +121,17 @@ DeliveredStep c past m = IsDelivered m.entry.actor past m.entry.lines
 ungiven_step : (past : List Entry) (m : Moved) → Ungiven m.entry.lines → IsDelivered m.entry.actor past m.entry.lines
 ungiven_step past m none = ungiven_delivered m.entry.actor past m.entry.lines none
 
-delivered_moves : EachMove HearsIn DeliveredStep
+delivered_moves : EachMove Known DeliveredStep
 delivered_moves = record {
   void = λ c past h. ungiven_step past (voided c) refl;
   ticked = λ c past n h. ungiven_step past (ticked c (suc n)) refl;
   begun = λ c past n act h r. ungiven_step past (client_moves c n (begin_row (Client n) (c.clients n) c.clock act)) (begun_ungiven (Client n) (c.clients n) c.clock act);
-  told = λ c past n place m h at to. given_delivered (Client n) past (client_row (Client n) (c.clients n) c.clock place (Whole m)).lines m ((client_given c past n place m h to at).given (sent_of past) ∙ (ap (λ (ms : List Message). message_at ms place) h.told ∙ at)) to;
+  told = λ c past n place m h at to. given_delivered (Client n) past (client_row (Client n) (c.clients n) c.clock place (Whole m)).lines m ((client_given c past n place m h.hears to at).given (sent_of past) ∙ (ap (λ (ms : List Message). message_at ms place) h.hears.told ∙ at)) to;
   waited = λ c past n act h r. ungiven_step past (client_moves c n (timeout_row (Client n) (c.clients n) act)) (waited_ungiven (Client n) (c.clients n) act);
   fallen = λ c past n h. ungiven_step past (client_falls c n) refl;
   risen = λ c past n h. ungiven_step past (client_rises c n) refl;
-  served = λ c past i place m armed h up at to. given_delivered (Server i) past (server_row (Server i) (c.hosts i).state c.clock place (Whole m)).lines m (served_given i (c.hosts i).state c.clock place m (sent_of past) ∙ (ap (λ (ms : List Message). message_at ms place) h.told ∙ at)) to;
-  cut = λ c past i place m t h up at to. given_delivered (Server i) past (lines.Given place ∷ blow_line i t ∷ []) m (ap (λ (ms : List Message). message_at ms place) h.told ∙ at) to;
+  served = λ c past i place m armed h up at to. given_delivered (Server i) past (server_row (Server i) (c.hosts i).state c.clock place (Whole m)).lines m (served_given i (c.hosts i).state c.clock place m (sent_of past) ∙ (ap (λ (ms : List Message). message_at ms place) h.hears.told ∙ at)) to;
+  cut = λ c past i place m t h up at to. given_delivered (Server i) past (lines.Given place ∷ blow_line i t ∷ []) m (ap (λ (ms : List Message). message_at ms place) h.hears.told ∙ at) to;
   stopped = λ c past i h up. ungiven_step past (server_falls c i (lines.Crash (Server i) ∷ []) at_rest) refl;
   stop_set = λ c past i calls pick armed h up. ungiven_step past (server_set c i (lines.Stop (Server i) calls pick) armed) refl;
   fail_set = λ c past i call armed h up. ungiven_step past (server_set c i (lines.Fail (Server i) call) armed) refl;
@@ -144,4 +145,4 @@ delivered_moves = record {
 
 pub run_delivered : (s : Script) (h : List Entry) (end : Cell) → RunsTo h s end → EachEntry (λ past e. IsDelivered e.actor past e.lines) (set_up s ∷ []) h
 run_delivered s h end r =
-    run_each HearsIn (λ past e. IsDelivered e.actor past e.lines) moved_hears (λ c past x k. each_moved HearsIn DeliveredStep delivered_moves c past x k) r.inputs (start s) (set_up s ∷ []) h end (first_hears s) r.leads
+    run_each Known (λ past e. IsDelivered e.actor past e.lines) known_kept (λ c past x k. each_moved Known DeliveredStep delivered_moves c past x k) r.inputs (start s) (set_up s ∷ []) h end (known_first s) r.leads

@@ -2,7 +2,8 @@
 use Rattle.afs_history.specs.declared.scripts.Script.{Script}
 use Rattle.afs_law.proofs.Changing.{run_each}
 use Rattle.afs_law.proofs.Delivered.{run_delivered}
-use Rattle.afs_law.proofs.Hearing.{HearsIn, first_hears, moved_hears}
+use Rattle.afs_law.proofs.Handling.{run_handled}
+use Rattle.afs_law.proofs.Knowing.{Known, known_first, known_kept}
 use Rattle.afs_law.proofs.SettingUp.{AreEntries}
 use Rattle.afs_law.proofs.Hosted.{IsServerLived, run_hosted}
 use Rattle.afs_law.proofs.Lives.{IsClientLived, run_lived}
@@ -10,7 +11,8 @@ use Rattle.afs_law.proofs.Members.{run_entries}
 use Rattle.afs_law.proofs.Moving.{EachMove, each_moved}
 use Rattle.afs_law.specs.Ideal.{set_up}
 use Rattle.afs_law.proofs.Truthful.{run_true}
-use Rattle.afs_law.specs.Legal.{IsEntryOf, IsLivedBy, WereRun}
+use Rattle.afs_law.proofs.Present.{run_present}
+use Rattle.afs_law.specs.Legal.{ArePresent, HandlesBreaks, IsEntryOf, IsLivedBy, IsPresent, WereRun}
 use Rattle.afs_law.specs.Lives.{IsDelivered}
 use Rattle.afs_law.specs.Parts.{EachEntry, EachSent, EntriesAreSound}
 use Rattle.afs_law.specs.ServerParts.{IsTruthful}
@@ -27,7 +29,7 @@ use Rattle.std.proofs.Common.{◌≡◌, List, [], ◌∷◌, refl}
 abbrev LaysNone : Cell → List Entry → Moved → Type 0
 LaysNone c past m = m.entry.volumes ≡ []
 
-none_laid : EachMove HearsIn LaysNone
+none_laid : EachMove Known LaysNone
 none_laid = record {
   void = λ c past h. refl;
   ticked = λ c past n h. refl;
@@ -67,12 +69,16 @@ lived_by (actors.Node Loc) past ls sent c h = tt
 lived_by actors.Clock past ls sent c h = tt
 lived_by actors.Nobody past ls sent c h = tt
 
-join : (s : Script) (past es : List Entry) → AreEntries s past es → EachEntry (λ past e. e.volumes ≡ []) past es → EachEntry (λ past e. IsClientLived e.actor past e.lines e.sent) past es → EachEntry (λ past e. IsServerLived e.actor past e.lines e.sent) past es → EachEntry (λ past e. IsDelivered e.actor past e.lines) past es
-    → EachEntry (λ past e. EachSent IsTruthful (e ∷ past) e.sent) past es → EachEntry (λ past e. IsEntryOf s past e × WereRun (e ∷ past) e.sent) past es
-join s past [] a b l h d t = tt
-join s past (e ∷ es) a b l h d t = ((((b.0, a.0.0), (a.0.1, (lived_by e.actor past e.lines e.sent l.0 h.0, d.0))), each_ran (e ∷ past) e.sent t.0), join s (e ∷ past) es a.1 b.1 l.1 h.1 d.1 t.1)
+each_present : (past : List Entry) (ms : List Message) → EachSent IsPresent past ms → ArePresent past ms
+each_present past [] h = tt
+each_present past (m ∷ ms) h = (h.0, each_present past ms h.1)
+
+join : (s : Script) (past es : List Entry) → AreEntries s past es → EachEntry (λ past e. e.volumes ≡ []) past es → EachEntry (λ past e. IsClientLived e.actor past e.lines e.sent) past es → EachEntry (λ past e. IsServerLived e.actor past e.lines e.sent) past es → EachEntry (λ past e. IsDelivered e.actor past e.lines) past es → EachEntry (λ past e. HandlesBreaks e.actor past e.lines) past es
+    → EachEntry (λ past e. EachSent IsPresent (e ∷ past) e.sent) past es → EachEntry (λ past e. EachSent IsTruthful (e ∷ past) e.sent) past es → EachEntry (λ past e. IsEntryOf s past e × WereRun (e ∷ past) e.sent) past es
+join s past [] a b l h d k v t = tt
+join s past (e ∷ es) a b l h d k v t = ((((b.0, a.0.0), (a.0.1, (lived_by e.actor past e.lines e.sent l.0 h.0, (d.0, (k.0, each_present (e ∷ past) e.sent v.0))))), each_ran (e ∷ past) e.sent t.0), join s (e ∷ past) es a.1 b.1 l.1 h.1 d.1 k.1 v.1 t.1)
 
 pub run_entered : EntriesAreSound
 run_entered s h end r =
-    join s (set_up s ∷ []) h (run_entries s h end r) (run_each HearsIn (λ past e. e.volumes ≡ []) moved_hears (λ c past x k. each_moved HearsIn LaysNone none_laid c past x k) r.inputs (start s) (set_up s ∷ []) h end (first_hears s) r.leads) (run_lived s h end r) (run_hosted s h end r) (run_delivered s h end r)
+    join s (set_up s ∷ []) h (run_entries s h end r) (run_each Known (λ past e. e.volumes ≡ []) known_kept (λ c past x k. each_moved Known LaysNone none_laid c past x k) r.inputs (start s) (set_up s ∷ []) h end (known_first s) r.leads) (run_lived s h end r) (run_hosted s h end r) (run_delivered s h end r) (run_handled s h end r) (run_present s h end r)
     (run_true s h end r)

@@ -11,10 +11,10 @@ use Rattle.afs_law.proofs.Basics.{Above, ByClient, Each, IfCall, IfReply, OfCall
 use Rattle.afs_law.proofs.Calling.{mild_standing, AreReplies, IsAnswer, IsCallOf, IsLastOf, Tame, answer_over, begins_tame, caller_at, falls_tame, given_tame, placed, rises_tame, uncalled_any, waits_tame}
 use Rattle.afs_law.proofs.Words.{up_boot, MayRun}
 use Rattle.afs_law.proofs.Hosting.{Begins, HasHead, HostStep, IsCutBy, IsDue, IsSound, Memory, decides_due, disk_begins, does_given, memory_of, served_head, serves_step, starts_step, times_step, wakes_step}
-use Rattle.afs_law.proofs.SettingUp.{AreVersions, all_versions, given_first}
+use Rattle.afs_law.proofs.SettingUp.{AreVersions, all_versions, first_passed, given_first}
 use Rattle.afs_law.specs.Ideal.{first_lines, set_up}
-use Rattle.afs_law.specs.Once.{past_of}
-use Rattle.afs_law.specs.Past.{lines_of, server_boot, IsToCome, HasCode, IsCall, IsCallUnder, IsUnheard, Ran, called_key, given_message, sent_of}
+use Rattle.afs_law.specs.Once.{AreOnce, past_of}
+use Rattle.afs_law.specs.Past.{lines_of, server_boot, IsLatest, IsToCome, HasCode, IsCall, IsCallUnder, IsUnheard, Ran, called_key, given_message, sent_of}
 use Rattle.afs_model.specs.Calls as pairs
 use Rattle.afs_model.specs.Calls.{Admitted, admitted, call_seat, call_seated, paired}
 use Rattle.afs_num.specs.Nodes.{same_node}
@@ -40,7 +40,7 @@ use Rattle.afs_rows.specs.States.{BackCall, Seat, ServerState}
 use Rattle.afs_rows.specs.Steps.{Step}
 use Rattle.std.proofs.Common.{zero, suc, ◌≡◌, ℕ, ◌+◌, ◌≤◌, ◌<◌, inl, inr, arith, eq-eqb, Bool, true, false, cond, List, [], ◌∷◌, ◌++◌, Option, Some, None, refl, sym, ap, subst, ◌∙◌}
 use Rattle.std.specs.Prelude.{⊤}
-use Rattle.afs_law.proofs.KeysOnce.{server_number}
+use Rattle.afs_law.proofs.KeysOnce.{EachChange, HasRun, StandsIn, admitted_latest, first_stands, moved_keeps, server_number}
 
 -- ---- boot numbers that were told, and replies that were made
 
@@ -66,15 +66,15 @@ own_had : (hosts : ℕ → Host) (i : ℕ) (h : Host) (b : ℕ) → b ≤ h.stat
 own_had hosts i h b l q e j f = at_put i j (λ (x : Host). b ≤ x.state.lasting.boot) h hosts (λ same. l) (λ other. absurd (other (server_number i j (sym e ∙ f))))
 
 abbrev pub ran_later : (e : Entry) (past : List Entry) (h : Head) → Ran h past → Ran h (e ∷ past)
-ran_later e past h r = record { newer = e ∷ r.newer; at = r.at; older = r.older; split = ap (λ (x : List Entry). e ∷ x) r.split; message = r.message; given = r.given; is_call = r.is_call; key = r.key; opcode = r.opcode; boot = r.boot; up = r.up; callee = r.callee; node = r.node; first = r.first }
+ran_later e past h r = record { newer = e ∷ r.newer; at = r.at; older = r.older; split = ap (λ (x : List Entry). e ∷ x) r.split; message = r.message; given = r.given; is_call = r.is_call; key = r.key; opcode = r.opcode; boot = r.boot; up = r.up; callee = r.callee; node = r.node; first = r.first; latest = r.latest }
 
 ran_over : (e : Entry) (past : List Entry) (h : Head) → IsRan past h → IsRan (e ∷ past) h
 ran_over e past h w i q = ran_later e past h (w i q)
 
 -- the entry that is given the call
-ran_here : (e : Entry) (past : List Entry) (m : Message) (i boot : ℕ) → e.actor ≡ actors.Node (Server i) → given_message e.lines (sent_of past) ≡ Some m → IsCall m.carried → m.head.to ≡ Server i → m.head.boot ≡ boot → IsToCome (Server i) (called_key m.head) boot past → server_boot (Server i) (lines_of past) ≡ Some boot
+ran_here : (e : Entry) (past : List Entry) (m : Message) (i boot : ℕ) → e.actor ≡ actors.Node (Server i) → given_message e.lines (sent_of past) ≡ Some m → IsCall m.carried → m.head.to ≡ Server i → m.head.boot ≡ boot → IsToCome (Server i) (called_key m.head) boot past → server_boot (Server i) (lines_of past) ≡ Some boot → IsLatest (Server i) (called_key m.head) (lines_of past)
     → Ran (reply_head boot m.head) (e ∷ past)
-ran_here e past m i boot actor given is to own first up = record {
+ran_here e past m i boot actor given is to own first up latest = record {
   newer = [];
   at = e;
   older = past;
@@ -89,6 +89,7 @@ ran_here e past m i boot actor given is to own first up = record {
   callee = refl;
   node = actor ∙ ap actors.Node (sym to);
   first = subst (λ (q : Node). IsToCome q (called_key m.head) boot past) (sym to) first;
+  latest = subst (λ (q : Node). IsLatest q (called_key m.head) (lines_of past)) (sym to) latest;
 }
 
 -- ---- what is kept of replies
@@ -362,15 +363,15 @@ fact_of Q j head (carried.Call user (ask.File call)) is from w = by_client j hea
 fact_of Q j head (carried.Call user call) is from w = absurd w
 fact_of Q j head x is from w = absurd is
 
-call_here : (c : Cell) (past : List Entry) (i : ℕ) (e : Entry) (m : Message) → HearsIn c past → e.actor ≡ actors.Node (Server i) → given_message e.lines (sent_of past) ≡ Some m → m.head.to ≡ Server i → (c.hosts i).down ≡ None → IfCall (λ h user call. IsHad c.hosts h.to h.boot) m
+call_here : (c : Cell) (past : List Entry) (i : ℕ) (e : Entry) (m : Message) → HearsIn c past → StandsIn c (lines_of past) → e.actor ≡ actors.Node (Server i) → given_message e.lines (sent_of past) ≡ Some m → m.head.to ≡ Server i → (c.hosts i).down ≡ None → IfCall (λ h user call. IsHad c.hosts h.to h.boot) m
     → IsCallOf (IsRan (e ∷ past)) (c.hosts i).state.lasting.boot (c.hosts i).state.seats m.head m.carried
-call_here c past i e m H actor given to up w =
+call_here c past i e m H S actor given to up w =
     call_is (IsRan (e ∷ past)) (λ h. IsHad c.hosts h.to h.boot) (c.hosts i).state.lasting.boot (c.hosts i).state.seats m.head m.carried
     (λ is j from q runs k z. let a = runs_admitted (c.hosts i).state.lasting.boot (c.hosts i).state.seats m.head runs in
     ran_here e past m i (c.hosts i).state.lasting.boot actor given is to a.0
     (to_come (Server i) (called_key m.head) (c.hosts i).state.lasting.boot past (λ l node later. H.unheard i j l (c.hosts i).state.lasting.boot (node ∙ from) (subst (λ (d : Option Fall). MayRun d (c.hosts i).state.lasting.boot (call_seat l.node (c.hosts i).state.seats) l (c.hosts i).state.lasting.boot) (sym up)
     (inr (refl, subst (λ (q : Node). Above (call_seat q (c.hosts i).state.seats) l.epoch l.number) (sym node) (above_up (call_seat m.head.from (c.hosts i).state.seats) m.head.epoch m.head.number l.epoch l.number a.1 later))))))
-    (H.boots.now i ∙ ap (λ (d : Option Fall). up_boot d (c.hosts i).state.lasting.boot) up))
+    (H.boots.now i ∙ ap (λ (d : Option Fall). up_boot d (c.hosts i).state.lasting.boot) up) (admitted_latest c (lines_of past) i m.head S runs))
     w
 
 -- it is to no boot to come
@@ -394,8 +395,8 @@ not_again c i place m j k b to w is (inr r) x =
     served_taken (λ h user call. IsHad c.hosts h.to h.boot) i (c.hosts i).state c.clock place m x.0.0 w to (x.1.1 ∙ (r.0 ∙ served_boot i (c.hosts i).state c.clock place m))
     (subst (λ (y : Key). Above (call_seat y.node (server_row (Server i) (c.hosts i).state c.clock place (Whole m)).state.seats) y.epoch y.number) (sym x.1.0) r.1)
 
-serves_hears : (c : Cell) (past : List Entry) (i place : ℕ) (armed : Armed) (m : Message) → HearsIn c past → (c.hosts i).down ≡ None → m.head.to ≡ Server i → message_at c.sent place ≡ Some m → After past (server_moves c i armed (server_row (Server i) (c.hosts i).state c.clock place (Whole m)))
-serves_hears c past i place armed m H up to at =
+serves_hears : (c : Cell) (past : List Entry) (i place : ℕ) (armed : Armed) (m : Message) → HearsIn c past → StandsIn c (lines_of past) → (c.hosts i).down ≡ None → m.head.to ≡ Server i → message_at c.sent place ≡ Some m → After past (server_moves c i armed (server_row (Server i) (c.hosts i).state c.clock place (Whole m)))
+serves_hears c past i place armed m H S up to at =
     let x : ServerState = (c.hosts i).state in
     let s : Step ServerState = server_row (Server i) x c.clock place (Whole m) in
     let e : Entry = of_server i s.lines s.sent in
@@ -406,7 +407,7 @@ serves_hears c past i place armed m H up to at =
     let same : s.state.lasting.boot ≡ x.lasting.boot = served_boot i x c.clock place m in
     let grows : x.lasting.boot ≤ s.state.lasting.boot = omega arith in
     let sound : IsSound (IsRan (e ∷ past)) (IsNoted (put i h c.hosts)) (memory_of x) = sound_on c past e i h H grows in
-    let due : IsDue (IsRan (e ∷ past)) (IsNoted (put i h c.hosts)) (Server i) x (decides (Server i) x c.clock (Whole m)) = decides_due (IsRan (e ∷ past)) (IsNoted (put i h c.hosts)) (Server i) x c.clock m sound.seats (call_here c past i e m H refl given to up w) (λ z. own_had c.hosts i h x.lasting.boot grows m.head.to z) in
+    let due : IsDue (IsRan (e ∷ past)) (IsNoted (put i h c.hosts)) (Server i) x (decides (Server i) x c.clock (Whole m)) = decides_due (IsRan (e ∷ past)) (IsNoted (put i h c.hosts)) (Server i) x c.clock m sound.seats (call_here c past i e m H S refl given to up w) (λ z. own_had c.hosts i h x.lasting.boot grows m.head.to z) in
     server_hears c past i (Some place) armed s H grows (serves_step (IsRan (e ∷ past)) (IsNoted (put i h c.hosts)) i x c.clock place m sound (held_on c past e i h H grows) due) (subst (GivenTo (Server i)) (sym told) to)
     (λ j k b is may. (
       λ u. not_again c i place m j k b to w is may (subst (λ (o : Option Message). IsCallUnder (Server i) k b o) given u),
@@ -414,12 +415,12 @@ serves_hears c past i place armed m H up to at =
     ))
     (step_boots c.hosts i h e past (serves_standing (Server i) x c.clock place m) (sym up) same H.boots)
 
-cut_hears : (c : Cell) (past : List Entry) (i place : ℕ) (m : Message) (b : Blow) → HearsIn c past → (c.hosts i).down ≡ None → m.head.to ≡ Server i → message_at c.sent place ≡ Some m → After past (server_falls c i (lines.Given place ∷ blow_line i b.stops ∷ []) (in_step m c.clock))
-cut_hears c past i place m b H up to at =
+cut_hears : (c : Cell) (past : List Entry) (i place : ℕ) (m : Message) (b : Blow) → HearsIn c past → StandsIn c (lines_of past) → (c.hosts i).down ≡ None → m.head.to ≡ Server i → message_at c.sent place ≡ Some m → After past (server_falls c i (lines.Given place ∷ blow_line i b.stops ∷ []) (in_step m c.clock))
+cut_hears c past i place m b H S up to at =
     let ls : List Line = lines.Given place ∷ blow_line i b.stops ∷ [] in
     let w : IfCall (λ y user call. IsHad c.hosts y.to y.boot) m = each_at (IfCall (λ y user call. IsHad c.hosts y.to y.boot)) c.sent place m at H.calls in
     let given : given_message ls (sent_of past) ≡ Some m = ap (λ (ms : List Message). message_at ms place) H.told ∙ at in
-    falls_hears c past i (Some (in_step m c.clock)) unarmed ls H (call_here c past i (of_server i ls []) m H refl given to up w) (subst (GivenTo (Server i)) (sym given) to)
+    falls_hears c past i (Some (in_step m c.clock)) unarmed ls H (call_here c past i (of_server i ls []) m H S refl given to up w) (subst (GivenTo (Server i)) (sym given) to)
     (λ j k x is later. (
       λ u. not_next c i m j k x to w is later (subst (λ (o : Option Message). IsCallUnder (Server i) k x o) given u),
       unheard_next i (c.hosts i).down (c.hosts i).state.seats (c.hosts i).state.lasting.boot past (H.unheard i) j k x is later,
@@ -451,13 +452,13 @@ either_hears : (past : List Entry) (t : Bool) (m k : Moved) → After past m →
 either_hears past true m k a b = a
 either_hears past false m k a b = b
 
-served_hears : (c : Cell) (past : List Entry) (i place : ℕ) (m : Message) (b : Option Blow) → HearsIn c past → (c.hosts i).down ≡ None → m.head.to ≡ Server i → message_at c.sent place ≡ Some m → After past (server_served c i place m b)
-served_hears c past i place m None H up to at = serves_hears c past i place _ m H up to at
-served_hears c past i place m (Some b) H up to at = cut_hears c past i place m b H up to at
+served_hears : (c : Cell) (past : List Entry) (i place : ℕ) (m : Message) (b : Option Blow) → HearsIn c past → StandsIn c (lines_of past) → (c.hosts i).down ≡ None → m.head.to ≡ Server i → message_at c.sent place ≡ Some m → After past (server_served c i place m b)
+served_hears c past i place m None H S up to at = serves_hears c past i place _ m H S up to at
+served_hears c past i place m (Some b) H S up to at = cut_hears c past i place m b H S up to at
 
-received_hears : (c : Cell) (past : List Entry) (i place : ℕ) (luck : Luck) (m : Message) (d : Option Fall) → HearsIn c past → (c.hosts i).down ≡ d → m.head.to ≡ Server i → message_at c.sent place ≡ Some m → After past (server_given c i place luck m d)
-received_hears c past i place luck m None H up to at = served_hears c past i place m (struck (c.hosts i).armed luck (device_calls (decided_at c i m))) H up to at
-received_hears c past i place luck m (Some fall) H up to at = void_hears c past H
+received_hears : (c : Cell) (past : List Entry) (i place : ℕ) (luck : Luck) (m : Message) (d : Option Fall) → HearsIn c past → StandsIn c (lines_of past) → (c.hosts i).down ≡ d → m.head.to ≡ Server i → message_at c.sent place ≡ Some m → After past (server_given c i place luck m d)
+received_hears c past i place luck m None H S up to at = served_hears c past i place m (struck (c.hosts i).armed luck (device_calls (decided_at c i m))) H S up to at
+received_hears c past i place luck m (Some fall) H S up to at = void_hears c past H
 
 -- down, where nothing is given
 down_heard : (c : Cell) (past : List Entry) (i : ℕ) (e : Entry) (fall : Fall) (seats : List Seat) (boot : ℕ) → HearsIn c past → given_message e.lines (sent_of past) ≡ None → (c.hosts i).state.lasting.boot ≤ boot → AreUnheardAt i (Some fall) seats boot (e ∷ past)
@@ -618,17 +619,17 @@ client_given c past n p m H to at =
     (call_is (IsRan (e ∷ past)) (λ h. IsHad c.hosts h.to h.boot) (c.clients n).epoch (c.clients n).seats m.head m.carried (λ is j from q runs i z. absurd (no_server n i (sym to ∙ z))) (each_at (IfCall (λ y user call. IsHad c.hosts y.to y.boot)) c.sent p m at H.calls))
     (λ i z. absurd (no_server n i (sym to ∙ z))) (each_at (λ y. OfNotice (IsNoted c.hosts y.head) y.carried) c.sent p m at H.notices)
 
-to_hears : (c : Cell) (past : List Entry) (p : ℕ) (luck : Luck) (m : Message) (to : Node) → HearsIn c past → m.head.to ≡ to → message_at c.sent p ≡ Some m → After past (given_to c p luck m to)
-to_hears c past p luck m (Server i) H to at = either_hears past (has_host c i) _ _ (received_hears c past i p luck m (c.hosts i).down H refl to at) (void_hears c past H)
-to_hears c past p luck m (Client n) H to at =
+to_hears : (c : Cell) (past : List Entry) (p : ℕ) (luck : Luck) (m : Message) (to : Node) → HearsIn c past → StandsIn c (lines_of past) → m.head.to ≡ to → message_at c.sent p ≡ Some m → After past (given_to c p luck m to)
+to_hears c past p luck m (Server i) H S to at = either_hears past (has_host c i) _ _ (received_hears c past i p luck m (c.hosts i).down H S refl to at) (void_hears c past H)
+to_hears c past p luck m (Client n) H S to at =
     either_hears past (is_away c n) _ _ (void_hears c past H)
     (client_hears c past n (Some p) (client_row (Client n) (c.clients n) c.clock p (Whole m)) H (client_given c past n p m H to at) (subst (GivenTo (Client n)) (sym (ap (λ (ms : List Message). message_at ms p) H.told ∙ at)) to))
-to_hears c past p luck m Loc H to at = void_hears c past H
-to_hears c past p luck m (Admin n) H to at = void_hears c past H
+to_hears c past p luck m Loc H S to at = void_hears c past H
+to_hears c past p luck m (Admin n) H S to at = void_hears c past H
 
-at_hears : (c : Cell) (past : List Entry) (p : ℕ) (luck : Luck) (m : Option Message) → message_at c.sent p ≡ m → HearsIn c past → After past (given_at c p luck m)
-at_hears c past p luck None e H = void_hears c past H
-at_hears c past p luck (Some m) e H = to_hears c past p luck m m.head.to H refl e
+at_hears : (c : Cell) (past : List Entry) (p : ℕ) (luck : Luck) (m : Option Message) → message_at c.sent p ≡ m → HearsIn c past → StandsIn c (lines_of past) → After past (given_at c p luck m)
+at_hears c past p luck None e H S = void_hears c past H
+at_hears c past p luck (Some m) e H S = to_hears c past p luck m m.head.to H S refl e
 
 begun_hears : (c : Cell) (past : List Entry) (n : ℕ) (act : Act) (g : Option Going) → HearsIn c past → After past (begun_by c n act g)
 begun_hears c past n act None H = client_hears c past n None _ H (begins_tame _ (IsNoted c.hosts) (IsHad c.hosts) n (c.clients n) c.clock act (kept_on c past _ n H)) tt
@@ -642,31 +643,31 @@ waited_hears c past n (Some act) e H = client_hears c past n None _ H (waits_tam
 pub first_had : (c : Cell) (past : List Entry) → HearsIn c past → (q : Node) → IsHad c.hosts q 1
 first_had c past H q i e = H.first i
 
-pub moved_hears : (c : Cell) (past : List Entry) (x : Input) → HearsIn c past → After past (moved c x)
+pub moved_hears : (c : Cell) (past : List Entry) (x : Input) → HearsIn c past → StandsIn c (lines_of past) → After past (moved c x)
 unfolding moved
-moved_hears c past (begins n act) H = either_hears past (is_away c n) _ _ (void_hears c past H) (begun_hears c past n act (c.clients n).running H)
-moved_hears c past (gives p luck) H = at_hears c past p luck (message_at c.sent p) refl H
-moved_hears c past (waits n) H = either_hears past (is_away c n) _ _ (void_hears c past H) (waited_hears c past n (c.clients n).running refl H)
-moved_hears c past (ticks zero) H = void_hears c past H
-moved_hears c past (ticks (suc n)) H = still_hears c.clients c.hosts c.sent past (record { actor = actors.Clock; lines = lines.Tick (suc n) ∷ []; sent = []; volumes = [] }) H refl refl refl
-moved_hears c past (client_stops n) H = either_hears past (is_away c n) _ _ (void_hears c past H) (client_hears c past n None _ H (falls_tame _ (IsNoted c.hosts) (IsHad c.hosts) n (c.clients n) (first_had c past H)) tt)
-moved_hears c past (client_starts n) H = either_hears past (c.away n) _ _ (client_hears c past n None _ H (rises_tame _ (IsNoted c.hosts) (IsHad c.hosts) n (c.clients n) (kept_on c past _ n H)) tt) (void_hears c past H)
-moved_hears c past (stops i) H = either_hears past (has_host c i) _ _ (stopped_hears c past i (c.hosts i).down H) (void_hears c past H)
-moved_hears c past (starts_again i after out) H = either_hears past (has_host c i) _ _ (restarted_hears c past i after out (c.hosts i).down H refl (H.falls i)) (void_hears c past H)
-moved_hears c past (sets_stop i calls pick) H = either_hears past (has_host c i) _ _ (set_hears c past i (lines.Stop (Server i) calls pick) _ (c.hosts i).down (λ sent. refl) refl H) (void_hears c past H)
-moved_hears c past (sets_fail i call) H = either_hears past (has_host c i) _ _ (set_hears c past i (lines.Fail (Server i) call) _ (c.hosts i).down (λ sent. refl) refl H) (void_hears c past H)
-moved_hears c past (server_waits i n) H = either_hears past (has_host c i) _ _ (timed_hears c past i n (c.hosts i).down H refl) (void_hears c past H)
-moved_hears c past (wakes i) H = either_hears past (has_host c i) _ _ (woken_hears c past i (c.hosts i).down H refl) (void_hears c past H)
-moved_hears c past nothing H = void_hears c past H
+moved_hears c past (begins n act) H S = either_hears past (is_away c n) _ _ (void_hears c past H) (begun_hears c past n act (c.clients n).running H)
+moved_hears c past (gives p luck) H S = at_hears c past p luck (message_at c.sent p) refl H S
+moved_hears c past (waits n) H S = either_hears past (is_away c n) _ _ (void_hears c past H) (waited_hears c past n (c.clients n).running refl H)
+moved_hears c past (ticks zero) H S = void_hears c past H
+moved_hears c past (ticks (suc n)) H S = still_hears c.clients c.hosts c.sent past (record { actor = actors.Clock; lines = lines.Tick (suc n) ∷ []; sent = []; volumes = [] }) H refl refl refl
+moved_hears c past (client_stops n) H S = either_hears past (is_away c n) _ _ (void_hears c past H) (client_hears c past n None _ H (falls_tame _ (IsNoted c.hosts) (IsHad c.hosts) n (c.clients n) (first_had c past H)) tt)
+moved_hears c past (client_starts n) H S = either_hears past (c.away n) _ _ (client_hears c past n None _ H (rises_tame _ (IsNoted c.hosts) (IsHad c.hosts) n (c.clients n) (kept_on c past _ n H)) tt) (void_hears c past H)
+moved_hears c past (stops i) H S = either_hears past (has_host c i) _ _ (stopped_hears c past i (c.hosts i).down H) (void_hears c past H)
+moved_hears c past (starts_again i after out) H S = either_hears past (has_host c i) _ _ (restarted_hears c past i after out (c.hosts i).down H refl (H.falls i)) (void_hears c past H)
+moved_hears c past (sets_stop i calls pick) H S = either_hears past (has_host c i) _ _ (set_hears c past i (lines.Stop (Server i) calls pick) _ (c.hosts i).down (λ sent. refl) refl H) (void_hears c past H)
+moved_hears c past (sets_fail i call) H S = either_hears past (has_host c i) _ _ (set_hears c past i (lines.Fail (Server i) call) _ (c.hosts i).down (λ sent. refl) refl H) (void_hears c past H)
+moved_hears c past (server_waits i n) H S = either_hears past (has_host c i) _ _ (timed_hears c past i n (c.hosts i).down H refl) (void_hears c past H)
+moved_hears c past (wakes i) H S = either_hears past (has_host c i) _ _ (woken_hears c past i (c.hosts i).down H refl) (void_hears c past H)
+moved_hears c past nothing H S = void_hears c past H
 
 -- ---- a run
 
-run_hears : (xs : List Input) (c : Cell) (past es : List Entry) (end : Cell) → HearsIn c past → Leads c xs es end → HearsIn end (past_of past es)
-run_hears [] c past [] end H r = subst (λ (x : Cell). HearsIn x past) (sym r) H
-run_hears [] c past (e ∷ es) end H r = absurd r
-run_hears (x ∷ xs) c past [] end H r = absurd r
-run_hears (x ∷ xs) c past (e ∷ es) end H r =
-    subst (λ (y : Entry). HearsIn end (past_of (y ∷ past) es)) (sym r.0) (run_hears xs (moved c x).cell ((moved c x).entry ∷ past) es end (moved_hears c past x H) r.1)
+run_hears : (xs : List Input) (c : Cell) (past es : List Entry) (end : Cell) → HearsIn c past → StandsIn c (lines_of past) → Leads c xs es end → HearsIn end (past_of past es)
+run_hears [] c past [] end H S r = subst (λ (x : Cell). HearsIn x past) (sym r) H
+run_hears [] c past (e ∷ es) end H S r = absurd r
+run_hears (x ∷ xs) c past [] end H S r = absurd r
+run_hears (x ∷ xs) c past (e ∷ es) end H S r =
+    subst (λ (y : Entry). HearsIn end (past_of (y ∷ past) es)) (sym r.0) (run_hears xs (moved c x).cell ((moved c x).entry ∷ past) es end (moved_hears c past x H S) (moved_keeps c (lines_of past) x S) r.1)
 
 -- the set-up tells versions alone
 first_standing : (ls : List Line) → AreVersions ls → all_lines is_standing ls ≡ true
@@ -693,8 +694,26 @@ first_hears s = record {
   falls = λ i. tt;
 }
 
+-- and the set-up no change
+pub stands_first : (s : Script) → StandsIn (start s) (lines_of (set_up s ∷ []))
+stands_first s =
+    let S : StandsIn (start s) [] = first_stands s in
+    record {
+      callees = S.callees;
+      own = S.own;
+      calls = S.calls;
+      answers = S.answers;
+      replies = S.replies;
+      sound = S.sound;
+      held = S.held;
+      falls = S.falls;
+      ran = first_passed (EachChange (HasRun S.callees (start s).clients (start s).hosts)) (λ v o h. (tt, h)) s.volumes [] tt;
+      once = first_passed AreOnce (λ v o h. h) s.volumes [] tt;
+      stored = λ i n seat e. absurd cc;
+    }
+
 pub hears_at : (s : Script) (h : List Entry) (end : Cell) → RunsTo h s end → HearsIn end (past_of (set_up s ∷ []) h)
-hears_at s h end r = run_hears r.inputs (start s) (set_up s ∷ []) h end (first_hears s) r.leads
+hears_at s h end r = run_hears r.inputs (start s) (set_up s ∷ []) h end (first_hears s) (stands_first s) r.leads
 
 pub run_unheard : (s : Script) (h : List Entry) (end : Cell) → RunsTo h s end → (i j : ℕ) → (end.hosts i).down ≡ None → (head : Head) → head.from ≡ Client j → admitted (end.hosts i).state.lasting.boot (end.hosts i).state.seats head ≡ pairs.runs
     → IsUnheard (Server i) (called_key head) head.boot (past_of (set_up s ∷ []) h)

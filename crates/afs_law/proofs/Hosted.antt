@@ -143,7 +143,7 @@ starts_calls : (me : Node) (boot : ℕ) (os : List OwedBreak) (t : Started) → 
 starts_calls me boot [] t h = h
 starts_calls me boot (o ∷ os) t h = starts_calls me boot os (starts_by me boot t o (t.backs.calls o.client)) (start_calls me boot t o (t.backs.calls o.client) h)
 
-start_sends : (i clock count : ℕ) (f : Begun) → AreCalls (start_row (Server i) clock count f).sent
+pub start_sends : (i clock count : ℕ) (f : Begun) → AreCalls (start_row (Server i) clock count f).sent
 unfolding start_row
 start_sends i clock count f = starts_calls (Server i) (f.state.lasting.boot + 1) (risen_turn (Server i) clock count).backs.lists.owed _ tt
 

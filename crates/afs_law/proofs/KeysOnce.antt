@@ -2,20 +2,22 @@
 -- caller's last one that changed something. So a key changes something at most once, and no call or reply has one to come.
 use Rattle.afs_history.specs.declared.acts.Act.{Act}
 use Rattle.afs_law.proofs.Backing.{all_lines, is_unchanging}
-use Rattle.afs_law.proofs.Basics.{a_key, same_key-true, Above, Each, IfCall, IfReply, OfClient, OfReply, by_client, if_reply, UpTo, at_put, below_not, below_up_to, client_number, each_at, each_map, each_more, if_call, node_apart, same_key-refl, up_to_below, up_to_same, below-true, below-false, some_of, OfNotice, OfCall, ByClient}
+use Rattle.afs_law.proofs.Basics.{a_key, same_key-true, Above, Each, IfCall, IfReply, OfClient, OfReply, by_client, if_reply, runs_admitted, UpTo, at_put, below_not, below_up_to, client_number, each_at, each_map, each_more, if_call, node_apart, same_key-refl, up_to_below, up_to_same, below-true, below-false, some_of, OfNotice, OfCall, ByClient}
 use Rattle.afs_law.proofs.Calling.{mild_unchanging, AreReplies, IsAnswer, answer_over, GoesOn, IsLastOf, Tame, begins_tame, caller_at, falls_tame, given_tame, rises_tame, uncalled_any, waits_tame, any_call}
 use Rattle.afs_law.proofs.Hosting.{Begins, HasOne, HostStep, Hosts, IsCutBy, IsSound, Memory, decides_due, disk_begins, memory_of, serves_step, starts_step, times_step, wakes_step, IsRunBy}
 use Rattle.afs_law.specs.Laws.{ArePairsKnown, IsKnownTo, AreChanges, HasReply, seat_key}
+use Rattle.afs_law.proofs.Saving.{later_by}
 use Rattle.afs_law.specs.Legal.{HasChangeBy, IsNew}
 use Rattle.afs_law.specs.Once.{AreOnce, ChangesOnce, past_of}
-use Rattle.afs_law.specs.Past.{IsUpTo, HasCode, IsCall, answered_key, lines_of, onto, same_key}
+use Rattle.afs_law.specs.Past.{IsLatest, IsUpTo, HasCode, IsCall, answered_key, called_key, lines_of, onto, same_key}
 use Rattle.afs_rows.specs.Callbacks.{put, replies_of}
 use Rattle.afs_rows.specs.Going.{ClientState, Going}
 use Rattle.afs_rows.specs.Runs.{is_away, Armed, Blow, Cell, Entry, Fall, Host, Input, Leads, Luck, Moved, Outcome, RunsTo, at_rest, back_timed, begins, begun_by, begun_by_disk, blow_line, client_moves, client_starts, client_stops, comes_up, decided_at, fails_early, fails_midway, given_at, given_to, gives, has_host, in_boot, in_step, is_full, message_at, moved, nothing, server_armed, server_ends, server_given, server_moves, server_restarted, server_served, server_stopped, server_timed, server_waits, server_wakes, sets_fail, sets_stop, settled, start, starts_again, stops, struck, ticks, unarmed, voided, waited_by, waits, wakes}
 use Rattle.afs_rows.specs.ServerRow.{Begun, device_calls, key_of}
 use Rattle.afs_rows.specs.States.{Seat, BackCall, ServerState}
 use Rattle.afs_rows.specs.Steps.{Step}
-use Rattle.afs_model.specs.Calls.{call_seat, pair_below}
+use Rattle.afs_model.specs.Calls as pairs
+use Rattle.afs_model.specs.Calls.{admitted, call_seat, pair_below}
 use Rattle.std.proofs.Common.{zero, suc, ◌≡◌, ℕ, inl, inr, Bool, true, false, cond, nat_eq, List, [], ◌∷◌, ◌++◌, Option, Some, None, refl, sym, ap, subst, ◌∙◌}
 use Rattle.std.specs.Prelude.{⊤, ◌&&◌}
 use Rattle.afs_num.specs.declared.types.Head.{Head}
@@ -500,3 +502,15 @@ durable_changes s h end r i =
       last = λ k x. let ran : HasRun S.callees end.clients end.hosts (Server i) k = of_change (HasRun S.callees end.clients end.hosts) (Server i) k (lines_of (past_of [] h)) x S.ran in
           seat_of_last (call_seat k.node (end.hosts i).state.lasting.kept) k (subst (λ (j : ℕ). Above (call_seat k.node (end.hosts j).state.lasting.kept) k.epoch k.number → ⊥) (server_number ran.server i (sym ran.is)) ran.ran);
     }
+
+-- ---- a call that a server would run
+
+-- it changed nothing yet for that node under a key as late as this one, which is above all that it keeps of it
+pub latest_by : (clients : ℕ → ClientState) (hosts : ℕ → Host) (sent : List Message) (o : List Line) (i : ℕ) (k : Key) → Stands clients hosts sent o → Above (call_seat k.node (hosts i).state.lasting.kept) k.epoch k.number → IsLatest (Server i) k o
+latest_by clients hosts sent o i k S above l y node =
+    let r : HasRun S.callees clients hosts (Server i) l = of_change (HasRun S.callees clients hosts) (Server i) l o y S.ran in
+    later_by (call_seat k.node (hosts i).state.lasting.kept) k l above
+    (λ z. r.ran (subst (λ (n : ℕ). Above (call_seat l.node (hosts n).state.lasting.kept) l.epoch l.number) (server_number i r.server r.is) (subst (λ (n : Node). Above (call_seat n (hosts i).state.lasting.kept) l.epoch l.number) (sym node) z)))
+
+pub admitted_latest : (c : Cell) (o : List Line) (i : ℕ) (head : Head) → StandsIn c o → admitted (c.hosts i).state.lasting.boot (c.hosts i).state.seats head ≡ pairs.runs → IsLatest (Server i) (called_key head) o
+admitted_latest c o i head S runs = latest_by c.clients c.hosts c.sent o i (called_key head) S ((S.sound i).lower head.from head.epoch head.number (runs_admitted (c.hosts i).state.lasting.boot (c.hosts i).state.seats head runs).1)

@@ -2,13 +2,11 @@
 use Rattle.afs_history.specs.declared.scripts.Script.{Script}
 use Rattle.afs_law.proofs.Basics.{Each, IfCall, each_at, each_map, if_call, some_of}
 use Rattle.afs_law.proofs.Calling.{IsAnswer, IsUncalled, answer_over, any_call}
-use Rattle.afs_law.proofs.Hearing.{HearsIn, first_hears, moved_hears}
+use Rattle.afs_law.proofs.Hearing.{HearsIn, first_hears, moved_hears, stands_first}
 use Rattle.afs_law.proofs.Hosting.{IsDue, IsCutBy, IsSound, decides_due, disk_begins, memory_of, serves_step, starts_step, times_step, wakes_step}
-use Rattle.afs_law.proofs.KeysOnce.{EachChange, HasCut, HasRun, IsCutOf, IsKnown, StandsIn, any_told, by_key, first_stands, moved_keeps, sound_over}
-use Rattle.afs_law.proofs.SettingUp.{first_passed}
+use Rattle.afs_law.proofs.KeysOnce.{HasCut, IsCutOf, IsKnown, StandsIn, any_told, by_key, moved_keeps, sound_over}
 use Rattle.afs_law.proofs.Moving.{IsKept}
 use Rattle.afs_law.specs.Ideal.{set_up}
-use Rattle.afs_law.specs.Once.{AreOnce}
 use Rattle.afs_law.specs.Past.{lines_of}
 use Rattle.afs_num.specs.declared.messages.Message.{Message}
 use Rattle.afs_num.specs.declared.messages.Received.TheVariants.{Whole}
@@ -27,27 +25,10 @@ pub record Known (c : Cell) (past : List Entry) : Type 0 where
   pub hears : HearsIn c past
 
 pub known_kept : IsKept Known
-known_kept c past x K = record { keys = moved_keeps c (lines_of past) x K.keys; hears = moved_hears c past x K.hears }
+known_kept c past x K = record { keys = moved_keeps c (lines_of past) x K.keys; hears = moved_hears c past x K.hears K.keys }
 
 pub known_first : (s : Script) → Known (start s) (set_up s ∷ [])
-known_first s =
-    let S : StandsIn (start s) [] = first_stands s in
-    record {
-      keys = record {
-        callees = S.callees;
-        own = S.own;
-        calls = S.calls;
-        answers = S.answers;
-        replies = S.replies;
-        sound = S.sound;
-        held = S.held;
-        falls = S.falls;
-        ran = first_passed (EachChange (HasRun S.callees (start s).clients (start s).hosts)) (λ v o h. (tt, h)) s.volumes [] tt;
-        once = first_passed AreOnce (λ v o h. h) s.volumes [] tt;
-        stored = λ i n seat e. absurd cc;
-      };
-      hears = first_hears s;
-    }
+known_first s = record { keys = stands_first s; hears = first_hears s }
 
 -- ---- a server sends no call of a client
 

@@ -5,9 +5,10 @@ use Rattle.afs_history.specs.declared.lines.Line.TheVariants as lines
 use Rattle.afs_history.specs.declared.scripts.Script.{Script}
 use Rattle.afs_law.proofs.Basics.{Each, IfCall, OfNotice, at_put, each_at, each_map, each_more, if_call, of_notice, same_node-true, some_of}
 use Rattle.afs_law.proofs.Calling.{AreReplies, Caller, IsAnswer, IsCallOf, IsLastOf, Tame, answer_over, begins_tame, caller_at, falls_tame, given_tame, rises_tame, uncalled_any, waits_tame}
-use Rattle.afs_law.proofs.Hearing.{HasCutAt, Hears, HearsIn, IsHad, IsRan, call_is, cut_by, first_hears, moved_hears, none_more, replies_to, sound_to}
+use Rattle.afs_law.proofs.Hearing.{HasCutAt, Hears, HearsIn, IsHad, IsRan, call_is, cut_by, none_more, replies_to, sound_to}
 use Rattle.afs_law.proofs.Hosting.{Begins, HostStep, IsCutBy, IsSound, before_begins, decides_due, disk_begins, memory_of, revives_begins, serves_step, starts_step, times_step, wakes_step}
 use Rattle.afs_law.proofs.KeysOnce.{any_told}
+use Rattle.afs_law.proofs.Knowing.{Known, known_first, known_kept}
 use Rattle.afs_law.proofs.Moving.{Behind, EachMove, IsKept, each_moved}
 use Rattle.afs_law.proofs.Words.{up_boot}
 use Rattle.afs_law.specs.Ideal.{set_up}
@@ -130,8 +131,8 @@ pub record Learnt (clients : ℕ → ClientState) (hosts : ℕ → Host) (sent :
 abbrev pub LearntIn : Cell → List Entry → Type 0
 LearntIn c past = Learnt c.clients c.hosts c.sent past
 
-abbrev pub HearsLearnt : Cell → List Entry → Type 0
-HearsLearnt c past = HearsIn c past × LearntIn c past
+abbrev pub KnownLearnt : Cell → List Entry → Type 0
+KnownLearnt c past = Known c past × LearntIn c past
 
 any_head : (h : Head) → any_told h → any_told h
 any_head h x = x
@@ -185,9 +186,9 @@ no_server n i e = absurd cc
 any_call : (c : Cell) (past : List Entry) (boot : ℕ) (seats : List Seat) (place : ℕ) (m : Message) → HearsIn c past → message_at c.sent place ≡ Some m → IsCallOf any_told boot seats m.head m.carried
 any_call c past boot seats place m H at = call_is any_told (λ h. IsHad c.hosts h.to h.boot) boot seats m.head m.carried (λ is j from q runs. tt) (each_at (IfCall (λ y user call. IsHad c.hosts y.to y.boot)) c.sent place m at H.calls)
 
-given_learns : (c : Cell) (e : Entry) (past : List Entry) (n place : ℕ) (m : Message) → HearsLearnt c past → message_at c.sent place ≡ Some m → m.head.to ≡ Client n → Tame any_told (Tells (e ∷ past)) (IsOf (e ∷ past)) (Some place) n (caller_at (c.clients n)) (client_row (Client n) (c.clients n) c.clock place (Whole m))
+given_learns : (c : Cell) (e : Entry) (past : List Entry) (n place : ℕ) (m : Message) → KnownLearnt c past → message_at c.sent place ≡ Some m → m.head.to ≡ Client n → Tame any_told (Tells (e ∷ past)) (IsOf (e ∷ past)) (Some place) n (caller_at (c.clients n)) (client_row (Client n) (c.clients n) c.clock place (Whole m))
 given_learns c e past n place m h at to =
-    given_tame any_told (Tells (e ∷ past)) (IsOf (e ∷ past)) n (c.clients n) c.clock place m (own_replies c e past n h.1) (any_call c past (c.clients n).epoch (c.clients n).seats place m h.0 at)
+    given_tame any_told (Tells (e ∷ past)) (IsOf (e ∷ past)) n (c.clients n) c.clock place m (own_replies c e past n h.1) (any_call c past (c.clients n).epoch (c.clients n).seats place m h.0.hears at)
     (λ i z. absurd (no_server n i (sym to ∙ z))) (each_at (λ y. OfNotice (Tells (e ∷ past) y.head) y.carried) c.sent place m at (noted_onto e past c.sent h.1.notices))
 
 -- ---- a step of a server
@@ -225,14 +226,14 @@ one_server a b e = cc
 own_tells : (e : Entry) (past : List Entry) (i boot : ℕ) (head : Head) → HasBoot (Server i) boot (lines_of past) → head.to ≡ Server i → Tells (e ∷ past) (boot_told boot head).head
 own_tells e past i boot head h to k is = subst (λ (j : ℕ). HasBoot (Server j) boot (lines_of (e ∷ past))) (one_server i k (sym to ∙ is)) (boot_onto (Server i) boot e.lines (lines_of past) h)
 
-serves_learns : (c : Cell) (past : List Entry) (i place : ℕ) (m : Message) (armed : Armed) → HearsLearnt c past → (c.hosts i).down ≡ None → message_at c.sent place ≡ Some m → LearntIn (server_moves c i armed (server_row (Server i) (c.hosts i).state c.clock place (Whole m))).cell ((server_moves c i armed (server_row (Server i) (c.hosts i).state c.clock place (Whole m))).entry ∷ past)
+serves_learns : (c : Cell) (past : List Entry) (i place : ℕ) (m : Message) (armed : Armed) → KnownLearnt c past → (c.hosts i).down ≡ None → message_at c.sent place ≡ Some m → LearntIn (server_moves c i armed (server_row (Server i) (c.hosts i).state c.clock place (Whole m))).cell ((server_moves c i armed (server_row (Server i) (c.hosts i).state c.clock place (Whole m))).entry ∷ past)
 serves_learns c past i place m armed h up at =
     let e : Entry = (server_moves c i armed (server_row (Server i) (c.hosts i).state c.clock place (Whole m))).entry in
     let x : ServerState = (c.hosts i).state in
     let sound : IsSound any_told (Tells (e ∷ past)) (memory_of x) = sound_onto e past x (h.1.sound i) in
     up_learnt c past i (Some place) armed _ h.1
     (serves_step any_told (Tells (e ∷ past)) i x c.clock place m sound (held_onto e past (replies_of x.backs.held) (h.1.held i))
-    (decides_due any_told (Tells (e ∷ past)) (Server i) x c.clock m sound.seats (any_call c past x.lasting.boot x.seats place m h.0 at) (λ to. own_tells e past i x.lasting.boot m.head (now_has c past i h.0 up) to)))
+    (decides_due any_told (Tells (e ∷ past)) (Server i) x c.clock m sound.seats (any_call c past x.lasting.boot x.seats place m h.0.hears at) (λ to. own_tells e past i x.lasting.boot m.head (now_has c past i h.0.hears up) to)))
 
 -- what a restart finds
 found_begins : (e : Entry) (past : List Entry) (i : ℕ) (x : ServerState) (after : Bool) (fall : Fall) → IsSound any_told (Tells (e ∷ past)) (memory_of x) → Each (IsAnswer any_told (Tells (e ∷ past))) (replies_of x.backs.held) → IsCutBy any_told x.lasting.boot x.seats fall → HasStood i x (Some fall) past → Begins any_told (Tells (e ∷ past)) (Server i) x (begun_by_disk (Server i) x after fall)
@@ -245,13 +246,13 @@ any_cut : (P : Head → Type 0) (x : ServerState) (d : Option Fall) (fall : Fall
 any_cut P x None fall e h = absurd cc
 any_cut P x (Some f) fall e h = subst (IsCutBy any_told x.lasting.boot x.seats) (some_of f fall e) (cut_by P any_told (λ y z. tt) x.lasting.boot x.seats f h)
 
-begins_at : (c : Cell) (e : Entry) (past : List Entry) (i : ℕ) (after : Bool) (fall : Fall) → HearsLearnt c past → (c.hosts i).down ≡ Some fall → Begins any_told (Tells (e ∷ past)) (Server i) (c.hosts i).state (begun_by_disk (Server i) (c.hosts i).state after fall)
+begins_at : (c : Cell) (e : Entry) (past : List Entry) (i : ℕ) (after : Bool) (fall : Fall) → KnownLearnt c past → (c.hosts i).down ≡ Some fall → Begins any_told (Tells (e ∷ past)) (Server i) (c.hosts i).state (begun_by_disk (Server i) (c.hosts i).state after fall)
 begins_at c e past i after fall h down =
-    found_begins e past i (c.hosts i).state after fall (sound_onto e past (c.hosts i).state (h.1.sound i)) (held_onto e past (replies_of (c.hosts i).state.backs.held) (h.1.held i)) (any_cut (IsRan past) (c.hosts i).state (c.hosts i).down fall down (h.0.falls i))
+    found_begins e past i (c.hosts i).state after fall (sound_onto e past (c.hosts i).state (h.1.sound i)) (held_onto e past (replies_of (c.hosts i).state.backs.held) (h.1.held i)) (any_cut (IsRan past) (c.hosts i).state (c.hosts i).down fall down (h.0.hears.falls i))
     (λ m clock is. h.1.stood i m clock (down ∙ is))
 
 -- a server that stays down
-stays_learns : (c : Cell) (e : Entry) (past : List Entry) (i : ℕ) (after : Bool) (fall other : Fall) → HearsLearnt c past → (c.hosts i).down ≡ Some fall → ((m : Message) (clock : ℕ) → Some other ≡ Some (in_step m clock) → ⊥)
+stays_learns : (c : Cell) (e : Entry) (past : List Entry) (i : ℕ) (after : Bool) (fall other : Fall) → KnownLearnt c past → (c.hosts i).down ≡ Some fall → ((m : Message) (clock : ℕ) → Some other ≡ Some (in_step m clock) → ⊥)
     → Learnt c.clients (put i (record { state = (begun_by_disk (Server i) (c.hosts i).state after fall).state; down = Some other; armed = unarmed }) c.hosts) c.sent (e ∷ past)
 stays_learns c e past i after fall other h down none =
     let b = begins_at c e past i after fall h down in
@@ -269,7 +270,7 @@ of_server i ls sent = record { actor = actors.Node (Server i); lines = ls; sent 
 abbrev up_entry : ℕ → Step ServerState → Entry
 up_entry i s = of_server i s.lines s.sent
 
-learnt_moves : EachMove HearsLearnt (Behind LearntIn)
+learnt_moves : EachMove KnownLearnt (Behind LearntIn)
 learnt_moves = record {
   void = λ c past h. still_learnt c (voided c).entry past h.1;
   ticked = λ c past n h. still_learnt c (ticked c (suc n)).entry past h.1;
@@ -279,7 +280,7 @@ learnt_moves = record {
   fallen = λ c past n h. (let s : Step ClientState = record { state = reborn (c.clients n); lines = lines.Crash (Client n) ∷ []; sent = [] } in let e : Entry = of_client n s in client_learnt c e past n None s h.1 (falls_tame any_told (Tells (e ∷ past)) (IsOf (e ∷ past)) n (c.clients n) (first_of (e ∷ past))));
   risen = λ c past n h. (let s : Step ClientState = record { state = c.clients n; lines = lines.Restart (Client n) (c.clients n).epoch ∷ []; sent = [] } in let e : Entry = of_client n s in client_learnt c e past n None s h.1 (rises_tame any_told (Tells (e ∷ past)) (IsOf (e ∷ past)) n (c.clients n) (own_replies c e past n h.1)));
   served = λ c past i place m armed h up at to. serves_learns c past i place m armed h up at;
-  cut = λ c past i place m t h up at to. (let e : Entry = of_server i (lines.Given place ∷ blow_line i t ∷ []) [] in same_learnt c e past i (Some (in_step m c.clock)) unarmed h.1 (λ k clock is. boot_onto (Server i) (c.hosts i).state.lasting.boot e.lines (lines_of past) (now_has c past i h.0 up)));
+  cut = λ c past i place m t h up at to. (let e : Entry = of_server i (lines.Given place ∷ blow_line i t ∷ []) [] in same_learnt c e past i (Some (in_step m c.clock)) unarmed h.1 (λ k clock is. boot_onto (Server i) (c.hosts i).state.lasting.boot e.lines (lines_of past) (now_has c past i h.0.hears up)));
   stopped = λ c past i h up. same_learnt c (of_server i (lines.Crash (Server i) ∷ []) []) past i (Some at_rest) unarmed h.1 (λ k clock is. absurd cc);
   stop_set = λ c past i calls pick armed h up. (let e : Entry = of_server i (lines.Stop (Server i) calls pick ∷ []) [] in same_learnt c e past i (c.hosts i).down armed h.1 (stood_onto e past i (c.hosts i).state (c.hosts i).down (h.1.stood i)));
   fail_set = λ c past i call armed h up. (let e : Entry = of_server i (lines.Fail (Server i) call ∷ []) [] in same_learnt c e past i (c.hosts i).down armed h.1 (stood_onto e past i (c.hosts i).state (c.hosts i).down (h.1.stood i)));
@@ -291,12 +292,12 @@ learnt_moves = record {
   full = λ c past i after fall h down. stays_learns c (of_server i ((begun_by_disk (Server i) (c.hosts i).state after fall).before (lines.Full (Server i) ∷ [])) []) past i after fall at_rest h down (λ m clock is. absurd cc);
 }
 
-pub learnt_kept : IsKept HearsLearnt
-learnt_kept c past x h = (moved_hears c past x h.0, each_moved HearsLearnt (Behind LearntIn) learnt_moves c past x h)
+pub learnt_kept : IsKept KnownLearnt
+learnt_kept c past x h = (known_kept c past x h.0, each_moved KnownLearnt (Behind LearntIn) learnt_moves c past x h)
 
-pub learnt_first : (s : Script) → HearsLearnt (start s) (set_up s ∷ [])
+pub learnt_first : (s : Script) → KnownLearnt (start s) (set_up s ∷ [])
 learnt_first s = (
-  first_hears s,
+  known_first s,
   record {
     calls = tt;
     notices = tt;

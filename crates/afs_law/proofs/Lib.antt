@@ -70,6 +70,7 @@ pub mod Queued
 pub mod Timing
 pub mod Lone
 pub mod Silent
+pub mod Located
 pub mod Addressed
 pub mod Truthful
 pub mod Caused
@@ -78,6 +79,9 @@ pub mod Ours
 pub mod Due
 pub mod Codes
 pub mod Using
+pub mod Handling
+pub mod Present
+pub mod Entering
 pub mod Kept
 pub mod Later
 pub mod Settled
@@ -98,11 +102,12 @@ pub mod Bringing
 pub mod Receiving
 pub mod Beside
 pub mod Watched
-pub mod Entering
 pub mod Trusted
+pub mod Learned
 pub mod Brought
 pub mod OneRun
 pub mod Readings
+pub mod Asking
 pub mod Returning
 pub mod Claims
 pub mod Counting

@@ -57,7 +57,7 @@ use Rattle.std.specs.Prelude.{⊤, ◌||◌, ◌&&◌, nat_lt}
 
 -- ---- the steps of a client that is up tell neither a crash nor a restart
 
-abbrev Alive : List Line → Type 0
+abbrev pub Alive : List Line → Type 0
 Alive ls = has_crash_or_restart ls ≡ false
 
 -- so do these lines, before such
@@ -183,7 +183,7 @@ hears_alive : (me : Node) (c : ClientState) (clock place : ℕ) (head : Head) (x
 hears_alive me c clock place head (carried.Call user call) = admits_alive me c place head (carried.Call user call) (admitted c.epoch c.seats head)
 hears_alive me c clock place head x = awaits_alive me c clock place head x c.running
 
-told_alive : (me : Node) (c : ClientState) (clock place : ℕ) (m : Message) → Alive (client_row me c clock place (Whole m)).lines
+pub told_alive : (me : Node) (c : ClientState) (clock place : ℕ) (m : Message) → Alive (client_row me c clock place (Whole m)).lines
 unfolding client_row
 told_alive me c clock place m = either_alive (same_node m.head.to me) (hears me c clock place m.head m.carried) (ignores c place) (hears_alive me c clock place m.head m.carried) refl
 
@@ -191,11 +191,11 @@ first_alive : (me : Node) (c : ClientState) (clock : ℕ) (front : List Line →
 first_alive me c clock front act gives_back f = gives_alive me (record c { cache = untrusted_in clock c.cache }) (λ ls. front (dropped me (trusted_in clock c.cache) ls)) act (in_order (map gift_of (trusted_in clock c.cache))) (λ ls h. f _ (dropped_alive me (trusted_in clock c.cache) ls h))
 first_alive me c clock front act need f = walks_alive me c clock front act c.cache f
 
-begun_alive : (me : Node) (c : ClientState) (clock : ℕ) (act : Act) → Alive (begin_row me c clock act).lines
+pub begun_alive : (me : Node) (c : ClientState) (clock : ℕ) (act : Act) → Alive (begin_row me c clock act).lines
 unfolding begin_row
 begun_alive me c clock act = first_alive me (record c { busy = 0 }) clock (λ ls. lines.Begin me act ∷ ls) (began c.table act) (next (began c.table act)) (λ ls h. h)
 
-waited_alive : (me : Node) (c : ClientState) (act : Going) → Alive (timeout_row me c act).lines
+pub waited_alive : (me : Node) (c : ClientState) (act : Going) → Alive (timeout_row me c act).lines
 waited_alive me c act = either_alive (nat_lt c.tries 2) (tries_again me c act) (gives_up me c (call_of c act)) refl (dropped_alive me (given_up_in (volume_changed (call_of c act)) c.cache) (lines.Answer me dead_code ∷ []) refl)
 
 -- ---- which clients are down
@@ -207,7 +207,7 @@ alive_down c (lines.Crash n ∷ ls) o h = absurd cc
 alive_down c (lines.Restart n boot ∷ ls) o h = absurd cc
 alive_down c (l ∷ ls) o h = alive_down c ls (l ∷ o) h
 
-not_node : (who : Actor) (n : Node) (j : ℕ) → (who ≡ actors.Node (Client j) → ⊥) → who ≡ actors.Node n → same_node n (Client j) ≡ false
+pub not_node : (who : Actor) (n : Node) (j : ℕ) → (who ≡ actors.Node (Client j) → ⊥) → who ≡ actors.Node n → same_node n (Client j) ≡ false
 not_node who n j other by = node_apart n (Client j) (λ e. other (by ∙ ap actors.Node e))
 
 -- and so do the lines of another node's entry
@@ -279,7 +279,7 @@ besides_lives s c past m h p b = record {
 }
 
 -- of a client that is up, which tells neither a crash nor a restart
-same_epoch : (n : ℕ) (x : ClientState) (st : Step ClientState) → Acts n (who_at x) x.gifts st → Alive st.lines → st.state.epoch ≡ x.epoch
+pub same_epoch : (n : ℕ) (x : ClientState) (st : Step ClientState) → Acts n (who_at x) x.gifts st → Alive st.lines → st.state.epoch ≡ x.epoch
 same_epoch n x st a alive = elim a.goes [
   | inl r ↦ r.epoch
   | inr y ↦ elim y [
@@ -299,7 +299,7 @@ up_lives s c past n st h up alive a = record {
 turned_down : (n : ℕ) (past : List Entry) (away : ℕ → Bool) (t : Bool) (o : List Line) → is_down (Client n) o ≡ t → ((j : ℕ) → (n ≡ j → ⊥) → is_down (Client j) o ≡ is_down (Client j) (lines_of past)) → DownOf away past → (j : ℕ) → is_down (Client j) o ≡ put n t away j
 turned_down n past away t o own others h j = at_put n j (λ (x : Bool). is_down (Client j) o ≡ x) t away (λ same. subst (λ (k : ℕ). is_down (Client k) o ≡ t) same own) (λ ne. others j ne ∙ h j)
 
-client_apart : (n j : ℕ) → (n ≡ j → ⊥) → same_node (Client n) (Client j) ≡ false
+pub client_apart : (n j : ℕ) → (n ≡ j → ⊥) → same_node (Client n) (Client j) ≡ false
 client_apart n j ne = node_apart (Client n) (Client j) (λ e. ne (one_client n j e))
   where
     one_client : (n j : ℕ) → Client n ≡ Client j → n ≡ j

@@ -304,7 +304,7 @@ is_begun who Loc n h e = absurd h
 
 acts_in : (s : Script) (who : Actor) (past : List Entry) (own ls o : List Line) (n : Node) → EachLine (IsInPlace s) who past own ls → is_client n ≡ false → running s n o ≡ None → running s n (onto o ls) ≡ None
 acts_in s who past own [] o n h e r = r
-acts_in s who past own (lines.Begin m act ∷ ls) o n h e r = acts_in s who past (lines.Begin m act ∷ own) ls (lines.Begin m act ∷ o) n h.1 e (idle_by (same_node m n) (Some (began (locations s) act)) (running s n o) (is_begun who m n h.0 e) r)
+acts_in s who past own (lines.Begin m act ∷ ls) o n h e r = acts_in s who past (lines.Begin m act ∷ own) ls (lines.Begin m act ∷ o) n h.1 e (idle_by (same_node m n) (Some (began (locations s) act)) (running s n o) (is_begun who m n h.0.0 e) r)
 acts_in s who past own (lines.Read m f index source body ∷ ls) o n h e r = acts_in s who past (lines.Read m f index source body ∷ own) ls (lines.Read m f index source body ∷ o) n h.1 e (ap (read_on (same_node m n) f body) r ∙ read_idle (same_node m n) f body)
 acts_in s who past own (lines.Answer m code ∷ ls) o n h e r = acts_in s who past (lines.Answer m code ∷ own) ls (lines.Answer m code ∷ o) n h.1 e (ended_by (same_node m n) (running s n o) r)
 acts_in s who past own (lines.Crash m ∷ ls) o n h e r = acts_in s who past (lines.Crash m ∷ own) ls (lines.Crash m ∷ o) n h.1 e (ended_by (same_node m n) (running s n o) r)

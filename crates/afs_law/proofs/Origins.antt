@@ -285,7 +285,7 @@ idle_asked s clients sent more past e A over under idle none = record {
 -- what it sends is its call
 pub the_calls : (n : ℕ) (x : ClientState) (st : Step ClientState) → Rests n (who_at x) x.gifts st ⊎ (Asks n (who_at x) st ⊎ Stops n (who_at x) st) → Each (IfCall (IsTheCall n st.state)) st.sent
 the_calls n x st (inl r) = r.sent
-the_calls n x st (inr (inl a)) = subst (Each (IfCall (IsTheCall n st.state))) (sym a.sent) (record { key = refl; act = a.act; runs = a.runs; user' = refl; asks = refl; to = refl }, tt)
+the_calls n x st (inr (inl a)) = subst (Each (IfCall (IsTheCall n st.state))) (sym a.sent) (record { key = refl; act = a.act; runs = a.runs; user' = refl; asks = refl; to = refl; opcode = refl }, tt)
 the_calls n x st (inr (inr z)) = subst (Each (IfCall (IsTheCall n st.state))) (sym z.sent) tt
 
 pub same_key_at : (n : ℕ) (x y : ClientState) → y.epoch ≡ x.epoch → y.last ≡ x.last → last_key n y ≡ last_key n x

@@ -52,6 +52,7 @@ ran_over reply e past h = record {
   callee = h.callee;
   node = h.node;
   first = h.first;
+  latest = h.latest;
 }
 
 abbrev pub grant_over : (c : Node) (f : Fid) (x : ℕ) (m : Message) (e : Entry) (past : List Entry) → GrantOf c f x m past → GrantOf c f x m (e ∷ past)

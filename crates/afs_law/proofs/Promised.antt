@@ -15,7 +15,7 @@ use Rattle.afs_law.proofs.Words.{IsOne}
 use Rattle.afs_law.proofs.Granting.{made_last, newly}
 use Rattle.afs_law.proofs.Ideals.{Held}
 use Rattle.afs_law.proofs.Changing.{run_each}
-use Rattle.afs_law.proofs.KeysOnce.{IsKnown, any_told, by_key}
+use Rattle.afs_law.proofs.KeysOnce.{IsKnown, any_told, by_key, admitted_latest}
 use Rattle.afs_law.proofs.Moving.{EachMove, each_moved}
 use Rattle.afs_law.proofs.Reasons.{AreAmong, IsFile, IsMaking, IsReading, IsThere, Runs, Why, answer_of, answers_after, answers_in, answers_same, held_by, read_same, read_there, why}
 use Rattle.afs_law.proofs.Finding.{IsAmong}
@@ -146,7 +146,7 @@ grant_more : (server c : Node) (x : ℕ) (g : Found) (past : List Entry) (own : 
 grant_more server c x g past own f h = record {
   key = h.key;
   node = h.node;
-  ran = record { boot = h.ran.boot; up = h.ran.up; given = h.ran.given; first = h.ran.first };
+  ran = record { boot = h.ran.boot; up = h.ran.up; given = h.ran.given; first = h.ran.first; latest = h.ran.latest };
   going = h.going;
   user = h.user;
   call = h.call;
@@ -178,6 +178,7 @@ runs_here s c past i j m own h up r given =
       up = now_up c past i h.0.0.hears up;
       given = subst (IsCallUnder (Server i) (key_of m.head) boot) (sym given) ((subst IsCall (sym r.carries) tt, r.to), (refl, (runs_admitted boot (c.hosts i).state.seats m.head r.runs).0));
       first = comes_first c past i m j h.0.0.hears up r.from r.runs;
+      latest = admitted_latest c (lines_of past) i m.head h.0.0.keys r.runs;
     }
 
 -- what stands in an ideal volume has the last index

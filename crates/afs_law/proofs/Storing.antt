@@ -100,6 +100,9 @@ pub record IsStore (call : FsCall) (f : Fid) (status : AfsFetchStatus) (k : Key)
   pub leaves' : Leaves call f status.sync_counter (lines_of (at ∷ older))
   pub been : HasBeen f status.sync_counter (seen.Status (status_told status)) (at ∷ older)
   pub last : IsLast f status.sync_counter (lines_of (at ∷ older))
+  pub before : ℕ
+  pub was : IsLast f before (lines_of older)
+  pub above : status.sync_counter ≡ before + 1
 
 status_is : (id : ℕ) (caller : Caller) (times : Fid → ℕ) (V : Volume) (n : ℕ) (x : Vnode) → get n V.vnodes ≡ Some x → (status_at id caller times V n).sync_counter ≡ x.index
 status_is id caller times V n x e = ap (λ (o : Option Vnode). (vnode_or_none o).index) e
@@ -144,6 +147,9 @@ stored f call user id v es shown k newer at older caller times is key S =
           (subst (TellsOf f st.sync_counter (seen.Status (status_told st))) (sym (ap (λ (i : ℕ). volume_after i (at ∷ older)) S.volume ∙ S.after))
           (subst (TellsIn st.sync_counter (seen.Status (status_told st))) (sym (ap (if_unique f.unique) got ∙ unique_found f.unique new x.unique)) (sym (status_is id caller times V f.vnode new got), told_is id caller times V f.vnode new got)));
       last = ap (option_map (λ (w : Version). w.index)) last ∙ ap Some (sym index);
+      before = x.vnode.index;
+      was = ap (option_map (λ (w : Version). w.index)) before;
+      above = index;
     }
 
 -- ---- where the reply comes

@@ -15,7 +15,7 @@ use Rattle.afs_law.proofs.Hearing.{ran_later, no_server}
 use Rattle.afs_law.proofs.Housed.{HomesIn, IsHome, home_held}
 use Rattle.afs_law.proofs.Hosting.{HasHead, does_given, served_head}
 use Rattle.afs_law.proofs.Ideals.{AreBlank, Held, IsSent, blank_by, from_blank, of_this}
-use Rattle.afs_law.proofs.KeysOnce.{HasRun, IsKnown, any_told, by_key, new_key, not_run}
+use Rattle.afs_law.proofs.KeysOnce.{HasRun, IsKnown, any_told, by_key, new_key, not_run, admitted_latest}
 use Rattle.afs_law.proofs.Moving.{Behind, EachMove}
 use Rattle.afs_law.proofs.Ops.{changes_is}
 use Rattle.afs_law.proofs.Passing.{no_change}
@@ -27,7 +27,7 @@ use Rattle.afs_law.specs.Breaks.{HasStopped}
 use Rattle.afs_law.specs.Ideal.{change_in, change_key, set_up, volume_after}
 use Rattle.afs_law.specs.Legal.{HasChange, IsChanging, IsKey, IsResult, IsTold as IsToldOf, answer_at, code_given}
 use Rattle.afs_law.specs.Legal.{IsKind}
-use Rattle.afs_law.specs.Past.{HasCode, IsCall, IsToCome, Ran, answered_key, called_key, code_told, given_message, lines_of, onto, sent_of, server_boot}
+use Rattle.afs_law.specs.Past.{IsLatest, HasCode, IsCall, IsToCome, Ran, answered_key, called_key, code_told, given_message, lines_of, onto, sent_of, server_boot}
 use Rattle.afs_model.specs.Calls as pairs
 use Rattle.afs_model.specs.Calls.{Admitted, admitted, call_seat, paired}
 use Rattle.afs_model.specs.FsRows.{call_number, reply_number}
@@ -243,6 +243,7 @@ pub record Place (i : ℕ) (x : ServerState) (m : Message) (past : List Entry) :
   pub given : given_message at.lines (sent_of older) ≡ Some m
   pub up : server_boot (Server i) (lines_of older) ≡ Some x.lasting.boot
   pub first : (j : ℕ) → m.head.from ≡ Client j → admitted x.lasting.boot x.seats m.head ≡ pairs.runs → IsToCome (Server i) (called_key m.head) x.lasting.boot older
+  pub latest : admitted x.lasting.boot x.seats m.head ≡ pairs.runs → IsLatest (Server i) (called_key m.head) (lines_of older)
   pub ideal : AreAmong (held_by x) (λ id. volume_after id older)
 
 abbrev ran_at : (i j : ℕ) (x : ServerState) (m : Message) (past : List Entry) → Place i x m past → Runs (Server i) x m j → Ran (reply_head x.lasting.boot m.head) past
@@ -261,6 +262,7 @@ ran_at i j x m past p r = record {
   callee = refl;
   node = p.actor ∙ ap actors.Node (sym r.to);
   first = subst (λ (q : Node). IsToCome q (called_key m.head) x.lasting.boot p.older) (sym r.to) (p.first j r.from r.runs);
+  latest = subst (λ (q : Node). IsLatest q (called_key m.head) (lines_of p.older)) (sym r.to) (p.latest r.runs);
 }
 
 -- a change
@@ -310,6 +312,7 @@ place_here s c past e i place m d h up at actor ls = record {
   given = ap (λ (l : List Line). given_message l (sent_of past)) ls ∙ (does_given (Server i) (c.hosts i).state c.clock place d (turned_by (Server i) (c.hosts i).state c.clock (expired c.clock (c.hosts i).state.backs) d m.head m.carried).lines (sent_of past) ∙ (ap (λ (ms : List Message). message_at ms place) h.0.0.hears.told ∙ at));
   up = now_up c past i h.0.0.hears up;
   first = λ j from runs. comes_first c past i m j h.0.0.hears up from runs;
+  latest = λ runs. admitted_latest c (lines_of past) i m.head h.0.0.keys runs;
   ideal = are_ideal s c past i h;
 }
 
@@ -474,7 +477,7 @@ pub record CutHeld (i : ℕ) (x : ServerState) (m : Message) (past : List Entry)
   pub stopped : HasStopped (Server i) place.at.lines
 
 abbrev place_later : (i : ℕ) (x : ServerState) (m : Message) (e : Entry) (past : List Entry) → Place i x m past → Place i x m (e ∷ past)
-place_later i x m e past p = record { newer = e ∷ p.newer; at = p.at; older = p.older; split = ap (λ (es : List Entry). e ∷ es) p.split; actor = p.actor; given = p.given; up = p.up; first = p.first; ideal = p.ideal }
+place_later i x m e past p = record { newer = e ∷ p.newer; at = p.at; older = p.older; split = ap (λ (es : List Entry). e ∷ es) p.split; actor = p.actor; given = p.given; up = p.up; first = p.first; latest = p.latest; ideal = p.ideal }
 
 cut_later : (i : ℕ) (x : ServerState) (m : Message) (e : Entry) (past : List Entry) → CutHeld i x m past → CutHeld i x m (e ∷ past)
 cut_later i x m e past h = record { place = place_later i x m e past h.place; stopped = h.stopped }
@@ -490,6 +493,7 @@ cut_here s c past i place m t e h up at actor ls = record {
     given = ap (λ (l : List Line). given_message l (sent_of past)) ls ∙ (ap (λ (ms : List Message). message_at ms place) h.0.0.hears.told ∙ at);
     up = now_up c past i h.0.0.hears up;
     first = λ j from runs. comes_first c past i m j h.0.0.hears up from runs;
+    latest = λ runs. admitted_latest c (lines_of past) i m.head h.0.0.keys runs;
     ideal = are_ideal s c past i h;
   };
   stopped = subst (HasStopped (Server i)) (sym ls) (blow_stopped i place t);

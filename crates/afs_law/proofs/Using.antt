@@ -49,7 +49,7 @@ given_once s who past own (l ∷ ls) place has = given_once s who past (l ∷ ow
     still (lines.Given p) own h = refl
     still l own h = h
 
-none_given : (ls : List Line) (sent : List Message) → has_given ls ≡ false → given_message ls sent ≡ None
+pub none_given : (ls : List Line) (sent : List Message) → has_given ls ≡ false → given_message ls sent ≡ None
 none_given [] sent h = refl
 none_given (lines.Given p ∷ ls) sent h = absurd cc
 none_given (l ∷ ls) sent h = none_given ls sent h

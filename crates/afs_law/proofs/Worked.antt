@@ -274,7 +274,7 @@ moved_to o e = record e { actor = o }
 
 begun_elsewhere : Legal (six_by 0 (moved_to (actors.Node (Client 2)))) (script 2) → ⊥
 unfolding moved begin_row client_row server_row back_timeout_row wake_row start_row record_bytes head_form volume_form spelled opaque pad word laid_at led name_ok directory_bytes name_bytes rights_of image acl_text digits entry_text
-begun_elsewhere h = let e : actors.Node (Client 2) ≡ actors.Node (Client 1) = h.0.0.0.0 in absurd cc
+begun_elsewhere h = let e : actors.Node (Client 2) ≡ actors.Node (Client 1) = h.0.0.0.0.0 in absurd cc
 
 granted_elsewhere : Legal (six_by 1 (moved_to (actors.Node (Client 1)))) (script 2) → ⊥
 unfolding moved begin_row client_row server_row back_timeout_row wake_row start_row record_bytes head_form volume_form spelled opaque pad word laid_at led name_ok directory_bytes name_bytes rights_of image acl_text digits entry_text
@@ -487,3 +487,8 @@ gave_untold h =
         ]
       ]
     ]
+
+-- a run of the rows may have any pick of a stop, where a script's are 0 to 3
+row_picked : told (start (script 1)) (sets_stop 1 0 9 ∷ []) ≡ lines.Stop (Server 1) 0 9 ∷ []
+unfolding moved begin_row client_row server_row back_timeout_row wake_row start_row record_bytes head_form volume_form spelled opaque pad word laid_at led name_ok directory_bytes name_bytes rights_of image acl_text digits entry_text
+row_picked = refl

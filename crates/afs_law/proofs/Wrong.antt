@@ -44,10 +44,11 @@ use Rattle.afs_law.specs.Ideal.{IsLast, last_version, set_up}
 use Rattle.afs_num.specs.declared.histories.Version.{Version}
 use Rattle.std.specs.Option.{option_map}
 use Rattle.afs_law.specs.Once.{past_of}
-use Rattle.afs_law.specs.Past.{WasSent, SendsTo, has_begun, has_sent, is_called, same_key, onto, lines_on, IsCall, server_boot, CalledSince, IsToCome, called_key, Ran, answered_key, code_told, given_message, lines_of, sent_of}
+use Rattle.afs_law.specs.Past.{HasChangeBy, IsLatest, WasSent, SendsTo, has_begun, has_sent, is_called, same_key, onto, lines_on, IsCall, server_boot, CalledSince, IsToCome, called_key, Ran, answered_key, code_told, given_message, lines_of, sent_of}
 use Rattle.afs_num.specs.declared.calls.AfsCallBack.{AfsCallBack}
 use Rattle.afs_num.specs.declared.calls.FsCall.{FsCall}
 use Rattle.afs_num.specs.declared.calls.FsCall.TheVariants as calls
+use Rattle.afs_num.specs.declared.volume_calls.VolCall.TheVariants as volumes
 use Rattle.afs_num.specs.declared.histories.Actor.TheVariants as actors
 use Rattle.afs_num.specs.declared.messages.Call.TheVariants as ask
 use Rattle.afs_num.specs.declared.types.Half.TheVariants as halves
@@ -563,14 +564,14 @@ asked_under_an_old_key : Legal (alters 3 under_the_old_key (entries (start (scri
 unfolding moved begin_row client_row server_row back_timeout_row wake_row start_row record_bytes head_form volume_form spelled opaque pad word laid_at led name_ok directory_bytes name_bytes rights_of image acl_text digits entry_text directory_of names_at opaque_at word_at counted_at whole_at count_at name_at spelled_at bytes_below
 asked_under_an_old_key h = let e : false ≡ true = h.1.1.1.0.0.1.0.key in absurd cc
 
--- ---- a client sends a call in another's name
+-- ---- a client sends a call in another's name, which asks just this
 
 abbrev in_the_name_of_two : Entry → Entry
 in_the_name_of_two e = record e { sent = map (λ (m : Message). record m { head = record m.head { from = Client 2 } }) e.sent }
 
-sent_in_another_name : Legal (alters 0 in_the_name_of_two (entries (start (script 2)) (begins 1 (acts.Open (operands.Fid file)) ∷ []))) (script 2) → ⊥
+sent_in_another_name : Legal (alters 1 in_the_name_of_two (entries (start (script 2)) (begins 2 (acts.Open (operands.Fid file)) ∷ begins 1 (acts.Open (operands.Fid file)) ∷ []))) (script 2) → ⊥
 unfolding moved begin_row client_row server_row back_timeout_row wake_row start_row record_bytes head_form volume_form spelled opaque pad word laid_at led name_ok directory_bytes name_bytes rights_of image acl_text digits entry_text directory_of names_at opaque_at word_at counted_at whole_at count_at name_at spelled_at bytes_below
-sent_in_another_name h = let e : actors.Node (Client 1) ≡ actors.Node (Client 2) = h.0.0.1.0.sender in absurd cc
+sent_in_another_name h = let e : actors.Node (Client 1) ≡ actors.Node (Client 2) = h.1.0.0.1.0.sender in absurd cc
 
 -- ---- a call is dead at its third timeout
 
@@ -585,7 +586,7 @@ granted_by_a_client : Legal (alters 0 (instead (begun 1 ∷ lines.Grant (Client 
 unfolding moved begin_row client_row server_row back_timeout_row wake_row start_row record_bytes head_form volume_form spelled opaque pad word laid_at led name_ok directory_bytes name_bytes rights_of image acl_text digits entry_text directory_of names_at opaque_at word_at counted_at whole_at count_at name_at spelled_at bytes_below
 granted_by_a_client h = h.0.0.0.1.0.0
 
--- another server than that of the volume grants, and a read rests on that
+-- a client asks another server than that of the volume, which grants, and a read rests on that
 abbrev by_two : Node → Node
 by_two (Server n) = Server 2
 by_two n = n
@@ -604,19 +605,9 @@ actor_by_two a = a
 abbrev entry_by_two : Entry → Entry
 entry_by_two e = record e { actor = actor_by_two e.actor; lines = map line_by_two e.lines; sent = map message_by_two e.sent }
 
-node_of : (a b : Node) → actors.Node a ≡ actors.Node b → a ≡ b
-node_of a b e = cc
-
--- the grant's server is the sender of the reply on which the read rests
-granter : (c : Node) (f : Fid) (x : ℕ) (reply : Message) (past : List Entry) → (g : GrantOf c f x reply past) → g.server ≡ reply.head.from
-granter c f x reply past g = node_of g.server reply.head.from (sym g.node ∙ (g.ran.node ∙ ap actors.Node g.ran.callee))
-
 granted_by_another_server : Legal (map entry_by_two (entries (start (script 1)) (begins 1 (acts.Open (operands.Fid file)) ∷ gives 1 steady ∷ gives 2 steady ∷ []))) (script 1) → ⊥
 unfolding moved begin_row client_row server_row back_timeout_row wake_row start_row record_bytes head_form volume_form spelled opaque pad word laid_at led name_ok directory_bytes name_bytes rights_of image acl_text digits entry_text directory_of names_at opaque_at word_at counted_at whole_at count_at name_at spelled_at bytes_below
-granted_by_another_server h =
-    let g = h.1.1.0.0.0.1.0.1 in
-    let two : g.grant.server ≡ Server 2 = granter _ _ _ _ _ g.grant ∙ ap (λ (m : Message). m.head.from) (sym (some_of _ _ g.by)) in
-    elim (at_home (script 1) file.volume g.grant.server (until _ _ _ _ _ g.grant) g.home) [ inl x ↦ let e : Server 1 ≡ Server 2 = x.1.1 ∙ two in absurd cc | inr x ↦ x ]
+granted_by_another_server h = elim (h.0.1.1.1.0.0.home file.volume refl) [ inl x ↦ one_server x.1.1 | inr x ↦ x ]
 
 -- ---- rights are read by an act that needs them, of a reply to its call
 
@@ -654,6 +645,7 @@ open_front = begins 1 (acts.Open (operands.Fid file)) ∷ gives 1 steady ∷ giv
 abbrev gift : Message
 gift = record { head = record { half = halves.Call; from = Client 1; to = Server 1; epoch = 1; number = 2; boot = 1; stamp = 0; opcode = 147 }; carried = carried.Call (codes "guest") (ask.File (calls.GiveUpCallBacks (file ∷ []) [])) }
 
+-- (no act asks for that call either)
 gave_back_what_is_new : Legal (alters 0 (λ e. record e { lines = begun 1 ∷ lines.Drop (Client 1) file ∷ [] }) (alters 2 (λ e. record e { lines = lines.Given 2 ∷ shown Fetched ∷ []; sent = gift ∷ [] }) (entries (start (script 1)) open_front))) (script 1) → ⊥
 unfolding moved begin_row client_row server_row back_timeout_row wake_row start_row record_bytes head_form volume_form spelled opaque pad word laid_at led name_ok directory_bytes name_bytes rights_of image acl_text digits entry_text directory_of names_at opaque_at word_at counted_at whole_at count_at name_at spelled_at bytes_below
 gave_back_what_is_new h = h.1.1.0.0.1.0.gift.0
@@ -683,18 +675,30 @@ begun_in_the_old_boot h = let e : 1 < 1 = h.1.0.1.0.1.0.0.1 in absurd (omega ari
 -- ---- an act changes things once, were it long over
 
 -- an act sends two calls, and is over before the server runs either: it runs both
-abbrev twice_asked : Entry → Entry
-twice_asked e = record e { sent = e.sent ++ map (λ (m : Message). record m { head = record m.head { number = 2 } }) e.sent }
+abbrev asked_anew_as_two : Entry → Entry
+asked_anew_as_two e = record e { sent = map (λ (m : Message). record m { head = record m.head { number = 2 } }) e.sent }
 
 abbrev changed_as : ℕ → ℕ → Entry
 changed_as n index = step_of (Server 1) (lines.Given n ∷ lines.Change (Server 1) (key_of_one n) 1 ∷ lines.Version (record { fid = file; index = index; data_version = index; body = bodies.File (codes "def") }) ∷ []) []
 
 abbrev changes_twice : List Entry
-changes_twice = alters 0 twice_asked (entries (start (script 1)) (begins 1 (acts.Close (operands.Fid file) (Hex (codes "def"))) ∷ waits 1 ∷ waits 1 ∷ waits 1 ∷ [])) ++ changed_as 1 2 ∷ changed_as 2 3 ∷ []
+changes_twice = alters 1 asked_anew_as_two (alters 2 asked_anew_as_two (entries (start (script 1)) (begins 1 (acts.Close (operands.Fid file) (Hex (codes "def"))) ∷ waits 1 ∷ waits 1 ∷ waits 1 ∷ []))) ++ changed_as 1 2 ∷ changed_as 2 3 ∷ []
 
 changed_twice : Legal changes_twice (script 1) → ⊥
 unfolding moved begin_row client_row server_row back_timeout_row wake_row start_row record_bytes head_form volume_form spelled opaque pad word laid_at led name_ok directory_bytes name_bytes rights_of image acl_text digits entry_text directory_of names_at opaque_at word_at counted_at whole_at count_at name_at spelled_at bytes_below
-changed_twice h = h.1.1.1.1.1.0.0.0.1.0.1.alone (past_of [] (drop 1 (take 5 changes_twice))) (past_of (set_up (script 1) ∷ []) (take 1 changes_twice)) refl refl (key_of_one 1) (inl refl) refl
+changed_twice h = h.1.1.1.1.1.0.0.0.1.0.1.alone (past_of [] (drop 2 (take 5 changes_twice))) (past_of (set_up (script 1) ∷ []) (take 2 changes_twice)) refl refl (key_of_one 1) (inl refl) refl
+
+-- ---- an act begins first in its entry, while none runs
+
+-- a client begins an act while another runs, which would never be answered
+begun_while_one_runs : Legal (entries (start (script 1)) (begins 1 (acts.Open (operands.Fid file)) ∷ []) ++ step_of (Client 1) (stores 1 ∷ []) [] ∷ []) (script 1) → ⊥
+unfolding moved begin_row client_row server_row back_timeout_row wake_row start_row record_bytes head_form volume_form spelled opaque pad word laid_at led name_ok directory_bytes name_bytes rights_of image acl_text digits entry_text directory_of names_at opaque_at word_at counted_at whole_at count_at name_at spelled_at bytes_below
+begun_while_one_runs h = let e : Some (began (locations (script 1)) (acts.Open (operands.Fid file))) ≡ None = h.1.0.0.0.0.1.1 in absurd cc
+
+-- an idle client is given a reply once more, and begins an act in that step
+begun_behind_a_message : Legal (alters 3 (instead (lines.Given 2 ∷ begun 1 ∷ [])) (entries (start (script 1)) (open_front ++ gives 2 steady ∷ []))) (script 1) → ⊥
+unfolding moved begin_row client_row server_row back_timeout_row wake_row start_row record_bytes head_form volume_form spelled opaque pad word laid_at led name_ok directory_bytes name_bytes rights_of image acl_text digits entry_text directory_of names_at opaque_at word_at counted_at whole_at count_at name_at spelled_at bytes_below
+begun_behind_a_message h = let e : lines.Given 2 ∷ [] ≡ [] = h.1.1.1.0.0.0.1.0.1.0 in absurd cc
 
 -- ---- a step that times a call out is given no message
 
@@ -779,26 +783,6 @@ granted_ahead : Legal (alters 1 (grants file 2) (entries (start (script 1)) (beg
 unfolding moved begin_row client_row server_row back_timeout_row wake_row start_row record_bytes head_form volume_form spelled opaque pad word laid_at led name_ok directory_bytes name_bytes rights_of image acl_text digits entry_text directory_of names_at opaque_at word_at counted_at whole_at count_at name_at spelled_at bytes_below
 granted_ahead h = let e : Some 1 ≡ Some 2 = h.1.0.0.0.1.0.1.newest in absurd cc
 
--- a client fetches a part of a file, which is refused, and is promised the file
-abbrev in_part : FsCall
-in_part = calls.FetchData file (pos 1) (pos 1)
-
-abbrev asks_in_part : Entry → Entry
-asks_in_part e = record e { sent = map (λ (m : Message). record m { carried = carried.Call (codes "guest") (ask.File in_part) }) e.sent }
-
-abbrev part_past : List Entry
-part_past = past_of (set_up (script 1) ∷ []) (alters 0 asks_in_part (entries (start (script 1)) (begins 1 (acts.Open (operands.Fid file)) ∷ [])))
-
-refused_not : pos 22 ≡ pos 0 → ⊥
-refused_not e = absurd cc
-
-granted_with_a_refusal : Legal (alters 0 asks_in_part (alters 1 (instead (lines.Given 1 ∷ lines.Grant (Server 1) (Client 1) file 1 7200 ∷ [])) (entries (start (script 1)) (begins 1 (acts.Open (operands.Fid file)) ∷ gives 1 steady ∷ [])))) (script 1) → ⊥
-unfolding moved begin_row client_row server_row back_timeout_row wake_row start_row record_bytes head_form volume_form spelled opaque pad word laid_at led name_ok directory_bytes name_bytes rights_of image acl_text digits entry_text directory_of names_at opaque_at word_at counted_at whole_at count_at name_at spelled_at bytes_below
-granted_with_a_refusal h =
-    let g = h.1.0.0.0.1.0.1 in
-    let same : carried.Call (codes "guest") (ask.File in_part) ≡ carried.Call g.user (ask.File g.call) = some_of _ _ g.carries in
-    refused_not (subst (λ (u : List ℕ). code_given (answer_at u in_part part_past) ≡ pos 0) (sym (one_user _ _ _ _ same)) (subst (λ (k : FsCall). code_given (answer_at g.user k part_past) ≡ pos 0) (sym (one_call _ _ _ _ same)) g.code))
-
 -- a file is made where one was removed: it is promised under the fid of the old one, whose last version tells that it is gone
 abbrev made_anew : List Input
 made_anew = begins 1 (acts.Remove (record { volume = codes "proj"; names = codes "a" ∷ [] })) ∷ gives 1 steady ∷ gives 2 steady ∷ gives 3 steady ∷ gives 4 steady ∷ begins 1 (acts.Make (record { volume = codes "proj"; names = codes "b" ∷ [] })) ∷ gives 5 steady ∷ gives 6 steady ∷ []
@@ -864,21 +848,22 @@ owed_to_a_stranger h = let e : 2 ≤ 1 = h.1.0.0.0.1.1.0.1.cause.1.1 in absurd (
 abbrev as_a_call : Entry → Entry
 as_a_call e = record e { sent = map (λ (m : Message). record m { head = record m.head { half = halves.Call } }) e.sent }
 
--- a client drops the file, asks for it again, and gives it back; the server promises it anew, and then answers the gift by a call
-abbrev numbered : ℕ → List Message → List Message
-numbered n ms = map (λ (m : Message). record m { head = record m.head { number = n } }) ms
+-- A client asks for the file in vain. It drops that, and gives it back: the server runs the call that was late, and promises the file; and
+-- then it answers the gift by a call
+abbrev in_vain : List Input
+in_vain = begins 1 (acts.Open (operands.Fid file)) ∷ waits 1 ∷ waits 1 ∷ waits 1 ∷ []
 
 abbrev gave_rest : List Entry
 gave_rest =
-    step_of (Client 1) (lines.Begin (Client 1) acts.GiveUp ∷ lines.Drop (Client 1) file ∷ []) (numbered 2 (sent_by (start (script 2)) (begins 1 (acts.Open (operands.Fid file)) ∷ [])) ++ numbered 3 (gift ∷ []))
-    ∷ step_of (Server 1) (lines.Given 3 ∷ lines.Grant (Server 1) (Client 1) file 1 7200 ∷ []) []
-    ∷ as_a_call (step_of (Server 1) (lines.Given 4 ∷ []) (numbered 3 (gift_answer ∷ [])))
+    step_of (Client 1) (lines.Begin (Client 1) acts.GiveUp ∷ lines.Drop (Client 1) file ∷ []) (gift ∷ [])
+    ∷ step_of (Server 1) (lines.Given 1 ∷ lines.Grant (Server 1) (Client 1) file 1 7200 ∷ []) []
+    ∷ as_a_call (step_of (Server 1) (lines.Given 4 ∷ []) (gift_answer ∷ []))
     ∷ step_of (Client 2) (stores 2 ∷ []) (sent_by (start (script 2)) (begins 2 (acts.Close (operands.Fid file) (Hex (codes "def"))) ∷ []))
     ∷ step_of (Server 1) (lines.Given 6 ∷ lines.Change (Server 1) (record { node = Client 2; epoch = 1; number = 1 }) 1 ∷ lines.Version (record { fid = file; index = 2; data_version = 2; body = bodies.File (codes "def") }) ∷ []) [] ∷ []
 
-answered_by_a_call : Legal (entries (start (script 2)) open_front ++ gave_rest) (script 2) → ⊥
+answered_by_a_call : Legal (entries (start (script 2)) in_vain ++ gave_rest) (script 2) → ⊥
 unfolding moved begin_row client_row server_row back_timeout_row wake_row start_row record_bytes head_form volume_form spelled opaque pad word laid_at led name_ok directory_bytes name_bytes rights_of image acl_text digits entry_text directory_of names_at opaque_at word_at counted_at whole_at count_at name_at spelled_at bytes_below
-answered_by_a_call h = h.1.1.1.1.1.1.1.0.0.0.1.0.1.owed 1 file 7200 (λ e. absurd cc) (inl refl) refl (omega arith)
+answered_by_a_call h = h.1.1.1.1.1.1.1.1.0.0.0.1.0.1.owed 1 file 7200 (λ e. absurd cc) (inl refl) refl (omega arith)
 
 -- ---- a reply has the opcode of its call
 
@@ -991,17 +976,17 @@ of_another_user e = absurd cc
 
 fetched_for_another_user : Legal (alters 0 (sends_besides for_ann) (entries (start (script 1)) (begins 1 (acts.Open (operands.Fid file)) ∷ []))) (script 1) → ⊥
 unfolding moved begin_row client_row server_row back_timeout_row wake_row start_row record_bytes head_form volume_form spelled opaque pad word laid_at led name_ok directory_bytes name_bytes rights_of image acl_text digits entry_text directory_of names_at opaque_at word_at counted_at whole_at count_at name_at spelled_at bytes_below
-fetched_for_another_user h = of_another_user h.0.1.1.1.0.1.0.0
+fetched_for_another_user h = of_another_user h.0.1.1.1.0.1.0.own_user
 
--- or to another server
+-- or to another server: what it gives back is of none
 abbrev to_server_two : Message → Message
 to_server_two m = record m { head = record m.head { to = Server 2 } }
 
-asked_two_servers : Legal (alters 0 (sends_besides to_server_two) (entries (start (script 1)) (begins 1 (acts.Open (operands.Fid file)) ∷ []))) (script 1) → ⊥
+asked_two_servers : Legal (alters 3 (sends_besides to_server_two) (entries (start (script 1)) (open_front ++ begins 1 acts.GiveUp ∷ []))) (script 1) → ⊥
 unfolding moved begin_row client_row server_row back_timeout_row wake_row start_row record_bytes head_form volume_form spelled opaque pad word laid_at led name_ok directory_bytes name_bytes rights_of image acl_text digits entry_text directory_of names_at opaque_at word_at counted_at whole_at count_at name_at spelled_at bytes_below
-asked_two_servers h = one_server (some_of (Server 1) (Server 2) h.0.1.1.1.0.1.0.1.1.0)
+asked_two_servers h = one_server (some_of (Server 1) (Server 2) h.1.1.1.0.1.1.1.0.1.0.one_callee)
 
--- ---- rights are read by a call that may read them
+-- ---- a call goes to the server of what it names
 
 -- bob may not look the root up, and is told who may
 abbrev hidden : Script
@@ -1017,41 +1002,29 @@ told_by_two = map (λ (m : Message). record m { head = record m.head { from = Cl
 abbrev hidden_front : List Entry
 hidden_front = alters 0 asks_two (entries (start hidden) (begins 1 (acts.GetAccessList (operands.Fid root)) ∷ [])) ++ step_of (Client 2) (lines.Given 1 ∷ []) told_by_two ∷ []
 
-abbrev hidden_past : List Entry
-hidden_past = past_of (set_up hidden ∷ []) hidden_front
-
--- what the cause of that says of the entry that ran the call
-record RanHidden (e : Entry) (older : List Entry) : Type 0 where
-  message : Message
-  given : given_message e.lines (sent_of older) ≡ Some message
-  user : List ℕ
-  call : FsCall
-  carries : message.carried ≡ carried.Call user (ask.File call)
-  code : code_given (answer_at user call older) ≡ pos 0
-
-hidden_none : (e : Entry) (older : List Entry) → given_message e.lines (sent_of older) ≡ None → RanHidden e older → ⊥
-hidden_none e older none x = let no_ : None ≡ Some x.message = sym none ∙ x.given in absurd cc
-
-hidden_not : (e : Entry) (older : List Entry) (m : Message) (user : List ℕ) (call : FsCall) → given_message e.lines (sent_of older) ≡ Some m → m.carried ≡ carried.Call user (ask.File call) → code_given (answer_at user call older) ≡ pos 13 → RanHidden e older → ⊥
-hidden_not e older m user call given is due x =
-    let same : carried.Call user (ask.File call) ≡ carried.Call x.user (ask.File x.call) = sym is ∙ (ap (λ (k : Message). k.carried) (some_of m x.message (sym given ∙ x.given)) ∙ x.carries) in
-    let zero_ : code_given (answer_at user call older) ≡ pos 0 = subst (λ (u : List ℕ). code_given (answer_at u call older) ≡ pos 0) (sym (one_user _ _ _ _ same)) (subst (λ (k : FsCall). code_given (answer_at x.user k older) ≡ pos 0) (sym (one_call _ _ _ _ same)) x.code) in
-    let no_ : pos 13 ≡ pos 0 = sym due ∙ zero_ in absurd cc
-
-hidden_zero : (server : Node) (o : Option Result) (k : Key) (ran ls : List Line) → IsResult server (pos 0) o k ran ls → code_given o ≡ pos 0
-hidden_zero server o k ran ls (inl x) = x.0
-hidden_zero server o k ran ls (inr x) = let no_ : pos 0 ≡ pos 108 = x.0 in absurd cc
+server_not_two : Server 1 ≡ Client 2 → ⊥
+server_not_two e = absurd cc
 
 shown_without_the_right : Legal (hidden_front ++ step_of (Client 1) (lines.Given 2 ∷ lines.Read (Client 1) root 1 Fetched (seen.AccessList (codes "1\n0\nann\t127\n")) ∷ []) [] ∷ []) hidden → ⊥
 unfolding moved begin_row client_row server_row back_timeout_row wake_row start_row record_bytes head_form volume_form spelled opaque pad word laid_at led name_ok directory_bytes name_bytes rights_of image acl_text digits entry_text directory_of names_at opaque_at word_at counted_at whole_at count_at name_at spelled_at bytes_below acl_laid acl_at entry_at access.name_at named_at line_number_at access.count_at
-shown_without_the_right h =
-    let g = h.1.1.0.0.0.1.0.1 in
-    let c = g.cause in
-    let there : Among RanHidden hidden_past = subst (Among RanHidden) (sym c.ran.split) (is_among RanHidden c.ran.newer c.ran.at c.ran.older (record { message = c.ran.message; given = c.ran.given; user = c.user; call = c.call; carries = c.carries; code = hidden_zero g.used.reply.head.from (answer_at c.user c.call c.ran.older) (answered_key g.used.reply.head) c.ran.at.lines (lines.Given 2 ∷ lines_of hidden_past) c.result })) in
-    elim there [
-      | inl x ↦ hidden_not _ _ _ (codes "bob") (calls.FetchAcl root) refl refl refl x
-      | inr y ↦ elim y [ inl x ↦ hidden_none _ _ refl x | inr z ↦ elim z [ inl x ↦ hidden_none _ _ refl x | inr w ↦ w ] ]
-    ]
+shown_without_the_right h = elim (h.0.1.1.1.0.0.home root.volume refl) [ inl x ↦ server_not_two x.1.1 | inr x ↦ x ]
+
+-- bob may not read the file either: the server refuses his fetch, and promises him the file
+abbrev fetches_all : FsCall
+fetches_all = calls.FetchData file (pos 0) (pos 2147483647)
+
+abbrev refused_past : List Entry
+refused_past = past_of (set_up hidden ∷ []) (entries (start hidden) (begins 1 (acts.Open (operands.Fid file)) ∷ []))
+
+refused_not : pos 13 ≡ pos 0 → ⊥
+refused_not e = absurd cc
+
+granted_with_a_refusal : Legal (alters 1 (instead (lines.Given 1 ∷ lines.Grant (Server 1) (Client 1) file 1 7200 ∷ [])) (entries (start hidden) (begins 1 (acts.Open (operands.Fid file)) ∷ gives 1 steady ∷ []))) hidden → ⊥
+unfolding moved begin_row client_row server_row back_timeout_row wake_row start_row record_bytes head_form volume_form spelled opaque pad word laid_at led name_ok directory_bytes name_bytes rights_of image acl_text digits entry_text directory_of names_at opaque_at word_at counted_at whole_at count_at name_at spelled_at bytes_below acl_laid acl_at entry_at access.name_at named_at line_number_at access.count_at
+granted_with_a_refusal h =
+    let g = h.1.0.0.0.1.0.1 in
+    let same : carried.Call (codes "bob") (ask.File fetches_all) ≡ carried.Call g.user (ask.File g.call) = some_of _ _ g.carries in
+    refused_not (subst (λ (u : List ℕ). code_given (answer_at u fetches_all refused_past) ≡ pos 0) (sym (one_user _ _ _ _ same)) (subst (λ (k : FsCall). code_given (answer_at g.user k refused_past) ≡ pos 0) (sym (one_call _ _ _ _ same)) g.code))
 
 -- ---- an act that needs no call doesn't die of one
 
@@ -1188,12 +1161,24 @@ stat_front = begins 1 (acts.Stat (operands.Fid file)) ∷ gives 1 steady ∷ giv
 read_what_was_only_looked_at : Legal (entries (start (script 1)) stat_front ++ step_of (Client 1) (begun 1 ∷ shown Cached ∷ answer 1 ∷ []) [] ∷ []) (script 1) → ⊥
 unfolding moved begin_row client_row server_row back_timeout_row wake_row start_row record_bytes head_form volume_form spelled opaque pad word laid_at led name_ok directory_bytes name_bytes rights_of image acl_text digits entry_text directory_of names_at opaque_at word_at counted_at whole_at count_at name_at spelled_at bytes_below
 read_what_was_only_looked_at h =
-    elim h.1.1.1.0.0.0.1.0.1.brought [
+    elim h.1.1.1.0.0.0.1.0.1.brought.1 [
       | inl x ↦ x.1.1
       | inr y ↦ elim y [
         | inl x ↦ let e : seen.Status status ≡ seen.Contents (bodies.File (codes "abc")) = x.1.1.1 in absurd cc
         | inr x ↦ x
       ]
+    ]
+
+-- a client looks at a file whose mode another sets; it shows the new mode from its cache, of which nothing came to it
+abbrev mode_front : List Input
+mode_front = stat_front ++ begins 2 (acts.SetMode (operands.Fid file) 384) ∷ gives 3 steady ∷ []
+
+status_that_never_came : Legal (entries (start (script 2)) mode_front ++ step_of (Client 1) (lines.Begin (Client 1) (acts.Stat (operands.Fid file)) ∷ lines.Read (Client 1) file 2 Cached (seen.Status (record status { mode = 384 })) ∷ answer 1 ∷ []) [] ∷ []) (script 2) → ⊥
+unfolding moved begin_row client_row server_row back_timeout_row wake_row start_row record_bytes head_form volume_form spelled opaque pad word laid_at led name_ok directory_bytes name_bytes rights_of image acl_text digits entry_text directory_of names_at opaque_at word_at counted_at whole_at count_at name_at spelled_at bytes_below
+status_that_never_came h =
+    elim h.1.1.1.1.1.0.0.0.1.0.1.brought.0 [
+      | inl x ↦ x.1.1
+      | inr y ↦ elim y [ inl x ↦ let e : 1 ≡ 2 = x.1.1.0 in absurd (omega (arith, e)) | inr x ↦ x ]
     ]
 
 -- or by the reply that brings its status
@@ -1362,7 +1347,7 @@ begun_again_when_up h = elim h.0.1.0.1.1.0 [ inl x ↦ restart_not _ _ _ x.0 | i
 -- it calls it in the next one, before that has begun
 called_ahead : Legal (alters 0 to_boot_two (entries (start (script 1)) (begins 1 (acts.Open (operands.Fid file)) ∷ []))) (script 1) → ⊥
 unfolding moved begin_row client_row server_row back_timeout_row wake_row start_row record_bytes head_form volume_form spelled opaque pad word laid_at led name_ok directory_bytes name_bytes rights_of image acl_text digits entry_text directory_of names_at opaque_at word_at counted_at whole_at count_at name_at spelled_at bytes_below
-called_ahead h = let e : 2 ≡ 1 = h.0.1.1.1.0.0.1.1.1 in absurd (omega (arith, e))
+called_ahead h = let e : 2 ≡ 1 = h.0.1.1.1.0.0.boot in absurd (omega (arith, e))
 
 -- ---- a break is owed once in an entry, and ends once
 
@@ -1379,11 +1364,14 @@ settled_twice h = h.1.1.1.1.1.0.1.1.1.1.1.1.0 (inl (refl, refl))
 -- a client is given its own call
 given_to_another : Legal (entries (start (script 1)) (begins 1 (acts.Open (operands.Fid file)) ∷ []) ++ step_of (Client 1) (lines.Given 1 ∷ []) [] ∷ []) (script 1) → ⊥
 unfolding moved begin_row client_row server_row back_timeout_row wake_row start_row record_bytes head_form volume_form spelled opaque pad word laid_at led name_ok directory_bytes name_bytes rights_of image acl_text digits entry_text directory_of names_at opaque_at word_at counted_at whole_at count_at name_at spelled_at bytes_below
-given_to_another h = no_client (sym (node_of _ _ (h.1.0.1.0.1.1.1 refl)))
+given_to_another h = no_client (sym (node_of _ _ (h.1.0.1.0.1.1.1.0 refl)))
+  where
+    node_of : (a b : Node) → actors.Node a ≡ actors.Node b → a ≡ b
+    node_of a b e = cc
 
 given_unsent : Legal (entries (start (script 1)) (begins 1 (acts.Open (operands.Fid file)) ∷ []) ++ step_of (Server 1) (lines.Given 2 ∷ []) [] ∷ []) (script 1) → ⊥
 unfolding moved begin_row client_row server_row back_timeout_row wake_row start_row record_bytes head_form volume_form spelled opaque pad word laid_at led name_ok directory_bytes name_bytes rights_of image acl_text digits entry_text directory_of names_at opaque_at word_at counted_at whole_at count_at name_at spelled_at bytes_below
-given_unsent h = h.1.0.1.0.1.1.1 refl
+given_unsent h = h.1.0.1.0.1.1.1.0 refl
 
 -- ---- the clock ticks by itself
 
@@ -1470,3 +1458,152 @@ timed_out_when_replaced h = elim (h.1.1.1.0.0.0.0.1.awaited.last 3 _ refl tt ref
 timed_out_four_times : Legal (entries (start (script 2)) (changes_file ++ server_waits 1 (Client 1) ∷ server_waits 1 (Client 1) ∷ server_waits 1 (Client 1) ∷ []) ++ step_of (Server 1) (lines.Timeout (Server 1) (Client 1) 1 1 4 ∷ []) [] ∷ []) (script 2) → ⊥
 unfolding moved begin_row client_row server_row back_timeout_row wake_row start_row record_bytes head_form volume_form spelled opaque pad word laid_at led name_ok directory_bytes name_bytes rights_of image acl_text digits entry_text directory_of names_at opaque_at word_at counted_at whole_at count_at name_at spelled_at bytes_below
 timed_out_four_times h = let e : 4 ≤ 3 = h.1.1.1.1.1.1.1.0.0.0.0.1.few in absurd (omega arith)
+
+-- ---- a client that is given a break drops what it is on
+
+abbrev first_of_server : Key
+first_of_server = record { node = Server 1; epoch = 1; number = 1 }
+
+-- it does nothing, and goes on showing what it holds
+broken_and_kept : Legal (alters 4 (instead (lines.Given 4 ∷ [])) (entries (start (script 2)) (changes_file ++ gives 4 steady ∷ []))) (script 2) → ⊥
+unfolding moved begin_row client_row server_row back_timeout_row wake_row start_row record_bytes head_form volume_form spelled opaque pad word laid_at led name_ok directory_bytes name_bytes rights_of image acl_text digits entry_text directory_of names_at opaque_at word_at counted_at whole_at count_at name_at spelled_at bytes_below
+broken_and_kept h =
+    let none_ : IsToCome (Client 1) first_of_server 1 (past_of (set_up (script 2) ∷ []) (entries (start (script 2)) changes_file)) = ((λ x. no_client x.0.1), ((λ x. x), ((λ x. no_client x.0.1), ((λ x. x), ((λ x. x), tt))))) in
+    (h.1.1.1.1.0.1.0.1.1.1.1.0 first_of_server (record { boot = 1; up = refl; given = ((tt, refl), (refl, refl)); first = none_; latest = λ l x same. elim x [ inl y ↦ absurd (no_client y.0) | inr z ↦ absurd z ] })).0
+
+-- ---- a server answers in the boot in which it is
+
+-- in its next boot it sends again what it had answered to a fetch
+abbrev restarts : List Input
+restarts = stops 1 ∷ starts_again 1 false comes_up ∷ []
+
+answered_from_before : Legal (entries (start (script 1)) (fetch_front ++ restarts) ++ step_of (Server 1) [] (sent_by (start (script 1)) fetch_front) ∷ []) (script 1) → ⊥
+unfolding moved begin_row client_row server_row back_timeout_row wake_row start_row record_bytes head_form volume_form spelled opaque pad word laid_at led name_ok directory_bytes name_bytes rights_of image acl_text digits entry_text directory_of names_at opaque_at word_at counted_at whole_at count_at name_at spelled_at bytes_below
+answered_from_before h = elim (h.1.1.1.1.0.1.0.1.1.1.1.1.0 1 1 (refl, tt) refl refl) [ inl e ↦ absurd (two_boots e) | inr x ↦ x ]
+  where
+    two_boots : ◌≡◌ {A = Option ℕ} (Some 2) (Some 1) → ⊥
+    two_boots e = absurd cc
+
+-- ---- what a client calls
+
+-- A client gives a promise back while it opens the file: the server forgets what it promised just before, the client shows the file by that,
+-- and a store owes it nothing
+abbrev gives_while_opening : List Entry
+gives_while_opening =
+    step_of (Client 1) (begun 1 ∷ lines.Drop (Client 1) file ∷ []) (sent_by (start (script 2)) (begins 1 (acts.Open (operands.Fid file)) ∷ []))
+    ∷ step_of (Server 1) (lines.Given 1 ∷ lines.Grant (Server 1) (Client 1) file 1 7200 ∷ []) (sent_by (start (script 2)) (begins 1 (acts.Open (operands.Fid file)) ∷ gives 1 steady ∷ []))
+    ∷ step_of (Client 1) [] (gift ∷ [])
+    ∷ step_of (Server 1) (lines.Given 3 ∷ []) (gift_answer ∷ [])
+    ∷ step_of (Client 1) (lines.Given 2 ∷ shown Fetched ∷ answer 1 ∷ []) []
+    ∷ step_of (Client 2) (stores 2 ∷ []) (sent_by (start (script 2)) (begins 2 (acts.Close (operands.Fid file) (Hex (codes "def"))) ∷ []))
+    ∷ step_of (Server 1) (lines.Given 5 ∷ lines.Change (Server 1) (record { node = Client 2; epoch = 1; number = 1 }) 1 ∷ lines.Version (record { fid = file; index = 2; data_version = 2; body = bodies.File (codes "def") }) ∷ []) []
+    ∷ step_of (Client 1) (begun 1 ∷ shown Cached ∷ answer 1 ∷ []) [] ∷ []
+
+no_fetch_gives : (f : Fid) → calls.GiveUpCallBacks [] [] ≡ calls.FetchData f (pos 0) (pos 2147483647) → ⊥
+no_fetch_gives f e = absurd cc
+
+gave_back_unasked : Legal gives_while_opening (script 2) → ⊥
+unfolding moved begin_row client_row server_row back_timeout_row wake_row start_row record_bytes head_form volume_form spelled opaque pad word laid_at led name_ok directory_bytes name_bytes rights_of image acl_text digits entry_text directory_of names_at opaque_at word_at counted_at whole_at count_at name_at spelled_at bytes_below
+gave_back_unasked h =
+    let x = h.1.1.0.1.1.1.0.0 in
+    no_fetch_gives file (subst (λ (a : Going). calls.GiveUpCallBacks [] [] ≡ asked a) (sym (some_of _ x.act x.runs)) x.asks)
+
+-- A client's later call has the lower number: the server runs that first, and then the older one, whose store undoes the later one
+abbrev other_number : ℕ → ℕ
+other_number n = cond (nat_eq n 1) 2 1
+
+abbrev renumbered : Line → Line
+renumbered (lines.Timeout c q epoch number count) = lines.Timeout c q epoch (other_number number) count
+renumbered (lines.Change q k count) = lines.Change q (record k { number = other_number k.number }) count
+renumbered l = l
+
+abbrev other_order : Entry → Entry
+other_order e = record e { lines = map renumbered e.lines; sent = map (λ (m : Message). record m { head = record m.head { number = other_number m.head.number } }) e.sent }
+
+abbrev stores_twice : List Input
+stores_twice = begins 1 (acts.Close (operands.Fid file) (Hex (codes "old"))) ∷ waits 1 ∷ waits 1 ∷ waits 1 ∷ begins 1 (acts.Close (operands.Fid file) (Hex (codes "new"))) ∷ gives 4 steady ∷ gives 5 steady ∷ []
+
+abbrev undoes : List Entry
+undoes =
+    map other_order (entries (start (script 1)) stores_twice)
+    ++ step_of (Server 1) (lines.Given 1 ∷ lines.Change (Server 1) (key_of_one 2) 1 ∷ lines.Version (record { fid = file; index = 3; data_version = 3; body = bodies.File (codes "old") }) ∷ []) [] ∷ []
+
+undone_by_an_older_call : Legal undoes (script 1) → ⊥
+unfolding moved begin_row client_row server_row back_timeout_row wake_row start_row record_bytes head_form volume_form spelled opaque pad word laid_at led name_ok directory_bytes name_bytes rights_of image acl_text digits entry_text directory_of names_at opaque_at word_at counted_at whole_at count_at name_at spelled_at bytes_below
+undone_by_an_older_call h = elim (h.1.1.1.1.0.1.1.1.0.0.last.0 tt refl) [
+  | inl x ↦ let e : 1 < 1 = x in absurd (omega arith)
+  | inr x ↦ let e : 2 ≤ 1 = x.1 in absurd (omega arith)
+]
+
+-- a client's header names another call than it carries
+abbrev named_a_store : Entry → Entry
+named_a_store e = record e { sent = map (λ (m : Message). record m { head = record m.head { opcode = 133 } }) e.sent }
+
+called_as_a_store : Legal (alters 0 named_a_store (entries (start (script 1)) (begins 1 (acts.Open (operands.Fid file)) ∷ []))) (script 1) → ⊥
+unfolding moved begin_row client_row server_row back_timeout_row wake_row start_row record_bytes head_form volume_form spelled opaque pad word laid_at led name_ok directory_bytes name_bytes rights_of image acl_text digits entry_text directory_of names_at opaque_at word_at counted_at whole_at count_at name_at spelled_at bytes_below
+called_as_a_store h = let e : 133 ≡ 130 = h.0.1.1.1.0.0.opcode in absurd (omega (arith, e))
+
+-- it sends a volume's call under the key of its store, whose change then stands where that was given
+abbrev to_volumes : Message → Message
+to_volumes m = record m { carried = carried.Call (codes "guest") (ask.Volume (volumes.DeleteVolume home 1)) }
+
+changed_by_a_volume_call : Legal (alters 0 (sends_besides to_volumes) (entries (start (script 1)) (begins 1 (acts.Close (operands.Fid file) (Hex (codes "def"))) ∷ [])) ++ step_of (Server 1) (lines.Given 2 ∷ lines.Change (Server 1) (key_of_one 1) 1 ∷ lines.Version (record { fid = file; index = 2; data_version = 2; body = bodies.File (codes "def") }) ∷ []) [] ∷ []) (script 1) → ⊥
+unfolding moved begin_row client_row server_row back_timeout_row wake_row start_row record_bytes head_form volume_form spelled opaque pad word laid_at led name_ok directory_bytes name_bytes rights_of image acl_text digits entry_text directory_of names_at opaque_at word_at counted_at whole_at count_at name_at spelled_at bytes_below
+changed_by_a_volume_call h = h.0.1.1.1.0.1.0
+
+-- ---- a server keeps the reply to what it changed over a restart
+
+-- The server made a store, and went down before its reply came. It runs the call again in its next boot, and has no room for it
+abbrev stores_in : ℕ → Message
+stores_in boot = record {
+  head = record { half = halves.Call; from = Client 1; to = Server 1; epoch = 1; number = 1; boot = boot; stamp = 0; opcode = 133 };
+  carried = carried.Call (codes "guest") (ask.File (stored_whole file (codes "def")));
+}
+
+abbrev head_of_two : Head
+head_of_two = record { half = halves.Reply; from = Server 1; to = Client 1; epoch = 1; number = 1; boot = 2; stamp = 0; opcode = 133 }
+
+abbrev stored_and_stopped : List Entry
+stored_and_stopped =
+    step_of (Client 1) (stores 1 ∷ []) (stores_in 1 ∷ [])
+    ∷ step_of (Server 1) (lines.Given 1 ∷ lines.Change (Server 1) (key_of_one 1) 1 ∷ lines.Version (record { fid = file; index = 2; data_version = 2; body = bodies.File (codes "def") }) ∷ []) []
+    ∷ step_of (Server 1) (lines.Crash (Server 1) ∷ []) []
+    ∷ step_of (Server 1) (lines.Restart (Server 1) 2 ∷ lines.Owe (Server 1) (Client 1) None 1 ∷ []) []
+    ∷ step_of (Client 1) (lines.Timeout (Client 1) (Server 1) 1 1 1 ∷ []) (stores_in 2 ∷ [])
+    ∷ step_of (Server 1) (lines.Given 2 ∷ []) (record { head = head_of_two; carried = carried.Refusal (record { 0 = pos 108 }) } ∷ []) ∷ []
+
+-- what that says of the entry that ran it
+record RanAgain (e : Entry) (older : List Entry) : Type 0 where
+  message : Message
+  given : given_message e.lines (sent_of older) ≡ Some message
+  boot : message.head.boot ≡ 2
+  latest : IsLatest (Server 1) (key_of_one 1) (lines_of older)
+
+ran_again : (past : List Entry) → Ran head_of_two past → Among RanAgain past
+ran_again past r = subst (Among RanAgain) (sym r.split) (is_among RanAgain r.newer r.at r.older (record { message = r.message; given = r.given; boot = r.boot; latest = r.latest }))
+
+abbrev NoneOf : (Entry → List Entry → Type 0) → List Entry → Type 0
+NoneOf P [] = ⊤
+NoneOf P (e ∷ past) = (P e past → ⊥) × NoneOf P past
+
+none_among : (P : Entry → List Entry → Type 0) (past : List Entry) → NoneOf P past → Among P past → ⊥
+none_among P [] h x = x
+none_among P (e ∷ past) h (inl x) = h.0 x
+none_among P (e ∷ past) h (inr x) = none_among P past h.1 x
+
+again_none : (e : Entry) (older : List Entry) → given_message e.lines (sent_of older) ≡ None → RanAgain e older → ⊥
+again_none e older none x = let no_ : None ≡ Some x.message = sym none ∙ x.given in absurd cc
+
+again_first : (e : Entry) (older : List Entry) (m : Message) → given_message e.lines (sent_of older) ≡ Some m → m.head.boot ≡ 1 → RanAgain e older → ⊥
+again_first e older m at one x = let no_ : 1 ≡ 2 = sym one ∙ (ap (λ (q : Message). q.head.boot) (some_of m x.message (sym at ∙ x.given)) ∙ x.boot) in absurd (omega (arith, no_))
+
+again_changed : (e : Entry) (older : List Entry) → HasChangeBy (Server 1) (key_of_one 1) (lines_of older) → RanAgain e older → ⊥
+again_changed e older has x = elim (x.latest (key_of_one 1) has refl) [ inl y ↦ let no_ : 1 < 1 = y in absurd (omega arith) | inr y ↦ let no_ : 1 < 1 = y.1 in absurd (omega arith) ]
+
+refused_what_was_done : Legal stored_and_stopped (script 1) → ⊥
+unfolding moved begin_row client_row server_row back_timeout_row wake_row start_row record_bytes head_form volume_form spelled opaque pad word laid_at led name_ok directory_bytes name_bytes rights_of image acl_text digits entry_text directory_of names_at opaque_at word_at counted_at whole_at count_at name_at spelled_at bytes_below
+refused_what_was_done h =
+    none_among RanAgain (past_of (set_up (script 1) ∷ []) stored_and_stopped) (
+      (λ x. again_changed _ _ (inl (refl, refl)) x),
+      ((λ x. again_none _ _ refl x), ((λ x. again_none _ _ refl x), ((λ x. again_none _ _ refl x), ((λ x. again_first _ _ _ refl refl x), ((λ x. again_none _ _ refl x), ((λ x. again_none _ _ refl x), tt)))))),
+    ) (ran_again _ (h.1.1.1.1.1.0.1.1.0.0 1 1 (refl, tt) refl refl).ran)

@@ -73,8 +73,8 @@ abbrev pub is_on : Fid → Option Fid → Bool
 is_on f None = true
 is_on f (Some g) = same_fid g f
 
--- The same, and none too where that promise is over: since then the server stopped, a break of it became owed to the client, or the client
--- dropped it
+-- The same, but none where after that promise the server stopped, a break of it became owed to the client, or the client dropped it. Whether
+-- its time has come isn't looked at
 abbrev pub live_grant : Node → Node → Fid → List Line → Option ℕ
 live_grant s c f [] = None
 live_grant s c f (lines.Grant q d g index expiry ∷ older) = cond (same_node q s && (same_node d c && same_fid g f)) (Some expiry) (live_grant s c f older)
@@ -247,13 +247,13 @@ pub record IsCarried (s c : Node) (epoch number : ℕ) (what : Option Fid) (n : 
   pub owe : OweAt s c what n (lines_of (sent.at ∷ sent.older))
   pub up : HasStopped s (lines_on [] sent.newer) → ⊥
 
--- and since that call was sent the client gave up what the break is on
+-- and since that call was first sent the client dropped what the break is on
 pub record IsGivenUp (s c : Node) (epoch number : ℕ) (what : Option Fid) (n : ℕ) (past : List Entry) : Type 0 where
   pub carried : IsCarried s c epoch number what n past
   pub dropped : HasDrop s c what (lines_on [] carried.sent.newer)
 
--- the entry, in which the server hasn't stopped, was given the client's reply to a call that carries the break; and the client gave up what
--- that is on
+-- the entry, in which the server hasn't stopped, was given a message with a code from the client, under the key of a call that carries the
+-- break; and the client dropped what that is on
 pub record GoodSettle (s c : Node) (n : ℕ) (past : List Entry) (own : List Line) : Type 0 where
   pub going : HasStopped s own → ⊥
   pub reply : Message

@@ -1,3 +1,4 @@
+pub use Rattle.afs_law.specs.Past.{HasChangeBy, IsLater}
 use Rattle.std.specs.Option.{option_map}
 use Rattle.afs_num.specs.Fids.{same_fid}
 use Rattle.afs_rows.specs.ServerRow.{promise_ticks}
@@ -16,16 +17,15 @@ use Rattle.afs_num.specs.declared.messages.Carried.{Carried}
 use Rattle.afs_num.specs.declared.messages.Message.{Message}
 use Rattle.afs_ideal.specs.Operations.{Caller, the_user, Result, refused, changes, no_operation, op, code_of, volume_called}
 use Rattle.afs_ideal.specs.Volumes.{Volume, Edit, versions_by}
-use Rattle.afs_law.specs.Breaks.{unbroken_grant, IsNamedIn, AllOwes, HasEnded, HasStopped, HasTimeout, EndedOf, EndedAll, GoodSettle, GoodQuit, live_grant, lines_at, HasOwe, last_number}
+use Rattle.afs_law.specs.Breaks.{HasDrop, unbroken_grant, IsNamedIn, AllOwes, HasEnded, HasStopped, HasTimeout, EndedOf, EndedAll, GoodSettle, GoodQuit, live_grant, lines_at, HasOwe, last_number}
 use Rattle.afs_rows.specs.Going.{Going, Need, answers, asks_for, next, asked, gives_back, reads_rights}
-use Rattle.afs_law.specs.Grants.{is_promised, read_reply, GrantOf, since, until, IsWithdrawn, IsChangedByOther, IsDropped}
+use Rattle.afs_law.specs.Grants.{change_below, is_promised, read_reply, GrantOf, since, until, IsWithdrawn, IsChangedByOther, IsDropped}
 use Rattle.afs_law.specs.Ideal.{last_version, Unless, set_up, IsLast, WasLast, HasBeen, HasVersion, Accepts, clock_of, user_of, seen, change_in, change_key, call_under, callee_under, volume_after}
 use Rattle.afs_history.specs.declared.acts.Act.TheVariants as acts
 use Rattle.afs_history.specs.declared.lines.Line.{Line}
-use Rattle.afs_law.specs.Past.{IsUpTo}
 use Rattle.afs_rows.specs.Runs.{message_at}
 use Rattle.afs_law.specs.Lives.{IsDelivered, IsHostLived, epoch_after, last_written}
-use Rattle.afs_law.specs.Past.{HasBoot, WasSent, is_down, last_boot, is_new_to_act, called_key, IsCall, IsToCome, is_of_act, lines_of, sent_of, given_message, answered_key, code_told, IsReply, running, has_begun, has_given, Called, CalledSince, IsCallUnder, Ran, server_boot}
+use Rattle.afs_law.specs.Past.{HasBoot, IsLatest, IsUpTo, WasSent, is_down, last_boot, is_new_to_act, called_key, IsCall, IsToCome, is_of_act, lines_of, sent_of, given_message, answered_key, code_told, IsReply, running, has_begun, has_given, Called, CalledSince, IsCallUnder, Ran, server_boot}
 use Rattle.afs_rows.specs.Runs.{Entry}
 use Rattle.afs_history.specs.declared.scripts.Script.{Script}
 use Rattle.afs_num.specs.declared.histories.Actor.{Actor}
@@ -101,8 +101,8 @@ abbrev pub StoresBy : Option Going → Fid → Body → Type 0
 StoresBy None f body = ⊥
 StoresBy (Some act) f body = Stores (asked act) f body
 
--- by these lines, the newest first, this body of the object came to the client since it last crashed: by a read that was fetched, or by its
--- own store, which was answered 0
+-- by these lines, the newest first, this body of the object, of whichever version, came to the client since it last crashed: by a read that
+-- was fetched, or by its own store, which was answered 0
 abbrev pub HasBrought : Script → Node → Fid → Body → List Line → Type 0
 HasBrought s c f body [] = ⊥
 HasBrought s c f body (lines.Read m g index source shown ∷ older) = ((m ≡ c) × ((g ≡ f) × ((source ≡ Fetched) × (shown ≡ shows.Contents body)))) ⊎ HasBrought s c f body older
@@ -110,10 +110,36 @@ HasBrought s c f body (lines.Answer m code ∷ older) = ((m ≡ c) × ((code.0 �
 HasBrought s c f body (lines.Crash n ∷ older) = Unless (same_node n c) (HasBrought s c f body older)
 HasBrought s c f body (l ∷ older) = HasBrought s c f body older
 
--- contents that are read from the cache came to the client
-abbrev pub IsBrought : Script → Node → Fid → ReadSource → ReadBody → List Line → Type 0
-IsBrought s c f Cached (shows.Contents body) ls = HasBrought s c f body ls
-IsBrought s c f source body ls = ⊤
+-- it is a change of this node's own call
+abbrev pub IsOwnChange : Node → Option (Node × Key) → Type 0
+IsOwnChange c None = ⊥
+IsOwnChange c (Some change) = change.1.node ≡ c
+
+-- by these lines, the newest first, a call of the client's own made the version of this index since the client last began an act
+abbrev pub HasMadeItself : Node → Fid → ℕ → List Line → Type 0
+HasMadeItself c f index [] = ⊥
+HasMadeItself c f index (lines.Version v ∷ older) = ((v.fid ≡ f) × ((v.index ≡ index) × IsOwnChange c (change_below older))) ⊎ HasMadeItself c f index older
+HasMadeItself c f index (lines.Begin m act ∷ older) = Unless (same_node m c) (HasMadeItself c f index older)
+HasMadeItself c f index (l ∷ older) = HasMadeItself c f index older
+
+-- by these lines, the newest first, the version of this index came to the client since it last crashed: by a read of its contents or its
+-- status that was fetched, or by an own act that made it and was answered 0
+abbrev pub HasLearned : Node → Fid → ℕ → List Line → Type 0
+HasLearned c f index [] = ⊥
+HasLearned c f index (lines.Read m g i source shown ∷ older) = ((m ≡ c) × ((g ≡ f) × ((i ≡ index) × ((source ≡ Fetched) × (is_promised shown ≡ true))))) ⊎ HasLearned c f index older
+HasLearned c f index (lines.Answer m code ∷ older) = ((m ≡ c) × ((code.0 ≡ pos 0) × HasMadeItself c f index older)) ⊎ HasLearned c f index older
+HasLearned c f index (lines.Crash n ∷ older) = Unless (same_node n c) (HasLearned c f index older)
+HasLearned c f index (l ∷ older) = HasLearned c f index older
+
+-- contents came to the client as just this body, of whichever version
+abbrev pub AreBrought : Script → Node → Fid → ReadBody → List Line → Type 0
+AreBrought s c f (shows.Contents body) ls = HasBrought s c f body ls
+AreBrought s c f body ls = ⊤
+
+-- what is read from the cache came to the client: the version of this index, and contents
+abbrev pub IsBrought : Script → Node → Fid → ℕ → ReadSource → ReadBody → List Line → Type 0
+IsBrought s c f index Cached body ls = HasLearned c f index ls × AreBrought s c f body ls
+IsBrought s c f index Fetched body ls = ⊤
 
 -- a version of this index was told, whatever its body
 abbrev pub HasIndex : Fid → ℕ → List Line → Type 0
@@ -132,12 +158,13 @@ Shows f index body past own = HasIndex f index (own ++ lines_of past) × HasBeen
 -- A read shows one stored version, whole. It is not older than what the client saw, or than the last one when the promise was made. The
 -- promise is of the server that accepts stores of the volume; it lasts, and since then the client didn't drop what it is on. The version is the
 -- last one, unless the promise was withdrawn. A fetched read has a reply with code 0 to a call of the running act for such a thing, and shows
--- the version that the promise tells, which was made where that call ran. Contents that are cached came to the client before
+-- the version that the promise tells, which was made where that call ran. A cached read is of a version that came to the client before, and so did
+-- its contents
 pub record GoodRead (s : Script) (c : Node) (f : Fid) (index : ℕ) (source : ReadSource) (body : ReadBody) (past : List Entry) (own : List Line) : Type 0 where
   pub whole : Shows f index body past own
   pub not_older : seen c f past own ≤ index
   pub used : source ≡ Fetched → IsUse s c f body past own
-  pub brought : IsBrought s c f source body (own ++ lines_of past)
+  pub brought : IsBrought s c f index source body (own ++ lines_of past)
   pub reply : Message
   pub by : read_reply c f source past own ≡ Some reply
   pub expiry : ℕ
@@ -169,16 +196,6 @@ abbrev pub HasChange : Key → List Line → Type 0
 HasChange k [] = ⊥
 HasChange k (l ∷ ls) = IsKey k (change_in l) (HasChange k ls)
 
--- the server changed something under this key
-abbrev pub HasChangeBy : Node → Key → List Line → Type 0
-HasChangeBy s k [] = ⊥
-HasChangeBy s k (lines.Change q l count ∷ ls) = ((q ≡ s) × (l ≡ k)) ⊎ HasChangeBy s k ls
-HasChangeBy s k (l ∷ ls) = HasChangeBy s k ls
-
--- a node's key of a later call
-abbrev pub IsLater : Key → Key → Type 0
-IsLater k l = (l.epoch < k.epoch) ⊎ ((l.epoch ≡ k.epoch) × (l.number < k.number))
-
 -- the versions that stand first
 abbrev pub versions_first : List Line → List Version
 versions_first (lines.Version v ∷ ls) = v ∷ versions_first ls
@@ -202,12 +219,13 @@ AreFailed s [] = ⊤
 AreFailed s (e ∷ past) = (e.actor ≡ actors.Node s → e.lines ≡ lines.Fault s ∷ []) × AreFailed s past
 
 -- this entry was given a call of the key to the server and to the boot in which that is, the first in that boot, and before any
--- later call of its node
+-- later call of its node; and in whichever boot the server changed something for that node before, it did so under an earlier key
 pub record RunsHere (server : Node) (k : Key) (past : List Entry) (own : List Line) : Type 0 where
   pub boot : ℕ
   pub up : server_boot server (lines_of past) ≡ Some boot
   pub given : IsCallUnder server k boot (given_message own (sent_of past))
   pub first : IsToCome server k boot past
+  pub latest : IsLatest server k (lines_of past)
 
 -- the server stopped in the entry that was given it; and this one is the restart that finds what that step left, which it tells
 -- first
@@ -229,7 +247,7 @@ pub record RanBefore (server : Node) (k : Key) (past : List Entry) (own next : L
 -- that follow are just those of the ideal operation on the ideal volume
 pub record IdealChange (s : Script) (server : Node) (k : Key) (count : ℕ) (past : List Entry) (own next : List Line) : Type 0 where
   pub fresh : IsNew k (own ++ lines_of past)
-  pub latest : (l : Key) → HasChangeBy server l (own ++ lines_of past) → l.node ≡ k.node → IsLater k l
+  pub latest : IsLatest server k (own ++ lines_of past)
   pub place : RunsHere server k past own ⊎ RanBefore server k past own next
   pub going : HasStopped server own → ⊥
   pub only : change_key own ≡ None
@@ -288,7 +306,7 @@ pub record GoodOwe (s : Script) (server c : Node) (what : Option Fid) (n : ℕ) 
   pub number : n ≡ last_number server (own ++ lines_of past) + 1
   pub cause : IsOwedFor s server c what past own
 
--- an entry owes a client one break on one thing, and a break is settled or given up once
+-- no entry owes a client two breaks on one thing, and in a boot no number is settled or given up twice
 abbrev pub IsForOnce : Line → List Entry → List Line → Type 0
 IsForOnce (lines.Owe server c what n) past own = HasOwe server c what own → ⊥
 IsForOnce (lines.Settle server c n) past own = HasEnded server n (own ++ lines_of past) → ⊥
@@ -413,19 +431,19 @@ pub record IsCaused (s : Script) (c : Node) (act : Going) (code : ℤ) (past : L
   pub ends : code ≡ pos 0 → EndsAct (next act)
 
 -- the act needs no more, and answers so by its read lines; it began in this entry, which was given nothing, or the entry was
--- given a reply with code 0 to its call, and read what the act still needed
+-- given a reply with code 0 to a call of the act, and reads something
 pub record IsDone (s : Script) (c : Node) (act : Going) (code : ℤ) (past : List Entry) (own : List Line) : Type 0 where
   pub number : ℕ
   pub is : code ≡ pos number
   pub by : next act ≡ answers number
   pub last : IsAtOnce c own ⊎ (HasUsed s c past own × (has_read c own ≡ true))
 
--- the act isn't at its end
+-- the act needs something still
 abbrev pub IsOpen : Need → Type 0
 IsOpen (answers code) = ⊥
 IsOpen need = ⊤
 
--- a call of this very act, which isn't at its end, was timed out for the third time in this entry: it is dead
+-- the act isn't at its end, and a call that it needs now, which its client sent since it began, was timed out for the third time in this entry
 pub record IsDead (s : Script) (c : Node) (act : Going) (code : ℤ) (past : List Entry) (own : List Line) : Type 0 where
   pub is : code ≡ negsuc 0
   pub callee : Node
@@ -561,6 +579,14 @@ GoodCall head c past = ⊤
 abbrev pub HasOwnHalf : Message → Type 0
 HasOwnHalf m = IsCall m.carried → m.head.half ≡ halves.Call
 
+-- a server answers a client in the boot in which it is; or it repeats its reply to a change, which it keeps over all boots
+abbrev pub IsPresent : List Entry → Message → Type 0
+IsPresent past m = (i j : ℕ) → IsReply m → m.head.from ≡ Server i → m.head.to ≡ Client j → (server_boot m.head.from (lines_of past) ≡ Some m.head.boot) ⊎ HasChangeBy m.head.from (answered_key m.head) (lines_of past)
+
+abbrev pub ArePresent : List Entry → List Message → Type 0
+ArePresent past [] = ⊤
+ArePresent past (m ∷ ms) = IsPresent past m × ArePresent past ms
+
 -- A message is sent by the node that its header names as sender, in the entry with which `past` begins, and a call is one by its header.
 -- A reply of a server waits for its breaks, what a call gives back was dropped, and a client's call has a key that no file call had
 -- which was sent before the act that it began last
@@ -602,15 +628,48 @@ abbrev pub IsBootOf : Node → ℕ → List Line → Type 0
 IsBootOf (Server i) boot ls = HasBoot (Server i) boot ls
 IsBootOf n boot ls = ⊤
 
--- A client's file call is made for its user, and is the one under its key, to the one callee: what is sent again is the same call. The boot to
--- which it is sent its server began
+-- the node accepts stores of the volume of each of these fids
+abbrev pub AcceptsEach : Script → Node → List Fid → List Line → Type 0
+AcceptsEach s n [] ls = ⊤
+AcceptsEach s n (f ∷ fs) ls = Accepts s f.volume n ls × AcceptsEach s n fs ls
+
+-- the node accepts stores of the volume of which the call asks, or of each, where it asks for several statuses; some calls ask of none
+abbrev pub IsAtHome : Script → Node → FsCall → List Line → Type 0
+IsAtHome s n (calls.BulkStatus fids) ls = AcceptsEach s n fids ls
+IsAtHome s n call ls = (id : ℕ) → volume_called call ≡ Some id → Accepts s id n ls
+
+-- none of these messages is a call of this call's sender under a later pair of epoch and number
+abbrev pub IsItsLast : Head → List Message → Type 0
+IsItsLast head [] = ⊤
+IsItsLast head (m ∷ ms) = (IsCall m.carried → m.head.from ≡ head.from → IsUpTo m.head.epoch m.head.number head.epoch head.number) × IsItsLast head ms
+
+-- A client sends a file call for its user while an act runs there that asks for just this call, which the header names too. Of all calls that it
+-- sent so far none has a later pair. It is the call under its key, to the one callee: what is sent again is the same call. That callee accepts
+-- stores of the volumes of which it asks; and it is sent to a boot that its callee, where a server, has begun
+pub record OwnFileCall (s : Script) (c : Node) (head : Head) (user : List ℕ) (call : FsCall) (past : List Entry) : Type 0 where
+  pub own_user : user ≡ user_of s c
+  pub act : Going
+  pub runs : running s c (lines_of past) ≡ Some act
+  pub asks : as_asked call ≡ asked act
+  pub opcode : head.opcode ≡ call_number call
+  pub last : IsItsLast head (sent_of past)
+  pub one : call_under (called_key head) (sent_of past) ≡ Some (user, call)
+  pub one_callee : callee_under (called_key head) (sent_of past) ≡ Some head.to
+  pub home : IsAtHome s head.to call (lines_of past)
+  pub boot : IsBootOf head.to head.boot (lines_of past)
+
 abbrev pub OwnCallOf : Script → Node → Head → List ℕ → FsCall → List Entry → Type 0
-OwnCallOf s (Client j) head user call past =
-    (user ≡ user_of s (Client j)) × ((call_under (called_key head) (sent_of past) ≡ Some (user, call)) × ((callee_under (called_key head) (sent_of past) ≡ Some head.to) × IsBootOf head.to head.boot (lines_of past)))
+OwnCallOf s (Client j) head user call past = OwnFileCall s (Client j) head user call past
 OwnCallOf s n head user call past = ⊤
 
+abbrev pub IsNoClient : Node → Type 0
+IsNoClient (Client j) = ⊥
+IsNoClient n = ⊤
+
+-- a client calls file servers alone
 abbrev pub OwnCall : Script → Head → Carried → List Entry → Type 0
 OwnCall s head (carried.Call user (ask.File call)) past = OwnCallOf s head.from head user call past
+OwnCall s head (carried.Call user call) past = IsNoClient head.from
 OwnCall s head c past = ⊤
 
 abbrev pub AreOwnCalls : Script → List Entry → List Message → Type 0
@@ -623,6 +682,30 @@ AreOwnCalls s past (m ∷ ms) = OwnCall s m.head m.carried past × AreOwnCalls s
 abbrev pub GoodRestart : Script → Node → List Line → Type 0
 GoodRestart s (Server i) next = (j : ℕ) → 1 ≤ j → j ≤ s.clients → HasOwe (Server i) (Client j) None next
 GoodRestart s n next = ⊤
+
+-- ---- breaks that a client is given
+
+-- in these lines the client drops each of the fids, or all that the server promised
+abbrev pub AreDroppedIn : Node → Node → List Fid → List Line → Type 0
+AreDroppedIn server c [] ls = ⊤
+AreDroppedIn server c (f ∷ fs) ls = HasDrop server c (Some f) ls × AreDroppedIn server c fs ls
+
+-- what a call of this header breaks
+abbrev pub DropsBroken : Node → Head → Carried → List Line → Type 0
+DropsBroken c head (carried.Call user (ask.File (calls.CallBack fids callbacks))) ls = AreDroppedIn head.from c fids ls
+DropsBroken c head (carried.Call user (ask.File calls.InitCallBackState)) ls = HasDrop head.from c None ls
+DropsBroken c head x ls = ⊤
+
+abbrev pub DropsGiven : Node → Option Message → List Line → Type 0
+DropsGiven c None ls = ⊤
+DropsGiven c (Some m) ls = DropsBroken c m.head m.carried ls
+
+-- a client that runs a call which breaks promises drops in that step what these are on
+abbrev pub HandlesBreaks : Actor → List Entry → List Line → Type 0
+HandlesBreaks (actors.Node (Client j)) past ls = (k : Key) → RunsHere (Client j) k past ls → DropsGiven (Client j) (given_message ls (sent_of past)) ls
+HandlesBreaks who past ls = ⊤
+
+-- ---- what an entry of a restart tells
 
 -- it was down, and its boot is above all that it began before
 abbrev pub IsRising : Line → List Line → Type 0
@@ -696,13 +779,18 @@ IsOfServer who n = ⊥
 abbrev pub IsTimed : Node → List Line → List Line → Type 0
 IsTimed c own next = ((has_given own ≡ false) × (has_begun c own ≡ false)) × ((has_given next ≡ false) × (has_begun c next ≡ false))
 
+-- an act begins first in its entry, while none runs
+abbrev pub IsBegun : Script → Node → List Entry → List Line → Type 0
+IsBegun s c past own = (own ≡ []) × (running s c (lines_of past) ≡ None)
+
 -- Each line stands in an entry of its own node: a begin, a read, an answer, a drop in one of its client, a change, a grant, a break in
--- one of its server, a tick, which isn't of 0 and is alone, in the clock's, and that nothing happened in nobody's. An entry is given one message at most; a version
+-- one of its server, a tick, which isn't of 0 and is alone, in the clock's, and that nothing happened in nobody's. An act begins first in its
+-- entry, while none runs. An entry is given one message at most; a version
 -- stands under its change; an act runs where a client reads or answers; a timeout stands in an entry that is given no message and in
 -- which its node begins no act; and a server that begins again owes each client of the script a break on all. A crash is of any node, a
 -- fault of a server alone, for clients have no disk
 abbrev pub IsInPlace : Script → Actor → Line → List Entry → List Line → List Line → Type 0
-IsInPlace s who (lines.Begin c act) past own next = IsOfClient who c
+IsInPlace s who (lines.Begin c act) past own next = IsOfClient who c × IsBegun s c past own
 IsInPlace s who (lines.Given place) past own next = has_given own ≡ false
 IsInPlace s who (lines.Grant server c f index expiry) past own next = IsOfServer who server
 IsInPlace s who (lines.Change server k count) past own next = IsOfServer who server
@@ -750,9 +838,9 @@ IsOfScript s actors.Nobody = ⊤
 
 -- An entry lays no volumes, for the set-up alone does; and it is of a node of the script. A server that begins again was down, and is then in
 -- a boot above the last one that it began. A node that is down does nothing but begin again, or fail to. What an entry is given was sent to its
--- node
+-- node; and a client that runs a call which breaks promises drops what these are on. A server answers in the boot in which it is
 abbrev pub IsEntryOf : Script → List Entry → Entry → Type 0
-IsEntryOf s past e = ((e.volumes ≡ []) × IsOfScript s e.actor) × (AreRising (lines_of past) e.lines × (IsLivedBy e.actor past e.lines e.sent × IsDelivered e.actor past e.lines))
+IsEntryOf s past e = ((e.volumes ≡ []) × IsOfScript s e.actor) × (AreRising (lines_of past) e.lines × (IsLivedBy e.actor past e.lines e.sent × (IsDelivered e.actor past e.lines × (HandlesBreaks e.actor past e.lines × ArePresent (e ∷ past) e.sent))))
 
 abbrev pub LegalAfter : Script → List Entry → List Entry → Type 0
 LegalAfter s past [] = ⊤

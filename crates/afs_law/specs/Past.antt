@@ -218,9 +218,26 @@ abbrev pub IsToCome : Node → Key → ℕ → List Entry → Type 0
 IsToCome s k boot [] = ⊤
 IsToCome s k boot (e ∷ past) = (IsCallFrom s k boot (given_message e.lines (sent_of past)) → ⊥) × IsToCome s k boot past
 
+-- ---- what a server changed before
+
+-- the server changed something under this key
+abbrev pub HasChangeBy : Node → Key → List Line → Type 0
+HasChangeBy s k [] = ⊥
+HasChangeBy s k (lines.Change q l count ∷ ls) = ((q ≡ s) × (l ≡ k)) ⊎ HasChangeBy s k ls
+HasChangeBy s k (l ∷ ls) = HasChangeBy s k ls
+
+-- a node's key of a later call
+abbrev pub IsLater : Key → Key → Type 0
+IsLater k l = (l.epoch < k.epoch) ⊎ ((l.epoch ≡ k.epoch) × (l.number < k.number))
+
+-- each key of this node under which the server changed something, in whichever boot, is earlier
+abbrev pub IsLatest : Node → Key → List Line → Type 0
+IsLatest s k ls = (l : Key) → HasChangeBy s l ls → l.node ≡ k.node → IsLater k l
+
 -- The past, split at the entry that ran the call which this is the reply to, by its key and its opcode: the callee's first that was
 -- given it, in the boot that the reply tells, and before any later call of that node. In this boot the callee then was, for it runs
--- no call to another one; and a later entry finds the kept reply.
+-- no call to another one; and a later entry finds the kept reply. Nor does it run again what it changed in an older boot, for of that it
+-- has the reply still.
 pub record Ran (reply : Head) (past : List Entry) : Type 0 where
   pub newer : List Entry
   pub at : Entry
@@ -236,3 +253,4 @@ pub record Ran (reply : Head) (past : List Entry) : Type 0 where
   pub callee : message.head.to ≡ reply.from
   pub node : at.actor ≡ actors.Node message.head.to
   pub first : IsToCome reply.from (answered_key reply) reply.boot older
+  pub latest : IsLatest reply.from (answered_key reply) (lines_of older)

@@ -59,7 +59,7 @@ IsBreakOnce who l past own next = IsForOnce l past own
 abbrev pub BreaksAreOnce : Type 0
 BreaksAreOnce = (s : Script) (history : List Entry) (end : Cell) → RunsTo history s end → AllLines IsBreakOnce s history
 
--- so is each line of a run
+-- each break of a run is good in all that `IsBreakGood` asks
 abbrev pub BreaksAreGood : Type 0
 BreaksAreGood = (s : Script) (history : List Entry) (end : Cell) → RunsTo history s end → AllLines (IsBreakGood s) s history
 
@@ -96,10 +96,10 @@ VersionsAreKept =
 -- ---- what is read from a cache
 
 abbrev pub IsBroughtGood : Script → LineRule
-IsBroughtGood s who (lines.Read c f index source body) past own next = IsBrought s c f source body (own ++ lines_of past)
+IsBroughtGood s who (lines.Read c f index source body) past own next = IsBrought s c f index source body (own ++ lines_of past)
 IsBroughtGood s who l past own next = ⊤
 
--- contents that a client of a run reads from its cache came to it since it last crashed
+-- what a client of a run reads from its cache came to it since it last crashed: that version, and contents as just this body
 abbrev pub CachedAreBrought : Type 0
 CachedAreBrought = (s : Script) (history : List Entry) (end : Cell) → RunsTo history s end → AllLines (IsBroughtGood s) s history
 

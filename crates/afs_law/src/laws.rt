@@ -153,7 +153,7 @@ pub fn calls_are_asked()
 {}
 
 /// Each entry is of a node of the script, and as that is, up or down: one that is down does nothing but begin again, or fail to. What it is
-/// given was sent to its node, and each reply that it sends to a client was run.
+/// given was sent to its node, a client that runs a break drops what this is on, and each reply that is sent to a client was run.
 pub fn entries_are_sound()
     ensures { EntriesAreSound }
 {}
@@ -187,7 +187,7 @@ pub fn answers_are_good()
 {}
 
 /// Each read is good: it is whole, no older than what its client saw, rests on a promise that lasts, and shows the newest version unless
-/// that promise was withdrawn; of rights it was the newest since the act began.
+/// that promise was withdrawn; of rights it was the newest where the call for them ran.
 pub fn reads_are_good()
     ensures { ReadsAreGood }
 {}
@@ -241,7 +241,7 @@ pub fn timeouts_are_good()
     ensures { TimeoutsAreGood }
 {}
 
-/// Contents that a client reads from its cache came to it since it last crashed: by a read that was fetched, or by its own store.
+/// What a client reads from its cache came to it since it last crashed: by a read that was fetched, or by its own store.
 pub fn cached_are_brought()
     ensures { CachedAreBrought }
 {}
