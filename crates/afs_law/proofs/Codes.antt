@@ -24,7 +24,7 @@ use Rattle.afs_law.specs.Legal.{Cause, GoodCode, HasChange, HasNothing, IsCaused
 use Rattle.afs_law.specs.Parts.{EachEntry, EachLine}
 use Rattle.afs_law.specs.Past.{CalledSince, IsReply, Sends, answered_key, called_key, code_told, given_message, lines_of, sent_of}
 use Rattle.afs_law.specs.ServerParts.{IsCodeGood}
-use Rattle.afs_law.specs.Legal.{GivesAllBack, IsKind}
+use Rattle.afs_law.specs.Legal.{GivesAllBack, GivesSomeBack, IsKind}
 use Rattle.afs_law.proofs.Returning.{IsReturned, ReturnedIn, run_returned}
 use Rattle.afs_num.specs.declared.calls.FsCall.{FsCall}
 use Rattle.afs_num.specs.declared.histories.Actor.{Actor}
@@ -162,7 +162,7 @@ caused_by s c past own j act code h q =
 nothing_given : (s : Script) (c : Node) (act : Going) (code : ℤ) (own : List Line) → IsOfCell s → IsGivenAtOnce s c act code own → HasNothing c act code own
 nothing_given s c act code own cell q = record { is = q.is; by = q.by; begun = q.begun; none = q.none cell }
 
-good_code : (s : Script) (c : Cell) (past : List Entry) (own : List Line) (j : ℕ) (code : Code) → IsOfCell s → Truthful s c past → GivesAllBack s (Client j) code.0 past own → IsDueCode s (Client j) code past own → GoodCode s (Client j) code past own
+good_code : (s : Script) (c : Cell) (past : List Entry) (own : List Line) (j : ℕ) (code : Code) → IsOfCell s → Truthful s c past → GivesAllBack s (Client j) code.0 past own × GivesSomeBack s (Client j) past own → IsDueCode s (Client j) code past own → GoodCode s (Client j) code past own
 good_code s c past own j code cell h g d = record {
   act = d.act;
   runs = d.runs;
@@ -173,7 +173,8 @@ good_code s c past own j code cell h g d = record {
       | inr y ↦ inr (elim y [ inl dead ↦ inl dead | inr none ↦ inr (nothing_given s (Client j) d.act code.0 own cell none) ])
     ])
   ];
-  gives = g;
+  gives = g.0;
+  some = g.1;
 }
 
 -- it stands in an entry of its client

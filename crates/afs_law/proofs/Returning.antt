@@ -21,7 +21,7 @@ use Rattle.afs_law.proofs.Words.{fids_of_gifts}
 use Rattle.afs_law.specs.Breaks.{IsNamedIn}
 use Rattle.afs_law.specs.Cells.{IsOfCell}
 use Rattle.afs_law.specs.Ideal.{set_up, user_of}
-use Rattle.afs_law.specs.Legal.{GivesAllBack, IsGivenBack, IsKind, drops_in, dropped_first}
+use Rattle.afs_law.specs.Legal.{GivesAllBack, GivesSomeBack, IsGivenBack, IsKind, drops_in, dropped_first}
 use Rattle.afs_law.specs.Parts.{EachEntry, EachLine, LineRule}
 use Rattle.afs_law.specs.Past.{CalledSince, HasCode, has_begun, lines_of, running}
 use Rattle.afs_model.specs.Calls as pairs
@@ -325,8 +325,15 @@ told_keeps n c clock place m = either_keeps (same_node m.head.to (Client n)) n c
 -- ---- what is to be given back at a client
 
 -- of what it gave up when its act began, each is still to be given back, or was
+abbrev AllReturn : Script → ℕ → ClientState → List Entry → Type 0
+AllReturn s j x past = (a : Going) → x.running ≡ Some a → a.act ≡ acts.GiveUp → (f : Fid) → IsNamedIn f (dropped_first (Client j) past) → Has f x.gifts ⊎ IsGivenBack s (Client j) past f
+
+-- and it gave up something
+abbrev SomeReturn : ℕ → ClientState → List Entry → Type 0
+SomeReturn j x past = (a : Going) → x.running ≡ Some a → a.act ≡ acts.GiveUp → dropped_first (Client j) past ≡ [] → ⊥
+
 abbrev Returns : Script → ℕ → ClientState → List Entry → Type 0
-Returns s j x past = (a : Going) → x.running ≡ Some a → a.act ≡ acts.GiveUp → (f : Fid) → IsNamedIn f (dropped_first (Client j) past) → Has f x.gifts ⊎ IsGivenBack s (Client j) past f
+Returns s j x past = AllReturn s j x past × SomeReturn j x past
 
 abbrev ReturnsOf : Script → (ℕ → ClientState) → List Entry → Type 0
 ReturnsOf s clients past = (j : ℕ) → Returns s j (clients j) past
@@ -341,12 +348,19 @@ first_by : (t : Bool) (f : Fid) (own older : List Fid) → t ≡ false → IsNam
 first_by true f own older e h = absurd cc
 first_by false f own older e h = h
 
+none_by : (t : Bool) (own older : List Fid) → t ≡ false → cond t own older ≡ [] → older ≡ []
+none_by true own older e h = absurd cc
+none_by false own older e h = h
+
 -- an entry in which the client begins no act
 given_more : (s : Script) (c : Node) (e : Entry) (past : List Entry) (f : Fid) → has_begun c e.lines ≡ false → IsGivenBack s c past f → IsGivenBack s c (e ∷ past) f
 given_more s c e past f none g = record { key = g.key; node = g.node; fids = g.fids; callbacks = g.callbacks; called = inr (subst (λ (n : Node). has_begun n e.lines ≡ false) (sym g.node) none, g.called); named = g.named }
 
 other_returns : (s : Script) (j : ℕ) (x : ClientState) (e : Entry) (past : List Entry) → has_begun (Client j) e.lines ≡ false → Returns s j x past → Returns s j x (e ∷ past)
-other_returns s j x e past none h a r is f named = elim (h a r is f (first_by (has_begun (Client j) e.lines) f (drops_in (Client j) e.lines) (dropped_first (Client j) past) none named)) [ inl y ↦ inl y | inr y ↦ inr (given_more s (Client j) e past f none y) ]
+other_returns s j x e past none h = (
+  (λ a r is f named. elim (h.0 a r is f (first_by (has_begun (Client j) e.lines) f (drops_in (Client j) e.lines) (dropped_first (Client j) past) none named)) [ inl y ↦ inl y | inr y ↦ inr (given_more s (Client j) e past f none y) ]),
+  (λ a r is first. h.1 a r is (none_by (has_begun (Client j) e.lines) (drops_in (Client j) e.lines) (dropped_first (Client j) past) none first)),
+)
 
 -- the call of an act that gives back names the first batch
 gift_is : (c : ClientState) (a : Going) → a.act ≡ acts.GiveUp → call_of c a ≡ gift_call (batch c.gifts)
@@ -368,28 +382,47 @@ abbrev IsAsking : Script → ℕ → ClientState → List Entry → Type 0
 IsAsking s n c past = (a : Going) → c.running ≡ Some a → CalledSince (last_key n c) (user_of s (Client n)) (call_of c a) past
 
 told_returns : (s : Script) (n place : ℕ) (c : ClientState) (clock : ℕ) (m : Message) (past : List Entry) (e : Entry) → e.lines ≡ (client_row (Client n) c clock place (Whole m)).lines → IsAsking s n c past → Returns s n c past → Returns s n (client_row (Client n) c clock place (Whole m)).state (e ∷ past)
-told_returns s n place c clock m past e are asking h b rb is f named =
+told_returns s n place c clock m past e are asking h =
     let K : Keeps n c.running c.gifts (client_row (Client n) c clock place (Whole m)) = told_keeps n c clock place m in
-    let none : has_begun (Client n) e.lines ≡ false = ap (has_begun (Client n)) are ∙ K.begins in
-    let k = K.goes b rb in
-    let was : k.0.act ≡ acts.GiveUp = sym k.1.1.0 ∙ is in
-    elim (h k.0 k.1.0 was f (first_by (has_begun (Client n) e.lines) f (drops_in (Client n) e.lines) (dropped_first (Client n) past) none named)) [
-      | inl y ↦ elim (k.1.1.1 f y) [ inl z ↦ inl z | inr z ↦ inr (given_more s (Client n) e past f none (batch_back s n c past k.0 f (asking k.0 k.1.0) was z)) ]
-      | inr y ↦ inr (given_more s (Client n) e past f none y)
-    ]
+    let none : has_begun (Client n) e.lines ≡ false = ap (has_begun (Client n)) are ∙ K.begins in (
+      (λ b rb is f named.
+          (let k = K.goes b rb in
+          let was : k.0.act ≡ acts.GiveUp = sym k.1.1.0 ∙ is in
+          elim (h.0 k.0 k.1.0 was f (first_by (has_begun (Client n) e.lines) f (drops_in (Client n) e.lines) (dropped_first (Client n) past) none named)) [
+            | inl y ↦ elim (k.1.1.1 f y) [ inl z ↦ inl z | inr z ↦ inr (given_more s (Client n) e past f none (batch_back s n c past k.0 f (asking k.0 k.1.0) was z)) ]
+            | inr y ↦ inr (given_more s (Client n) e past f none y)
+          ])),
+      (λ b rb is first. (let k = K.goes b rb in h.1 k.0 k.1.0 (sym k.1.1.0 ∙ is) (none_by (has_begun (Client n) e.lines) (drops_in (Client n) e.lines) (dropped_first (Client n) past) none first))),
+    )
 
 -- an act begins: what it drops is to be given back
 first_case : (t : Bool) (f : Fid) (own older : List Fid) → t ≡ true → IsNamedIn f (cond t own older) → IsNamedIn f own
 first_case true f own older e h = h
 first_case false f own older e h = absurd cc
 
-gives_all_case : (s : Script) (n : ℕ) (y : ClientState) (act : Going) (es : List CacheEntry) (gs : List Gift) (past : List Entry) (e : Entry) → AreOurs es → in_order (map gift_of es) ≡ gs → e.lines ≡ (gives_by (Client n) y (λ ls. lines.Begin (Client n) acts.GiveUp ∷ dropped (Client n) es ls) act gs).lines → Returns s n (gives_by (Client n) y (λ ls. lines.Begin (Client n) acts.GiveUp ∷ dropped (Client n) es ls) act gs).state (e ∷ past)
+gives_all_case : (s : Script) (n : ℕ) (y : ClientState) (act : Going) (es : List CacheEntry) (gs : List Gift) (past : List Entry) (e : Entry) → AreOurs es → in_order (map gift_of es) ≡ gs → e.lines ≡ (gives_by (Client n) y (λ ls. lines.Begin (Client n) acts.GiveUp ∷ dropped (Client n) es ls) act gs).lines → AllReturn s n (gives_by (Client n) y (λ ls. lines.Begin (Client n) acts.GiveUp ∷ dropped (Client n) es ls) act gs).state (e ∷ past)
 gives_all_case s n y act es [] past e ours is are b r give f named = let no_ : None ≡ Some b = r in absurd cc
 gives_all_case s n y act es (g ∷ gs) past e ours is are b r give f named =
     let begun : has_begun (Client n) e.lines ≡ true = ap (has_begun (Client n)) are ∙ ap (λ (t : Bool). cond t true (has_begun (Client n) (dropped (Client n) es []))) (same_node-refl (Client n)) in
     let own : IsNamedIn f (drops_in (Client n) e.lines) = first_case (has_begun (Client n) e.lines) f (drops_in (Client n) e.lines) (dropped_first (Client n) past) begun named in
     let there : Has f (map gift_of es) = dropped_names n es [] f refl (subst (λ (ls : List Line). IsNamedIn f (drops_in (Client n) ls)) are own) in
     inl (subst (Has f) is (all_in_order es f ours there))
+
+nothing_is : (t : Bool) (f : Fid) (fs : List Fid) → t ≡ true → cond t (f ∷ fs) fs ≡ [] → ⊥
+nothing_is true f fs e h = absurd cc
+nothing_is false f fs e h = absurd cc
+
+own_by : (t : Bool) (own older : List Fid) → t ≡ true → cond t own older ≡ [] → own ≡ []
+own_by true own older e h = h
+own_by false own older e h = absurd cc
+
+gives_some_case : (s : Script) (n : ℕ) (y : ClientState) (act : Going) (es : List CacheEntry) (gs : List Gift) (past : List Entry) (e : Entry) → in_order (map gift_of es) ≡ gs → e.lines ≡ (gives_by (Client n) y (λ ls. lines.Begin (Client n) acts.GiveUp ∷ dropped (Client n) es ls) act gs).lines → SomeReturn n (gives_by (Client n) y (λ ls. lines.Begin (Client n) acts.GiveUp ∷ dropped (Client n) es ls) act gs).state (e ∷ past)
+gives_some_case s n y act es [] past e is are b r give first = let no_ : None ≡ Some b = r in absurd cc
+gives_some_case s n y act [] (g ∷ gs) past e is are b r give first = absurd cc
+gives_some_case s n y act (u ∷ es) (g ∷ gs) past e is are b r give first =
+    let begun : has_begun (Client n) e.lines ≡ true = ap (has_begun (Client n)) are ∙ ap (λ (t : Bool). cond t true (has_begun (Client n) (dropped (Client n) (u ∷ es) []))) (same_node-refl (Client n)) in
+    let own : drops_in (Client n) e.lines ≡ [] = own_by (has_begun (Client n) e.lines) (drops_in (Client n) e.lines) (dropped_first (Client n) past) begun first in
+    nothing_is (same_node (Client n) (Client n)) u.fid (drops_in (Client n) (dropped (Client n) es [])) (same_node-refl (Client n)) (subst (λ (ls : List Line). drops_in (Client n) ls ≡ []) are own)
 
 -- an act that begins is the one that runs
 goes_act : (n : ℕ) (c : ClientState) (front : List Line → List Line) (w : Walked) (need : Need) (b : Going) → (goes_by (Client n) c front w need).state.running ≡ Some b → b.act ≡ w.act.act
@@ -413,16 +446,24 @@ not_give act h e = let no_ : true ≡ false = sym (ap is_give e) ∙ h in absurd
 
 begun_returns : (s : Script) (n clock : ℕ) (c : ClientState) (act : Act) (past : List Entry) (e : Entry) → AreOurs c.cache → e.lines ≡ (begin_row (Client n) c clock act).lines → Returns s n (begin_row (Client n) c clock act).state (e ∷ past)
 unfolding begin_row
-begun_returns s n clock c acts.GiveUp past e ours are = gives_all_case s n (record c { busy = 0; cache = untrusted_in clock c.cache }) (began c.table acts.GiveUp) (trusted_in clock c.cache) (in_order (map gift_of (trusted_in clock c.cache))) past e (trusted_ours' clock c.cache ours) refl are
-begun_returns s n clock c act past e ours are = λ b r give f named. absurd (not_give act refl (sym (begins_act n (record c { busy = 0 }) clock (λ ls. lines.Begin (Client n) act ∷ ls) (began c.table act) (next (began c.table act)) b r) ∙ give))
+begun_returns s n clock c acts.GiveUp past e ours are =
+    let y : ClientState = record c { busy = 0; cache = untrusted_in clock c.cache } in
+    let es : List CacheEntry = trusted_in clock c.cache in
+    (gives_all_case s n y (began c.table acts.GiveUp) es (in_order (map gift_of es)) past e (trusted_ours' clock c.cache ours) refl are, gives_some_case s n y (began c.table acts.GiveUp) es (in_order (map gift_of es)) past e refl are)
+begun_returns s n clock c act past e ours are =
+    let same : (b : Going) → (begins_by (Client n) (record c { busy = 0 }) clock (λ ls. lines.Begin (Client n) act ∷ ls) (began c.table act) (next (began c.table act))).state.running ≡ Some b → b.act ≡ acts.GiveUp → ⊥ = λ b r give. not_give act refl (sym (begins_act n (record c { busy = 0 }) clock (λ ls. lines.Begin (Client n) act ∷ ls) (began c.table act) (next (began c.table act)) b r) ∙ give) in
+    ((λ b r give f named. absurd (same b r give)), (λ b r give first. same b r give))
+
+ended_returns : (s : Script) (n : ℕ) (x : ClientState) (past : List Entry) → x.running ≡ None → Returns s n x past
+ended_returns s n x past none = ((λ a r give f named. (let no_ : None ≡ Some a = sym none ∙ r in absurd cc)), (λ a r give first. (let no_ : None ≡ Some a = sym none ∙ r in absurd cc)))
 
 waited_begins : (n : ℕ) (c : ClientState) (act : Going) (t : Bool) → has_begun (Client n) (cond t (tries_again (Client n) c act) (gives_up (Client n) c (call_of c act))).lines ≡ false
 waited_begins n c act true = refl
 waited_begins n c act false = dropped_begins n (Client n) (given_up_in (volume_changed (call_of c act)) c.cache) (lines.Answer (Client n) dead_code ∷ [])
 
 waited_returns : (s : Script) (n : ℕ) (c : ClientState) (act : Going) (past : List Entry) (e : Entry) (t : Bool) → has_begun (Client n) e.lines ≡ false → Returns s n c past → Returns s n (cond t (tries_again (Client n) c act) (gives_up (Client n) c (call_of c act))).state (e ∷ past)
-waited_returns s n c act past e true none h a r is f named = other_returns s n c e past none h a r is f named
-waited_returns s n c act past e false none h a r is f named = let no_ : None ≡ Some a = r in absurd cc
+waited_returns s n c act past e true none h = other_returns s n c e past none h
+waited_returns s n c act past e false none h = ended_returns s n (gives_up (Client n) c (call_of c act)).state (e ∷ past) refl
 
 -- ---- every step
 
@@ -440,9 +481,6 @@ silents s c past h = h.0.0.silent
 
 told_of : (s : Script) (c : Cell) (past : List Entry) (n place : ℕ) (m : Message) → GivenSilent s c past → Acts n (who_at (c.clients n)) (c.clients n).gifts (client_row (Client n) (c.clients n) c.clock place (Whole m))
 told_of s c past n place m h = given_acts (by_key (IsKnown h.0.0.0.0.0.keys.callees c.clients)) any_told n (c.clients n) c.clock place m (h.0.0.0.0.0.keys.replies n) (h.0.0.0.0.1.seats n)
-
-ended_returns : (s : Script) (n : ℕ) (x : ClientState) (past : List Entry) → x.running ≡ None → Returns s n x past
-ended_returns s n x past none a r give f named = let no_ : None ≡ Some a = sym none ∙ r in absurd cc
 
 returns_moves : (s : Script) → EachMove (Returned s) (Behind (ReturnsIn s))
 returns_moves s = record {
@@ -593,26 +631,33 @@ gift_kind call fids callbacks carried.Notice e h = h
 
 -- an answer in an entry of a client gives all back
 abbrev pub IsReturned : Script → LineRule
-IsReturned s who (lines.Answer c code) past own next = GivesAllBack s c code.0 past own
+IsReturned s who (lines.Answer c code) past own next = GivesAllBack s c code.0 past own × GivesSomeBack s c past own
 IsReturned s who l past own next = ⊤
 
 -- what was given up when the act began was given back, where these lines answer with code 0
 abbrev IsBackBehind : Script → ℕ → List Entry → List Line → Type 0
 IsBackBehind s n past ls = (code : Code) → HasAnswer code ls → code.0 ≡ pos 0 → Gives (running s (Client n) (lines_of past)) → (f : Fid) → IsNamedIn f (dropped_first (Client n) past) → IsGivenBack s (Client n) past f
 
-back_line : (s : Script) (who : Actor) (n : ℕ) (l : Line) (past : List Entry) (own ls : List Line) → is_of n l ≡ true → IsBackBehind s n past (l ∷ ls) → IsReturned s who l past own ls
-back_line s who n (lines.Answer c code) past own ls of w = λ act f r give zero_told none named.
+-- and something was
+abbrev IsSomeBehind : Script → ℕ → List Entry → Type 0
+IsSomeBehind s n past = Gives (running s (Client n) (lines_of past)) → dropped_first (Client n) past ≡ [] → ⊥
+
+back_line : (s : Script) (who : Actor) (n : ℕ) (l : Line) (past : List Entry) (own ls : List Line) → is_of n l ≡ true → IsBackBehind s n past (l ∷ ls) → IsSomeBehind s n past → IsReturned s who l past own ls
+back_line s who n (lines.Answer c code) past own ls of w some =
     let same : c ≡ Client n = same_node-true c (Client n) of in
-    subst (λ (m : Node). IsGivenBack s m past f) (sym same) (w code (inl refl) zero_told (gives_before s (Client n) own (lines_of past) (subst (λ (m : Node). has_begun m own ≡ false) same none) (act, (subst (λ (m : Node). running s m (own ++ lines_of past) ≡ Some act) same r, give))) f (subst (λ (m : Node). IsNamedIn f (dropped_first m past)) same named))
-back_line s who n l past own ls of w = tt
+    let before : (act : Going) → running s c (own ++ lines_of past) ≡ Some act → act.act ≡ acts.GiveUp → has_begun c own ≡ false → Gives (running s (Client n) (lines_of past)) = λ act r give none. gives_before s (Client n) own (lines_of past) (subst (λ (m : Node). has_begun m own ≡ false) same none) (act, (subst (λ (m : Node). running s m (own ++ lines_of past) ≡ Some act) same r, give)) in (
+      (λ act f r give zero_told none named. subst (λ (m : Node). IsGivenBack s m past f) (sym same) (w code (inl refl) zero_told (before act r give none) f (subst (λ (m : Node). IsNamedIn f (dropped_first m past)) same named))),
+      (λ act r give none first. some (before act r give none) (subst (λ (m : Node). dropped_first m past ≡ []) same first)),
+    )
+back_line s who n l past own ls of w some = tt
 
 back_rest : (s : Script) (n : ℕ) (past : List Entry) (l : Line) (ls : List Line) → IsBackBehind s n past (l ∷ ls) → IsBackBehind s n past ls
 back_rest s n past (lines.Answer c code) ls w k h = w k (inr h)
 back_rest s n past l ls w k h = w k h
 
-back_lines : (s : Script) (who : Actor) (n : ℕ) (past : List Entry) (own ls : List Line) → all_lines (is_of n) ls ≡ true → IsBackBehind s n past ls → EachLine (IsReturned s) who past own ls
-back_lines s who n past own [] of w = tt
-back_lines s who n past own (l ∷ ls) of w = let p = both (is_of n l) (all_lines (is_of n) ls) of in (back_line s who n l past own ls p.0 w, back_lines s who n past (l ∷ own) ls p.1 (back_rest s n past l ls w))
+back_lines : (s : Script) (who : Actor) (n : ℕ) (past : List Entry) (own ls : List Line) → all_lines (is_of n) ls ≡ true → IsBackBehind s n past ls → IsSomeBehind s n past → EachLine (IsReturned s) who past own ls
+back_lines s who n past own [] of w some = tt
+back_lines s who n past own (l ∷ ls) of w some = let p = both (is_of n l) (all_lines (is_of n) ls) of in (back_line s who n l past own ls p.0 w some, back_lines s who n past (l ∷ own) ls p.1 (back_rest s n past l ls w) some)
 
 abbrev pub ReturnedIn : Script → List Entry → Entry → Type 0
 ReturnedIn s past e = IsOfCell s → (j : ℕ) → e.actor ≡ actors.Node (Client j) → EachLine (IsReturned s) e.actor past [] e.lines
@@ -625,13 +670,16 @@ told_back s c past n place m cell h at to code has zero_told give f named =
     let a : Going = give.0 in
     let A = (silents s c past h).0.0.0.0.1 in
     let runs : (c.clients n).running ≡ Some a = sym (A.acts n) ∙ give.1.0 in
-    elim (h.1 cell n a runs give.1.1 f named) [
+    elim ((h.1 cell n).0 a runs give.1.1 f named) [
       | inl y ↦
           batch_back s n (c.clients n) past a f (A.asked n a runs) give.1.1
           (told_all n (c.clients n) c.clock place a m code runs give.1.1
           (λ w has_code. (let t = arrives s c past n place a m h.0.0 at has_code to runs w in gift_kind t.tells.call (fids_of_gifts (batch (c.clients n).gifts)) (map given_promise (batch (c.clients n).gifts)) m.carried (t.call ∙ gift_is (c.clients n) a give.1.1) t.tells.kind)) zero_told has f y)
       | inr y ↦ y
     ]
+
+some_back : (s : Script) (c : Cell) (past : List Entry) (n : ℕ) → IsOfCell s → Returned s c past → IsSomeBehind s n past
+some_back s c past n cell h give first = (h.1 cell n).1 give.0 (sym ((silents s c past h).0.0.0.0.1.acts n) ∙ give.1.0) give.1.1 first
 
 waited_answer : (n : ℕ) (c : ClientState) (act : Going) (t : Bool) (code : Code) → HasAnswer code (cond t (tries_again (Client n) c act) (gives_up (Client n) c (call_of c act))).lines → code.0 ≡ pos 0 → ⊥
 waited_answer n c act true code h z = h
@@ -647,9 +695,9 @@ answers_moves : (s : Script) → EachMove (Returned s) (ReturnedStep s)
 answers_moves s = record {
   void = λ c past h. server_apart s past (voided c).entry (λ j z. absurd cc);
   ticked = λ c past n h. server_apart s past (ticked c (suc n)).entry (λ j z. absurd cc);
-  begun = λ c past n act h r cell j z. back_lines s (actors.Node (Client n)) n past [] (begin_row (Client n) (c.clients n) c.clock act).lines (begins_acts n (c.clients n) c.clock act r).of (begun_back s c past n (begin_row (Client n) (c.clients n) c.clock act).lines ((silents s c past h).0.0.0.0.1.acts n ∙ r));
-  told = λ c past n place m h at to cell j z. back_lines s (actors.Node (Client n)) n past [] (client_row (Client n) (c.clients n) c.clock place (Whole m)).lines (told_of s c past n place m (silents s c past h)).of (told_back s c past n place m cell h at to);
-  waited = λ c past n act h r cell j z. back_lines s (actors.Node (Client n)) n past [] (timeout_row (Client n) (c.clients n) act).lines (waits_acts n (c.clients n) act r).of (λ code has zero_told give f named. absurd (waited_answer n (c.clients n) act (nat_lt (c.clients n).tries 2) code has zero_told));
+  begun = λ c past n act h r cell j z. back_lines s (actors.Node (Client n)) n past [] (begin_row (Client n) (c.clients n) c.clock act).lines (begins_acts n (c.clients n) c.clock act r).of (begun_back s c past n (begin_row (Client n) (c.clients n) c.clock act).lines ((silents s c past h).0.0.0.0.1.acts n ∙ r)) (some_back s c past n cell h);
+  told = λ c past n place m h at to cell j z. back_lines s (actors.Node (Client n)) n past [] (client_row (Client n) (c.clients n) c.clock place (Whole m)).lines (told_of s c past n place m (silents s c past h)).of (told_back s c past n place m cell h at to) (some_back s c past n cell h);
+  waited = λ c past n act h r cell j z. back_lines s (actors.Node (Client n)) n past [] (timeout_row (Client n) (c.clients n) act).lines (waits_acts n (c.clients n) act r).of (λ code has zero_told give f named. absurd (waited_answer n (c.clients n) act (nat_lt (c.clients n).tries 2) code has zero_told)) (some_back s c past n cell h);
   fallen = λ c past n h cell j z. (tt, tt);
   risen = λ c past n h cell j z. (tt, tt);
   served = λ c past i place m armed h up at to. server_apart s past (server_moves c i armed (server_row (Server i) (c.hosts i).state c.clock place (Whole m))).entry (λ j z. absurd cc);

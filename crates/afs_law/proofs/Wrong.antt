@@ -1060,6 +1060,16 @@ dead_of_nothing h =
       ]
     ]
 
+-- nor does one die that gives promises back, and gave up nothing
+abbrev gives_nothing : Message
+gives_nothing = record {
+  head = record { half = halves.Call; from = Client 1; to = Server 1; epoch = 1; number = 1; boot = 1; stamp = 0; opcode = 147 };
+  carried = carried.Call (codes "guest") (ask.File (calls.GiveUpCallBacks [] []));
+}
+
+dead_of_no_gift : Legal (step_of (Client 1) (lines.Begin (Client 1) acts.GiveUp ∷ []) (gives_nothing ∷ []) ∷ step_of (Client 1) (times_out 1 ∷ []) [] ∷ step_of (Client 1) (times_out 2 ∷ []) [] ∷ step_of (Client 1) (times_out 3 ∷ dead_answer ∷ []) [] ∷ []) (script 1) → ⊥
+dead_of_no_gift h = let g = h.1.1.1.0.0.0.1.0.1 in g.some g.act g.runs (ap (λ (a : Going). a.act) (sym (some_of _ _ g.runs))) refl refl
+
 -- ---- timeouts are of a call that was sent
 
 -- the first two of three are told before the call, which is then dead at its first

@@ -496,6 +496,10 @@ pub record IsGivenBack (s : Script) (c : Node) (past : List Entry) (f : Fid) : T
 abbrev pub GivesAllBack : Script → Node → ℤ → List Entry → List Line → Type 0
 GivesAllBack s c code past own = (act : Going) (f : Fid) → running s c (own ++ lines_of past) ≡ Some act → act.act ≡ acts.GiveUp → code ≡ pos 0 → has_begun c own ≡ false → IsNamedIn f (dropped_first c past) → IsGivenBack s c past f
 
+-- and it is answered so late, with whichever code, only where its client gave up something when it began
+abbrev pub GivesSomeBack : Script → Node → List Entry → List Line → Type 0
+GivesSomeBack s c past own = (act : Going) → running s c (own ++ lines_of past) ≡ Some act → act.act ≡ acts.GiveUp → has_begun c own ≡ false → dropped_first c past ≡ [] → ⊥
+
 -- An act runs, and its answer has its cause: the reply to its call, for 0 that it was done from the cache or that there was
 -- nothing to give back, or for -1 that its call was given up. Where promises are given back, 0 tells that all were
 pub record GoodCode (s : Script) (c : Node) (code : Code) (past : List Entry) (own : List Line) : Type 0 where
@@ -503,6 +507,7 @@ pub record GoodCode (s : Script) (c : Node) (code : Code) (past : List Entry) (o
   pub runs : running s c (own ++ lines_of past) ≡ Some act
   pub cause : IsCaused s c act code.0 past own ⊎ (IsDone s c act code.0 past own ⊎ (IsDead s c act code.0 past own ⊎ HasNothing c act code.0 own))
   pub gives : GivesAllBack s c code.0 past own
+  pub some : GivesSomeBack s c past own
 
 -- ---- grants
 
