@@ -16,7 +16,7 @@ use Rattle.afs_top.specs.declared.statuses.Status.TheVariants as statuses
 
 -- ---- the script
 
--- an input that can't be played is refused by its first bad line; want of memory says nothing of it
+-- an input that can't be played is refused by its first bad line; where memory runs out, nothing is said of it
 abbrev pub RefusedBy : {A : Type 0} → List ℕ → Result A Refusal → Type 0
 RefusedBy input (Err (refusals.Script line reason)) = IsBad line reason input
 RefusedBy input (Err refusals.OutOfMemory) = Unit {0}
@@ -40,15 +40,15 @@ abbrev pub set_up_status : SetupFault → Status
 set_up_status (setup.Disk n) = statuses.BankFault
 set_up_status setup.OutOfMemory = statuses.OutOfMemory
 
--- The disks go back behind what was done: where the bank doesn't take one of them, that isn't all.
+-- The disks go back after what was done: where the bank doesn't take one of them, that isn't all.
 abbrev pub returned : Status → Result (Unit {0}) Failed → Status
 returned statuses.Done (Err f) = statuses.BankFault
 returned status taken = status
 
 -- ---- the text
 
--- The final part was written behind the history, or a beginning of both, where the disks could be read. Else nothing was written behind
--- the history, nor where memory was wanting.
+-- The final part was written after the history, or a beginning of both, where the disks could be read. Else nothing was written after the
+-- history, nor where memory ran out.
 abbrev pub TellsLeft : List ℕ → List ℕ → Option LendFault → Span (Option (List ℕ)) → Span ℕ → Status → Type 0
 TellsLeft history final fault sink faults statuses.Done = (fault ≡ None) × Appends sink.before sink.after (history ++ final)
 TellsLeft history final fault sink faults statuses.WriteFault = (fault ≡ None) × (AppendsFront sink.before sink.after (history ++ final) × RoseBy 1 faults)
