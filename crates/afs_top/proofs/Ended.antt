@@ -249,7 +249,11 @@ not_set_up {D} seen may_leave faults s wire tells disks (setup.Disk n, back) o u
       written = unwritten;
       only_set_up = record { lent = disks; unused = unused; back = back; left = left; given = lent_back seen 1 back o (λ rose. rose_once o.bank_faults.before o.bank_faults.after rose gone.never_falls) gone.gives gone.some };
     })
-not_set_up {D} seen may_leave faults s wire tells disks (setup.OutOfMemory, back) o unused refused left unwritten gone = inl unwritten
+not_set_up {D} seen may_leave faults s wire tells disks (setup.OutOfMemory, back) o unused refused left unwritten gone =
+    inl (record {
+      written = unwritten;
+      only_set_up = record { lent = disks; unused = unused; back = back; left = left; given = lent_back seen 1 back o (λ rose. rose_once o.bank_faults.before o.bank_faults.after rose gone.never_falls) gone.gives gone.some };
+    })
 
 -- ---- seen from before
 
@@ -395,7 +399,7 @@ ends_since s wire tells tells_too left left_too o earlier statuses.WriteFault si
       told = λ x. replays_since s wire _ _ _ _ o earlier since (front_since o earlier since) (bank_since o earlier since) (h.told (t x));
     }
 ends_since s wire tells tells_too left left_too o earlier statuses.BankFault since t l h = bank_fault_since s wire tells tells_too left left_too o earlier since t l h
-ends_since s wire tells tells_too left left_too o earlier statuses.OutOfMemory since t l (inl h) = inl (unwritten_since o earlier since h)
+ends_since s wire tells tells_too left left_too o earlier statuses.OutOfMemory since t l (inl h) = inl (record { written = unwritten_since o earlier since h.written; only_set_up = l h.only_set_up })
 ends_since s wire tells tells_too left left_too o earlier statuses.OutOfMemory since t l (inr h) = inr (record { written = entries_since wire o earlier since h.written; told = λ x. some_since s wire o earlier since (h.told (t x)) })
 ends_since s wire tells tells_too left left_too o earlier statuses.Limit since t l h = record { written = entries_since wire o earlier since h.written; told = λ x. first_since s wire _ _ o earlier since (bank_since o earlier since) (h.told (t x)) }
 ends_since s wire tells tells_too left left_too o earlier statuses.Usage since t l h = absurd h

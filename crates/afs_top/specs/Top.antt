@@ -225,16 +225,21 @@ pub record RunsOutOfMemory (s : Script) (wire : Bool) (tells : Type 0) (o : Outs
   pub written : WritesEntries wire o
   pub told : tells → ReplaysSome s wire o
 
+-- memory ran out while the disks were set up: what that leaves comes back
+pub record SettingUpStops (left : Type 0) (o : Outside) : Type 0 where
+  pub written : IsUnchanged o.sink
+  pub only_set_up : left
+
 -- memory ran out, before the first event or after it
-abbrev pub AtOutOfMemory : Script → Bool → Type 0 → Outside → Type 0
-AtOutOfMemory s wire tells o = IsUnchanged o.sink ⊎ RunsOutOfMemory s wire tells o
+abbrev pub AtOutOfMemory : Script → Bool → Type 0 → Type 0 → Outside → Type 0
+AtOutOfMemory s wire tells left o = SettingUpStops left o ⊎ RunsOutOfMemory s wire tells o
 
 -- Over the disks of all servers, by its status; no other comes of it. `left` says what comes back of disks that were only set up.
 abbrev pub EndsRun : Script → Bool → Type 0 → Type 0 → Outside → Status → Type 0
 EndsRun s wire tells left o statuses.Done = AtDone s wire tells o
 EndsRun s wire tells left o statuses.WriteFault = AtWriteFault s wire tells o
 EndsRun s wire tells left o statuses.BankFault = AtBankFault s wire tells left o
-EndsRun s wire tells left o statuses.OutOfMemory = AtOutOfMemory s wire tells o
+EndsRun s wire tells left o statuses.OutOfMemory = AtOutOfMemory s wire tells left o
 EndsRun s wire tells left o statuses.Limit = AtLimit s wire tells o
 EndsRun s wire tells left o status = ⊥
 
