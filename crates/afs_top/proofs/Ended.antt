@@ -24,7 +24,7 @@ use Rattle.afs_text.proofs.Kept.{history_told}
 use Rattle.afs_volstore.specs.Stores.{Store}
 use Rattle.afs_cell.specs.Ends.{AreLeft, IsRefused}
 use Rattle.afs_cell.specs.Steps.{lent_from, AreStanding, HasPlayedAll, HasPlayedFirst, HasPlayedSome}
-use Rattle.afs_cell.specs.Worlds.{AllTell, IsCell, IsWorld, WorldState}
+use Rattle.afs_cell.specs.Worlds.{most_entries, AllTell, IsCell, IsWorld, WorldState}
 use Rattle.afs_cell.specs.declared.faults.SetupFault.{SetupFault}
 use Rattle.afs_cell.specs.declared.faults.SetupFault.TheVariants as setup
 use Rattle.afs_final.specs.Reading.{fault_in, part, AreFound}
@@ -32,7 +32,7 @@ use Rattle.afs_final.specs.declared.reading.Left.{Left}
 use Rattle.afs_lending.specs.Lending.{faults_of, kept_disks, lends, with_faults, AreLent, AreUnused, GivesBackAll, GivesBackSome}
 use Rattle.afs_top.specs.Outside.{span, IsUnchanged, Outside, RoseBy, Span, Writes, WritesText}
 use Rattle.afs_top.specs.Parts.{lend_status, returned, set_up_status, TellsLeft}
-use Rattle.afs_top.specs.Top.{lends_of, AreKept, AtBankFault, EndsReplay, EndsRun, GivesBack, GivesBackLent, IsLegalRun, LendingLeaves, NotToItsEnd, ReadingFails, Replays, ReplaysFirst, ReplaysSome, ReplaysUnread, SetUpLeaves, SomeOfIt, ToItsEnd, WritesEntries, WritesRun}
+use Rattle.afs_top.specs.Top.{lends_of, AreKept, AtBankFault, EndsReplay, EndsRun, GivesBack, GivesBackLent, IsFew, IsFull, IsLegalRun, LendingLeaves, NotToItsEnd, ReadingFails, Replays, ReplaysFirst, ReplaysSome, ReplaysUnread, SetUpLeaves, SomeOfIt, ToItsEnd, WritesEntries, WritesRun}
 use Rattle.afs_top.specs.declared.statuses.Status.{Status}
 use Rattle.afs_top.specs.declared.statuses.Status.TheVariants as statuses
 use Rattle.afs_top.proofs.Counts.{counted, counts_lent, found_failed, found_no_less, grown, none_fell, one_grown, rose_once, rose_since, AtLeast}
@@ -87,12 +87,12 @@ unfolding text
 whole_text {D} seen may_leave faults limit s w fs wire is read = ap (λ (t : List ℕ). t ++ final_text (map part fs)) (history_told wire w.wire w.history read is.safe.sent)
 
 -- that of its entries, whatever the disks tell
-pub entries_of : {D : Type 0} (seen : D → Option (List ℕ)) (may_leave : D → List ℕ → Type 0) (faults limit : D → ℕ) (s : Script) (w : WorldState D) (wire : Bool) (o : Outside) → IsWorld seen may_leave faults limit s w → Writes o (kept_history_text wire w.wire w.history) → WritesEntries wire o
-entries_of {D} seen may_leave faults limit s w wire o is written = record {
+pub entries_of : {D : Type 0} (seen : D → Option (List ℕ)) (may_leave : D → List ℕ → Type 0) (faults limit : D → ℕ) (s : Script) (w : WorldState D) (IsSoMany : ℕ → Type 0) (wire : Bool) (o : Outside) → IsWorld seen may_leave faults limit s w → IsSoMany (length w.history) → Writes o (kept_history_text wire w.wire w.history) → WritesEntries IsSoMany wire o
+entries_of {D} seen may_leave faults limit s w IsSoMany wire o is many written = record {
   sent = w.wire;
   entries = w.history;
   all = is.safe.sent;
-  few = is.safe.entries;
+  many = many;
   written = written;
 }
 
@@ -142,7 +142,7 @@ reading_fails {D} seen may_leave faults limit s w fs wire o is found failed writ
     let more = found_failed seen faults limit 1 (lent_from 1 w.servers) fs found failed in
     record {
       rose = rose_by 1 _ o.disk_faults back.counts (one_grown 0 _ _ less more (inl (omega (arith))));
-      written = entries_of seen may_leave faults limit s w wire o is.world written;
+      written = entries_of seen may_leave faults limit s w IsFew wire o is.world is.world.safe.entries written;
       told = λ p. record {
         history = told w.wire w.history;
         end = p.1.cell;
@@ -186,7 +186,7 @@ ended {D} seen may_leave faults limit s w fs wire o statuses.WriteFault taken is
       told = λ p. replays seen may_leave faults limit s w fs wire (AppendsFront o.sink.before o.sink.after) (RoseBy 1 o.bank_faults) o is found tells.0 tells.1.0 back (excused o.bank_faults.before o.bank_faults.after back.never_falls back.gives) p;
     }
 ended {D} seen may_leave faults limit s w fs wire o statuses.BankFault taken is found tells all cause back = inr (inl (reading_fails seen may_leave faults limit s w fs wire o is found tells.0 tells.1 back))
-ended {D} seen may_leave faults limit s w fs wire o statuses.OutOfMemory taken is found tells all cause back = inr (record { written = entries_of seen may_leave faults limit s w wire o is.world tells; told = λ p. reading_stops seen may_leave faults limit s w fs wire o is found tells back p })
+ended {D} seen may_leave faults limit s w fs wire o statuses.OutOfMemory taken is found tells all cause back = inr (record { written = entries_of seen may_leave faults limit s w IsFew wire o is.world is.world.safe.entries tells; told = λ p. reading_stops seen may_leave faults limit s w fs wire o is found tells back p })
 ended {D} seen may_leave faults limit s w fs wire o statuses.Usage taken is found tells all cause back = absurd tells
 ended {D} seen may_leave faults limit s w fs wire o (statuses.Script line reason) taken is found tells all cause back = absurd tells
 ended {D} seen may_leave faults limit s w fs wire o statuses.ReadFault taken is found tells all cause back = absurd tells
@@ -216,9 +216,9 @@ all_played {D} seen may_leave faults limit s w p = (p.0, record { inputs = p.1.i
 -- ---- one whose history was full before that
 
 pub was_cut : {D : Type 0} (seen : D → Option (List ℕ)) (may_leave : D → List ℕ → Type 0) (faults limit : D → ℕ) (s : Script) (w : WorldState D) (wire : Bool) (o : Outside)
-    → HasEnded seen may_leave faults limit s w → Writes o (kept_history_text wire w.wire w.history) → GoesBack seen faults (lent_from 1 w.servers) o → EndsRun s wire (First seen may_leave faults limit s w) ⊥ o statuses.Limit
-was_cut {D} seen may_leave faults limit s w wire o is written back = record {
-  written = entries_of seen may_leave faults limit s w wire o is.world written;
+    → HasEnded seen may_leave faults limit s w → length w.history ≡ most_entries → Writes o (kept_history_text wire w.wire w.history) → GoesBack seen faults (lent_from 1 w.servers) o → EndsRun s wire (First seen may_leave faults limit s w) ⊥ o statuses.Limit
+was_cut {D} seen may_leave faults limit s w wire o is full written back = record {
+  written = entries_of seen may_leave faults limit s w IsFull wire o is.world full written;
   told = λ p.
     let cell = p.1.0.runs.cell_is is.going in
     let left = left_so seen may_leave limit w p.1.0.cell cell p.0 (is.standing p.0 p.1.0.cell cell) in
@@ -226,7 +226,7 @@ was_cut {D} seen may_leave faults limit s w wire o is written back = record {
       history = told w.wire w.history;
       end = p.1.0.cell;
       run = legal_run seen may_leave faults limit is.law (NotToItsEnd s) 0 s w o.disk_faults is.in_cell is.world.safe.entries p.1.0 (no_others _ o.disk_faults (rose_by _ _ o.disk_faults back.counts (counts_lent faults _ 1 w.servers p.1.0.runs.counts)));
-      full = length_told w.wire w.history ∙ p.1.1;
+      full = length_told w.wire w.history ∙ full;
       kept = left.0;
       keep = left.1.keep;
       written = written_told seen may_leave faults limit s w wire o is.world p.1.0.runs.read written;
@@ -325,12 +325,12 @@ writes_since : (o earlier : Outside) → Since o earlier → (t : List ℕ) → 
 writes_since o earlier since t w =
     subst (λ (x : Span (Option (List ℕ))). WritesText x earlier.sink_faults t) (sym since.sink) (subst (λ (x : Span ℕ). WritesText o.sink x t) (sym since.sink_faults) w)
 
-entries_since : (wire : Bool) (o earlier : Outside) → Since o earlier → WritesEntries wire o → WritesEntries wire earlier
-entries_since wire o earlier since w = record {
+entries_since : (IsSoMany : ℕ → Type 0) (wire : Bool) (o earlier : Outside) → Since o earlier → WritesEntries IsSoMany wire o → WritesEntries IsSoMany wire earlier
+entries_since IsSoMany wire o earlier since w = record {
   sent = w.sent;
   entries = w.entries;
   all = w.all;
-  few = w.few;
+  many = w.many;
   written = writes_since o earlier since (kept_history_text wire w.sent w.entries) w.written;
 }
 
@@ -378,7 +378,7 @@ bank_fault_since : (s : Script) (wire : Bool) (tells tells_too left left_too : T
 bank_fault_since s wire tells tells_too left left_too o earlier since t l (inl h) =
     inl (record { rose = disks_since 1 o earlier since h.rose; written = unwritten_since o earlier since h.written; only_set_up = l h.only_set_up })
 bank_fault_since s wire tells tells_too left left_too o earlier since t l (inr (inl h)) =
-    inr (inl (record { rose = disks_since 1 o earlier since h.rose; written = entries_since wire o earlier since h.written; told = λ x. unread_since s wire o earlier since (h.told (t x)) }))
+    inr (inl (record { rose = disks_since 1 o earlier since h.rose; written = entries_since _ wire o earlier since h.written; told = λ x. unread_since s wire o earlier since (h.told (t x)) }))
 bank_fault_since s wire tells tells_too left left_too o earlier since t l (inr (inr h)) =
     inr (inr (record {
       rose = bank_since o earlier since h.rose;
@@ -400,8 +400,8 @@ ends_since s wire tells tells_too left left_too o earlier statuses.WriteFault si
     }
 ends_since s wire tells tells_too left left_too o earlier statuses.BankFault since t l h = bank_fault_since s wire tells tells_too left left_too o earlier since t l h
 ends_since s wire tells tells_too left left_too o earlier statuses.OutOfMemory since t l (inl h) = inl (record { written = unwritten_since o earlier since h.written; only_set_up = l h.only_set_up })
-ends_since s wire tells tells_too left left_too o earlier statuses.OutOfMemory since t l (inr h) = inr (record { written = entries_since wire o earlier since h.written; told = λ x. some_since s wire o earlier since (h.told (t x)) })
-ends_since s wire tells tells_too left left_too o earlier statuses.Limit since t l h = record { written = entries_since wire o earlier since h.written; told = λ x. first_since s wire _ _ o earlier since (bank_since o earlier since) (h.told (t x)) }
+ends_since s wire tells tells_too left left_too o earlier statuses.OutOfMemory since t l (inr h) = inr (record { written = entries_since _ wire o earlier since h.written; told = λ x. some_since s wire o earlier since (h.told (t x)) })
+ends_since s wire tells tells_too left left_too o earlier statuses.Limit since t l h = record { written = entries_since _ wire o earlier since h.written; told = λ x. first_since s wire _ _ o earlier since (bank_since o earlier since) (h.told (t x)) }
 ends_since s wire tells tells_too left left_too o earlier statuses.Usage since t l h = absurd h
 ends_since s wire tells tells_too left left_too o earlier (statuses.Script line reason) since t l h = absurd h
 ends_since s wire tells tells_too left left_too o earlier statuses.ReadFault since t l h = absurd h

@@ -1,6 +1,7 @@
 -- Where a world that was played ends, by what its parts promise.
 use Rattle.std.specs.Prelude.{◌≡◌, ◌≤◌, ◌⊎◌, ℕ, suc, ◌+◌, List, [], ◌∷◌, length, map, Bool, false, Option, Result, Ok, Err, OnOk, OnErr}
 use Rattle.std.proofs.Common.{refl, ap, sym, subst, inl, inr, arith}
+use Rattle.std.proofs.lemmas.List.{length-append}
 use Rattle.afs_num.specs.declared.devices.Failed as bank
 use Rattle.afs_history.specs.declared.scripts.Script.{Script}
 use Rattle.afs_disk.specs.Disk.{Rose}
@@ -12,14 +13,14 @@ use Rattle.afs_text.specs.FinalText.{final_text}
 use Rattle.afs_volstore.specs.Stores.{Store}
 use Rattle.afs_cell.specs.Since.{whole, StandsSince}
 use Rattle.afs_cell.specs.Steps.{lent_from, AreStanding, HasPlayedAll, HasPlayedFirst, HasPlayedSome}
-use Rattle.afs_cell.specs.Worlds.{AllTell, HistoryTold, IsWorld, WorldState}
+use Rattle.afs_cell.specs.Worlds.{most_entries, AllTell, HistoryTold, IsWorld, WorldState}
 use Rattle.afs_final.specs.Reading.{fault_in, part, AreFound}
 use Rattle.afs_final.specs.declared.reading.Left.{Left}
 use Rattle.afs_lending.specs.Lending.{faults_of, kept_disks, with_faults, GivesBackAll, GivesBackSome}
 use Rattle.afs_top.specs.Outside.{Outside, Writes}
 use Rattle.afs_top.specs.Parts.{returned, TellsLeft}
 use Rattle.afs_top.specs.Playing.{world_text, IsWritten}
-use Rattle.afs_top.specs.Top.{EndsRun, WritesEntries}
+use Rattle.afs_top.specs.Top.{EndsRun, IsFew, WritesEntries}
 use Rattle.afs_top.specs.declared.statuses.Status.{Status}
 use Rattle.afs_top.specs.declared.statuses.Status.TheVariants as statuses
 use Rattle.afs_top.proofs.Ended.{all_played, ended, entries_of, stopped, was_cut, GoesBack, HasEnded}
@@ -77,14 +78,17 @@ module _ {D : Type 0} (seen : D → Option (List ℕ)) (may_leave : D → List �
     gone_back : GoesBack seen faults (lent_from 1 w.servers) o
     gone_back = subst (λ (ls : List (Lent D)). GoesBack seen faults ls o) over.are (record { gives = gives; some = some; counts = counts; never_falls = never_falls })
 
-    entries : WritesEntries wire o
-    entries = entries_of seen may_leave faults limit w.script (whole gone w) wire o told.world writes
+    entries : WritesEntries IsFew wire o
+    entries = entries_of seen may_leave faults limit w.script (whole gone w) IsFew wire o told.world told.world.safe.entries writes
+
+    full_by : w.gone.entries + length w.history ≡ most_entries → length (whole gone w).history ≡ most_entries
+    full_by full = omega (arith, full, told.is.entries, length-append gone.history w.history)
 
     -- its history was full before its end
-    pub cut_of : w.is_lost ≡ false → result ≡ statuses.Limit → EndsRun w.script wire (AllTell seen w.servers × HasPlayedFirst seen may_leave faults limit w.script (whole gone w)) ⊥ o result
-    cut_of going are =
+    pub cut_of : w.is_lost ≡ false → w.gone.entries + length w.history ≡ most_entries → result ≡ statuses.Limit → EndsRun w.script wire (AllTell seen w.servers × HasPlayedFirst seen may_leave faults limit w.script (whole gone w)) ⊥ o result
+    cut_of going full are =
         subst (λ (x : Status). EndsRun w.script wire (AllTell seen w.servers × HasPlayedFirst seen may_leave faults limit w.script (whole gone w)) ⊥ o x) (sym are)
-        (was_cut seen may_leave faults limit w.script (whole gone w) wire o (has_ended seen may_leave faults limit wire start count gone w now counted written disks law in_cell going told over) writes gone_back)
+        (was_cut seen may_leave faults limit w.script (whole gone w) wire o (has_ended seen may_leave faults limit wire start count gone w now counted written disks law in_cell going told over) (full_by full) writes gone_back)
 
     -- memory ran out
     pub stopped_of : result ≡ statuses.OutOfMemory → EndsRun w.script wire (AllTell seen w.servers × HasPlayedSome seen may_leave faults limit w.script (whole gone w)) ⊥ o result

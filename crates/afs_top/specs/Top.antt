@@ -138,13 +138,20 @@ pub record ReplaysUnread (s : Script) (wire : Bool) (o : Outside) : Type 0 where
 
 -- ---- texts, whatever the disks tell
 
--- The text of some entries was written, with all messages that they sent, or where the sink failed, a beginning of it. There are no more
--- of them than a history may have. Nothing of the final part stands there.
-pub record WritesEntries (wire : Bool) (o : Outside) : Type 0 where
+-- no more entries than a history may have, or just as many
+abbrev pub IsFew : ℕ → Type 0
+IsFew count = count ≤ most_entries
+
+abbrev pub IsFull : ℕ → Type 0
+IsFull count = count ≡ most_entries
+
+-- The text of so many entries was written, with all messages that they sent, or where the sink failed, a beginning of it. Nothing of the
+-- final part stands there.
+pub record WritesEntries (IsSoMany : ℕ → Type 0) (wire : Bool) (o : Outside) : Type 0 where
   pub sent : List Parcel
   pub entries : List kept.Entry
   pub all : sent_by entries ≡ length sent
-  pub few : length entries ≤ most_entries
+  pub many : IsSoMany (length entries)
   pub written : Writes o (kept_history_text wire sent entries)
 
 -- The text of some entries was written so, with all messages that they sent, and then a final part that tells of each server what its disk
@@ -194,7 +201,7 @@ pub record AtWriteFault (s : Script) (wire : Bool) (tells : Type 0) (o : Outside
 
 -- a history was full before the last event
 pub record AtLimit (s : Script) (wire : Bool) (tells : Type 0) (o : Outside) : Type 0 where
-  pub written : WritesEntries wire o
+  pub written : WritesEntries IsFull wire o
   pub told : tells → ReplaysFirst s wire (RoseBy 1 o.bank_faults) o
 
 -- a disk failed while it was set up: what that leaves comes back
@@ -206,7 +213,7 @@ pub record SettingUpFails (left : Type 0) (o : Outside) : Type 0 where
 -- a disk failed while it was read for the final part
 pub record ReadingFails (s : Script) (wire : Bool) (tells : Type 0) (o : Outside) : Type 0 where
   pub rose : RoseBy 1 o.disk_faults
-  pub written : WritesEntries wire o
+  pub written : WritesEntries IsFew wire o
   pub told : tells → ReplaysUnread s wire o
 
 -- a disk wasn't taken back: all else is done
@@ -222,7 +229,7 @@ AtBankFault s wire tells left o = SettingUpFails left o ⊎ (ReadingFails s wire
 
 -- memory ran out while the script was played, or for what its disks keep: the text of the first events was written
 pub record RunsOutOfMemory (s : Script) (wire : Bool) (tells : Type 0) (o : Outside) : Type 0 where
-  pub written : WritesEntries wire o
+  pub written : WritesEntries IsFew wire o
   pub told : tells → ReplaysSome s wire o
 
 -- memory ran out while the disks were set up: what that leaves comes back
