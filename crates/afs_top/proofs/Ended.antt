@@ -220,18 +220,18 @@ pub was_cut : {D : Type 0} (seen : D → Option (List ℕ)) (may_leave : D → L
 was_cut {D} seen may_leave faults limit s w wire o is full written back = record {
   written = entries_of seen may_leave faults limit s w IsFull wire o is.world full written;
   told = λ p.
-    let cell = p.1.0.runs.cell_is is.going in
-    let left = left_so seen may_leave limit w p.1.0.cell cell p.0 (is.standing p.0 p.1.0.cell cell) in
-    record {
-      history = told w.wire w.history;
-      end = p.1.0.cell;
-      run = legal_run seen may_leave faults limit is.law (NotToItsEnd s) 0 s w o.disk_faults is.in_cell is.world.safe.entries p.1.0 (no_others _ o.disk_faults (rose_by _ _ o.disk_faults back.counts (counts_lent faults _ 1 w.servers p.1.0.runs.counts)));
-      full = length_told w.wire w.history ∙ full;
-      kept = left.0;
-      keep = left.1.keep;
-      written = written_told seen may_leave faults limit s w wire o is.world p.1.0.runs.read written;
-      given = given_so (RoseBy 1 o.bank_faults) seen p.1.0.cell left.0 (lent_from 1 w.servers) o.given.before o.given.after left.1 (excused o.bank_faults.before o.bank_faults.after back.never_falls back.gives) back.some;
-    };
+      let cell = p.1.0.runs.cell_is is.going in
+      let left = left_so seen may_leave limit w p.1.0.cell cell p.0 (is.standing p.0 p.1.0.cell cell) in
+      record {
+        history = told w.wire w.history;
+        end = p.1.0.cell;
+        run = legal_run seen may_leave faults limit is.law (NotToItsEnd s) 0 s w o.disk_faults is.in_cell is.world.safe.entries p.1.0 (no_others _ o.disk_faults (rose_by _ _ o.disk_faults back.counts (counts_lent faults _ 1 w.servers p.1.0.runs.counts)));
+        full = length_told w.wire w.history ∙ full;
+        kept = left.0;
+        keep = left.1.keep;
+        written = written_told seen may_leave faults limit s w wire o is.world p.1.0.runs.read written;
+        given = given_so (RoseBy 1 o.bank_faults) seen p.1.0.cell left.0 (lent_from 1 w.servers) o.given.before o.given.after left.1 (excused o.bank_faults.before o.bank_faults.after back.never_falls back.gives) back.some;
+      };
 }
 
 -- ---- disks that come back unplayed
