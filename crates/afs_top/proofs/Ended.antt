@@ -1,7 +1,6 @@
 -- How a replay ends, by what its parts promise.
 use Rattle.std.specs.Prelude.{◌≡◌, ◌≤◌, ◌<◌, ◌⊎◌, ℕ, suc, ◌+◌, List, [], ◌∷◌, ◌++◌, length, map, Bool, false, Option, Some, None, Result, Ok, Err, OnOk, OnErr}
 use Rattle.std.proofs.Common.{refl, ap, sym, subst, ◌∙◌, inl, inr, arith}
-use Rattle.std.specs.Io.KnownBytes.{Appends}
 use Rattle.std.specs.Option.{option_map}
 use Rattle.afs_num.specs.declared.devices.Failed.{Failed}
 use Rattle.afs_history.specs.declared.scripts.Script.{Script}
@@ -30,7 +29,7 @@ use Rattle.afs_cell.specs.declared.faults.SetupFault.TheVariants as setup
 use Rattle.afs_final.specs.Reading.{fault_in, part, AreFound}
 use Rattle.afs_final.specs.declared.reading.Left.{Left}
 use Rattle.afs_lending.specs.Lending.{faults_of, kept_disks, lends, with_faults, AreLent, AreUnused, GivesBackAll, GivesBackSome}
-use Rattle.afs_top.specs.Outside.{span, IsUnchanged, Outside, RoseBy, Span, Writes, WritesText}
+use Rattle.afs_top.specs.Outside.{span, IsUnchanged, Outside, RoseBy, Span, Writes, WritesAll, WritesText, WritesWhole}
 use Rattle.afs_top.specs.Parts.{lend_status, returned, set_up_status, TellsLeft}
 use Rattle.afs_top.specs.Top.{lends_of, AreKept, AtBankFault, EndsReplay, EndsRun, GivesBack, GivesBackLent, IsFew, IsFull, IsLegalRun, LendingLeaves, NotToItsEnd, ReadingFails, Replays, ReplaysFirst, ReplaysSome, ReplaysUnread, SetUpLeaves, SomeOfIt, ToItsEnd, WritesEntries, WritesRun}
 use Rattle.afs_top.specs.declared.statuses.Status.{Status}
@@ -165,19 +164,19 @@ reading_stops {D} seen may_leave faults limit s w fs wire o is found written bac
     }
 
 pub ended : {D : Type 0} (seen : D → Option (List ℕ)) (may_leave : D → List ℕ → Type 0) (faults limit : D → ℕ) (s : Script) (w : WorldState D) (fs : List (Left (Store D) D)) (wire : Bool) (o : Outside) (status : Status) (taken : Result (Unit {0}) Failed)
-    → HasEnded seen may_leave faults limit s w → AreFound seen faults limit (lent_from 1 w.servers) fs → TellsLeft (kept_history_text wire w.wire w.history) (final_text (map part fs)) (fault_in fs) o.sink o.sink_faults status
+    → HasEnded seen may_leave faults limit s w → AreFound seen faults limit (lent_from 1 w.servers) fs → TellsLeft (kept_history_text wire w.wire w.history) (final_text (map part fs)) (fault_in fs) o.sink o.passed o.sink_faults status
     → OnOk taken (GivesBackAll seen (kept_disks 1 fs) o.given.before o.given.after) → OnErr taken (Rose o.bank_faults.before o.bank_faults.after) → GoesBack seen faults (kept_disks 1 fs) o → EndsRun s wire (All seen may_leave faults limit s w) ⊥ o (returned status taken)
 ended {D} seen may_leave faults limit s w fs wire o statuses.Done (Ok u) is found tells all cause back =
     record {
-      written = run_of seen may_leave faults limit s w fs wire (Appends o.sink.before o.sink.after) is.world found tells.1;
-      told = λ p. replays seen may_leave faults limit s w fs wire (Appends o.sink.before o.sink.after) ⊥ o is found tells.0 tells.1 back (inl all) p;
+      written = run_of seen may_leave faults limit s w fs wire (WritesAll o) is.world found tells.1;
+      told = λ p. replays seen may_leave faults limit s w fs wire (WritesAll o) ⊥ o is found tells.0 tells.1 back (inl all) p;
     }
 ended {D} seen may_leave faults limit s w fs wire o statuses.Done (Err f) is found tells all cause back =
     let rose = rose_once o.bank_faults.before o.bank_faults.after cause back.never_falls in
     inr (inr (record {
       rose = rose;
-      written = run_of seen may_leave faults limit s w fs wire (Appends o.sink.before o.sink.after) is.world found tells.1;
-      told = λ p. replays seen may_leave faults limit s w fs wire (Appends o.sink.before o.sink.after) (RoseBy 1 o.bank_faults) o is found tells.0 tells.1 back (inr rose) p;
+      written = run_of seen may_leave faults limit s w fs wire (WritesAll o) is.world found tells.1;
+      told = λ p. replays seen may_leave faults limit s w fs wire (WritesAll o) (RoseBy 1 o.bank_faults) o is found tells.0 tells.1 back (inr rose) p;
     }))
 ended {D} seen may_leave faults limit s w fs wire o statuses.WriteFault taken is found tells all cause back =
     record {
@@ -260,6 +259,7 @@ not_set_up {D} seen may_leave faults s wire tells disks (setup.OutOfMemory, back
 -- The same was done outside since before the disks were lent.
 pub record Since (o earlier : Outside) : Type 0 where
   pub sink : earlier.sink ≡ o.sink
+  pub passed : earlier.passed ≡ o.passed
   pub given : earlier.given ≡ o.given
   pub sink_faults : earlier.sink_faults ≡ o.sink_faults
   pub disk_faults : earlier.disk_faults ≡ o.disk_faults
@@ -267,10 +267,11 @@ pub record Since (o earlier : Outside) : Type 0 where
   pub bank_after : earlier.bank_faults.after ≡ o.bank_faults.after
 
 -- the lends changed neither what was given back nor the faults of disks, and let the bank's count not fall
-pub since_lent : (sink : Span (Option (List ℕ))) (sink_faults : Span ℕ) (lends lends_too : Span (Option (List Lend))) (g0 g1 g2 : Given) (b0 b1 b2 d0 d1 d2 : ℕ) → g1 ≡ g0 → d1 ≡ d0 → b0 ≤ b1 →
-    Since (record { sink = sink; lends = lends; given = span g1 g2; sink_faults = sink_faults; bank_faults = span b1 b2; disk_faults = span d1 d2 }) (record { sink = sink; lends = lends_too; given = span g0 g2; sink_faults = sink_faults; bank_faults = span b0 b2; disk_faults = span d0 d2 })
-since_lent sink sink_faults lends lends_too g0 g1 g2 b0 b1 b2 d0 d1 d2 given faults never_falls = record {
+pub since_lent : (sink : Span (Option (List ℕ))) (passed : Option (List ℕ)) (sink_faults : Span ℕ) (lends lends_too : Span (Option (List Lend))) (g0 g1 g2 : Given) (b0 b1 b2 d0 d1 d2 : ℕ) → g1 ≡ g0 → d1 ≡ d0 → b0 ≤ b1 →
+    Since (record { sink = sink; passed = passed; lends = lends; given = span g1 g2; sink_faults = sink_faults; bank_faults = span b1 b2; disk_faults = span d1 d2 }) (record { sink = sink; passed = passed; lends = lends_too; given = span g0 g2; sink_faults = sink_faults; bank_faults = span b0 b2; disk_faults = span d0 d2 })
+since_lent sink passed sink_faults lends lends_too g0 g1 g2 b0 b1 b2 d0 d1 d2 given faults never_falls = record {
   sink = refl;
+  passed = refl;
   given = ap (λ (x : Given). span x g2) (sym given);
   sink_faults = refl;
   disk_faults = ap (λ (x : ℕ). span x d2) (sym faults);
@@ -279,7 +280,7 @@ since_lent sink sink_faults lends lends_too g0 g1 g2 b0 b1 b2 d0 d1 d2 given fau
 }
 
 pub since_same : (o : Outside) → Since o o
-since_same o = record { sink = refl; given = refl; sink_faults = refl; disk_faults = refl; bank_before = omega (arith); bank_after = refl }
+since_same o = record { sink = refl; passed = refl; given = refl; sink_faults = refl; disk_faults = refl; bank_before = omega (arith); bank_after = refl }
 
 bank_since : (o earlier : Outside) → Since o earlier → RoseBy 1 o.bank_faults → RoseBy 1 earlier.bank_faults
 bank_since o earlier since rose =
@@ -323,7 +324,8 @@ run_since s wire Writes WritesToo w r = record {
 
 writes_since : (o earlier : Outside) → Since o earlier → (t : List ℕ) → Writes o t → Writes earlier t
 writes_since o earlier since t w =
-    subst (λ (x : Span (Option (List ℕ))). WritesText x earlier.sink_faults t) (sym since.sink) (subst (λ (x : Span ℕ). WritesText o.sink x t) (sym since.sink_faults) w)
+    subst (λ (x : Span (Option (List ℕ))). WritesText x earlier.passed earlier.sink_faults t) (sym since.sink)
+    (subst (λ (x : Option (List ℕ)). WritesText o.sink x earlier.sink_faults t) (sym since.passed) (subst (λ (x : Span ℕ). WritesText o.sink o.passed x t) (sym since.sink_faults) w))
 
 entries_since : (IsSoMany : ℕ → Type 0) (wire : Bool) (o earlier : Outside) → Since o earlier → WritesEntries IsSoMany wire o → WritesEntries IsSoMany wire earlier
 entries_since IsSoMany wire o earlier since w = record {
@@ -354,8 +356,8 @@ some_since s wire o earlier since r = record {
   written = writes_since o earlier since (history_text wire r.history) r.written;
 }
 
-whole_since : (o earlier : Outside) → Since o earlier → (t : List ℕ) → Appends o.sink.before o.sink.after t → Appends earlier.sink.before earlier.sink.after t
-whole_since o earlier since t w = subst (λ (x : Span (Option (List ℕ))). Appends x.before x.after t) (sym since.sink) w
+whole_since : (o earlier : Outside) → Since o earlier → (t : List ℕ) → WritesAll o t → WritesAll earlier t
+whole_since o earlier since t w = subst (λ (x : Span (Option (List ℕ))). WritesWhole x earlier.passed t) (sym since.sink) (subst (λ (x : Option (List ℕ)). WritesWhole o.sink x t) (sym since.passed) w)
 
 front_since : (o earlier : Outside) → Since o earlier → (t : List ℕ) → AppendsFront o.sink.before o.sink.after t → AppendsFront earlier.sink.before earlier.sink.after t
 front_since o earlier since t w = subst (λ (x : Span (Option (List ℕ))). AppendsFront x.before x.after t) (sym since.sink) w
@@ -436,10 +438,10 @@ rose_after n b0 b1 b2 (inl before) (inr full) falls = inr (omega (arith, full, f
 rose_after n b0 b1 b2 (inr full) rose falls = inr (omega (arith, full, falls))
 
 -- those that were lent came back unused
-pub leaves_lent : {D : Type 0} (seen : D → Option (List ℕ)) (faults limit : D → ℕ) (s : Script) (sink : Span (Option (List ℕ))) (lent : Span (Option (List Lend))) (g0 g1 g2 : Given) (sink_faults : Span ℕ) (b0 b1 b2 : ℕ) (disk_faults : Span ℕ) (failed : ℕ) (ls : List (Lent D))
+pub leaves_lent : {D : Type 0} (seen : D → Option (List ℕ)) (faults limit : D → ℕ) (s : Script) (sink : Span (Option (List ℕ))) (passed : Option (List ℕ)) (lent : Span (Option (List Lend))) (g0 g1 g2 : Given) (sink_faults : Span ℕ) (b0 b1 b2 : ℕ) (disk_faults : Span ℕ) (failed : ℕ) (ls : List (Lent D))
     → AreLent limit s.capacity 1 ls → AreUnused faults ls → g1 ≡ g0 → RoseBy failed (span b0 b1) → b1 ≤ b2 → GivesBackAll seen ls g1 g2 ⊎ Rose b1 b2 → GivesBackSome seen ls g1 g2
-    → LendingLeaves seen faults limit s (record { sink = sink; lends = lent; given = span g0 g2; sink_faults = sink_faults; bank_faults = span b0 b2; disk_faults = disk_faults }) failed (length ls)
-leaves_lent {D} seen faults limit s sink lent g0 g1 g2 sink_faults b0 b1 b2 disk_faults failed ls are unused same rose falls gives some = record {
+    → LendingLeaves seen faults limit s (record { sink = sink; passed = passed; lends = lent; given = span g0 g2; sink_faults = sink_faults; bank_faults = span b0 b2; disk_faults = disk_faults }) failed (length ls)
+leaves_lent {D} seen faults limit s sink passed lent g0 g1 g2 sink_faults b0 b1 b2 disk_faults failed ls are unused same rose falls gives some = record {
   lent = ls;
   counted = refl;
   are = are;
@@ -468,14 +470,14 @@ rose_before b0 b1 b2 rose never_falls falls = rose_once b0 b2 (rose_on rose) (om
   rose_on (inr full) = inr full
 
 -- The script's replay over the disks that were lent is its replay.
-pub replayed : {D : Type 0} (seen : D → Option (List ℕ)) (may_leave : D → List ℕ → Type 0) (faults : D → ℕ) (s : Script) (wire : Bool) (place : Place) (tells tells_too : Type 0) (Unlent : ℕ → ℕ → Type 0) (sink : Span (Option (List ℕ))) (sink_faults : Span ℕ) (l0 l1 l2 : Option (List Lend)) (g0 g1 g2 : Given) (b0 b1 b2 d0 d1 d2 : ℕ) (status : Status)
+pub replayed : {D : Type 0} (seen : D → Option (List ℕ)) (may_leave : D → List ℕ → Type 0) (faults : D → ℕ) (s : Script) (wire : Bool) (place : Place) (tells tells_too : Type 0) (Unlent : ℕ → ℕ → Type 0) (sink : Span (Option (List ℕ))) (passed : Option (List ℕ)) (sink_faults : Span ℕ) (l0 l1 l2 : Option (List Lend)) (g0 g1 g2 : Given) (b0 b1 b2 d0 d1 d2 : ℕ) (status : Status)
     → (tells_too → tells) → l1 ≡ option_map (λ ls. ls ++ lends_of s place) l0 → l2 ≡ l1 → g1 ≡ g0 → d1 ≡ d0 → b0 ≤ b1
-    → EndsRun s wire tells (SetUpLeaves seen may_leave faults s (record { sink = sink; lends = span l1 l2; given = span g1 g2; sink_faults = sink_faults; bank_faults = span b1 b2; disk_faults = span d1 d2 })) (record { sink = sink; lends = span l1 l2; given = span g1 g2; sink_faults = sink_faults; bank_faults = span b1 b2; disk_faults = span d1 d2 }) status
-    → EndsReplay s wire place tells_too (SetUpLeaves seen may_leave faults s (record { sink = sink; lends = span l0 l2; given = span g0 g2; sink_faults = sink_faults; bank_faults = span b0 b2; disk_faults = span d0 d2 })) Unlent (record { sink = sink; lends = span l0 l2; given = span g0 g2; sink_faults = sink_faults; bank_faults = span b0 b2; disk_faults = span d0 d2 }) status
-replayed {D} seen may_leave faults s wire place tells tells_too Unlent sink sink_faults l0 l1 l2 g0 g1 g2 b0 b1 b2 d0 d1 d2 status tell all lent given counts never_falls run =
-    let o : Outside = record { sink = sink; lends = span l1 l2; given = span g1 g2; sink_faults = sink_faults; bank_faults = span b1 b2; disk_faults = span d1 d2 } in
-    let earlier : Outside = record { sink = sink; lends = span l0 l2; given = span g0 g2; sink_faults = sink_faults; bank_faults = span b0 b2; disk_faults = span d0 d2 } in
-    let since : Since o earlier = since_lent sink sink_faults (span l1 l2) (span l0 l2) g0 g1 g2 b0 b1 b2 d0 d1 d2 given counts never_falls in
+    → EndsRun s wire tells (SetUpLeaves seen may_leave faults s (record { sink = sink; passed = passed; lends = span l1 l2; given = span g1 g2; sink_faults = sink_faults; bank_faults = span b1 b2; disk_faults = span d1 d2 })) (record { sink = sink; passed = passed; lends = span l1 l2; given = span g1 g2; sink_faults = sink_faults; bank_faults = span b1 b2; disk_faults = span d1 d2 }) status
+    → EndsReplay s wire place tells_too (SetUpLeaves seen may_leave faults s (record { sink = sink; passed = passed; lends = span l0 l2; given = span g0 g2; sink_faults = sink_faults; bank_faults = span b0 b2; disk_faults = span d0 d2 })) Unlent (record { sink = sink; passed = passed; lends = span l0 l2; given = span g0 g2; sink_faults = sink_faults; bank_faults = span b0 b2; disk_faults = span d0 d2 }) status
+replayed {D} seen may_leave faults s wire place tells tells_too Unlent sink passed sink_faults l0 l1 l2 g0 g1 g2 b0 b1 b2 d0 d1 d2 status tell all lent given counts never_falls run =
+    let o : Outside = record { sink = sink; passed = passed; lends = span l1 l2; given = span g1 g2; sink_faults = sink_faults; bank_faults = span b1 b2; disk_faults = span d1 d2 } in
+    let earlier : Outside = record { sink = sink; passed = passed; lends = span l0 l2; given = span g0 g2; sink_faults = sink_faults; bank_faults = span b0 b2; disk_faults = span d0 d2 } in
+    let since : Since o earlier = since_lent sink passed sink_faults (span l1 l2) (span l0 l2) g0 g1 g2 b0 b1 b2 d0 d1 d2 given counts never_falls in
     record {
       how = inr (lent ∙ all, ends_since s wire tells tells_too (SetUpLeaves seen may_leave faults s o) (SetUpLeaves seen may_leave faults s earlier) o earlier status since tell (left_since seen may_leave faults s o earlier since) run);
     }

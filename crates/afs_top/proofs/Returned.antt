@@ -62,7 +62,7 @@ module _ {D : Type 0} (seen : D → Option (List ℕ)) (may_leave : D → List �
     (told : IsWritten seen may_leave faults limit wire start count gone w now counted written) where
   -- played to its end, and what its disks keep was read
   pub end_of : (fs : List (Left (Store D) D)) (status result : Status) (taken : Result (Unit {0}) bank.Failed) → w.is_lost ≡ false → IsOver seen may_leave limit w disks → AreFound seen faults limit disks fs
-      → TellsLeft (world_text wire (whole gone w)) (final_text (map part fs)) (fault_in fs) o.sink o.sink_faults status
+      → TellsLeft (world_text wire (whole gone w)) (final_text (map part fs)) (fault_in fs) o.sink o.passed o.sink_faults status
       → OnOk taken (GivesBackAll seen (kept_disks 1 fs) o.given.before o.given.after) → GivesBackSome seen (kept_disks 1 fs) o.given.before o.given.after → OnErr taken (Rose o.bank_faults.before o.bank_faults.after)
       → o.disk_faults.after ≡ with_faults (faults_of faults (kept_disks 1 fs)) o.disk_faults.before → o.bank_faults.before ≤ o.bank_faults.after → result ≡ returned status taken
       → EndsRun w.script wire (AllTell seen w.servers × HasPlayedAll seen may_leave faults limit w.script (whole gone w)) ⊥ o result

@@ -2,7 +2,7 @@
 -- gives back stand for what that history leaves.
 use Rattle.std.specs.Prelude.{◌≡◌, ◌≤◌, ◌<◌, ◌⊎◌, ℕ, ◌+◌, List, [], ◌∷◌, ◌++◌, length, Bool, Option, Some, None, Ok, Err}
 use Rattle.std.specs.Option.{option_map}
-use Rattle.std.specs.Io.KnownBytes.{Appends, IsAtEnd}
+use Rattle.std.specs.Io.KnownBytes.{IsAtEnd}
 use Rattle.afs_num.specs.declared.scripts.Reason.{Reason}
 use Rattle.afs_num.specs.declared.types.Parcel.{Parcel}
 use Rattle.afs_history.specs.declared.lines.Entry as kept
@@ -27,7 +27,7 @@ use Rattle.afs_cell.specs.Steps.{MayBeRead}
 use Rattle.afs_cell.specs.Worlds.{most_entries, own_falls}
 use Rattle.afs_lending.specs.Lending.{lends, AreLent, AreUnused, GivesBackAll, GivesBackSome}
 use Rattle.afs_top.specs.Forms.{Asks, HaveForm}
-use Rattle.afs_top.specs.Outside.{IsUnchanged, Outside, RoseBy, Span, Writes}
+use Rattle.afs_top.specs.Outside.{IsUnchanged, Outside, RoseBy, Span, Writes, WritesAll}
 use Rattle.afs_top.specs.declared.statuses.Form.TheVariants.{Replay}
 use Rattle.afs_top.specs.declared.statuses.Status.{Status}
 use Rattle.afs_top.specs.declared.statuses.Status.TheVariants as statuses
@@ -187,11 +187,11 @@ pub record LendingLeaves {D : Type 0} (seen : D → Option (List ℕ)) (faults l
 
 -- ---- how the replay of a script ends, over disks that tell what they hold or not
 
--- All is done: the whole text was written, and each disk given back. Whatever the disks tell, the text is that of some entries and of what
+-- All is done: the whole text was written and passed on, and each disk given back. Whatever the disks tell, the text is that of some entries and of what
 -- so many servers keep.
 pub record AtDone (s : Script) (wire : Bool) (tells : Type 0) (o : Outside) : Type 0 where
-  pub written : WritesRun s wire (Appends o.sink.before o.sink.after)
-  pub told : tells → Replays s wire (Appends o.sink.before o.sink.after) ⊥ o
+  pub written : WritesRun s wire (WritesAll o)
+  pub told : tells → Replays s wire (WritesAll o) ⊥ o
 
 -- the sink failed: a beginning of the text was written; a disk is kept from the bank only where that failed too
 pub record AtWriteFault (s : Script) (wire : Bool) (tells : Type 0) (o : Outside) : Type 0 where
@@ -219,8 +219,8 @@ pub record ReadingFails (s : Script) (wire : Bool) (tells : Type 0) (o : Outside
 -- a disk wasn't taken back: all else is done
 pub record ReturningFails (s : Script) (wire : Bool) (tells : Type 0) (o : Outside) : Type 0 where
   pub rose : RoseBy 1 o.bank_faults
-  pub written : WritesRun s wire (Appends o.sink.before o.sink.after)
-  pub told : tells → Replays s wire (Appends o.sink.before o.sink.after) (RoseBy 1 o.bank_faults) o
+  pub written : WritesRun s wire (WritesAll o)
+  pub told : tells → Replays s wire (WritesAll o) (RoseBy 1 o.bank_faults) o
 
 -- The bank failed, or a disk. What is seen outside are counts, the sink and the disks that come back: by these alone a call that stops
 -- at a disk's failure in an event isn't told from the first and the second.
