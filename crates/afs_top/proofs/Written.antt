@@ -28,7 +28,7 @@ untold_so history final fault lending.Failed sink passed faults (inr e) written 
 untold_so history final fault lending.OutOfMemory sink passed faults e written = written
 
 pub untold : (history final : List ℕ) (fault : Option LendFault) (why : LendFault) (sink : Span (Option (List ℕ))) (passed : Option (List ℕ)) (faults : Span ℕ) (status : Status) → status ≡ lend_status why → IsUntold fault why → WritesText sink passed faults history → TellsLeft history final fault sink passed faults status
-untold history final fault why sink passed faults status is untold written = subst (λ (x : Status). TellsLeft history final fault sink passed faults x) (sym is) (untold_so history final fault why sink passed faults untold written)
+untold history final fault why sink passed faults status is reason written = subst (λ (x : Status). TellsLeft history final fault sink passed faults x) (sym is) (untold_so history final fault why sink passed faults reason written)
 
 -- the text was written with what was told of the disks
 pub all_told : {T : Type 0} (text more final : List ℕ) (fault : Option LendFault) (a b passed : Option (List ℕ)) (f g : ℕ) (r : Result T Failed) → IsOk r → fault ≡ None → more ≡ final → OnOk r (passed ≡ b) → Puts (text ++ more) a b f g r → TellsLeft text final fault (span a b) passed (span f g) statuses.Done

@@ -104,7 +104,7 @@ fn told_or_why<'a, D: Disk>(
     left: &'a [Left<VolStore<D>, D>],
 ) -> Result<Vec<Kept<'a>>, LendFault>
     requires few { length left.now ≤ 8 }
-    ensures read { IfOk result (λ kept. read.fault_in left.now ≡ None) }
+    ensures found { IfOk result (λ kept. read.fault_in left.now ≡ None) }
     ensures told { IfOk result (λ kept. final_of kept.items ≡ final_text (map part left.now)) }
     ensures why { IfErr result (IsUntold (read.fault_in left.now)) }
 {
