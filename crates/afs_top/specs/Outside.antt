@@ -16,8 +16,9 @@ span {A} before after = record { before = before; after = after }
 abbrev pub IsUnchanged : {A : Type 0} → Span A → Type 0
 IsUnchanged {A} span = span.after ≡ span.before
 
--- The bytes that the sink holds, and after the call those that it has passed on; the lends of the bank, and the disks that it was given back, each by its node and its bytes, where these
--- are told; and the counts of faults of the sink, of the bank, and of all disks that it was given back.
+-- What a call sees outside: the bytes that the sink holds, and after the call those that it has passed on; what the bank lent, and the
+-- disks that it was given back, each by its node and its bytes, where these are told. The counts are of faults: of the sink, of the bank,
+-- and of all disks that it was given back.
 pub record Outside : Type 0 where
   pub sink : Span (Option (List ℕ))
   pub passed : Option (List ℕ)

@@ -187,8 +187,8 @@ pub record LendingLeaves {D : Type 0} (seen : D → Option (List ℕ)) (faults l
 
 -- ---- how the replay of a script ends, over disks that tell what they hold or not
 
--- All is done: the whole text was written and passed on, and each disk given back. Whatever the disks tell, the text is that of some entries and of what
--- so many servers keep.
+-- All is done: the whole text was written and passed on, and each disk given back. Whatever the disks tell, the text is that of some
+-- entries, and of what so many servers keep.
 pub record AtDone (s : Script) (wire : Bool) (tells : Type 0) (o : Outside) : Type 0 where
   pub written : WritesRun s wire (WritesAll o)
   pub told : tells → Replays s wire (WritesAll o) ⊥ o
