@@ -159,17 +159,20 @@ module _ {D : Type 0} (seen : D → Option (List ℕ)) (may_leave : D → List �
     (way.world, told_nothing w),
     (
       way.going,
-      λ tell.
-          let come = way.come tell in
-          let taken = takes_one w old new event way takes in (
-            record {
-              inputs = come.inputs;
-              cell = come.turn.cell;
-              runs = come.runs;
-              played = first_played s come.inputs come.turn way.events come.far (none_or (next_event (waiting come.turn) way.events) (event, taken.behind) (next_at w way.events way.named (Some (event, taken.behind)) come taken.next));
-            },
-            full,
-          ),
+      (
+        full,
+        λ tell.
+            let come = way.come tell in
+            let taken = takes_one w old new event way takes in (
+              record {
+                inputs = come.inputs;
+                cell = come.turn.cell;
+                runs = come.runs;
+                played = first_played s come.inputs come.turn way.events come.far (none_or (next_event (waiting come.turn) way.events) (event, taken.behind) (next_at w way.events way.named (Some (event, taken.behind)) come taken.next));
+              },
+              full,
+            ),
+      ),
     ),
   )
 

@@ -10,7 +10,7 @@ use Rattle.afs_schedule.specs.Schedules.{events_of, first_turn, AreFirst, AreInp
 use Rattle.afs_schedule.specs.Taking.{IsLeft}
 use Rattle.afs_schedule.specs.declared.schedule.Schedule.{Schedule}
 use Rattle.afs_cell.specs.Steps.{HasPlayedAll, HasPlayedFirst, HasPlayedSome, IsAt, TellsNothing}
-use Rattle.afs_cell.specs.Worlds.{most_ticks, AllTell, IsWorld, Runs, WorldState}
+use Rattle.afs_cell.specs.Worlds.{most_entries, most_ticks, AllTell, IsWorld, Runs, WorldState}
 use Rattle.afs_cell.specs.declared.playing.Played.{Played}
 use Rattle.afs_cell.specs.declared.playing.Played.TheVariants as played
 
@@ -47,5 +47,5 @@ Stops {D} seen may_leave faults limit s old new = IsWorld seen may_leave faults 
 abbrev pub GoesSo : {D : Type 0} → (D → Option (List ℕ)) → (D → List ℕ → Type 0) → (D → ℕ) → (D → ℕ) → Script → WorldState D → WorldState D → Schedule → Played → Type 0
 GoesSo {D} seen may_leave faults limit s old new schedule played.Event = IsUnderWay seen may_leave faults limit s new schedule × (length new.history ≡ length old.history + 1)
 GoesSo {D} seen may_leave faults limit s old new schedule played.All = Stops seen may_leave faults limit s old new × ((new.is_lost ≡ false) × (AllTell seen new.servers → HasPlayedAll seen may_leave faults limit s new))
-GoesSo {D} seen may_leave faults limit s old new schedule played.Limit = Stops seen may_leave faults limit s old new × ((new.is_lost ≡ false) × (AllTell seen new.servers → HasPlayedFirst seen may_leave faults limit s new))
+GoesSo {D} seen may_leave faults limit s old new schedule played.Limit = Stops seen may_leave faults limit s old new × ((new.is_lost ≡ false) × ((length new.history ≡ most_entries) × (AllTell seen new.servers → HasPlayedFirst seen may_leave faults limit s new)))
 GoesSo {D} seen may_leave faults limit s old new schedule played.OutOfMemory = Stops seen may_leave faults limit s old new × (AllTell seen new.servers → HasPlayedSome seen may_leave faults limit s new)

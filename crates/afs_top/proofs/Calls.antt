@@ -7,12 +7,12 @@ use Rattle.afs_history.specs.declared.scripts.Script.{Script}
 use Rattle.afs_disk.specs.declared.bank.Place.{Place}
 use Rattle.afs_grammar.specs.Lines.{script_of}
 use Rattle.afs_grammar.proofs.TooLong.{longer_as_front}
-use Rattle.afs_outside.specs.Outside.{Gives, HadAll}
+use Rattle.afs_outside.specs.Outside.{Gives, HadAll, TakesTooMuch}
 use Rattle.afs_top.specs.Forms.{form_in, Asks, HaveForm}
 use Rattle.afs_top.specs.Outside.{Outside, RoseBy, Span}
 use Rattle.afs_top.specs.Parts.{refusal_status, IsLongRefusal, RefusedBy}
 use Rattle.afs_top.specs.Reading.{GivesNone, GivesScript}
-use Rattle.afs_top.specs.Top.{level, AtBankFault, DoesNothing, Ends, EndsReplay, IsBeforeReplay, IsScript, LendingFails}
+use Rattle.afs_top.specs.Top.{level, most_bytes, AtBankFault, DoesNothing, Ends, EndsReplay, EndsRun, IsBeforeReplay, IsScript, LendingFails, LendsAll}
 use Rattle.afs_top.specs.declared.scripts.Refusal.{Refusal}
 use Rattle.afs_top.specs.declared.scripts.Refusal.TheVariants as refusals
 use Rattle.afs_top.specs.declared.statuses.Form.{Form}
@@ -33,27 +33,27 @@ had_behind None after front taken = ([], tt)
 had_behind (Some left) None front taken = absurd taken
 had_behind (Some left) (Some rest) front taken = (rest, taken)
 
-pub none_of_long : (source : Span (Option (List ℕ))) (faults : Span ℕ) (front : List ℕ) (r : Refusal) → Consumes source.before source.after front → IsLongRefusal front r → GivesNone source faults (refusal_status r)
+pub none_of_long : (source : Span (Option (List ℕ))) (faults : Span ℕ) (front : List ℕ) (r : Refusal) → TakesTooMuch most_bytes source.before source.after front → IsLongRefusal front r → GivesNone source faults (refusal_status r)
 none_of_long source faults front (refusals.Script line reason) taken bad =
-    let all = had_behind source.before source.after front taken in
-    record { input = front ++ all.0; had = all.1; bad = bad all.0 }
+    let all = had_behind source.before source.after front taken.consumed in
+    record { input = front ++ all.0; had = all.1; taken = inr (front, taken); bad = bad all.0 }
 none_of_long source faults front refusals.OutOfMemory taken bad = tt
 
-pub none_of_bad : (source : Span (Option (List ℕ))) (faults : Span ℕ) (input : List ℕ) (r : Refusal) → HadAll source.before input → RefusedBy {A = Script} input (Err r) → GivesNone source faults (refusal_status r)
-none_of_bad source faults input (refusals.Script line reason) had bad = record { input = input; had = had; bad = bad }
-none_of_bad source faults input refusals.OutOfMemory had bad = tt
+pub none_of_bad : (source : Span (Option (List ℕ))) (faults : Span ℕ) (input : List ℕ) (r : Refusal) → HadAll source.before input → IsAtEnd source.after → RefusedBy {A = Script} input (Err r) → GivesNone source faults (refusal_status r)
+none_of_bad source faults input (refusals.Script line reason) had end bad = record { input = input; had = had; taken = inl end; bad = bad }
+none_of_bad source faults input refusals.OutOfMemory had end bad = tt
 
 -- ---- a call that ends before a replay
 
-pub ends_unread : (words : List (List ℕ)) (source : Span (Option (List ℕ))) (faults : Span ℕ) (Tells : Place → Type 0) (Left : Script → Outside → Type 0) (o : Outside) (status : Status) → HaveForm words → DoesNothing o → GivesNone source faults status → Ends words source faults Tells Left o status
-ends_unread words source faults Tells Left o statuses.Done form nothing none = absurd none
-ends_unread words source faults Tells Left o statuses.Usage form nothing none = absurd none
-ends_unread words source faults Tells Left o (statuses.Script line reason) form nothing none = record { asked = form; input = none.input; had = none.had; bad = none.bad }
-ends_unread words source faults Tells Left o statuses.ReadFault form nothing none = (form, none)
-ends_unread words source faults Tells Left o statuses.WriteFault form nothing none = absurd none
-ends_unread words source faults Tells Left o statuses.BankFault form nothing none = absurd none
-ends_unread words source faults Tells Left o statuses.OutOfMemory form nothing none = (form, inl nothing)
-ends_unread words source faults Tells Left o statuses.Limit form nothing none = absurd none
+pub ends_unread : (words : List (List ℕ)) (source : Span (Option (List ℕ))) (faults : Span ℕ) (Tells : Place → Type 0) (Left : Script → Outside → Type 0) (Unlent : Script → Outside → ℕ → ℕ → Type 0) (o : Outside) (status : Status) → HaveForm words → DoesNothing o → GivesNone source faults status → Ends words source faults Tells Left Unlent o status
+ends_unread words source faults Tells Left Unlent o statuses.Done form nothing none = absurd none
+ends_unread words source faults Tells Left Unlent o statuses.Usage form nothing none = absurd none
+ends_unread words source faults Tells Left Unlent o (statuses.Script line reason) form nothing none = record { asked = form; input = none.input; had = none.had; taken = none.taken; bad = none.bad }
+ends_unread words source faults Tells Left Unlent o statuses.ReadFault form nothing none = (form, none)
+ends_unread words source faults Tells Left Unlent o statuses.WriteFault form nothing none = absurd none
+ends_unread words source faults Tells Left Unlent o statuses.BankFault form nothing none = absurd none
+ends_unread words source faults Tells Left Unlent o statuses.OutOfMemory form nothing none = (form, inl nothing)
+ends_unread words source faults Tells Left Unlent o statuses.Limit form nothing none = absurd none
 
 pub none_isnt_usage : (source : Span (Option (List ℕ))) (faults : Span ℕ) (status : Status) → GivesNone source faults status → status ≡ statuses.Usage → ⊥
 none_isnt_usage source faults statuses.Done none is = none
@@ -88,46 +88,58 @@ completes_unread source faults statuses.Limit none gives fine = absurd none
 
 -- ---- a call with a replay
 
-pub ends_replayed : (words : List (List ℕ)) (source : Span (Option (List ℕ))) (faults : Span ℕ) (Tells : Place → Type 0) (Left : Script → Outside → Type 0) (o : Outside) (status : Status) (wire : Bool) (place : Place) (s : Script) → Asks (Replay wire place) words → GivesScript source s → EndsReplay s wire place (Tells place) (Left s o) o status → Ends words source faults Tells Left o status
-ends_replayed words source faults Tells Left o statuses.Done wire place s asked gives ends = record { wire = wire; place = place; asked = asked; input = gives.input; had = gives.had; at_end = gives.at_end; script = s; read = gives.read; ends = ends }
-ends_replayed words source faults Tells Left o statuses.Usage wire place s asked gives ends = absurd ends.run
-ends_replayed words source faults Tells Left o (statuses.Script line reason) wire place s asked gives ends = absurd ends.run
-ends_replayed words source faults Tells Left o statuses.ReadFault wire place s asked gives ends = absurd ends.run
-ends_replayed words source faults Tells Left o statuses.WriteFault wire place s asked gives ends = record { wire = wire; place = place; asked = asked; input = gives.input; had = gives.had; at_end = gives.at_end; script = s; read = gives.read; ends = ends }
-ends_replayed words source faults Tells Left o statuses.BankFault wire place s asked gives ends = record { wire = wire; place = place; asked = asked; input = gives.input; had = gives.had; at_end = gives.at_end; script = s; read = gives.read; ends = ends }
-ends_replayed words source faults Tells Left o statuses.OutOfMemory wire place s asked gives ends = ((Replay wire place, asked), inr (record { wire = wire; place = place; asked = asked; input = gives.input; had = gives.had; at_end = gives.at_end; script = s; read = gives.read; ends = ends }))
-ends_replayed words source faults Tells Left o statuses.Limit wire place s asked gives ends = record { wire = wire; place = place; asked = asked; input = gives.input; had = gives.had; at_end = gives.at_end; script = s; read = gives.read; ends = ends }
+pub replay_isnt_before : (s : Script) (wire : Bool) (place : Place) (tells left : Type 0) (Unlent : ℕ → ℕ → Type 0) (o : Outside) (status : Status) → EndsReplay s wire place tells left Unlent o status → IsBeforeReplay status → ⊥
+replay_isnt_before s wire place tells left Unlent o status ends before = either status ends.how before where
+  either : (status : Status) → LendingFails s place Unlent o status ⊎ (LendsAll s place o × EndsRun s wire tells left o status) → IsBeforeReplay status → ⊥
+  either statuses.Done how before = before
+  either statuses.Usage (inl unlent) before = unlent.why
+  either statuses.Usage (inr run) before = run.1
+  either (statuses.Script line reason) (inl unlent) before = unlent.why
+  either (statuses.Script line reason) (inr run) before = run.1
+  either statuses.ReadFault (inl unlent) before = unlent.why
+  either statuses.ReadFault (inr run) before = run.1
+  either statuses.WriteFault how before = before
+  either statuses.BankFault how before = before
+  either statuses.OutOfMemory how before = before
+  either statuses.Limit how before = before
 
-pub replay_isnt_before : (s : Script) (wire : Bool) (place : Place) (tells left : Type 0) (o : Outside) (status : Status) → EndsReplay s wire place tells left o status → IsBeforeReplay status → ⊥
-replay_isnt_before s wire place tells left o statuses.Done ends before = before
-replay_isnt_before s wire place tells left o statuses.Usage ends before = ends.run
-replay_isnt_before s wire place tells left o (statuses.Script line reason) ends before = ends.run
-replay_isnt_before s wire place tells left o statuses.ReadFault ends before = ends.run
-replay_isnt_before s wire place tells left o statuses.WriteFault ends before = before
-replay_isnt_before s wire place tells left o statuses.BankFault ends before = before
-replay_isnt_before s wire place tells left o statuses.OutOfMemory ends before = before
-replay_isnt_before s wire place tells left o statuses.Limit ends before = before
+pub ends_replayed : (words : List (List ℕ)) (source : Span (Option (List ℕ))) (faults : Span ℕ) (Tells : Place → Type 0) (Left : Script → Outside → Type 0) (Unlent : Script → Outside → ℕ → ℕ → Type 0) (o : Outside) (status : Status) (wire : Bool) (place : Place) (s : Script) → Asks (Replay wire place) words → GivesScript source s → EndsReplay s wire place (Tells place) (Left s o) (Unlent s o) o status → Ends words source faults Tells Left Unlent o status
+ends_replayed words source faults Tells Left Unlent o statuses.Done wire place s asked gives ends = record { wire = wire; place = place; asked = asked; input = gives.input; had = gives.had; at_end = gives.at_end; script = s; read = gives.read; ends = ends }
+ends_replayed words source faults Tells Left Unlent o statuses.Usage wire place s asked gives ends = absurd (replay_isnt_before s wire place _ _ _ o statuses.Usage ends tt)
+ends_replayed words source faults Tells Left Unlent o (statuses.Script line reason) wire place s asked gives ends = absurd (replay_isnt_before s wire place _ _ _ o (statuses.Script line reason) ends tt)
+ends_replayed words source faults Tells Left Unlent o statuses.ReadFault wire place s asked gives ends = absurd (replay_isnt_before s wire place _ _ _ o statuses.ReadFault ends tt)
+ends_replayed words source faults Tells Left Unlent o statuses.WriteFault wire place s asked gives ends = record { wire = wire; place = place; asked = asked; input = gives.input; had = gives.had; at_end = gives.at_end; script = s; read = gives.read; ends = ends }
+ends_replayed words source faults Tells Left Unlent o statuses.BankFault wire place s asked gives ends = record { wire = wire; place = place; asked = asked; input = gives.input; had = gives.had; at_end = gives.at_end; script = s; read = gives.read; ends = ends }
+ends_replayed words source faults Tells Left Unlent o statuses.OutOfMemory wire place s asked gives ends = ((Replay wire place, asked), inr (record { wire = wire; place = place; asked = asked; input = gives.input; had = gives.had; at_end = gives.at_end; script = s; read = gives.read; ends = ends }))
+ends_replayed words source faults Tells Left Unlent o statuses.Limit wire place s asked gives ends = record { wire = wire; place = place; asked = asked; input = gives.input; had = gives.had; at_end = gives.at_end; script = s; read = gives.read; ends = ends }
 
 is_before : (status : Status) → status ≡ statuses.Usage → IsBeforeReplay status
 is_before status is = subst IsBeforeReplay (sym is) tt
 
-pub replay_isnt_usage : (s : Script) (wire : Bool) (place : Place) (tells left : Type 0) (o : Outside) (status : Status) → EndsReplay s wire place tells left o status → status ≡ statuses.Usage → ⊥
-replay_isnt_usage s wire place tells left o status ends is = replay_isnt_before s wire place tells left o status ends (is_before status is)
+pub replay_isnt_usage : (s : Script) (wire : Bool) (place : Place) (tells left : Type 0) (Unlent : ℕ → ℕ → Type 0) (o : Outside) (status : Status) → EndsReplay s wire place tells left Unlent o status → status ≡ statuses.Usage → ⊥
+replay_isnt_usage s wire place tells left Unlent o status ends is = replay_isnt_before s wire place tells left Unlent o status ends (is_before status is)
 
-pub completes_replayed : (s : Script) (wire : Bool) (place : Place) (tells left : Type 0) (o : Outside) (status : Status) → EndsReplay s wire place tells left o status → (RoseBy 1 o.sink_faults → ⊥) → (RoseBy 1 o.bank_faults → ⊥) → (RoseBy 1 o.disk_faults → ⊥) → Completes status
-completes_replayed s wire place tells left o statuses.Done ends sink bank disks = inl refl
-completes_replayed s wire place tells left o statuses.Usage ends sink bank disks = absurd ends.run
-completes_replayed s wire place tells left o (statuses.Script line reason) ends sink bank disks = absurd ends.run
-completes_replayed s wire place tells left o statuses.ReadFault ends sink bank disks = absurd ends.run
-completes_replayed s wire place tells left o statuses.WriteFault ends sink bank disks = absurd (sink ends.run.rose)
-completes_replayed s wire place tells left o statuses.BankFault ends sink bank disks = absurd (either ends.run) where
-  either : AtBankFault s wire tells left (LendingFails s place o) o → ⊥
-  either (inl lending) = bank lending.rose
-  either (inr (inl setting_up)) = disks setting_up.rose
-  either (inr (inr (inl reading))) = disks reading.rose
-  either (inr (inr (inr returning))) = bank returning.rose
-completes_replayed s wire place tells left o statuses.OutOfMemory ends sink bank disks = inr (inl refl)
-completes_replayed s wire place tells left o statuses.Limit ends sink bank disks = inr (inr refl)
+no_bank_fault : (s : Script) (wire : Bool) (tells left : Type 0) (o : Outside) → AtBankFault s wire tells left o → (RoseBy 1 o.bank_faults → ⊥) → (RoseBy 1 o.disk_faults → ⊥) → ⊥
+no_bank_fault s wire tells left o (inl setting_up) bank disks = disks setting_up.rose
+no_bank_fault s wire tells left o (inr (inl reading)) bank disks = disks reading.rose
+no_bank_fault s wire tells left o (inr (inr returning)) bank disks = bank returning.rose
+
+pub completes_replayed : (s : Script) (wire : Bool) (place : Place) (tells left : Type 0) (Unlent : ℕ → ℕ → Type 0) (o : Outside) (status : Status) → EndsReplay s wire place tells left Unlent o status → (RoseBy 1 o.sink_faults → ⊥) → (RoseBy 1 o.bank_faults → ⊥) → (RoseBy 1 o.disk_faults → ⊥) → Completes status
+completes_replayed s wire place tells left Unlent o status ends sink bank disks = either status ends.how where
+  either : (status : Status) → LendingFails s place Unlent o status ⊎ (LendsAll s place o × EndsRun s wire tells left o status) → Completes status
+  either statuses.Done how = inl refl
+  either statuses.Usage (inl unlent) = absurd unlent.why
+  either statuses.Usage (inr run) = absurd run.1
+  either (statuses.Script line reason) (inl unlent) = absurd unlent.why
+  either (statuses.Script line reason) (inr run) = absurd run.1
+  either statuses.ReadFault (inl unlent) = absurd unlent.why
+  either statuses.ReadFault (inr run) = absurd run.1
+  either statuses.WriteFault (inl unlent) = absurd unlent.why
+  either statuses.WriteFault (inr run) = absurd (sink run.1.rose)
+  either statuses.BankFault (inl unlent) = absurd (bank unlent.why.1)
+  either statuses.BankFault (inr run) = absurd (no_bank_fault s wire tells left o run.1 bank disks)
+  either statuses.OutOfMemory how = inr (inl refl)
+  either statuses.Limit how = inr (inr refl)
 
 -- ---- the words
 
@@ -139,5 +151,5 @@ pub have_form : (words : List (List ℕ)) → IsSome (form_in words) → HaveFor
 have_form words some = let form = some_form (form_in words) some in (form.0, asked_as_read words form.0 form.1)
 
 -- a replay as the words ask
-pub ends_read : (words : List (List ℕ)) (source : Span (Option (List ℕ))) (faults : Span ℕ) (Tells : Place → Type 0) (Left : Script → Outside → Type 0) (o : Outside) (status : Status) (wire : Bool) (place : Place) (s : Script) → EndsReplay s wire place (Tells place) (Left s o) o status → GivesScript source s → form_in words ≡ Some (Replay wire place) → Ends words source faults Tells Left o status
-ends_read words source faults Tells Left o status wire place s ends gives form = ends_replayed words source faults Tells Left o status wire place s (asked_as_read words (Replay wire place) form) gives ends
+pub ends_read : (words : List (List ℕ)) (source : Span (Option (List ℕ))) (faults : Span ℕ) (Tells : Place → Type 0) (Left : Script → Outside → Type 0) (Unlent : Script → Outside → ℕ → ℕ → Type 0) (o : Outside) (status : Status) (wire : Bool) (place : Place) (s : Script) → EndsReplay s wire place (Tells place) (Left s o) (Unlent s o) o status → GivesScript source s → form_in words ≡ Some (Replay wire place) → Ends words source faults Tells Left Unlent o status
+ends_read words source faults Tells Left Unlent o status wire place s ends gives form = ends_replayed words source faults Tells Left Unlent o status wire place s (asked_as_read words (Replay wire place) form) gives ends

@@ -1,9 +1,7 @@
 -- How a replay ends, by what its parts promise.
-use Rattle.std.specs.Prelude.{◌≡◌, ◌≤◌, ◌<◌, ◌⊎◌, ℕ, ◌+◌, List, [], ◌∷◌, ◌++◌, length, map, Bool, false, Option, Some, None, Result, Ok, Err, OnOk, OnErr}
+use Rattle.std.specs.Prelude.{◌≡◌, ◌≤◌, ◌<◌, ◌⊎◌, ℕ, suc, ◌+◌, List, [], ◌∷◌, ◌++◌, length, map, Bool, false, Option, Some, None, Result, Ok, Err, OnOk, OnErr}
 use Rattle.std.proofs.Common.{refl, ap, sym, subst, ◌∙◌, inl, inr, arith}
-use Rattle.std.specs.Io.KnownBytes.{Appends}
 use Rattle.std.specs.Option.{option_map}
-use Rattle.std.proofs.lemmas.List.{take_all}
 use Rattle.afs_num.specs.declared.devices.Failed.{Failed}
 use Rattle.afs_history.specs.declared.scripts.Script.{Script}
 use Rattle.afs_disk.specs.Disk.{Rose}
@@ -25,19 +23,19 @@ use Rattle.afs_text.proofs.Kept.{history_told}
 use Rattle.afs_volstore.specs.Stores.{Store}
 use Rattle.afs_cell.specs.Ends.{AreLeft, IsRefused}
 use Rattle.afs_cell.specs.Steps.{lent_from, AreStanding, HasPlayedAll, HasPlayedFirst, HasPlayedSome}
-use Rattle.afs_cell.specs.Worlds.{own_falls, AllTell, IsCell, IsWorld, WorldState}
+use Rattle.afs_cell.specs.Worlds.{most_entries, AllTell, IsCell, IsWorld, WorldState}
 use Rattle.afs_cell.specs.declared.faults.SetupFault.{SetupFault}
 use Rattle.afs_cell.specs.declared.faults.SetupFault.TheVariants as setup
 use Rattle.afs_final.specs.Reading.{fault_in, part, AreFound}
 use Rattle.afs_final.specs.declared.reading.Left.{Left}
-use Rattle.afs_lending.specs.Lending.{faults_of, kept_disks, lends, with_faults, AreUnused, GivesBackAll, GivesBackSome, LendsSome}
-use Rattle.afs_top.specs.Outside.{span, IsUnchanged, Outside, RoseBy, Span, Writes, WritesText}
+use Rattle.afs_lending.specs.Lending.{faults_of, kept_disks, lends, with_faults, AreLent, AreUnused, GivesBackAll, GivesBackSome}
+use Rattle.afs_top.specs.Outside.{span, IsUnchanged, Outside, RoseBy, Span, Writes, WritesAll, WritesText, WritesWhole}
 use Rattle.afs_top.specs.Parts.{lend_status, returned, set_up_status, TellsLeft}
-use Rattle.afs_top.specs.Top.{lends_of, AreKept, AtBankFault, EndsReplay, EndsRun, FailsBehind, GivesBack, IsPlayed, IsPlayedFirst, IsPlayedSome, LendingFails, Lends, LendsAll, LendsFirst, ReadingFails, Replays, ReplaysFirst, ReplaysSome, SetUpLeaves, WritesEntries}
+use Rattle.afs_top.specs.Top.{lends_of, AreKept, AtBankFault, EndsReplay, EndsRun, GivesBack, GivesBackLent, IsFew, IsFull, IsLegalRun, LendingLeaves, NotToItsEnd, ReadingFails, Replays, ReplaysFirst, ReplaysSome, ReplaysUnread, SetUpLeaves, SomeOfIt, ToItsEnd, WritesEntries, WritesRun}
 use Rattle.afs_top.specs.declared.statuses.Status.{Status}
 use Rattle.afs_top.specs.declared.statuses.Status.TheVariants as statuses
 use Rattle.afs_top.proofs.Counts.{counted, counts_lent, found_failed, found_no_less, grown, none_fell, one_grown, rose_once, rose_since, AtLeast}
-use Rattle.afs_top.proofs.Ending.{failed_behind, given_so, left_so, played_first, played_legally, played_some, read_so}
+use Rattle.afs_top.proofs.Ending.{given_so, left_so, legal_run, length_told, lent_length, no_others, read_so}
 
 -- ---- the disks go back
 
@@ -88,12 +86,32 @@ unfolding text
 whole_text {D} seen may_leave faults limit s w fs wire is read = ap (λ (t : List ℕ). t ++ final_text (map part fs)) (history_told wire w.wire w.history read is.safe.sent)
 
 -- that of its entries, whatever the disks tell
-pub entries_of : {D : Type 0} (seen : D → Option (List ℕ)) (may_leave : D → List ℕ → Type 0) (faults limit : D → ℕ) (s : Script) (w : WorldState D) (wire : Bool) (o : Outside) → IsWorld seen may_leave faults limit s w → Writes o (kept_history_text wire w.wire w.history) → WritesEntries wire o
-entries_of {D} seen may_leave faults limit s w wire o is written = record {
+pub entries_of : {D : Type 0} (seen : D → Option (List ℕ)) (may_leave : D → List ℕ → Type 0) (faults limit : D → ℕ) (s : Script) (w : WorldState D) (IsSoMany : ℕ → Type 0) (wire : Bool) (o : Outside) → IsWorld seen may_leave faults limit s w → IsSoMany (length w.history) → Writes o (kept_history_text wire w.wire w.history) → WritesEntries IsSoMany wire o
+entries_of {D} seen may_leave faults limit s w IsSoMany wire o is many written = record {
+  sent = w.wire;
+  entries = w.history;
+  all = is.safe.sent;
+  many = many;
+  written = written;
+}
+
+-- each server's disk was read
+parts_counted : {D : Type 0} (seen : D → Option (List ℕ)) (faults limit : D → ℕ) (ls : List (Lent D)) (fs : List (Left (Store D) D)) → AreFound seen faults limit ls fs → length (map part fs) ≡ length ls
+parts_counted {D} seen faults limit [] [] found = refl
+parts_counted {D} seen faults limit [] (f ∷ fs) found = absurd found
+parts_counted {D} seen faults limit (l ∷ ls) [] found = absurd found
+parts_counted {D} seen faults limit (l ∷ ls) (f ∷ fs) found = ap suc (parts_counted seen faults limit ls fs found.1)
+
+-- and what was found there was told after its entries
+run_of : {D : Type 0} (seen : D → Option (List ℕ)) (may_leave : D → List ℕ → Type 0) (faults limit : D → ℕ) (s : Script) (w : WorldState D) (fs : List (Left (Store D) D)) (wire : Bool) (Writes : List ℕ → Type 0)
+    → IsWorld seen may_leave faults limit s w → AreFound seen faults limit (lent_from 1 w.servers) fs → Writes (kept_history_text wire w.wire w.history ++ final_text (map part fs)) → WritesRun s wire Writes
+run_of {D} seen may_leave faults limit s w fs wire Writes is found written = record {
   sent = w.wire;
   entries = w.history;
   all = is.safe.sent;
   few = is.safe.entries;
+  kept = map part fs;
+  each = parts_counted seen faults limit (lent_from 1 w.servers) fs found ∙ (lent_length 1 w.servers ∙ is.safe.server_count);
   written = written;
 }
 
@@ -107,8 +125,10 @@ replays {D} seen may_leave faults limit s w fs wire Writes excuse o is found non
     let many = grown _ _ _ (found_no_less seen faults limit 1 (lent_from 1 w.servers) fs found) (counts_lent faults _ 1 w.servers p.1.runs.counts) in
     record {
       history = told w.wire w.history;
+      end = p.1.cell;
+      run = legal_run seen may_leave faults limit is.law (ToItsEnd s) 0 s w o.disk_faults is.in_cell is.world.safe.entries p.1 (no_others _ o.disk_faults (rose_by _ _ o.disk_faults back.counts many));
       kept = map part fs;
-      played = played_legally seen may_leave faults limit is.law s w o.disk_faults (map part fs) is.in_cell is.world.safe.entries p.1 (rose_by _ _ o.disk_faults back.counts many) so.keep;
+      keep = so.keep;
       written = subst Writes (whole_text seen may_leave faults limit s w fs wire is.world p.1.runs.read) written;
       given = given_so excuse seen p.1.cell (map part fs) (kept_disks 1 fs) o.given.before o.given.after so gives back.some;
     }
@@ -121,95 +141,125 @@ reading_fails {D} seen may_leave faults limit s w fs wire o is found failed writ
     let more = found_failed seen faults limit 1 (lent_from 1 w.servers) fs found failed in
     record {
       rose = rose_by 1 _ o.disk_faults back.counts (one_grown 0 _ _ less more (inl (omega (arith))));
-      written = entries_of seen may_leave faults limit s w wire o is.world written;
-      told = λ p. failed_behind seen may_leave faults limit is.law s w wire o is.in_cell is.world.safe.entries p.1 (rose_by _ _ o.disk_faults back.counts (one_grown _ _ _ less more (counts_lent faults _ 1 w.servers p.1.runs.counts)))
-          (written_told seen may_leave faults limit s w wire o is.world p.1.runs.read written);
+      written = entries_of seen may_leave faults limit s w IsFew wire o is.world is.world.safe.entries written;
+      told = λ p. record {
+        history = told w.wire w.history;
+        end = p.1.cell;
+        run = legal_run seen may_leave faults limit is.law (ToItsEnd s) 1 s w o.disk_faults is.in_cell is.world.safe.entries p.1 (rose_by _ _ o.disk_faults back.counts (one_grown _ _ _ less more (counts_lent faults _ 1 w.servers p.1.runs.counts)));
+        written = written_told seen may_leave faults limit s w wire o is.world p.1.runs.read written;
+      };
     }
 
--- memory was wanting for what was found
-reading_wants : {D : Type 0} (seen : D → Option (List ℕ)) (may_leave : D → List ℕ → Type 0) (faults limit : D → ℕ) (s : Script) (w : WorldState D) (fs : List (Left (Store D) D)) (wire : Bool) (o : Outside)
+-- memory ran out for what was found
+reading_stops : {D : Type 0} (seen : D → Option (List ℕ)) (may_leave : D → List ℕ → Type 0) (faults limit : D → ℕ) (s : Script) (w : WorldState D) (fs : List (Left (Store D) D)) (wire : Bool) (o : Outside)
     → HasEnded seen may_leave faults limit s w → AreFound seen faults limit (lent_from 1 w.servers) fs → Writes o (kept_history_text wire w.wire w.history) → GoesBack seen faults (kept_disks 1 fs) o → All seen may_leave faults limit s w → ReplaysSome s wire o
-reading_wants {D} seen may_leave faults limit s w fs wire o is found written back p =
+reading_stops {D} seen may_leave faults limit s w fs wire o is found written back p =
     let many = grown _ _ _ (found_no_less seen faults limit 1 (lent_from 1 w.servers) fs found) (counts_lent faults _ 1 w.servers p.1.runs.counts) in
     let some : HasPlayedSome seen may_leave faults limit s w = record { inputs = p.1.inputs; cell = p.1.cell; runs = p.1.runs; played = inl p.1.played } in
     record {
       history = told w.wire w.history;
-      played = played_some seen may_leave faults limit is.law s w o.disk_faults is.in_cell is.world.safe.entries some (rose_by _ _ o.disk_faults back.counts many);
+      end = p.1.cell;
+      run = legal_run seen may_leave faults limit is.law (SomeOfIt s) 0 s w o.disk_faults is.in_cell is.world.safe.entries some (no_others _ o.disk_faults (rose_by _ _ o.disk_faults back.counts many));
       written = written_told seen may_leave faults limit s w wire o is.world p.1.runs.read written;
     }
 
 pub ended : {D : Type 0} (seen : D → Option (List ℕ)) (may_leave : D → List ℕ → Type 0) (faults limit : D → ℕ) (s : Script) (w : WorldState D) (fs : List (Left (Store D) D)) (wire : Bool) (o : Outside) (status : Status) (taken : Result (Unit {0}) Failed)
-    → HasEnded seen may_leave faults limit s w → AreFound seen faults limit (lent_from 1 w.servers) fs → TellsLeft (kept_history_text wire w.wire w.history) (final_text (map part fs)) (fault_in fs) o.sink o.sink_faults status
-    → OnOk taken (GivesBackAll seen (kept_disks 1 fs) o.given.before o.given.after) → OnErr taken (Rose o.bank_faults.before o.bank_faults.after) → GoesBack seen faults (kept_disks 1 fs) o → EndsRun s wire (All seen may_leave faults limit s w) ⊥ ⊥ o (returned status taken)
+    → HasEnded seen may_leave faults limit s w → AreFound seen faults limit (lent_from 1 w.servers) fs → TellsLeft (kept_history_text wire w.wire w.history) (final_text (map part fs)) (fault_in fs) o.sink o.passed o.sink_faults status
+    → OnOk taken (GivesBackAll seen (kept_disks 1 fs) o.given.before o.given.after) → OnErr taken (Rose o.bank_faults.before o.bank_faults.after) → GoesBack seen faults (kept_disks 1 fs) o → EndsRun s wire (All seen may_leave faults limit s w) ⊥ o (returned status taken)
 ended {D} seen may_leave faults limit s w fs wire o statuses.Done (Ok u) is found tells all cause back =
-    λ p. replays seen may_leave faults limit s w fs wire (Appends o.sink.before o.sink.after) ⊥ o is found tells.0 tells.1 back (inl all) p
+    record {
+      written = run_of seen may_leave faults limit s w fs wire (WritesAll o) is.world found tells.1;
+      told = λ p. replays seen may_leave faults limit s w fs wire (WritesAll o) ⊥ o is found tells.0 tells.1 back (inl all) p;
+    }
 ended {D} seen may_leave faults limit s w fs wire o statuses.Done (Err f) is found tells all cause back =
     let rose = rose_once o.bank_faults.before o.bank_faults.after cause back.never_falls in
-    inr (inr (inr (record { rose = rose; told = λ p. replays seen may_leave faults limit s w fs wire (Appends o.sink.before o.sink.after) (RoseBy 1 o.bank_faults) o is found tells.0 tells.1 back (inr rose) p })))
+    inr (inr (record {
+      rose = rose;
+      written = run_of seen may_leave faults limit s w fs wire (WritesAll o) is.world found tells.1;
+      told = λ p. replays seen may_leave faults limit s w fs wire (WritesAll o) (RoseBy 1 o.bank_faults) o is found tells.0 tells.1 back (inr rose) p;
+    }))
 ended {D} seen may_leave faults limit s w fs wire o statuses.WriteFault taken is found tells all cause back =
     record {
       rose = tells.1.1;
+      written = run_of seen may_leave faults limit s w fs wire (AppendsFront o.sink.before o.sink.after) is.world found tells.1.0;
       told = λ p. replays seen may_leave faults limit s w fs wire (AppendsFront o.sink.before o.sink.after) (RoseBy 1 o.bank_faults) o is found tells.0 tells.1.0 back (excused o.bank_faults.before o.bank_faults.after back.never_falls back.gives) p;
     }
-ended {D} seen may_leave faults limit s w fs wire o statuses.BankFault taken is found tells all cause back = inr (inr (inl (reading_fails seen may_leave faults limit s w fs wire o is found tells.0 tells.1 back)))
-ended {D} seen may_leave faults limit s w fs wire o statuses.OutOfMemory taken is found tells all cause back = inr (record { written = entries_of seen may_leave faults limit s w wire o is.world tells; told = λ p. reading_wants seen may_leave faults limit s w fs wire o is found tells back p })
+ended {D} seen may_leave faults limit s w fs wire o statuses.BankFault taken is found tells all cause back = inr (inl (reading_fails seen may_leave faults limit s w fs wire o is found tells.0 tells.1 back))
+ended {D} seen may_leave faults limit s w fs wire o statuses.OutOfMemory taken is found tells all cause back = inr (record { written = entries_of seen may_leave faults limit s w IsFew wire o is.world is.world.safe.entries tells; told = λ p. reading_stops seen may_leave faults limit s w fs wire o is found tells back p })
 ended {D} seen may_leave faults limit s w fs wire o statuses.Usage taken is found tells all cause back = absurd tells
 ended {D} seen may_leave faults limit s w fs wire o (statuses.Script line reason) taken is found tells all cause back = absurd tells
 ended {D} seen may_leave faults limit s w fs wire o statuses.ReadFault taken is found tells all cause back = absurd tells
 ended {D} seen may_leave faults limit s w fs wire o statuses.Limit taken is found tells all cause back = absurd tells
 
--- ---- memory was wanting in the run, or for the disks
+-- ---- memory ran out in the run, or for the disks
 
 -- what is known of a world whose run is no more than begun, and may be lost
-pub record HasWanted {D : Type 0} (seen : D → Option (List ℕ)) (may_leave : D → List ℕ → Type 0) (faults limit : D → ℕ) (s : Script) (w : WorldState D) : Type 0 where
+pub record HasStopped {D : Type 0} (seen : D → Option (List ℕ)) (may_leave : D → List ℕ → Type 0) (faults limit : D → ℕ) (s : Script) (w : WorldState D) : Type 0 where
   pub law : RunsAreLegal × RunsEndWell
   pub in_cell : IsOfCell s
   pub world : IsWorld seen may_leave faults limit s w
 
-pub wanted : {D : Type 0} (seen : D → Option (List ℕ)) (may_leave : D → List ℕ → Type 0) (faults limit : D → ℕ) (s : Script) (w : WorldState D) (wire : Bool) (o : Outside)
-    → HasWanted seen may_leave faults limit s w → Writes o (kept_history_text wire w.wire w.history) → GoesBack seen faults (lent_from 1 w.servers) o → Part seen may_leave faults limit s w → ReplaysSome s wire o
-wanted {D} seen may_leave faults limit s w wire o is written back p = record {
+pub stopped : {D : Type 0} (seen : D → Option (List ℕ)) (may_leave : D → List ℕ → Type 0) (faults limit : D → ℕ) (s : Script) (w : WorldState D) (wire : Bool) (o : Outside)
+    → HasStopped seen may_leave faults limit s w → Writes o (kept_history_text wire w.wire w.history) → GoesBack seen faults (lent_from 1 w.servers) o → Part seen may_leave faults limit s w → ReplaysSome s wire o
+stopped {D} seen may_leave faults limit s w wire o is written back p = record {
   history = told w.wire w.history;
-  played = played_some seen may_leave faults limit is.law s w o.disk_faults is.in_cell is.world.safe.entries p.1 (rose_by _ _ o.disk_faults back.counts (counts_lent faults _ 1 w.servers p.1.runs.counts));
+  end = p.1.cell;
+  run = legal_run seen may_leave faults limit is.law (SomeOfIt s) 0 s w o.disk_faults is.in_cell is.world.safe.entries p.1 (no_others _ o.disk_faults (rose_by _ _ o.disk_faults back.counts (counts_lent faults _ 1 w.servers p.1.runs.counts)));
   written = written_told seen may_leave faults limit s w wire o is.world p.1.runs.read written;
 }
 
 -- all was played by then
-pub all_wanted : {D : Type 0} (seen : D → Option (List ℕ)) (may_leave : D → List ℕ → Type 0) (faults limit : D → ℕ) (s : Script) (w : WorldState D) → All seen may_leave faults limit s w → Part seen may_leave faults limit s w
-all_wanted {D} seen may_leave faults limit s w p = (p.0, record { inputs = p.1.inputs; cell = p.1.cell; runs = p.1.runs; played = inl p.1.played })
+pub all_played : {D : Type 0} (seen : D → Option (List ℕ)) (may_leave : D → List ℕ → Type 0) (faults limit : D → ℕ) (s : Script) (w : WorldState D) → All seen may_leave faults limit s w → Part seen may_leave faults limit s w
+all_played {D} seen may_leave faults limit s w p = (p.0, record { inputs = p.1.inputs; cell = p.1.cell; runs = p.1.runs; played = inl p.1.played })
 
 -- ---- one whose history was full before that
 
 pub was_cut : {D : Type 0} (seen : D → Option (List ℕ)) (may_leave : D → List ℕ → Type 0) (faults limit : D → ℕ) (s : Script) (w : WorldState D) (wire : Bool) (o : Outside)
-    → HasEnded seen may_leave faults limit s w → Writes o (kept_history_text wire w.wire w.history) → GoesBack seen faults (lent_from 1 w.servers) o → EndsRun s wire (First seen may_leave faults limit s w) ⊥ ⊥ o statuses.Limit
-was_cut {D} seen may_leave faults limit s w wire o is written back = λ p.
-    let cell = p.1.0.runs.cell_is is.going in
-    let left = left_so seen may_leave limit w p.1.0.cell cell p.0 (is.standing p.0 p.1.0.cell cell) in
-    record {
-      history = told w.wire w.history;
-      kept = left.0;
-      played = played_first seen may_leave faults limit is.law s w o.disk_faults left.0 is.in_cell p.1 (rose_by _ _ o.disk_faults back.counts (counts_lent faults _ 1 w.servers p.1.0.runs.counts)) left.1.keep;
-      written = written_told seen may_leave faults limit s w wire o is.world p.1.0.runs.read written;
-      given = given_so (RoseBy 1 o.bank_faults) seen p.1.0.cell left.0 (lent_from 1 w.servers) o.given.before o.given.after left.1 (excused o.bank_faults.before o.bank_faults.after back.never_falls back.gives) back.some;
-    }
+    → HasEnded seen may_leave faults limit s w → length w.history ≡ most_entries → Writes o (kept_history_text wire w.wire w.history) → GoesBack seen faults (lent_from 1 w.servers) o → EndsRun s wire (First seen may_leave faults limit s w) ⊥ o statuses.Limit
+was_cut {D} seen may_leave faults limit s w wire o is full written back = record {
+  written = entries_of seen may_leave faults limit s w IsFull wire o is.world full written;
+  told = λ p.
+      let cell = p.1.0.runs.cell_is is.going in
+      let left = left_so seen may_leave limit w p.1.0.cell cell p.0 (is.standing p.0 p.1.0.cell cell) in
+      record {
+        history = told w.wire w.history;
+        end = p.1.0.cell;
+        run = legal_run seen may_leave faults limit is.law (NotToItsEnd s) 0 s w o.disk_faults is.in_cell is.world.safe.entries p.1.0 (no_others _ o.disk_faults (rose_by _ _ o.disk_faults back.counts (counts_lent faults _ 1 w.servers p.1.0.runs.counts)));
+        full = length_told w.wire w.history ∙ full;
+        kept = left.0;
+        keep = left.1.keep;
+        written = written_told seen may_leave faults limit s w wire o is.world p.1.0.runs.read written;
+        given = given_so (RoseBy 1 o.bank_faults) seen p.1.0.cell left.0 (lent_from 1 w.servers) o.given.before o.given.after left.1 (excused o.bank_faults.before o.bank_faults.after back.never_falls back.gives) back.some;
+      };
+}
 
--- ---- a cell that wasn't set up
+-- ---- disks that come back unplayed
+
+-- they are given back, but where the bank failed once more than before
+lent_back : {D : Type 0} (seen : D → Option (List ℕ)) (failed : ℕ) (ls : List (Lent D)) (o : Outside) → (Rose o.bank_faults.before o.bank_faults.after → RoseBy failed o.bank_faults) → GivesBackAll seen ls o.given.before o.given.after ⊎ Rose o.bank_faults.before o.bank_faults.after → GivesBackSome seen ls o.given.before o.given.after → GivesBackLent seen failed ls o
+lent_back {D} seen failed ls o often (inl all) some = inl all
+lent_back {D} seen failed ls o often (inr rose) some = inr (often rose, some)
 
 pub not_set_up : {D : Type 0} (seen : D → Option (List ℕ)) (may_leave : D → List ℕ → Type 0) (faults : D → ℕ) (s : Script) (wire : Bool) (tells : Type 0) (disks : List (Lent D)) (e : SetupFault × List (Lent D)) (o : Outside)
-    → AreUnused faults disks → IsRefused faults disks e → AreLeft seen may_leave s 1 disks e.1 → IsUnchanged o.sink → GoesBack seen faults e.1 o → EndsRun s wire tells (SetUpLeaves seen may_leave faults s o) ⊥ o (set_up_status e.0)
+    → AreUnused faults disks → IsRefused faults disks e → AreLeft seen may_leave s 1 disks e.1 → IsUnchanged o.sink → GoesBack seen faults e.1 o → EndsRun s wire tells (SetUpLeaves seen may_leave faults s o) o (set_up_status e.0)
 not_set_up {D} seen may_leave faults s wire tells disks (setup.Disk n, back) o unused refused left unwritten gone =
-    inr (inl (record {
+    inl (record {
       rose = rose_by 1 _ o.disk_faults gone.counts (none_fell faults disks back refused.0 refused.1);
       written = unwritten;
-      only_set_up = record { lent = disks; unused = unused; back = back; left = left; given = gone.some };
-    }))
-not_set_up {D} seen may_leave faults s wire tells disks (setup.OutOfMemory, back) o unused refused left unwritten gone = inl unwritten
+      only_set_up = record { lent = disks; unused = unused; back = back; left = left; given = lent_back seen 1 back o (λ rose. rose_once o.bank_faults.before o.bank_faults.after rose gone.never_falls) gone.gives gone.some };
+    })
+not_set_up {D} seen may_leave faults s wire tells disks (setup.OutOfMemory, back) o unused refused left unwritten gone =
+    inl (record {
+      written = unwritten;
+      only_set_up = record { lent = disks; unused = unused; back = back; left = left; given = lent_back seen 1 back o (λ rose. rose_once o.bank_faults.before o.bank_faults.after rose gone.never_falls) gone.gives gone.some };
+    })
 
 -- ---- seen from before
 
 -- The same was done outside since before the disks were lent.
 pub record Since (o earlier : Outside) : Type 0 where
   pub sink : earlier.sink ≡ o.sink
+  pub passed : earlier.passed ≡ o.passed
   pub given : earlier.given ≡ o.given
   pub sink_faults : earlier.sink_faults ≡ o.sink_faults
   pub disk_faults : earlier.disk_faults ≡ o.disk_faults
@@ -217,10 +267,11 @@ pub record Since (o earlier : Outside) : Type 0 where
   pub bank_after : earlier.bank_faults.after ≡ o.bank_faults.after
 
 -- the lends changed neither what was given back nor the faults of disks, and let the bank's count not fall
-pub since_lent : (sink : Span (Option (List ℕ))) (sink_faults : Span ℕ) (lends lends_too : Span (Option (List Lend))) (g0 g1 g2 : Given) (b0 b1 b2 d0 d1 d2 : ℕ) → g1 ≡ g0 → d1 ≡ d0 → b0 ≤ b1 →
-    Since (record { sink = sink; lends = lends; given = span g1 g2; sink_faults = sink_faults; bank_faults = span b1 b2; disk_faults = span d1 d2 }) (record { sink = sink; lends = lends_too; given = span g0 g2; sink_faults = sink_faults; bank_faults = span b0 b2; disk_faults = span d0 d2 })
-since_lent sink sink_faults lends lends_too g0 g1 g2 b0 b1 b2 d0 d1 d2 given faults never_falls = record {
+pub since_lent : (sink : Span (Option (List ℕ))) (passed : Option (List ℕ)) (sink_faults : Span ℕ) (lends lends_too : Span (Option (List Lend))) (g0 g1 g2 : Given) (b0 b1 b2 d0 d1 d2 : ℕ) → g1 ≡ g0 → d1 ≡ d0 → b0 ≤ b1 →
+    Since (record { sink = sink; passed = passed; lends = lends; given = span g1 g2; sink_faults = sink_faults; bank_faults = span b1 b2; disk_faults = span d1 d2 }) (record { sink = sink; passed = passed; lends = lends_too; given = span g0 g2; sink_faults = sink_faults; bank_faults = span b0 b2; disk_faults = span d0 d2 })
+since_lent sink passed sink_faults lends lends_too g0 g1 g2 b0 b1 b2 d0 d1 d2 given faults never_falls = record {
   sink = refl;
+  passed = refl;
   given = ap (λ (x : Given). span x g2) (sym given);
   sink_faults = refl;
   disk_faults = ap (λ (x : ℕ). span x d2) (sym faults);
@@ -229,7 +280,7 @@ since_lent sink sink_faults lends lends_too g0 g1 g2 b0 b1 b2 d0 d1 d2 given fau
 }
 
 pub since_same : (o : Outside) → Since o o
-since_same o = record { sink = refl; given = refl; sink_faults = refl; disk_faults = refl; bank_before = omega (arith); bank_after = refl }
+since_same o = record { sink = refl; passed = refl; given = refl; sink_faults = refl; disk_faults = refl; bank_before = omega (arith); bank_after = refl }
 
 bank_since : (o earlier : Outside) → Since o earlier → RoseBy 1 o.bank_faults → RoseBy 1 earlier.bank_faults
 bank_since o earlier since rose =
@@ -252,30 +303,47 @@ given_since a b o earlier since f kept g = subst (λ (x : Span Given). GivesBack
 replays_since : (s : Script) (wire : Bool) (Writes WritesToo : List ℕ → Type 0) (a b : Type 0) (o earlier : Outside) → Since o earlier → ((t : List ℕ) → Writes t → WritesToo t) → (a → b) → Replays s wire Writes a o → Replays s wire WritesToo b earlier
 replays_since s wire Writes WritesToo a b o earlier since w f r = record {
   history = r.history;
+  end = r.end;
+  run = subst (λ (x : Span ℕ). IsLegalRun s (ToItsEnd s) 0 x r.history r.end) (sym since.disk_faults) r.run;
   kept = r.kept;
-  played = subst (λ (x : Span ℕ). IsPlayed s x r.history r.kept) (sym since.disk_faults) r.played;
+  keep = r.keep;
   written = w (text wire r.history r.kept) r.written;
   given = given_since a b o earlier since f r.kept r.given;
 }
 
+run_since : (s : Script) (wire : Bool) (Writes WritesToo : List ℕ → Type 0) → ((t : List ℕ) → Writes t → WritesToo t) → WritesRun s wire Writes → WritesRun s wire WritesToo
+run_since s wire Writes WritesToo w r = record {
+  sent = r.sent;
+  entries = r.entries;
+  all = r.all;
+  few = r.few;
+  kept = r.kept;
+  each = r.each;
+  written = w (kept_history_text wire r.sent r.entries ++ final_text r.kept) r.written;
+}
+
 writes_since : (o earlier : Outside) → Since o earlier → (t : List ℕ) → Writes o t → Writes earlier t
 writes_since o earlier since t w =
-    subst (λ (x : Span (Option (List ℕ))). WritesText x earlier.sink_faults t) (sym since.sink) (subst (λ (x : Span ℕ). WritesText o.sink x t) (sym since.sink_faults) w)
+    subst (λ (x : Span (Option (List ℕ))). WritesText x earlier.passed earlier.sink_faults t) (sym since.sink)
+    (subst (λ (x : Option (List ℕ)). WritesText o.sink x earlier.sink_faults t) (sym since.passed) (subst (λ (x : Span ℕ). WritesText o.sink o.passed x t) (sym since.sink_faults) w))
 
-entries_since : (wire : Bool) (o earlier : Outside) → Since o earlier → WritesEntries wire o → WritesEntries wire earlier
-entries_since wire o earlier since w = record {
+entries_since : (IsSoMany : ℕ → Type 0) (wire : Bool) (o earlier : Outside) → Since o earlier → WritesEntries IsSoMany wire o → WritesEntries IsSoMany wire earlier
+entries_since IsSoMany wire o earlier since w = record {
   sent = w.sent;
   entries = w.entries;
   all = w.all;
-  few = w.few;
+  many = w.many;
   written = writes_since o earlier since (kept_history_text wire w.sent w.entries) w.written;
 }
 
 first_since : (s : Script) (wire : Bool) (a b : Type 0) (o earlier : Outside) → Since o earlier → (a → b) → ReplaysFirst s wire a o → ReplaysFirst s wire b earlier
 first_since s wire a b o earlier since f r = record {
   history = r.history;
+  end = r.end;
+  run = subst (λ (x : Span ℕ). IsLegalRun s (NotToItsEnd s) 0 x r.history r.end) (sym since.disk_faults) r.run;
+  full = r.full;
   kept = r.kept;
-  played = subst (λ (x : Span ℕ). IsPlayedFirst s x r.history r.kept) (sym since.disk_faults) r.played;
+  keep = r.keep;
   written = writes_since o earlier since (history_text wire r.history) r.written;
   given = given_since a b o earlier since f r.kept r.given;
 }
@@ -283,12 +351,13 @@ first_since s wire a b o earlier since f r = record {
 some_since : (s : Script) (wire : Bool) (o earlier : Outside) → Since o earlier → ReplaysSome s wire o → ReplaysSome s wire earlier
 some_since s wire o earlier since r = record {
   history = r.history;
-  played = subst (λ (x : Span ℕ). IsPlayedSome s x r.history) (sym since.disk_faults) r.played;
+  end = r.end;
+  run = subst (λ (x : Span ℕ). IsLegalRun s (SomeOfIt s) 0 x r.history r.end) (sym since.disk_faults) r.run;
   written = writes_since o earlier since (history_text wire r.history) r.written;
 }
 
-whole_since : (o earlier : Outside) → Since o earlier → (t : List ℕ) → Appends o.sink.before o.sink.after t → Appends earlier.sink.before earlier.sink.after t
-whole_since o earlier since t w = subst (λ (x : Span (Option (List ℕ))). Appends x.before x.after t) (sym since.sink) w
+whole_since : (o earlier : Outside) → Since o earlier → (t : List ℕ) → WritesAll o t → WritesAll earlier t
+whole_since o earlier since t w = subst (λ (x : Span (Option (List ℕ))). WritesWhole x earlier.passed t) (sym since.sink) (subst (λ (x : Option (List ℕ)). WritesWhole o.sink x t) (sym since.passed) w)
 
 front_since : (o earlier : Outside) → Since o earlier → (t : List ℕ) → AppendsFront o.sink.before o.sink.after t → AppendsFront earlier.sink.before earlier.sink.after t
 front_since o earlier since t w = subst (λ (x : Span (Option (List ℕ))). AppendsFront x.before x.after t) (sym since.sink) w
@@ -299,41 +368,49 @@ unwritten_since o earlier since w = subst (λ (x : Span (Option (List ℕ))). Is
 disks_since : (n : ℕ) (o earlier : Outside) → Since o earlier → RoseBy n o.disk_faults → RoseBy n earlier.disk_faults
 disks_since n o earlier since rose = subst (λ (x : Span ℕ). RoseBy n x) (sym since.disk_faults) rose
 
-behind_since : (s : Script) (wire : Bool) (o earlier : Outside) → Since o earlier → FailsBehind s wire o → FailsBehind s wire earlier
-behind_since s wire o earlier since b = record {
-  history = b.history;
-  end = b.end;
-  is = b.is;
-  few = b.few;
-  rose = subst (λ (x : Span ℕ). RoseBy (own_falls b.is.inputs + 1) x) (sym since.disk_faults) b.rose;
-  legal = b.legal;
-  well = b.well;
-  written = writes_since o earlier since (history_text wire b.history) b.written;
+unread_since : (s : Script) (wire : Bool) (o earlier : Outside) → Since o earlier → ReplaysUnread s wire o → ReplaysUnread s wire earlier
+unread_since s wire o earlier since r = record {
+  history = r.history;
+  end = r.end;
+  run = subst (λ (x : Span ℕ). IsLegalRun s (ToItsEnd s) 1 x r.history r.end) (sym since.disk_faults) r.run;
+  written = writes_since o earlier since (history_text wire r.history) r.written;
 }
 
-bank_fault_since : (s : Script) (wire : Bool) (tells tells_too left left_too unlent : Type 0) (o earlier : Outside) → Since o earlier → (tells_too → tells) → (left → left_too) → AtBankFault s wire tells left ⊥ o → AtBankFault s wire tells_too left_too unlent earlier
-bank_fault_since s wire tells tells_too left left_too unlent o earlier since t l (inl h) = absurd h
-bank_fault_since s wire tells tells_too left left_too unlent o earlier since t l (inr (inl h)) =
-    inr (inl (record { rose = disks_since 1 o earlier since h.rose; written = unwritten_since o earlier since h.written; only_set_up = l h.only_set_up }))
-bank_fault_since s wire tells tells_too left left_too unlent o earlier since t l (inr (inr (inl h))) =
-    inr (inr (inl (record { rose = disks_since 1 o earlier since h.rose; written = entries_since wire o earlier since h.written; told = λ x. behind_since s wire o earlier since (h.told (t x)) })))
-bank_fault_since s wire tells tells_too left left_too unlent o earlier since t l (inr (inr (inr h))) =
-    inr (inr (inr (record { rose = bank_since o earlier since h.rose; told = λ x. replays_since s wire _ _ _ _ o earlier since (whole_since o earlier since) (bank_since o earlier since) (h.told (t x)) })))
+bank_fault_since : (s : Script) (wire : Bool) (tells tells_too left left_too : Type 0) (o earlier : Outside) → Since o earlier → (tells_too → tells) → (left → left_too) → AtBankFault s wire tells left o → AtBankFault s wire tells_too left_too earlier
+bank_fault_since s wire tells tells_too left left_too o earlier since t l (inl h) =
+    inl (record { rose = disks_since 1 o earlier since h.rose; written = unwritten_since o earlier since h.written; only_set_up = l h.only_set_up })
+bank_fault_since s wire tells tells_too left left_too o earlier since t l (inr (inl h)) =
+    inr (inl (record { rose = disks_since 1 o earlier since h.rose; written = entries_since _ wire o earlier since h.written; told = λ x. unread_since s wire o earlier since (h.told (t x)) }))
+bank_fault_since s wire tells tells_too left left_too o earlier since t l (inr (inr h)) =
+    inr (inr (record {
+      rose = bank_since o earlier since h.rose;
+      written = run_since s wire _ _ (whole_since o earlier since) h.written;
+      told = λ x. replays_since s wire _ _ _ _ o earlier since (whole_since o earlier since) (bank_since o earlier since) (h.told (t x));
+    }))
 
-pub ends_since : (s : Script) (wire : Bool) (tells tells_too left left_too unlent : Type 0) (o earlier : Outside) (status : Status) → Since o earlier → (tells_too → tells) → (left → left_too) → EndsRun s wire tells left ⊥ o status → EndsRun s wire tells_too left_too unlent earlier status
-ends_since s wire tells tells_too left left_too unlent o earlier statuses.Done since t l h = λ x. replays_since s wire _ _ _ _ o earlier since (whole_since o earlier since) (λ y. y) (h (t x))
-ends_since s wire tells tells_too left left_too unlent o earlier statuses.WriteFault since t l h =
+pub ends_since : (s : Script) (wire : Bool) (tells tells_too left left_too : Type 0) (o earlier : Outside) (status : Status) → Since o earlier → (tells_too → tells) → (left → left_too) → EndsRun s wire tells left o status → EndsRun s wire tells_too left_too earlier status
+ends_since s wire tells tells_too left left_too o earlier statuses.Done since t l h =
+    record {
+      written = run_since s wire _ _ (whole_since o earlier since) h.written;
+      told = λ x. replays_since s wire _ _ _ _ o earlier since (whole_since o earlier since) (λ y. y) (h.told (t x));
+    }
+ends_since s wire tells tells_too left left_too o earlier statuses.WriteFault since t l h =
     record {
       rose = subst (λ (x : Span ℕ). RoseBy 1 x) (sym since.sink_faults) h.rose;
+      written = run_since s wire _ _ (front_since o earlier since) h.written;
       told = λ x. replays_since s wire _ _ _ _ o earlier since (front_since o earlier since) (bank_since o earlier since) (h.told (t x));
     }
-ends_since s wire tells tells_too left left_too unlent o earlier statuses.BankFault since t l h = bank_fault_since s wire tells tells_too left left_too unlent o earlier since t l h
-ends_since s wire tells tells_too left left_too unlent o earlier statuses.OutOfMemory since t l (inl h) = inl (unwritten_since o earlier since h)
-ends_since s wire tells tells_too left left_too unlent o earlier statuses.OutOfMemory since t l (inr h) = inr (record { written = entries_since wire o earlier since h.written; told = λ x. some_since s wire o earlier since (h.told (t x)) })
-ends_since s wire tells tells_too left left_too unlent o earlier statuses.Limit since t l h = λ x. first_since s wire _ _ o earlier since (bank_since o earlier since) (h (t x))
-ends_since s wire tells tells_too left left_too unlent o earlier statuses.Usage since t l h = absurd h
-ends_since s wire tells tells_too left left_too unlent o earlier (statuses.Script line reason) since t l h = absurd h
-ends_since s wire tells tells_too left left_too unlent o earlier statuses.ReadFault since t l h = absurd h
+ends_since s wire tells tells_too left left_too o earlier statuses.BankFault since t l h = bank_fault_since s wire tells tells_too left left_too o earlier since t l h
+ends_since s wire tells tells_too left left_too o earlier statuses.OutOfMemory since t l (inl h) = inl (record { written = unwritten_since o earlier since h.written; only_set_up = l h.only_set_up })
+ends_since s wire tells tells_too left left_too o earlier statuses.OutOfMemory since t l (inr h) = inr (record { written = entries_since _ wire o earlier since h.written; told = λ x. some_since s wire o earlier since (h.told (t x)) })
+ends_since s wire tells tells_too left left_too o earlier statuses.Limit since t l h = record { written = entries_since _ wire o earlier since h.written; told = λ x. first_since s wire _ _ o earlier since (bank_since o earlier since) (h.told (t x)) }
+ends_since s wire tells tells_too left left_too o earlier statuses.Usage since t l h = absurd h
+ends_since s wire tells tells_too left left_too o earlier (statuses.Script line reason) since t l h = absurd h
+ends_since s wire tells tells_too left left_too o earlier statuses.ReadFault since t l h = absurd h
+
+lent_since : {D : Type 0} (seen : D → Option (List ℕ)) (ls : List (Lent D)) (o earlier : Outside) → Since o earlier → GivesBackLent seen 1 ls o → GivesBackLent seen 1 ls earlier
+lent_since {D} seen ls o earlier since (inl all) = inl (subst (λ (x : Span Given). GivesBackAll seen ls x.before x.after) (sym since.given) all)
+lent_since {D} seen ls o earlier since (inr some) = inr (bank_since o earlier since some.0, subst (λ (x : Span Given). GivesBackSome seen ls x.before x.after) (sym since.given) some.1)
 
 pub left_since : {D : Type 0} (seen : D → Option (List ℕ)) (may_leave : D → List ℕ → Type 0) (faults : D → ℕ) (s : Script) (o earlier : Outside) → Since o earlier → SetUpLeaves seen may_leave faults s o → SetUpLeaves seen may_leave faults s earlier
 left_since {D} seen may_leave faults s o earlier since l = record {
@@ -341,40 +418,50 @@ left_since {D} seen may_leave faults s o earlier since l = record {
   unused = l.unused;
   back = l.back;
   left = l.left;
-  given = subst (λ (x : Span Given). GivesBackSome seen l.back x.before x.after) (sym since.given) l.given;
+  given = lent_since seen l.back o earlier since l.given;
 }
 
 -- ---- what was lent
 
-all_first : (s : Script) (place : Place) (o : Outside) → LendsAll s place o → LendsFirst s place o
-all_first s place o all =
-    let ls = lends_of s place in
-    (length ls, all ∙ ap (λ (xs : List Lend). option_map (λ (old : List Lend). old ++ xs) o.lends.before) (sym (take_all (length ls) ls (omega (arith)))))
+-- No further disk was lent: so many were, and they went back.
+pub not_lent : (s : Script) (wire : Bool) (place : Place) (tells left : Type 0) (Unlent : ℕ → ℕ → Type 0) (fault : LendFault) (n : ℕ) (o : Outside) (result status : Status) → (fault ≡ lending.Failed → n < s.servers) → o.lends.after ≡ option_map (λ ls. ls ++ lends place s.capacity 1 n) o.lends.before
+    → IsUnchanged o.sink → (fault ≡ lending.Failed → RoseBy 1 o.bank_faults) → (fault ≡ lending.Failed → Unlent 1 n) → (fault ≡ lending.OutOfMemory → Unlent 0 n) → result ≡ status → status ≡ lend_status fault → EndsReplay s wire place tells left Unlent o result
+not_lent s wire place tells left Unlent lending.Failed n o result status short lent unwritten cause failed ran_out is meant =
+    subst (λ (x : Status). EndsReplay s wire place tells left Unlent o x) (sym (is ∙ meant)) (record { how = inl (record { count = n; lent = lent; written = unwritten; why = (short refl, cause refl); back = failed refl }) })
+not_lent s wire place tells left Unlent lending.OutOfMemory n o result status short lent unwritten cause failed ran_out is meant =
+    subst (λ (x : Status). EndsReplay s wire place tells left Unlent o x) (sym (is ∙ meant)) (record { how = inl (record { count = n; lent = lent; written = unwritten; why = tt; back = ran_out refl }) })
 
-pub lends_all : (s : Script) (place : Place) (o : Outside) (status : Status) → LendsAll s place o → Lends s place o status
-lends_all s place o statuses.Done all = all
-lends_all s place o statuses.WriteFault all = all
-lends_all s place o statuses.Limit all = all
-lends_all s place o statuses.BankFault all = all_first s place o all
-lends_all s place o statuses.OutOfMemory all = all_first s place o all
-lends_all s place o statuses.Usage all = all_first s place o all
-lends_all s place o (statuses.Script line reason) all = all_first s place o all
-lends_all s place o statuses.ReadFault all = all_first s place o all
+-- the bank's count rose so often, and then once more
+rose_after : (n b0 b1 b2 : ℕ) → RoseBy n (span b0 b1) → Rose b1 b2 → b1 ≤ b2 → RoseBy (n + 1) (span b0 b2)
+rose_after n b0 b1 b2 (inl before) (inl more) falls = inl (omega (arith, before, more))
+rose_after n b0 b1 b2 (inl before) (inr full) falls = inr (omega (arith, full, falls))
+rose_after n b0 b1 b2 (inr full) rose falls = inr (omega (arith, full, falls))
 
--- A disk wasn't lent: so many were, and they went back.
-pub not_lent : (s : Script) (wire : Bool) (place : Place) (tells left : Type 0) (fault : LendFault) (n : ℕ) (o : Outside) (result status : Status) → LendsFirst s place o → (fault ≡ lending.Failed → n < s.servers) → o.lends.after ≡ option_map (λ ls. ls ++ lends place s.capacity 1 n) o.lends.before
-    → IsUnchanged o.sink → (fault ≡ lending.Failed → RoseBy 1 o.bank_faults) → result ≡ status → status ≡ lend_status fault → EndsReplay s wire place tells left o result
-not_lent s wire place tells left lending.Failed n o result status first short lent unwritten cause is meant =
-    subst (λ (x : Status). EndsReplay s wire place tells left o x) (sym (is ∙ meant)) (record { lent = first; run = inl (record { count = n; short = short refl; lent = lent; rose = cause refl; written = unwritten }) })
-not_lent s wire place tells left lending.OutOfMemory n o result status first short lent unwritten cause is meant =
-    subst (λ (x : Status). EndsReplay s wire place tells left o x) (sym (is ∙ meant)) (record { lent = first; run = inl unwritten })
+-- those that were lent came back unused
+pub leaves_lent : {D : Type 0} (seen : D → Option (List ℕ)) (faults limit : D → ℕ) (s : Script) (sink : Span (Option (List ℕ))) (passed : Option (List ℕ)) (lent : Span (Option (List Lend))) (g0 g1 g2 : Given) (sink_faults : Span ℕ) (b0 b1 b2 : ℕ) (disk_faults : Span ℕ) (failed : ℕ) (ls : List (Lent D))
+    → AreLent limit s.capacity 1 ls → AreUnused faults ls → g1 ≡ g0 → RoseBy failed (span b0 b1) → b1 ≤ b2 → GivesBackAll seen ls g1 g2 ⊎ Rose b1 b2 → GivesBackSome seen ls g1 g2
+    → LendingLeaves seen faults limit s (record { sink = sink; passed = passed; lends = lent; given = span g0 g2; sink_faults = sink_faults; bank_faults = span b0 b2; disk_faults = disk_faults }) failed (length ls)
+leaves_lent {D} seen faults limit s sink passed lent g0 g1 g2 sink_faults b0 b1 b2 disk_faults failed ls are unused same rose falls gives some = record {
+  lent = ls;
+  counted = refl;
+  are = are;
+  unused = unused;
+  given = given gives;
+} where
+  given : GivesBackAll seen ls g1 g2 ⊎ Rose b1 b2 → GivesBackAll seen ls g0 g2 ⊎ (RoseBy (failed + 1) (span b0 b2) × GivesBackSome seen ls g0 g2)
+  given (inl all) = inl (subst (λ (x : Given). GivesBackAll seen ls x g2) same all)
+  given (inr more) = inr (rose_after failed b0 b1 b2 rose more falls, subst (λ (x : Given). GivesBackSome seen ls x g2) same some)
 
--- what was lent, and the bank's count, behind the disks that went back
+-- the first failure, or none
+pub rose_first : (b0 b1 : ℕ) → Rose b0 b1 → b0 ≤ b1 → RoseBy 1 (span b0 b1)
+rose_first b0 b1 rose never_falls = rose_once b0 b1 rose never_falls
+
+pub none_failed : (b0 b1 : ℕ) → b0 ≤ b1 → RoseBy 0 (span b0 b1)
+none_failed b0 b1 never_falls = inl (omega (arith, never_falls))
+
+-- what was lent, and the bank's count, after the disks went back
 pub lent_before : (place : Place) (capacity n : ℕ) (l0 l1 l2 : Option (List Lend)) → l1 ≡ option_map (λ ls. ls ++ lends place capacity 1 n) l0 → l2 ≡ l1 → l2 ≡ option_map (λ ls. ls ++ lends place capacity 1 n) l0
 lent_before place capacity n l0 l1 l2 some same = same ∙ some
-
-pub first_before : (all : List Lend) (l0 l1 l2 : Option (List Lend)) → LendsSome all l0 l1 → l2 ≡ l1 → LendsSome all l0 l2
-first_before all l0 l1 l2 some same = (some.0, same ∙ some.1)
 
 pub rose_before : (b0 b1 b2 : ℕ) → Rose b0 b1 → b0 ≤ b1 → b1 ≤ b2 → RoseBy 1 (span b0 b2)
 rose_before b0 b1 b2 rose never_falls falls = rose_once b0 b2 (rose_on rose) (omega (arith, never_falls, falls)) where
@@ -383,30 +470,29 @@ rose_before b0 b1 b2 rose never_falls falls = rose_once b0 b2 (rose_on rose) (om
   rose_on (inr full) = inr full
 
 -- The script's replay over the disks that were lent is its replay.
-pub replayed : {D : Type 0} (seen : D → Option (List ℕ)) (may_leave : D → List ℕ → Type 0) (faults : D → ℕ) (s : Script) (wire : Bool) (place : Place) (tells tells_too : Type 0) (sink : Span (Option (List ℕ))) (sink_faults : Span ℕ) (l0 l1 l2 : Option (List Lend)) (g0 g1 g2 : Given) (b0 b1 b2 d0 d1 d2 : ℕ) (status : Status)
+pub replayed : {D : Type 0} (seen : D → Option (List ℕ)) (may_leave : D → List ℕ → Type 0) (faults : D → ℕ) (s : Script) (wire : Bool) (place : Place) (tells tells_too : Type 0) (Unlent : ℕ → ℕ → Type 0) (sink : Span (Option (List ℕ))) (passed : Option (List ℕ)) (sink_faults : Span ℕ) (l0 l1 l2 : Option (List Lend)) (g0 g1 g2 : Given) (b0 b1 b2 d0 d1 d2 : ℕ) (status : Status)
     → (tells_too → tells) → l1 ≡ option_map (λ ls. ls ++ lends_of s place) l0 → l2 ≡ l1 → g1 ≡ g0 → d1 ≡ d0 → b0 ≤ b1
-    → EndsRun s wire tells (SetUpLeaves seen may_leave faults s (record { sink = sink; lends = span l1 l2; given = span g1 g2; sink_faults = sink_faults; bank_faults = span b1 b2; disk_faults = span d1 d2 })) ⊥ (record { sink = sink; lends = span l1 l2; given = span g1 g2; sink_faults = sink_faults; bank_faults = span b1 b2; disk_faults = span d1 d2 }) status
-    → EndsReplay s wire place tells_too (SetUpLeaves seen may_leave faults s (record { sink = sink; lends = span l0 l2; given = span g0 g2; sink_faults = sink_faults; bank_faults = span b0 b2; disk_faults = span d0 d2 })) (record { sink = sink; lends = span l0 l2; given = span g0 g2; sink_faults = sink_faults; bank_faults = span b0 b2; disk_faults = span d0 d2 }) status
-replayed {D} seen may_leave faults s wire place tells tells_too sink sink_faults l0 l1 l2 g0 g1 g2 b0 b1 b2 d0 d1 d2 status tell all lent given counts never_falls run =
-    let o : Outside = record { sink = sink; lends = span l1 l2; given = span g1 g2; sink_faults = sink_faults; bank_faults = span b1 b2; disk_faults = span d1 d2 } in
-    let earlier : Outside = record { sink = sink; lends = span l0 l2; given = span g0 g2; sink_faults = sink_faults; bank_faults = span b0 b2; disk_faults = span d0 d2 } in
-    let since : Since o earlier = since_lent sink sink_faults (span l1 l2) (span l0 l2) g0 g1 g2 b0 b1 b2 d0 d1 d2 given counts never_falls in
+    → EndsRun s wire tells (SetUpLeaves seen may_leave faults s (record { sink = sink; passed = passed; lends = span l1 l2; given = span g1 g2; sink_faults = sink_faults; bank_faults = span b1 b2; disk_faults = span d1 d2 })) (record { sink = sink; passed = passed; lends = span l1 l2; given = span g1 g2; sink_faults = sink_faults; bank_faults = span b1 b2; disk_faults = span d1 d2 }) status
+    → EndsReplay s wire place tells_too (SetUpLeaves seen may_leave faults s (record { sink = sink; passed = passed; lends = span l0 l2; given = span g0 g2; sink_faults = sink_faults; bank_faults = span b0 b2; disk_faults = span d0 d2 })) Unlent (record { sink = sink; passed = passed; lends = span l0 l2; given = span g0 g2; sink_faults = sink_faults; bank_faults = span b0 b2; disk_faults = span d0 d2 }) status
+replayed {D} seen may_leave faults s wire place tells tells_too Unlent sink passed sink_faults l0 l1 l2 g0 g1 g2 b0 b1 b2 d0 d1 d2 status tell all lent given counts never_falls run =
+    let o : Outside = record { sink = sink; passed = passed; lends = span l1 l2; given = span g1 g2; sink_faults = sink_faults; bank_faults = span b1 b2; disk_faults = span d1 d2 } in
+    let earlier : Outside = record { sink = sink; passed = passed; lends = span l0 l2; given = span g0 g2; sink_faults = sink_faults; bank_faults = span b0 b2; disk_faults = span d0 d2 } in
+    let since : Since o earlier = since_lent sink passed sink_faults (span l1 l2) (span l0 l2) g0 g1 g2 b0 b1 b2 d0 d1 d2 given counts never_falls in
     record {
-      lent = lends_all s place earlier status (lent ∙ all);
-      run = ends_since s wire tells tells_too (SetUpLeaves seen may_leave faults s o) (SetUpLeaves seen may_leave faults s earlier) (LendingFails s place earlier) o earlier status since tell (left_since seen may_leave faults s o earlier since) run;
+      how = inr (lent ∙ all, ends_since s wire tells tells_too (SetUpLeaves seen may_leave faults s o) (SetUpLeaves seen may_leave faults s earlier) o earlier status since tell (left_since seen may_leave faults s o earlier since) run);
     }
 
 -- A world of this script ended so; so did what was played on these disks.
-pub played_on : (s played : Script) (wire : Bool) (tells tells_too left : Type 0) (o : Outside) (status : Status) → played ≡ s → (tells_too → tells) → EndsRun played wire tells ⊥ ⊥ o status → EndsRun s wire tells_too left ⊥ o status
+pub played_on : (s played : Script) (wire : Bool) (tells tells_too left : Type 0) (o : Outside) (status : Status) → played ≡ s → (tells_too → tells) → EndsRun played wire tells ⊥ o status → EndsRun s wire tells_too left o status
 played_on s played wire tells tells_too left o status same tell run =
-    ends_since s wire tells tells_too ⊥ left ⊥ o o status (since_same o) tell (λ none. absurd none) (subst (λ (x : Script). EndsRun x wire tells ⊥ ⊥ o status) same run)
+    ends_since s wire tells tells_too ⊥ left o o status (since_same o) tell (λ none. absurd none) (subst (λ (x : Script). EndsRun x wire tells ⊥ o status) same run)
 
 -- the disks that set-up handed back went back to the bank
 pub refused_of : {D : Type 0} (seen : D → Option (List ℕ)) (may_leave : D → List ℕ → Type 0) (faults : D → ℕ) (s : Script) (wire : Bool) (tells : Type 0) (disks : List (Lent D)) (fault : SetupFault) (back : List (Lent D)) (o : Outside) (result status : Status)
     → AreUnused faults disks → IsRefused faults disks (fault, back) → AreLeft seen may_leave s 1 disks back → IsUnchanged o.sink
     → GivesBackAll seen back o.given.before o.given.after ⊎ Rose o.bank_faults.before o.bank_faults.after → GivesBackSome seen back o.given.before o.given.after
     → o.disk_faults.after ≡ with_faults (faults_of faults back) o.disk_faults.before → o.bank_faults.before ≤ o.bank_faults.after → result ≡ status → status ≡ set_up_status fault
-    → EndsRun s wire tells (SetUpLeaves seen may_leave faults s o) ⊥ o result
+    → EndsRun s wire tells (SetUpLeaves seen may_leave faults s o) o result
 refused_of {D} seen may_leave faults s wire tells disks fault back o result status unused refused left unwritten gives some counts never_falls is meant =
-    subst (λ (x : Status). EndsRun s wire tells (SetUpLeaves seen may_leave faults s o) ⊥ o x) (sym (is ∙ meant))
+    subst (λ (x : Status). EndsRun s wire tells (SetUpLeaves seen may_leave faults s o) o x) (sym (is ∙ meant))
     (not_set_up seen may_leave faults s wire tells disks (fault, back) o unused refused left unwritten (record { gives = gives; some = some; counts = counts; never_falls = never_falls }))

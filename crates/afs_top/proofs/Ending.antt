@@ -1,6 +1,6 @@
 -- The end of a replay: its history is legal, what was read from the disks is what the history leaves, and so are the disks that were
 -- given back.
-use Rattle.std.specs.Prelude.{◌≡◌, ◌≤◌, ◌⊎◌, ℕ, suc, ◌+◌, List, [], ◌∷◌, ◌++◌, drop, map, length, Bool, Option, Some, None, IsSome}
+use Rattle.std.specs.Prelude.{◌≡◌, ◌≤◌, ◌⊎◌, ℕ, suc, ◌+◌, List, [], ◌∷◌, ◌++◌, drop, map, length, Option, Some, None, IsSome}
 use Rattle.std.proofs.Common.{refl, ap, sym, subst, ◌∙◌, inl, inr, append_assoc, arith}
 use Rattle.std.proofs.lemmas.List.{append-nil}
 use Rattle.afs_num.specs.Places.{at_place}
@@ -14,21 +14,20 @@ use Rattle.afs_journal.specs.Records.{whole_records}
 use Rattle.afs_records.specs.Durable.{fold_all, Durable}
 use Rattle.afs_records.specs.Stands.{Stands}
 use Rattle.afs_records.proofs.Forms.{some_is}
-use Rattle.afs_rows.specs.Runs.{Cell}
+use Rattle.afs_rows.specs.Runs.{Cell, Input}
 use Rattle.afs_law.specs.Cells.{IsOfCell}
 use Rattle.afs_law.specs.Laws.{RunsAreLegal, RunsEndWell}
-use Rattle.afs_text.specs.HistoryText.{history_text}
 use Rattle.afs_text.specs.Telling.{told}
 use Rattle.afs_volstore.specs.Stores.{Store}
 use Rattle.afs_cell.specs.Places.{Each}
-use Rattle.afs_cell.specs.Steps.{lent_from, AreStanding, HasPlayedAll, HasPlayedFirst, HasPlayedSome, MayBeRead}
+use Rattle.afs_cell.specs.Steps.{lent_from, AreStanding, HasPlayed, MayBeRead}
 use Rattle.afs_cell.specs.Worlds.{most_entries, own_falls, seat_disk, AllTell, IsCell, ServerSeat, WorldState}
 use Rattle.afs_final.specs.Reading.{fault_in, kept_disk, part, AreFound, IsRead}
 use Rattle.afs_final.specs.declared.reading.Left.{Left}
 use Rattle.afs_final.specs.declared.reading.Left.TheVariants as left
 use Rattle.afs_lending.specs.Lending.{kept_disks, GivesBackAll, GivesBackSome}
-use Rattle.afs_top.specs.Outside.{Outside, RoseBy, Span, Writes}
-use Rattle.afs_top.specs.Top.{AreKept, FailsBehind, GivesBack, IsPlayed, IsPlayedFirst, IsPlayedSome, MayKeep}
+use Rattle.afs_top.specs.Outside.{RoseBy, Span}
+use Rattle.afs_top.specs.Top.{AreKept, GivesBack, IsLegalRun, MayKeep}
 
 some_of : {A : Type 0} (o : Option A) → IsSome o → (x : A) × (o ≡ Some x)
 some_of {A} None some = absurd cc
@@ -61,7 +60,7 @@ tells_from : {D : Type 0} (seen : D → Option (List ℕ)) (i : ℕ) (ss : List 
 tells_from {D} seen i [] h = tt
 tells_from {D} seen i (s ∷ ss) h = (h.0, tells_from seen (i + 1) ss h.1)
 
-lent_length : {D : Type 0} (i : ℕ) (ss : List (ServerSeat D)) → length (lent_from i ss) ≡ length ss
+pub lent_length : {D : Type 0} (i : ℕ) (ss : List (ServerSeat D)) → length (lent_from i ss) ≡ length ss
 lent_length {D} i [] = refl
 lent_length {D} i (s ∷ ss) = ap suc (lent_length (i + 1) ss)
 
@@ -106,7 +105,7 @@ StandFor {D} seen i (l ∷ ls) (d ∷ ds) = ((l.node ≡ i) × (IsSome (seen l.d
 abbrev Given : Type 0
 Given = List (ℕ × List ℕ)
 
--- each goes back, or it is wanting with this excuse
+-- each goes back, or it is missing with this excuse
 abbrev GivesBackEach : {D : Type 0} → Type 0 → (D → Option (List ℕ)) → List (Lent D) → Option Given → Option Given → Type 0
 GivesBackEach {D} excuse seen [] old new = new ≡ old
 GivesBackEach {D} excuse seen (l ∷ ls) old new = (next : Option Given) × ((banks.GivesBack l.node (seen l.disk) old next ⊎ (excuse × (next ≡ old))) × GivesBackEach excuse seen ls next new)
@@ -133,9 +132,9 @@ given_each {D} excuse seen i (l ∷ ls) (d ∷ ds) given new stand (after, (inl 
     let next = given_next (seen l.disk) l.node given after bytes.0 bytes.1 goes in
     let more = given_each excuse seen (i + 1) ls ds (given ++ (l.node, bytes.0) ∷ []) new stand.1 (subst (λ (o : Option Given). GivesBackEach excuse seen ls o new) next back) in
     ((l.node, bytes.0) ∷ more.0, (more.1.0 ∙ ap (λ (x : Given). Some x) (append_assoc given ((l.node, bytes.0) ∷ []) more.0), inl ((stand.0.0, stand.0.1.1 bytes.0 bytes.1), more.1.1)))
-given_each {D} excuse seen i (l ∷ ls) (d ∷ ds) given new stand (after, (inr wanting, back)) =
-    let more = given_each excuse seen (i + 1) ls ds given new stand.1 (subst (λ (o : Option Given). GivesBackEach excuse seen ls o new) wanting.1 back) in
-    (more.0, (more.1.0, inr (wanting.0, more.1.1)))
+given_each {D} excuse seen i (l ∷ ls) (d ∷ ds) given new stand (after, (inr missing, back)) =
+    let more = given_each excuse seen (i + 1) ls ds given new stand.1 (subst (λ (o : Option Given). GivesBackEach excuse seen ls o new) missing.1 back) in
+    (more.0, (more.1.0, inr (missing.0, more.1.1)))
 
 given_by : {D : Type 0} (excuse : Type 0) (seen : D → Option (List ℕ)) (ls : List (Lent D)) (ds : List Durable) (old new : Option Given) → StandFor seen 1 ls ds → GivesBackEach excuse seen ls old new → GivesBack excuse ds old new
 given_by {D} excuse seen ls ds None new stand back = tt
@@ -217,57 +216,23 @@ left_so {D} seen may_leave limit w c is tells stand =
 
 -- ---- the history
 
-length_told : (ps : List Parcel) (es : List kept.Entry) → length (told ps es) ≡ length es
+pub length_told : (ps : List Parcel) (es : List kept.Entry) → length (told ps es) ≡ length es
 length_told ps [] = refl
 length_told ps (e ∷ es) = ap suc (length_told (drop e.sent ps) es)
 
--- the history that a world tells is one of its script, and legal
-pub played_legally : {D : Type 0} (seen : D → Option (List ℕ)) (may_leave : D → List ℕ → Type 0) (faults limit : D → ℕ) (law : RunsAreLegal × RunsEndWell) (s : Script) (w : WorldState D) (counts : Span ℕ) (kept : List Durable) → IsOfCell s → length w.history ≤ most_entries → (p : HasPlayedAll seen may_leave faults limit s w) → RoseBy (own_falls p.inputs) counts → MayKeep p.cell 1 kept → IsPlayed s counts (told w.wire w.history) kept
-played_legally {D} seen may_leave faults limit law s w counts kept in_cell few p failures keep = record {
-  end = p.cell;
-  is = record { inputs = p.inputs; leads = p.runs.leads; acts = p.played };
-  few = omega (arith, length_told w.wire w.history, few);
-  failures = failures;
-  legal = law.0 s (told w.wire w.history) p.cell in_cell (record { inputs = p.inputs; leads = p.runs.leads });
-  well = law.1 s (told w.wire w.history) p.cell in_cell (record { inputs = p.inputs; leads = p.runs.leads });
-  keep = keep;
-}
-
--- as far as a history may go
-pub played_first : {D : Type 0} (seen : D → Option (List ℕ)) (may_leave : D → List ℕ → Type 0) (faults limit : D → ℕ) (law : RunsAreLegal × RunsEndWell) (s : Script) (w : WorldState D) (counts : Span ℕ) (kept : List Durable) → IsOfCell s → (p : HasPlayedFirst seen may_leave faults limit s w) → RoseBy (own_falls p.0.inputs) counts → MayKeep p.0.cell 1 kept → IsPlayedFirst s counts (told w.wire w.history) kept
-played_first {D} seen may_leave faults limit law s w counts kept in_cell p failures keep = record {
-  end = p.0.cell;
-  is = record { inputs = p.0.inputs; leads = p.0.runs.leads; acts = p.0.played };
-  full = length_told w.wire w.history ∙ p.1;
-  failures = failures;
-  legal = law.0 s (told w.wire w.history) p.0.cell in_cell (record { inputs = p.0.inputs; leads = p.0.runs.leads });
-  well = law.1 s (told w.wire w.history) p.0.cell in_cell (record { inputs = p.0.inputs; leads = p.0.runs.leads });
-  keep = keep;
-}
-
--- however far
-pub played_some : {D : Type 0} (seen : D → Option (List ℕ)) (may_leave : D → List ℕ → Type 0) (faults limit : D → ℕ) (law : RunsAreLegal × RunsEndWell) (s : Script) (w : WorldState D) (counts : Span ℕ) → IsOfCell s → length w.history ≤ most_entries → (p : HasPlayedSome seen may_leave faults limit s w) → RoseBy (own_falls p.inputs) counts → IsPlayedSome s counts (told w.wire w.history)
-played_some {D} seen may_leave faults limit law s w counts in_cell few p failures = record {
+-- what a world tells is a legal run of its script, as far as it was played
+pub legal_run : {D : Type 0} (seen : D → Option (List ℕ)) (may_leave : D → List ℕ → Type 0) (faults limit : D → ℕ) (law : RunsAreLegal × RunsEndWell) (IsSoFar : List Input → Type 0) (others : ℕ) (s : Script) (w : WorldState D) (counts : Span ℕ) → IsOfCell s → length w.history ≤ most_entries → (p : HasPlayed seen may_leave faults limit IsSoFar s w) → RoseBy (own_falls p.inputs + others) counts
+    → IsLegalRun s IsSoFar others counts (told w.wire w.history) p.cell
+legal_run {D} seen may_leave faults limit law IsSoFar others s w counts in_cell few p failures = record {
   inputs = p.inputs;
-  end = p.cell;
   leads = p.runs.leads;
-  acts = p.played;
+  so_far = p.played;
   few = omega (arith, length_told w.wire w.history, few);
-  failures = failures;
   legal = law.0 s (told w.wire w.history) p.cell in_cell (record { inputs = p.inputs; leads = p.runs.leads });
   well = law.1 s (told w.wire w.history) p.cell in_cell (record { inputs = p.inputs; leads = p.runs.leads });
+  failures = failures;
 }
 
--- all was played, and a disk failed behind it
-pub failed_behind : {D : Type 0} (seen : D → Option (List ℕ)) (may_leave : D → List ℕ → Type 0) (faults limit : D → ℕ) (law : RunsAreLegal × RunsEndWell) (s : Script) (w : WorldState D) (wire : Bool) (o : Outside) → IsOfCell s → length w.history ≤ most_entries → (p : HasPlayedAll seen may_leave faults limit s w) → RoseBy (own_falls p.inputs + 1) o.disk_faults
-    → Writes o (history_text wire (told w.wire w.history)) → FailsBehind s wire o
-failed_behind {D} seen may_leave faults limit law s w wire o in_cell few p rose written = record {
-  history = told w.wire w.history;
-  end = p.cell;
-  is = record { inputs = p.inputs; leads = p.runs.leads; acts = p.played };
-  few = omega (arith, length_told w.wire w.history, few);
-  rose = rose;
-  legal = law.0 s (told w.wire w.history) p.cell in_cell (record { inputs = p.inputs; leads = p.runs.leads });
-  well = law.1 s (told w.wire w.history) p.cell in_cell (record { inputs = p.inputs; leads = p.runs.leads });
-  written = written;
-}
+-- no other disk failed
+pub no_others : (n : ℕ) (counts : Span ℕ) → RoseBy n counts → RoseBy (n + 0) counts
+no_others n counts rose = subst (λ (k : ℕ). RoseBy k counts) (omega (arith)) rose

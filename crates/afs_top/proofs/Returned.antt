@@ -1,6 +1,7 @@
 -- Where a world that was played ends, by what its parts promise.
 use Rattle.std.specs.Prelude.{◌≡◌, ◌≤◌, ◌⊎◌, ℕ, suc, ◌+◌, List, [], ◌∷◌, length, map, Bool, false, Option, Result, Ok, Err, OnOk, OnErr}
 use Rattle.std.proofs.Common.{refl, ap, sym, subst, inl, inr, arith}
+use Rattle.std.proofs.lemmas.List.{length-append}
 use Rattle.afs_num.specs.declared.devices.Failed as bank
 use Rattle.afs_history.specs.declared.scripts.Script.{Script}
 use Rattle.afs_disk.specs.Disk.{Rose}
@@ -12,23 +13,20 @@ use Rattle.afs_text.specs.FinalText.{final_text}
 use Rattle.afs_volstore.specs.Stores.{Store}
 use Rattle.afs_cell.specs.Since.{whole, StandsSince}
 use Rattle.afs_cell.specs.Steps.{lent_from, AreStanding, HasPlayedAll, HasPlayedFirst, HasPlayedSome}
-use Rattle.afs_cell.specs.Worlds.{AllTell, HistoryTold, IsWorld, ServerSeat, WorldState}
+use Rattle.afs_cell.specs.Worlds.{most_entries, AllTell, HistoryTold, IsWorld, WorldState}
 use Rattle.afs_final.specs.Reading.{fault_in, part, AreFound}
 use Rattle.afs_final.specs.declared.reading.Left.{Left}
 use Rattle.afs_lending.specs.Lending.{faults_of, kept_disks, with_faults, GivesBackAll, GivesBackSome}
 use Rattle.afs_top.specs.Outside.{Outside, Writes}
 use Rattle.afs_top.specs.Parts.{returned, TellsLeft}
 use Rattle.afs_top.specs.Playing.{world_text, IsWritten}
-use Rattle.afs_top.specs.Top.{EndsRun, WritesEntries}
+use Rattle.afs_top.specs.Top.{EndsRun, IsFew, WritesEntries}
 use Rattle.afs_top.specs.declared.statuses.Status.{Status}
 use Rattle.afs_top.specs.declared.statuses.Status.TheVariants as statuses
-use Rattle.afs_top.proofs.Ended.{all_wanted, ended, entries_of, wanted, was_cut, GoesBack, HasEnded}
+use Rattle.afs_top.proofs.Ended.{all_played, ended, entries_of, stopped, was_cut, GoesBack, HasEnded}
+use Rattle.afs_top.proofs.Ending.{lent_length}
 
 -- ---- the disks that were read
-
-lent_length : {D : Type 0} (i : ℕ) (ss : List (ServerSeat D)) → length (lent_from i ss) ≡ length ss
-lent_length {D} i [] = refl
-lent_length {D} i (s ∷ ss) = ap suc (lent_length (i + 1) ss)
 
 found_length : {D : Type 0} (seen : D → Option (List ℕ)) (faults limit : D → ℕ) (ls : List (Lent D)) (fs : List (Left (Store D) D)) → AreFound seen faults limit ls fs → length fs ≡ length ls
 found_length {D} seen faults limit [] [] found = refl
@@ -64,15 +62,15 @@ module _ {D : Type 0} (seen : D → Option (List ℕ)) (may_leave : D → List �
     (told : IsWritten seen may_leave faults limit wire start count gone w now counted written) where
   -- played to its end, and what its disks keep was read
   pub end_of : (fs : List (Left (Store D) D)) (status result : Status) (taken : Result (Unit {0}) bank.Failed) → w.is_lost ≡ false → IsOver seen may_leave limit w disks → AreFound seen faults limit disks fs
-      → TellsLeft (world_text wire (whole gone w)) (final_text (map part fs)) (fault_in fs) o.sink o.sink_faults status
+      → TellsLeft (world_text wire (whole gone w)) (final_text (map part fs)) (fault_in fs) o.sink o.passed o.sink_faults status
       → OnOk taken (GivesBackAll seen (kept_disks 1 fs) o.given.before o.given.after) → GivesBackSome seen (kept_disks 1 fs) o.given.before o.given.after → OnErr taken (Rose o.bank_faults.before o.bank_faults.after)
       → o.disk_faults.after ≡ with_faults (faults_of faults (kept_disks 1 fs)) o.disk_faults.before → o.bank_faults.before ≤ o.bank_faults.after → result ≡ returned status taken
-      → EndsRun w.script wire (AllTell seen w.servers × HasPlayedAll seen may_leave faults limit w.script (whole gone w)) ⊥ ⊥ o result
+      → EndsRun w.script wire (AllTell seen w.servers × HasPlayedAll seen may_leave faults limit w.script (whole gone w)) ⊥ o result
   end_of fs status result taken going over found tells all some cause counts never_falls are =
       let is = has_ended seen may_leave faults limit wire start count gone w now counted written disks law in_cell going told over in
       let found_here = subst (λ (ls : List (Lent D)). AreFound seen faults limit ls fs) over.are found in
       let back : GoesBack seen faults (kept_disks 1 fs) o = record { gives = gives_of seen (kept_disks 1 fs) o taken all cause; some = some; counts = counts; never_falls = never_falls } in
-      subst (λ (x : Status). EndsRun w.script wire (AllTell seen w.servers × HasPlayedAll seen may_leave faults limit w.script (whole gone w)) ⊥ ⊥ o x) (sym are) (ended seen may_leave faults limit w.script (whole gone w) fs wire o status taken is found_here tells all cause back)
+      subst (λ (x : Status). EndsRun w.script wire (AllTell seen w.servers × HasPlayedAll seen may_leave faults limit w.script (whole gone w)) ⊥ o x) (sym are) (ended seen may_leave faults limit w.script (whole gone w) fs wire o status taken is found_here tells all cause back)
 
   -- what was written stands there, and the disks go back
   module _ (gives : GivesBackAll seen disks o.given.before o.given.after ⊎ Rose o.bank_faults.before o.bank_faults.after) (some : GivesBackSome seen disks o.given.before o.given.after) (counts : o.disk_faults.after ≡ with_faults (faults_of faults disks) o.disk_faults.before)
@@ -80,23 +78,26 @@ module _ {D : Type 0} (seen : D → Option (List ℕ)) (may_leave : D → List �
     gone_back : GoesBack seen faults (lent_from 1 w.servers) o
     gone_back = subst (λ (ls : List (Lent D)). GoesBack seen faults ls o) over.are (record { gives = gives; some = some; counts = counts; never_falls = never_falls })
 
-    entries : WritesEntries wire o
-    entries = entries_of seen may_leave faults limit w.script (whole gone w) wire o told.world writes
+    entries : WritesEntries IsFew wire o
+    entries = entries_of seen may_leave faults limit w.script (whole gone w) IsFew wire o told.world told.world.safe.entries writes
+
+    full_by : w.gone.entries + length w.history ≡ most_entries → length (whole gone w).history ≡ most_entries
+    full_by full = omega (arith, full, told.is.entries, length-append gone.history w.history)
 
     -- its history was full before its end
-    pub cut_of : w.is_lost ≡ false → result ≡ statuses.Limit → EndsRun w.script wire (AllTell seen w.servers × HasPlayedFirst seen may_leave faults limit w.script (whole gone w)) ⊥ ⊥ o result
-    cut_of going are =
-        subst (λ (x : Status). EndsRun w.script wire (AllTell seen w.servers × HasPlayedFirst seen may_leave faults limit w.script (whole gone w)) ⊥ ⊥ o x) (sym are)
-        (was_cut seen may_leave faults limit w.script (whole gone w) wire o (has_ended seen may_leave faults limit wire start count gone w now counted written disks law in_cell going told over) writes gone_back)
+    pub cut_of : w.is_lost ≡ false → w.gone.entries + length w.history ≡ most_entries → result ≡ statuses.Limit → EndsRun w.script wire (AllTell seen w.servers × HasPlayedFirst seen may_leave faults limit w.script (whole gone w)) ⊥ o result
+    cut_of going full are =
+        subst (λ (x : Status). EndsRun w.script wire (AllTell seen w.servers × HasPlayedFirst seen may_leave faults limit w.script (whole gone w)) ⊥ o x) (sym are)
+        (was_cut seen may_leave faults limit w.script (whole gone w) wire o (has_ended seen may_leave faults limit wire start count gone w now counted written disks law in_cell going told over) (full_by full) writes gone_back)
 
-    -- memory was wanting
-    pub wanted_of : result ≡ statuses.OutOfMemory → EndsRun w.script wire (AllTell seen w.servers × HasPlayedSome seen may_leave faults limit w.script (whole gone w)) ⊥ ⊥ o result
-    wanted_of are =
-        subst (λ (x : Status). EndsRun w.script wire (AllTell seen w.servers × HasPlayedSome seen may_leave faults limit w.script (whole gone w)) ⊥ ⊥ o x) (sym are)
-        (inr (record { written = entries; told = λ p. wanted seen may_leave faults limit w.script (whole gone w) wire o (record { law = law; in_cell = in_cell; world = told.world }) writes gone_back p }))
+    -- memory ran out
+    pub stopped_of : result ≡ statuses.OutOfMemory → EndsRun w.script wire (AllTell seen w.servers × HasPlayedSome seen may_leave faults limit w.script (whole gone w)) ⊥ o result
+    stopped_of are =
+        subst (λ (x : Status). EndsRun w.script wire (AllTell seen w.servers × HasPlayedSome seen may_leave faults limit w.script (whole gone w)) ⊥ o x) (sym are)
+        (inr (record { written = entries; told = λ p. stopped seen may_leave faults limit w.script (whole gone w) wire o (record { law = law; in_cell = in_cell; world = told.world }) writes gone_back p }))
 
     -- so it was for its disks
-    pub unread_of : result ≡ statuses.OutOfMemory → EndsRun w.script wire (AllTell seen w.servers × HasPlayedAll seen may_leave faults limit w.script (whole gone w)) ⊥ ⊥ o result
+    pub unread_of : result ≡ statuses.OutOfMemory → EndsRun w.script wire (AllTell seen w.servers × HasPlayedAll seen may_leave faults limit w.script (whole gone w)) ⊥ o result
     unread_of are =
-        subst (λ (x : Status). EndsRun w.script wire (AllTell seen w.servers × HasPlayedAll seen may_leave faults limit w.script (whole gone w)) ⊥ ⊥ o x) (sym are)
-        (inr (record { written = entries; told = λ p. wanted seen may_leave faults limit w.script (whole gone w) wire o (record { law = law; in_cell = in_cell; world = told.world }) writes gone_back (all_wanted seen may_leave faults limit w.script (whole gone w) p) }))
+        subst (λ (x : Status). EndsRun w.script wire (AllTell seen w.servers × HasPlayedAll seen may_leave faults limit w.script (whole gone w)) ⊥ o x) (sym are)
+        (inr (record { written = entries; told = λ p. stopped seen may_leave faults limit w.script (whole gone w) wire o (record { law = law; in_cell = in_cell; world = told.world }) writes gone_back (all_played seen may_leave faults limit w.script (whole gone w) p) }))

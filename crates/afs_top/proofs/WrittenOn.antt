@@ -190,7 +190,7 @@ module _ {D : Type 0} (seen : D → Option (List ℕ)) (may_leave : D → List �
             is = is_new;
             world = went.0.0;
             written = text_stays went.0.1;
-            ended = (went.1.0, λ t. (tell (p.tell t), went.1.1 (tell (p.tell t))));
+            ended = (went.1.0, (went.1.1.0, λ t. (tell (p.tell t), went.1.1.1 (tell (p.tell t)))));
           })
 
       pub told_some : GoesSoSince seen may_leave faults limit w new schedule after played.OutOfMemory → IsTold seen may_leave faults limit s wire tells a b f g (record { world = new; ended = ended.OutOfMemory; written = written })

@@ -16,10 +16,12 @@ span {A} before after = record { before = before; after = after }
 abbrev pub IsUnchanged : {A : Type 0} → Span A → Type 0
 IsUnchanged {A} span = span.after ≡ span.before
 
--- The bytes that the sink holds, the lends of the bank, and the disks that it was given back, each by its node and its bytes, where these
--- are told; and the counts of faults of the sink, of the bank, and of all disks that it was given back.
+-- What a call sees outside: the bytes that the sink holds, and after the call those that it has passed on; what the bank lent, and the
+-- disks that it was given back, each by its node and its bytes, where these are told. The counts are of faults: of the sink, of the bank,
+-- and of all disks that it was given back.
 pub record Outside : Type 0 where
   pub sink : Span (Option (List ℕ))
+  pub passed : Option (List ℕ)
   pub lends : Span (Option (List Lend))
   pub given : Span (Option (List (ℕ × List ℕ)))
   pub sink_faults : Span ℕ
@@ -30,9 +32,16 @@ pub record Outside : Type 0 where
 abbrev pub RoseBy : ℕ → Span ℕ → Type 0
 RoseBy n count = (count.before + n ≤ count.after) ⊎ (last_count ≤ count.after)
 
--- all of the text was written, or where the sink failed, a beginning of it
-abbrev pub WritesText : Span (Option (List ℕ)) → Span ℕ → List ℕ → Type 0
-WritesText sink faults text = Appends sink.before sink.after text ⊎ (RoseBy 1 faults × AppendsFront sink.before sink.after text)
+-- all of the text was written, and nothing of it waits in the sink
+abbrev pub WritesWhole : Span (Option (List ℕ)) → Option (List ℕ) → List ℕ → Type 0
+WritesWhole sink passed text = Appends sink.before sink.after text × (passed ≡ sink.after)
+
+-- so it was, or where the sink failed, a beginning of the text was written
+abbrev pub WritesText : Span (Option (List ℕ)) → Option (List ℕ) → Span ℕ → List ℕ → Type 0
+WritesText sink passed faults text = WritesWhole sink passed text ⊎ (RoseBy 1 faults × AppendsFront sink.before sink.after text)
+
+abbrev pub WritesAll : Outside → List ℕ → Type 0
+WritesAll o text = WritesWhole o.sink o.passed text
 
 abbrev pub Writes : Outside → List ℕ → Type 0
-Writes o text = WritesText o.sink o.sink_faults text
+Writes o text = WritesText o.sink o.passed o.sink_faults text

@@ -1,5 +1,5 @@
 -- How a script is played while its history is written.
-use Rattle.std.specs.Prelude.{◌≡◌, ◌≤◌, ℕ, List, [], ◌++◌, Bool, false, Option, Result}
+use Rattle.std.specs.Prelude.{◌≡◌, ◌≤◌, ℕ, List, [], ◌++◌, length, Bool, false, Option, Result}
 use Rattle.afs_history.specs.declared.scripts.Script.{Script}
 use Rattle.afs_outside.specs.Outside.{Puts}
 use Rattle.afs_outside.specs.declared.outside.Failed.{Failed}
@@ -9,7 +9,7 @@ use Rattle.afs_text.specs.KeptText.{kept_history_text}
 use Rattle.afs_cell.specs.Since.{whole, IsBefore}
 use Rattle.afs_cell.specs.Steps.{HasPlayedAll, HasPlayedFirst, HasPlayedSome}
 use Rattle.afs_cell.specs.UnderWay.{IsUnderWay}
-use Rattle.afs_cell.specs.Worlds.{AllTell, HistoryTold, IsWorld, WorldState}
+use Rattle.afs_cell.specs.Worlds.{most_entries, AllTell, HistoryTold, IsWorld, WorldState}
 use Rattle.afs_top.specs.declared.playing.Ended.{Ended}
 use Rattle.afs_top.specs.declared.playing.Ended.TheVariants as ended
 use Rattle.afs_top.specs.declared.playing.Told.{Told}
@@ -25,7 +25,7 @@ PutsBehind {T} {U} bytes old new before after written result = (text : List ℕ)
 -- how far it was played, where its disks tell
 abbrev pub EndsSo : {D : Type 0} → (D → Option (List ℕ)) → (D → List ℕ → Type 0) → (D → ℕ) → (D → ℕ) → Script → Type 0 → Ended → WorldState D → Type 0
 EndsSo {D} seen may_leave faults limit s tells ended.All w = (w.is_lost ≡ false) × (tells → AllTell seen w.servers × HasPlayedAll seen may_leave faults limit s w)
-EndsSo {D} seen may_leave faults limit s tells ended.Limit w = (w.is_lost ≡ false) × (tells → AllTell seen w.servers × HasPlayedFirst seen may_leave faults limit s w)
+EndsSo {D} seen may_leave faults limit s tells ended.Limit w = (w.is_lost ≡ false) × ((length w.history ≡ most_entries) × (tells → AllTell seen w.servers × HasPlayedFirst seen may_leave faults limit s w))
 EndsSo {D} seen may_leave faults limit s tells ended.OutOfMemory w = tells → AllTell seen w.servers × HasPlayedSome seen may_leave faults limit s w
 
 -- The script was played so, and the history of the whole world was written, or a beginning of it.

@@ -4,7 +4,7 @@ ghost use Rattle.std.specs.Prelude.{◌≡◌, ◌⊎◌, ◌+◌, ◌↔◌, ma
 ghost use Rattle.afs_outside.specs.Outside.{Gives, TakesAtMost};
 ghost use Rattle.afs_top.specs.Forms.{HaveForm};
 ghost use Rattle.afs_top.specs.Outside.{span, RoseBy};
-ghost use Rattle.afs_top.specs.Top.{Ends, IsBeforeReplay, IsScript, SetUpLeaves};
+ghost use Rattle.afs_top.specs.Top.{Ends, IsBeforeReplay, IsScript, LendingLeaves, SetUpLeaves};
 
 use crate::replaying::replay;
 use crate::scripts::script_in;
@@ -24,7 +24,7 @@ pub fn cell_main<S: Source, K: Sink, B: Bank<D: Drop>>(
     sink: &mut K,
     bank: &mut B,
 ) -> Status
-    ensures ends { Ends (map string_bytes words.now) (span (S.left source.old) (S.left source.new)) (span (S.faults source.old) (S.faults source.new)) (B.tells bank.old) (SetUpLeaves B.D.seen B.D.may_leave B.D.faults) (record { sink = span (K.held sink.old) (K.held sink.new); lends = span (B.lends bank.old) (B.lends bank.new); given = span (B.given bank.old) (B.given bank.new); sink_faults = span (K.faults sink.old) (K.faults sink.new); bank_faults = span (B.faults bank.old) (B.faults bank.new); disk_faults = span (B.lent_faults bank.old) (B.lent_faults bank.new) }) result }
+    ensures ends { Ends (map string_bytes words.now) (span (S.left source.old) (S.left source.new)) (span (S.faults source.old) (S.faults source.new)) (B.tells bank.old) (SetUpLeaves B.D.seen B.D.may_leave B.D.faults) (LendingLeaves B.D.seen B.D.faults B.D.limit) (record { sink = span (K.held sink.old) (K.held sink.new); passed = K.passed sink.new; lends = span (B.lends bank.old) (B.lends bank.new); given = span (B.given bank.old) (B.given bank.new); sink_faults = span (K.faults sink.old) (K.faults sink.new); bank_faults = span (B.faults bank.old) (B.faults bank.new); disk_faults = span (B.lent_faults bank.old) (B.lent_faults bank.new) }) result }
 
     // Where the words have no form, or the input can't be read or is no script, nothing was done outside.
     ensures quiet { IsBeforeReplay result → (sink.new ≡ sink.old) × (bank.new ≡ bank.old) }

@@ -13,7 +13,7 @@ use afs_outside::outside::{Failed, Sink};
 use afs_text::TextPiece;
 use afs_text::histories::put_entries;
 
-/// How a script was played: to its end; as far as a history may go, and an event is left; or memory was wanting. And whether its
+/// How a script was played: to its end; as far as a history may go, and an event is left; or memory ran out. And whether its
 /// history was written, as far as it goes.
 #[derive(Drop)]
 pub(crate) struct Told<W> {

@@ -1,21 +1,21 @@
 //! A script is played over the disks of its servers, and its history is written.
 
-ghost use Rattle.std.specs.Prelude.{◌≡◌, ◌≤◌, ◌⊎◌, ◌++◌, ℕ, List, [], Bool, Option, length, map, false};
+ghost use Rattle.std.specs.Prelude.{◌≡◌, ◌≤◌, ◌⊎◌, ◌+◌, ◌++◌, ℕ, List, [], Bool, Option, None, length, map, false, IfErr, IfOk, OnOk};
 ghost use Rattle.afs_disk.specs.Disk.{Rose};
 ghost use Rattle.afs_grammar.specs.CellScripts.{IsCellScript};
 ghost use Rattle.afs_outside.specs.Outside.{Puts};
 ghost use Rattle.afs_cell.specs.Since.{whole, IsWorldSince};
 ghost use Rattle.afs_cell.specs.Steps.{AreLent, HasPlayedAll, HasPlayedFirst, HasPlayedSome, LentTell};
-ghost use Rattle.afs_cell.specs.Worlds.{AllTell, HistoryTold};
+ghost use Rattle.afs_cell.specs.Worlds.{most_entries, AllTell, HistoryTold};
 ghost use Rattle.afs_final.specs.Reading.{part};
 ghost use Rattle.afs_final.specs.Reading as read;
 ghost use Rattle.afs_final.specs.Telling.{final_of};
 ghost use Rattle.afs_lending.specs.Lending.{faults_of, with_faults, AreUnused, GivesBackAll, GivesBackSome};
 ghost use Rattle.afs_text.specs.FinalText.{final_text};
-ghost use Rattle.afs_top.specs.Outside.{span};
-ghost use Rattle.afs_top.specs.Parts.{lend_status, returned, set_up_status, TellsLeft};
+ghost use Rattle.afs_top.specs.Outside.{span, WritesText};
+ghost use Rattle.afs_top.specs.Parts.{lend_status, returned, set_up_status, IsUntold, TellsLeft};
 ghost use Rattle.afs_top.specs.Playing.{IsWritten, PutsBehind};
-ghost use Rattle.afs_top.specs.Top.{EndsReplay, EndsRun, SetUpLeaves};
+ghost use Rattle.afs_top.specs.Top.{EndsReplay, EndsRun, LendingLeaves, SetUpLeaves};
 
 use crate::playing::{Ended, Told, play};
 use crate::statuses::Status;
@@ -52,7 +52,7 @@ fn status_of_setup(fault: SetupFault) -> Status
     }
 }
 
-/// The status behind the return of the disks: nothing is done where one of them wasn't taken.
+/// The status after the return of the disks: nothing is done where one of them wasn't taken.
 fn returned(status: Status, taken: Result<(), BankFailed>) -> Status
     ensures { result ≡ returned status taken }
 {
@@ -75,13 +75,14 @@ fn give_up<B: Bank<D: Drop>>(bank: &mut B, disks: Disks<B::D>, status: Status) -
     status
 }
 
-/// Writes what the disks keep behind the history, and passes all on.
+/// Writes what the disks keep after the history, and passes all on.
 fn put_rest<K: Sink>(
     sink: &mut K,
     kept: &[Kept<'_>],
     written: Result<(), Failed>,
 ) -> Result<(), Failed>
-    ensures { PutsBehind (final_of kept.now) (K.held sink.old) (K.held sink.new) (K.faults sink.old) (K.faults sink.new) written result }
+    ensures all { OnOk result (K.passed sink.new ≡ K.held sink.new) }
+    ensures puts { PutsBehind (final_of kept.now) (K.held sink.old) (K.held sink.new) (K.faults sink.old) (K.faults sink.new) written result }
 {
     written?;
     put_final(sink, kept)?;
@@ -90,13 +91,40 @@ fn put_rest<K: Sink>(
 
 /// Passes on what was written, if all was.
 fn put_no_more<K: Sink>(sink: &mut K, written: Result<(), Failed>) -> Result<(), Failed>
-    ensures { PutsBehind [] (K.held sink.old) (K.held sink.new) (K.faults sink.old) (K.faults sink.new) written result }
+    ensures all { OnOk result (K.passed sink.new ≡ K.held sink.new) }
+    ensures puts { PutsBehind [] (K.held sink.old) (K.held sink.new) (K.faults sink.old) (K.faults sink.new) written result }
 {
     written?;
     pass_on(sink)
 }
 
-/// What was found on the disks is told behind the history, where that can be.
+/// What the disks keep, as it is told, or why it can't be.
+fn told_or_why<'a, D: Disk>(
+    alloc: Global,
+    left: &'a [Left<VolStore<D>, D>],
+) -> Result<Vec<Kept<'a>>, LendFault>
+    requires few { length left.now ≤ 8 }
+    ensures found { IfOk result (λ kept. read.fault_in left.now ≡ None) }
+    ensures told { IfOk result (λ kept. final_of kept.items ≡ final_text (map part left.now)) }
+    ensures why { IfErr result (IsUntold (read.fault_in left.now)) }
+{
+    if let Some(fault) = fault_in(left) {
+        return Err(fault);
+    }
+    Ok(told_of(alloc, left)?)
+}
+
+/// What the disks keep can't be told: the history is passed on.
+fn tell_none<K: Sink>(sink: &mut K, written: Result<(), Failed>, why: LendFault) -> Status
+    ensures status { result ≡ lend_status why }
+    ensures written { (text : List ℕ) (start : Option (List ℕ)) (count : ℕ) → Puts text start (K.held sink.old) count (K.faults sink.old) written → WritesText (span start (K.held sink.new)) (K.passed sink.new) (span count (K.faults sink.new)) text }
+{
+    // The status stands already; that the sink failed is counted.
+    let _passed = put_no_more(sink, written);
+    status_of_lend(why)
+}
+
+/// What was found on the disks is told after the history, where that can be.
 fn tell_left<K: Sink, D: Disk>(
     alloc: Global,
     sink: &mut K,
@@ -104,13 +132,11 @@ fn tell_left<K: Sink, D: Disk>(
     written: Result<(), Failed>,
 ) -> Status
     requires few { length left.now ≤ 8 }
-    ensures { (text : List ℕ) (start : Option (List ℕ)) (count : ℕ) → Puts text start (K.held sink.old) count (K.faults sink.old) written → TellsLeft text (final_text (map part left.now)) (read.fault_in left.now) (span start (K.held sink.new)) (span count (K.faults sink.new)) result }
+    ensures { (text : List ℕ) (start : Option (List ℕ)) (count : ℕ) → Puts text start (K.held sink.old) count (K.faults sink.old) written → TellsLeft text (final_text (map part left.now)) (read.fault_in left.now) (span start (K.held sink.new)) (K.passed sink.new) (span count (K.faults sink.new)) result }
 {
-    if let Some(fault) = fault_in(left) {
-        return status_of_lend(fault);
-    }
-    let Ok(kept) = told_of(alloc, left) else {
-        return Status::OutOfMemory;
+    let kept = match told_or_why(alloc, left) {
+        Ok(kept) => kept,
+        Err(why) => return tell_none(sink, written, why),
     };
     match put_rest(sink, kept.as_slice(), written) {
         Ok(()) => Status::Done,
@@ -128,7 +154,7 @@ fn end<K: Sink, B: Bank<D: Drop>>(
 ) -> Status
     requires world { IsWorldSince B.D.seen B.D.may_leave B.D.faults B.D.limit world }
     requires going { world.is_lost ≡ false }
-    ensures ends { (wire : Bool) (start : Option (List ℕ)) (count : ℕ) (gone : HistoryTold) → IsWritten B.D.seen B.D.may_leave B.D.faults B.D.limit wire start count gone world.entry (K.held sink.old) (K.faults sink.old) written → EndsRun world.entry.script wire (AllTell B.D.seen world.entry.servers × HasPlayedAll B.D.seen B.D.may_leave B.D.faults B.D.limit world.entry.script (whole gone world.entry)) ⊥ ⊥ (record { sink = span start (K.held sink.new); lends = span (B.lends bank.old) (B.lends bank.new); given = span (B.given bank.old) (B.given bank.new); sink_faults = span count (K.faults sink.new); bank_faults = span (B.faults bank.old) (B.faults bank.new); disk_faults = span (B.lent_faults bank.old) (B.lent_faults bank.new) }) result }
+    ensures ends { (wire : Bool) (start : Option (List ℕ)) (count : ℕ) (gone : HistoryTold) → IsWritten B.D.seen B.D.may_leave B.D.faults B.D.limit wire start count gone world.entry (K.held sink.old) (K.faults sink.old) written → EndsRun world.entry.script wire (AllTell B.D.seen world.entry.servers × HasPlayedAll B.D.seen B.D.may_leave B.D.faults B.D.limit world.entry.script (whole gone world.entry)) ⊥ (record { sink = span start (K.held sink.new); passed = K.passed sink.new; lends = span (B.lends bank.old) (B.lends bank.new); given = span (B.given bank.old) (B.given bank.new); sink_faults = span count (K.faults sink.new); bank_faults = span (B.faults bank.old) (B.faults bank.new); disk_faults = span (B.lent_faults bank.old) (B.lent_faults bank.new) }) result }
     ensures lends { B.lends bank.new ≡ B.lends bank.old }
     ensures never_falls { B.faults bank.old ≤ B.faults bank.new }
 {
@@ -137,7 +163,10 @@ fn end<K: Sink, B: Bank<D: Drop>>(
     volumes_are_in_cell();
     let left = match world.read_at_end() {
         Ok(left) => left,
-        Err(disks) => return give_up(bank, disks, Status::OutOfMemory),
+        Err(disks) => {
+            let status = tell_none(sink, written, LendFault::OutOfMemory);
+            return give_up(bank, disks, status);
+        }
     };
     let status = tell_left(alloc, sink, left.as_slice(), written);
     let taken = give_back(bank, left);
@@ -153,7 +182,8 @@ fn cut<K: Sink, B: Bank<D: Drop>>(
 ) -> Status
     requires world { IsWorldSince B.D.seen B.D.may_leave B.D.faults B.D.limit world }
     requires going { world.is_lost ≡ false }
-    ensures ends { (wire : Bool) (start : Option (List ℕ)) (count : ℕ) (gone : HistoryTold) → IsWritten B.D.seen B.D.may_leave B.D.faults B.D.limit wire start count gone world.entry (K.held sink.old) (K.faults sink.old) written → EndsRun world.entry.script wire (AllTell B.D.seen world.entry.servers × HasPlayedFirst B.D.seen B.D.may_leave B.D.faults B.D.limit world.entry.script (whole gone world.entry)) ⊥ ⊥ (record { sink = span start (K.held sink.new); lends = span (B.lends bank.old) (B.lends bank.new); given = span (B.given bank.old) (B.given bank.new); sink_faults = span count (K.faults sink.new); bank_faults = span (B.faults bank.old) (B.faults bank.new); disk_faults = span (B.lent_faults bank.old) (B.lent_faults bank.new) }) result }
+    requires full { world.gone.entries + length world.history ≡ most_entries }
+    ensures ends { (wire : Bool) (start : Option (List ℕ)) (count : ℕ) (gone : HistoryTold) → IsWritten B.D.seen B.D.may_leave B.D.faults B.D.limit wire start count gone world.entry (K.held sink.old) (K.faults sink.old) written → EndsRun world.entry.script wire (AllTell B.D.seen world.entry.servers × HasPlayedFirst B.D.seen B.D.may_leave B.D.faults B.D.limit world.entry.script (whole gone world.entry)) ⊥ (record { sink = span start (K.held sink.new); passed = K.passed sink.new; lends = span (B.lends bank.old) (B.lends bank.new); given = span (B.given bank.old) (B.given bank.new); sink_faults = span count (K.faults sink.new); bank_faults = span (B.faults bank.old) (B.faults bank.new); disk_faults = span (B.lent_faults bank.old) (B.lent_faults bank.new) }) result }
     ensures lends { B.lends bank.new ≡ B.lends bank.old }
     ensures never_falls { B.faults bank.old ≤ B.faults bank.new }
 {
@@ -166,7 +196,7 @@ fn cut<K: Sink, B: Bank<D: Drop>>(
     give_up(bank, disks, Status::Limit)
 }
 
-/// Memory was wanting: the disks are given back.
+/// Memory ran out: the disks are given back.
 fn give_in<K: Sink, B: Bank<D: Drop>>(
     world: World<'_, B::D>,
     written: Result<(), Failed>,
@@ -174,7 +204,7 @@ fn give_in<K: Sink, B: Bank<D: Drop>>(
     bank: &mut B,
 ) -> Status
     requires world { IsWorldSince B.D.seen B.D.may_leave B.D.faults B.D.limit world }
-    ensures ends { (wire : Bool) (start : Option (List ℕ)) (count : ℕ) (gone : HistoryTold) → IsWritten B.D.seen B.D.may_leave B.D.faults B.D.limit wire start count gone world.entry (K.held sink.old) (K.faults sink.old) written → EndsRun world.entry.script wire (AllTell B.D.seen world.entry.servers × HasPlayedSome B.D.seen B.D.may_leave B.D.faults B.D.limit world.entry.script (whole gone world.entry)) ⊥ ⊥ (record { sink = span start (K.held sink.new); lends = span (B.lends bank.old) (B.lends bank.new); given = span (B.given bank.old) (B.given bank.new); sink_faults = span count (K.faults sink.new); bank_faults = span (B.faults bank.old) (B.faults bank.new); disk_faults = span (B.lent_faults bank.old) (B.lent_faults bank.new) }) result }
+    ensures ends { (wire : Bool) (start : Option (List ℕ)) (count : ℕ) (gone : HistoryTold) → IsWritten B.D.seen B.D.may_leave B.D.faults B.D.limit wire start count gone world.entry (K.held sink.old) (K.faults sink.old) written → EndsRun world.entry.script wire (AllTell B.D.seen world.entry.servers × HasPlayedSome B.D.seen B.D.may_leave B.D.faults B.D.limit world.entry.script (whole gone world.entry)) ⊥ (record { sink = span start (K.held sink.new); passed = K.passed sink.new; lends = span (B.lends bank.old) (B.lends bank.new); given = span (B.given bank.old) (B.given bank.new); sink_faults = span count (K.faults sink.new); bank_faults = span (B.faults bank.old) (B.faults bank.new); disk_faults = span (B.lent_faults bank.old) (B.lent_faults bank.new) }) result }
     ensures lends { B.lends bank.new ≡ B.lends bank.old }
     ensures never_falls { B.faults bank.old ≤ B.faults bank.new }
 {
@@ -200,7 +230,7 @@ fn replay_over<K: Sink, B: Bank<D: Drop>>(
     requires lent { AreLent B.D.limit script.now.capacity 1 disks }
     requires all { length disks ≡ script.now.servers }
     requires unused { AreUnused B.D.faults disks }
-    ensures ends { EndsRun script.now wire (LentTell B.D.seen disks) (SetUpLeaves B.D.seen B.D.may_leave B.D.faults script.now (record { sink = span (K.held sink.old) (K.held sink.new); lends = span (B.lends bank.old) (B.lends bank.new); given = span (B.given bank.old) (B.given bank.new); sink_faults = span (K.faults sink.old) (K.faults sink.new); bank_faults = span (B.faults bank.old) (B.faults bank.new); disk_faults = span (B.lent_faults bank.old) (B.lent_faults bank.new) })) ⊥ (record { sink = span (K.held sink.old) (K.held sink.new); lends = span (B.lends bank.old) (B.lends bank.new); given = span (B.given bank.old) (B.given bank.new); sink_faults = span (K.faults sink.old) (K.faults sink.new); bank_faults = span (B.faults bank.old) (B.faults bank.new); disk_faults = span (B.lent_faults bank.old) (B.lent_faults bank.new) }) result }
+    ensures ends { EndsRun script.now wire (LentTell B.D.seen disks) (SetUpLeaves B.D.seen B.D.may_leave B.D.faults script.now (record { sink = span (K.held sink.old) (K.held sink.new); passed = K.passed sink.new; lends = span (B.lends bank.old) (B.lends bank.new); given = span (B.given bank.old) (B.given bank.new); sink_faults = span (K.faults sink.old) (K.faults sink.new); bank_faults = span (B.faults bank.old) (B.faults bank.new); disk_faults = span (B.lent_faults bank.old) (B.lent_faults bank.new) })) (record { sink = span (K.held sink.old) (K.held sink.new); passed = K.passed sink.new; lends = span (B.lends bank.old) (B.lends bank.new); given = span (B.given bank.old) (B.given bank.new); sink_faults = span (K.faults sink.old) (K.faults sink.new); bank_faults = span (B.faults bank.old) (B.faults bank.new); disk_faults = span (B.lent_faults bank.old) (B.lent_faults bank.new) }) result }
     ensures lends { B.lends bank.new ≡ B.lends bank.old }
     ensures never_falls { B.faults bank.old ≤ B.faults bank.new }
 {
@@ -230,7 +260,7 @@ pub(crate) fn replay<K: Sink, B: Bank<D: Drop>>(
     bank: &mut B,
 ) -> Status
     requires script { IsCellScript script.now }
-    ensures { EndsReplay script.now wire place.now (B.tells bank.old place.now) (SetUpLeaves B.D.seen B.D.may_leave B.D.faults script.now (record { sink = span (K.held sink.old) (K.held sink.new); lends = span (B.lends bank.old) (B.lends bank.new); given = span (B.given bank.old) (B.given bank.new); sink_faults = span (K.faults sink.old) (K.faults sink.new); bank_faults = span (B.faults bank.old) (B.faults bank.new); disk_faults = span (B.lent_faults bank.old) (B.lent_faults bank.new) })) (record { sink = span (K.held sink.old) (K.held sink.new); lends = span (B.lends bank.old) (B.lends bank.new); given = span (B.given bank.old) (B.given bank.new); sink_faults = span (K.faults sink.old) (K.faults sink.new); bank_faults = span (B.faults bank.old) (B.faults bank.new); disk_faults = span (B.lent_faults bank.old) (B.lent_faults bank.new) }) result }
+    ensures { EndsReplay script.now wire place.now (B.tells bank.old place.now) (SetUpLeaves B.D.seen B.D.may_leave B.D.faults script.now (record { sink = span (K.held sink.old) (K.held sink.new); passed = K.passed sink.new; lends = span (B.lends bank.old) (B.lends bank.new); given = span (B.given bank.old) (B.given bank.new); sink_faults = span (K.faults sink.old) (K.faults sink.new); bank_faults = span (B.faults bank.old) (B.faults bank.new); disk_faults = span (B.lent_faults bank.old) (B.lent_faults bank.new) })) (LendingLeaves B.D.seen B.D.faults B.D.limit script.now (record { sink = span (K.held sink.old) (K.held sink.new); passed = K.passed sink.new; lends = span (B.lends bank.old) (B.lends bank.new); given = span (B.given bank.old) (B.given bank.new); sink_faults = span (K.faults sink.old) (K.faults sink.new); bank_faults = span (B.faults bank.old) (B.faults bank.new); disk_faults = span (B.lent_faults bank.old) (B.lent_faults bank.new) })) (record { sink = span (K.held sink.old) (K.held sink.new); passed = K.passed sink.new; lends = span (B.lends bank.old) (B.lends bank.new); given = span (B.given bank.old) (B.given bank.new); sink_faults = span (K.faults sink.old) (K.faults sink.new); bank_faults = span (B.faults bank.old) (B.faults bank.new); disk_faults = span (B.lent_faults bank.old) (B.lent_faults bank.new) }) result }
 {
     match lend_all(alloc, bank, place, script.servers, script.capacity) {
         Ok(disks) => replay_over(alloc, script, disks, wire, sink, bank),

@@ -23,7 +23,7 @@ const MOST_BYTES: u32 = 16_777_216;
 /// How far the grammar is built.
 const FORM: Form = Form { level: 6 };
 
-/// Why an input can't be played: it is no script, by its first bad line, or memory was wanting.
+/// Why an input can't be played: it is no script, by its first bad line, or memory ran out.
 #[derive(Drop)]
 pub enum Refusal {
     Script(u32, Reason),
@@ -67,7 +67,7 @@ fn refusal_of_long(alloc: Global, input: &[u8]) -> Refusal
 }
 
 /// The script that the source holds, or the status of a call that ends here: the input is no script, the source failed, or
-/// memory was wanting.
+/// memory ran out.
 pub(crate) fn script_in<S: Source>(alloc: Global, source: &mut S) -> Result<Script, Status>
     ensures script { IfOk result (GivesScript (span (S.left source.old) (S.left source.new))) }
     ensures none { IfErr result (GivesNone (span (S.left source.old) (S.left source.new)) (span (S.faults source.old) (S.faults source.new))) }

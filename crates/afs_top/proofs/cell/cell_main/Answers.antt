@@ -2,7 +2,7 @@ use Rattle.std.specs.Prelude.{◌≡◌, Some, IsSome}
 use Rattle.std.proofs.Common.{rules, map, string_bytes, refl, inl, sym, ap, ◌∙◌}
 use Rattle.afs_top.specs.Forms.{form_in, HaveForm}
 use Rattle.afs_top.specs.Outside.{span}
-use Rattle.afs_top.specs.Top.{Ends, SetUpLeaves}
+use Rattle.afs_top.specs.Top.{Ends, LendingLeaves, SetUpLeaves}
 use Rattle.afs_top.proofs.Calls.{ends_read, ends_unread, have_form}
 use Rattle.afs_top.proofs.cell.cell_main.Goals as goal
 
@@ -17,7 +17,7 @@ replay-requires g c = record { script = c.scripts_are_of_cells.ensures 6 c.in-Ok
 
 pub returns-in-Ok-clause-ends : goal.returns-in-Ok-clause-ends
 returns-in-Ok-clause-ends g c =
-    ends_read (map string_bytes c.args.words.now) (span (g.S.Source.left c.args.source.now) (g.S.Source.left c.script_in.new.source)) (span (g.S.Source.faults c.args.source.now) (g.S.Source.faults c.script_in.new.source)) (g.B.Bank.tells c.args.bank.now) (SetUpLeaves g.B.D.Disk.seen g.B.D.Disk.may_leave g.B.D.Disk.faults) _ c.replay.result _ _ c.in-Ok.script
+    ends_read (map string_bytes c.args.words.now) (span (g.S.Source.left c.args.source.now) (g.S.Source.left c.script_in.new.source)) (span (g.S.Source.faults c.args.source.now) (g.S.Source.faults c.script_in.new.source)) (g.B.Bank.tells c.args.bank.now) (SetUpLeaves g.B.D.Disk.seen g.B.D.Disk.may_leave g.B.D.Disk.faults) (LendingLeaves g.B.D.Disk.seen g.B.D.Disk.faults g.B.D.Disk.limit) _ c.replay.result _ _ c.in-Ok.script
     c.replay.ensures c.in-Ok.ensures.script (search rules)
 
 pub returns-in-Ok-clause-no_form : goal.returns-in-Ok-clause-no_form
@@ -28,7 +28,7 @@ returns-in-Ok-clause-no_form g c =
 pub returns-clause-ends : goal.returns-clause-ends
 returns-clause-ends g c =
     let some : IsSome (form_in (map string_bytes c.args.words.now)) = search rules in
-    ends_unread (map string_bytes c.args.words.now) (span (g.S.Source.left c.args.source.now) (g.S.Source.left c.script_in.new.source)) (span (g.S.Source.faults c.args.source.now) (g.S.Source.faults c.script_in.new.source)) (g.B.Bank.tells c.args.bank.now) (SetUpLeaves g.B.D.Disk.seen g.B.D.Disk.may_leave g.B.D.Disk.faults) _ c.in-Err-script_in.status
+    ends_unread (map string_bytes c.args.words.now) (span (g.S.Source.left c.args.source.now) (g.S.Source.left c.script_in.new.source)) (span (g.S.Source.faults c.args.source.now) (g.S.Source.faults c.script_in.new.source)) (g.B.Bank.tells c.args.bank.now) (SetUpLeaves g.B.D.Disk.seen g.B.D.Disk.may_leave g.B.D.Disk.faults) (LendingLeaves g.B.D.Disk.seen g.B.D.Disk.faults g.B.D.Disk.limit) _ c.in-Err-script_in.status
     (have_form (map string_bytes c.args.words.now) some) (record { sink = refl; lends = refl; given = refl }) c.in-Err-script_in.ensures.none
 
 pub returns-clause-no_form : goal.returns-clause-no_form

@@ -1,8 +1,7 @@
-use Rattle.std.proofs.Common.{arith, refl}
+use Rattle.std.proofs.Common.{arith, refl, ◌∙◌}
 use Rattle.afs_cell.specs.Since.{whole}
 use Rattle.afs_cell.specs.Steps.{lent_from}
 use Rattle.afs_top.proofs.Returned.{end_of, few_left, unread_of}
-use Rattle.afs_top.proofs.Written.{written_by}
 use Rattle.afs_top.proofs.replaying.end.Goals as goal
 
 pub tell_left-status-requires : goal.tell_left-status-requires
@@ -17,7 +16,7 @@ pub returns-in-Err-clause-ends : goal.returns-in-Err-clause-ends
 returns-in-Err-clause-ends g c = λ wire start count gone told.
     unread_of g.B.D.Disk.seen g.B.D.Disk.may_leave g.B.D.Disk.faults g.B.D.Disk.limit wire start count gone c.args.world _ _ c.args.written (lent_from 1 c.args.world.servers) _ (c.runs_are_legal.ensures, c.runs_end_well.ensures) (c.volumes_are_in_cell.ensures c.args.world.script c.requires.world.world.safe.cell_script) told
     (rw (← c.in-Err.ensures.back) c.give_up.ensures.given) (rw (← c.in-Err.ensures.back) c.give_up.ensures.some) (rw (← c.in-Err.ensures.back) c.give_up.ensures.faults) c.give_up.ensures.never_falls
-    (record { are = refl; standing = c.in-Err.ensures.standing }) (written_by _ start _ count _ c.args.written told.text) _ c.give_up.ensures.status
+    (record { are = refl; standing = c.in-Err.ensures.standing }) (c.tell_none-status.ensures.written _ start count told.text) _ (c.give_up.ensures.status ∙ c.tell_none-status.ensures.status)
 
 pub returns-clause-ends : goal.returns-clause-ends
 returns-clause-ends g c = λ wire start count gone told.

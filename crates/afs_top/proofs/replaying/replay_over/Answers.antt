@@ -1,6 +1,6 @@
 use Rattle.std.proofs.Common.{refl}
 use Rattle.afs_top.proofs.Ended.{refused_of}
-use Rattle.afs_top.proofs.Played.{all_ends, first_ends, going_all, going_first, since_of, some_ends, written_of}
+use Rattle.afs_top.proofs.Played.{all_ends, first_ends, full_first, going_all, going_first, since_of, some_ends, written_of}
 use Rattle.afs_top.proofs.replaying.replay_over.Goals as goal
 
 pub returns-in-Err-clause-ends : goal.returns-in-Err-clause-ends
@@ -24,6 +24,9 @@ cut-requires-clause-world g c = since_of g.B.D.Disk.seen g.B.D.Disk.may_leave g.
 
 pub cut-requires-clause-going : goal.cut-requires-clause-going
 cut-requires-clause-going g c = going_first g.B.D.Disk.seen g.B.D.Disk.may_leave g.B.D.Disk.faults g.B.D.Disk.limit _ c.args.wire _ _ _ _ _ c.play-world.result c.play-world.ensures c.in-Limit.is
+
+pub cut-requires-clause-full : goal.cut-requires-clause-full
+cut-requires-clause-full g c = full_first g.B.D.Disk.seen g.B.D.Disk.may_leave g.B.D.Disk.faults g.B.D.Disk.limit _ c.args.wire _ _ _ _ _ c.play-world.result c.play-world.ensures c.in-Limit.is
 
 pub returns-in-Limit-clause-ends : goal.returns-in-Limit-clause-ends
 returns-in-Limit-clause-ends g c =

@@ -13,4 +13,4 @@ returns-in-Err-TooLong-clause-none g c =
     let refused : IsLongRefusal c.in-Err-TooLong.front c.refusal_of_long.result = search rules in
     let status : c.status.result ≡ refusal_status c.refusal_of_long.result = c.status.ensures in
     subst (GivesNone (span (g.S.Source.left c.args.source.now) (g.S.Source.left c.read_all.new.source)) (span (g.S.Source.faults c.args.source.now) (g.S.Source.faults c.read_all.new.source))) (sym status)
-    (none_of_long (span (g.S.Source.left c.args.source.now) (g.S.Source.left c.read_all.new.source)) (span (g.S.Source.faults c.args.source.now) (g.S.Source.faults c.read_all.new.source)) c.in-Err-TooLong.front c.refusal_of_long.result long.consumed refused)
+    (none_of_long (span (g.S.Source.left c.args.source.now) (g.S.Source.left c.read_all.new.source)) (span (g.S.Source.faults c.args.source.now) (g.S.Source.faults c.read_all.new.source)) c.in-Err-TooLong.front c.refusal_of_long.result long refused)
