@@ -1464,6 +1464,49 @@ timed_out_when_replaced : Legal (entries (start (script 1)) walk_front ++ step_o
 unfolding moved begin_row client_row server_row back_timeout_row wake_row start_row record_bytes head_form volume_form spelled opaque pad word laid_at led name_ok directory_bytes name_bytes rights_of image acl_text digits entry_text directory_of names_at opaque_at word_at counted_at whole_at count_at name_at spelled_at bytes_below
 timed_out_when_replaced h = elim (h.1.1.1.0.0.0.0.1.awaited.last 3 _ refl tt refl) [ inl x ↦ let e : 1 < 1 = x in absurd (omega arith) | inr x ↦ let e : 2 ≤ 1 = x.1 in absurd (omega arith) ]
 
+-- the reply comes, and the client leaves it: its act is answered -1 after three timeouts
+abbrev times_out_as : ℕ → Line
+times_out_as n = lines.Timeout (Client 1) (Server 1) 1 1 n
+
+abbrev left_history : List Entry
+left_history = alters 2 (instead (lines.Given 2 ∷ [])) (entries (start (script 1)) (begins 1 (acts.Close (operands.Fid file) (Hex (codes "def"))) ∷ gives 1 steady ∷ gives 2 steady ∷ []))
+    ++ step_of (Client 1) (times_out_as 1 ∷ []) [] ∷ step_of (Client 1) (times_out_as 2 ∷ []) [] ∷ step_of (Client 1) (times_out_as 3 ∷ lines.Answer (Client 1) (record { 0 = negsuc 0 }) ∷ []) [] ∷ []
+
+-- the calls among the messages have this number
+abbrev HaveNumber : ℕ → List Message → Type 0
+HaveNumber n [] = ⊤
+HaveNumber n (m ∷ ms) = ((user : List ℕ) (call : FsCall) → m.carried ≡ carried.Call user (ask.File call) → n ≡ call_number call) × HaveNumber n ms
+
+abbrev AllHave : ℕ → List Entry → Type 0
+AllHave n [] = ⊤
+AllHave n (e ∷ past) = HaveNumber n e.sent × AllHave n past
+
+has_number : (n : ℕ) (q : Node) (k : Key) (user : List ℕ) (call : FsCall) (ms : List Message) → HaveNumber n ms → SendsTo q k user call ms → n ≡ call_number call
+has_number n q k user call [] h x = absurd x
+has_number n q k user call (m ∷ ms) h (inl x) = h.0 user call x.1.1
+has_number n q k user call (m ∷ ms) h (inr x) = has_number n q k user call ms h.1 x
+
+one_number : (n : ℕ) (q : Node) (k : Key) (user : List ℕ) (call : FsCall) (past : List Entry) → AllHave n past → WasSent q k user call past → n ≡ call_number call
+one_number n q k user call [] h x = absurd x
+one_number n q k user call (e ∷ past) h (inl x) = has_number n q k user call e.sent h.0 x
+one_number n q k user call (e ∷ past) h (inr x) = one_number n q k user call past h.1 x
+
+told_no_call : (r : Reply) (user : List ℕ) (call : FsCall) → carried.Reply r ≡ carried.Call user (ask.File call) → ⊥
+told_no_call r user call e = absurd cc
+
+left_the_reply : Legal left_history (script 1) → ⊥
+unfolding moved begin_row client_row server_row back_timeout_row wake_row start_row record_bytes head_form volume_form spelled opaque pad word laid_at led name_ok directory_bytes name_bytes rights_of image acl_text digits entry_text directory_of names_at opaque_at word_at counted_at whole_at count_at name_at spelled_at bytes_below
+left_the_reply h =
+    let g = h.1.1.1.0.0.0.0.1 in
+    let past : List Entry = past_of (set_up (script 1) ∷ []) (take 3 left_history) in
+    let all : AllHave 133 past = (tt, (((λ u k e. absurd (told_no_call _ u k e)), tt), (((λ u k e. ap call_number (one_call _ u _ k e)), tt), (tt, tt)))) in
+    g.awaited.unanswered.0 ((tt, refl), (refl, one_number 133 (Server 1) (key_of_one 1) g.user g.call past all g.sent))
+
+-- it tells a third timeout, and goes on waiting
+waited_on : Legal (alters 3 (instead (times_out_as 3 ∷ [])) (entries (start (script 1)) (begins 1 (acts.Open (operands.Fid file)) ∷ waits 1 ∷ waits 1 ∷ waits 1 ∷ []))) (script 1) → ⊥
+unfolding moved begin_row client_row server_row back_timeout_row wake_row start_row record_bytes head_form volume_form spelled opaque pad word laid_at led name_ok directory_bytes name_bytes rights_of image acl_text digits entry_text directory_of names_at opaque_at word_at counted_at whole_at count_at name_at spelled_at bytes_below
+waited_on h = h.1.1.1.0.0.0.0.1.awaited.dead refl
+
 -- a server times its call out once more than thrice
 timed_out_four_times : Legal (entries (start (script 2)) (changes_file ++ server_waits 1 (Client 1) ∷ server_waits 1 (Client 1) ∷ server_waits 1 (Client 1) ∷ []) ++ step_of (Server 1) (lines.Timeout (Server 1) (Client 1) 1 1 4 ∷ []) [] ∷ []) (script 2) → ⊥
 unfolding moved begin_row client_row server_row back_timeout_row wake_row start_row record_bytes head_form volume_form spelled opaque pad word laid_at led name_ok directory_bytes name_bytes rights_of image acl_text digits entry_text directory_of names_at opaque_at word_at counted_at whole_at count_at name_at spelled_at bytes_below

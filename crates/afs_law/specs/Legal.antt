@@ -745,29 +745,53 @@ IsLivedBy who past ls sent = ⊤
 
 -- ---- timeouts
 
--- the client waits for the reply to this call, of which this timeout wasn't told before: its act runs, which sent the call, and it sent no
--- later one
-pub record AwaitsReply (s : Script) (c callee : Node) (k : Key) (user : List ℕ) (call : FsCall) (count : ℕ) (past : List Entry) (own : List Line) : Type 0 where
+-- what a file server answers a call with: a refusal, or what was asked for
+abbrev pub IsFileReply : Carried → Type 0
+IsFileReply (carried.Refusal code) = ⊤
+IsFileReply (carried.Reply (tell.File reply)) = ⊤
+IsFileReply c = ⊥
+
+-- this is the callee's reply to the call of this key and this opcode
+abbrev pub IsReplyTo : Node → Key → ℕ → Option Message → Type 0
+IsReplyTo callee k opcode None = ⊥
+IsReplyTo callee k opcode (Some m) = (IsFileReply m.carried × (m.head.from ≡ callee)) × ((answered_key m.head ≡ k) × (m.head.opcode ≡ opcode))
+
+-- none of these entries was given such a reply
+abbrev pub IsUnanswered : Node → Key → ℕ → List Entry → Type 0
+IsUnanswered callee k opcode [] = ⊤
+IsUnanswered callee k opcode (e ∷ past) = (IsReplyTo callee k opcode (given_message e.lines (sent_of past)) → ⊥) × IsUnanswered callee k opcode past
+
+-- in these lines the client's act is answered with this code
+abbrev pub HasAnswer : Node → ℤ → List Line → Type 0
+HasAnswer c code [] = ⊥
+HasAnswer c code (lines.Answer m given ∷ ls) = ((m ≡ c) × (given.0 ≡ code)) ⊎ HasAnswer c code ls
+HasAnswer c code (l ∷ ls) = HasAnswer c code ls
+
+-- The client waits for the reply to this call: the call is its last one, of the act that runs, and no reply to it was given. This timeout of it
+-- wasn't told before; and the third is followed by the act's answer -1 in the same entry
+pub record AwaitsReply (s : Script) (c callee : Node) (k : Key) (user : List ℕ) (call : FsCall) (count : ℕ) (past : List Entry) (own next : List Line) : Type 0 where
   pub act : Going
   pub runs : running s c (lines_of past) ≡ Some act
   pub called : CalledSince k user call past
   pub last : (place : ℕ) (m : Message) → message_at (sent_of past) place ≡ Some m → IsCall m.carried → m.head.from ≡ c → IsUpTo m.head.epoch m.head.number k.epoch k.number
+  pub unanswered : IsUnanswered callee k (call_number call) past
   pub once : HasTimeout c callee k.epoch k.number count (own ++ lines_of past) → ⊥
+  pub dead : count ≡ 3 → HasAnswer c (negsuc 0) next
 
 -- of a server's calls this isn't asked
-abbrev pub IsAwaitedBy : Script → Node → Node → Key → List ℕ → FsCall → ℕ → List Entry → List Line → Type 0
-IsAwaitedBy s (Client j) callee k user call count past own = AwaitsReply s (Client j) callee k user call count past own
-IsAwaitedBy s n callee k user call count past own = ⊤
+abbrev pub IsAwaitedBy : Script → Node → Node → Key → List ℕ → FsCall → ℕ → List Entry → List Line → List Line → Type 0
+IsAwaitedBy s (Client j) callee k user call count past own next = AwaitsReply s (Client j) callee k user call count past own next
+IsAwaitedBy s n callee k user call count past own next = ⊤
 
 -- The call of this key was sent to this node before. Its count is 1, or the timeout of the count below stands in an entry before; and it is 3
 -- at most. A client waits for the reply still
-pub record GoodTimeout (s : Script) (n callee : Node) (epoch number count : ℕ) (past : List Entry) (own : List Line) : Type 0 where
+pub record GoodTimeout (s : Script) (n callee : Node) (epoch number count : ℕ) (past : List Entry) (own next : List Line) : Type 0 where
   pub user : List ℕ
   pub call : FsCall
   pub sent : WasSent callee (record { node = n; epoch = epoch; number = number }) user call past
   pub below : (count ≡ 1) ⊎ ((k : ℕ) × ((count ≡ k + 1) × HasTimeout n callee epoch number k (lines_of past)))
   pub few : count ≤ 3
-  pub awaited : IsAwaitedBy s n callee (record { node = n; epoch = epoch; number = number }) user call count past own
+  pub awaited : IsAwaitedBy s n callee (record { node = n; epoch = epoch; number = number }) user call count past own next
 
 -- ---- histories
 
@@ -823,7 +847,7 @@ IsGood s who (lines.Grant server c f index expiry) past own next = IsInPlace s w
 IsGood s who (lines.Change server k count) past own next = IsInPlace s who (lines.Change server k count) past own next × GoodChange s server k count past own next
 IsGood s who (lines.Read c f index source body) past own next = IsInPlace s who (lines.Read c f index source body) past own next × GoodReadBy s (is_promised body) c f index source body past own
 IsGood s who (lines.Answer c code) past own next = IsInPlace s who (lines.Answer c code) past own next × GoodCode s c code past own
-IsGood s who (lines.Timeout n callee epoch number count) past own next = IsInPlace s who (lines.Timeout n callee epoch number count) past own next × GoodTimeout s n callee epoch number count past own
+IsGood s who (lines.Timeout n callee epoch number count) past own next = IsInPlace s who (lines.Timeout n callee epoch number count) past own next × GoodTimeout s n callee epoch number count past own next
 IsGood s who (lines.Owe server c what n) past own next = IsInPlace s who (lines.Owe server c what n) past own next × GoodOwe s server c what n past own
 IsGood s who (lines.Settle server c n) past own next = IsInPlace s who (lines.Settle server c n) past own next × GoodSettle server c n past own
 IsGood s who (lines.Quit server c n) past own next = IsInPlace s who (lines.Quit server c n) past own next × GoodQuit server c n past own
