@@ -57,6 +57,7 @@ use Rattle.afs_num.specs.declared.histories.ReadBody.TheVariants as seen
 use Rattle.afs_num.specs.declared.histories.ReadSource.{ReadSource}
 use Rattle.afs_num.specs.declared.histories.ReadSource.TheVariants.{Cached, Fetched}
 use Rattle.afs_num.specs.declared.messages.Carried.TheVariants as carried
+use Rattle.afs_num.specs.declared.messages.Reply.{Reply}
 use Rattle.afs_num.specs.declared.messages.Reply.TheVariants as tell
 use Rattle.afs_num.specs.declared.calls.FsReply.TheVariants as replies
 use Rattle.afs_num.specs.declared.messages.Message.{Message}
@@ -1532,10 +1533,23 @@ restarts = stops 1 ∷ starts_again 1 false comes_up ∷ []
 
 answered_from_before : Legal (entries (start (script 1)) (fetch_front ++ restarts) ++ step_of (Server 1) [] (sent_by (start (script 1)) fetch_front) ∷ []) (script 1) → ⊥
 unfolding moved begin_row client_row server_row back_timeout_row wake_row start_row record_bytes head_form volume_form spelled opaque pad word laid_at led name_ok directory_bytes name_bytes rights_of image acl_text digits entry_text directory_of names_at opaque_at word_at counted_at whole_at count_at name_at spelled_at bytes_below
-answered_from_before h = elim (h.1.1.1.1.0.1.0.1.1.1.1.1.0 1 1 (refl, tt) refl refl) [ inl e ↦ absurd (two_boots e) | inr x ↦ x ]
+answered_from_before h = elim (h.1.1.1.1.0.1.0.1.1.1.1.1.0.0 1 1 (refl, tt) refl refl) [ inl e ↦ absurd (two_boots e) | inr x ↦ x ]
   where
     two_boots : ◌≡◌ {A = Option ℕ} (Some 2) (Some 1) → ⊥
     two_boots e = absurd cc
+
+-- ---- a notice tells the boot of its sender
+
+-- a client that crashed is given a break that is to its first epoch, and tells that as its own: so it is never given one that it would run
+abbrev tells_one : Entry → Entry
+tells_one e = record e { sent = map (λ (m : Message). record m { head = record m.head { boot = 1 } }) e.sent }
+
+abbrev crashed_and_called : List Input
+crashed_and_called = client_stops 1 ∷ client_starts 1 ∷ begins 1 (acts.Open (operands.Fid file)) ∷ gives 1 steady ∷ gives 2 steady ∷ begins 2 (acts.Close (operands.Fid file) (Hex (codes "def"))) ∷ gives 3 steady ∷ gives 4 steady ∷ []
+
+noticed_an_old_epoch : Legal (alters 7 tells_one (entries (start (script 2)) crashed_and_called)) (script 2) → ⊥
+unfolding moved begin_row client_row server_row back_timeout_row wake_row start_row record_bytes head_form volume_form spelled opaque pad word laid_at led name_ok directory_bytes name_bytes rights_of image acl_text digits entry_text directory_of names_at opaque_at word_at counted_at whole_at count_at name_at spelled_at bytes_below
+noticed_an_old_epoch h = let e : 2 ≡ 1 = h.1.1.1.1.1.1.1.0.1.0.1.1.1.1.1.0.1 refl in absurd (omega (arith, e))
 
 -- ---- what a client calls
 

@@ -588,9 +588,20 @@ HasOwnHalf m = IsCall m.carried → m.head.half ≡ halves.Call
 abbrev pub IsPresent : List Entry → Message → Type 0
 IsPresent past m = (i j : ℕ) → IsReply m → m.head.from ≡ Server i → m.head.to ≡ Client j → (server_boot m.head.from (lines_of past) ≡ Some m.head.boot) ⊎ HasChangeBy m.head.from (answered_key m.head) (lines_of past)
 
+-- the node is in this boot; that of a client is its epoch
+abbrev pub IsInBoot : Node → ℕ → List Line → Type 0
+IsInBoot (Client j) boot ls = epoch_after (Client j) ls ≡ boot
+IsInBoot (Server i) boot ls = server_boot (Server i) ls ≡ Some boot
+IsInBoot n boot ls = ⊤
+
+-- a notice tells the boot in which its sender is
+abbrev pub TellsItsBoot : List Entry → Message → Type 0
+TellsItsBoot past m = m.carried ≡ carried.Notice → IsInBoot m.head.from m.head.boot (lines_of past)
+
+-- so is what servers answer, and so is what notices tell
 abbrev pub ArePresent : List Entry → List Message → Type 0
 ArePresent past [] = ⊤
-ArePresent past (m ∷ ms) = IsPresent past m × ArePresent past ms
+ArePresent past (m ∷ ms) = (IsPresent past m × TellsItsBoot past m) × ArePresent past ms
 
 -- A message is sent by the node that its header names as sender, in the entry with which `past` begins, and a call is one by its header.
 -- A reply of a server waits for its breaks, what a call gives back was dropped, and a client's call has a key that no file call had
@@ -867,7 +878,8 @@ IsOfScript s actors.Nobody = ⊤
 
 -- An entry lays no volumes, for the set-up alone does; and it is of a node of the script. A server that begins again was down, and is then in
 -- a boot above the last one that it began. A node that is down does nothing but begin again, or fail to. What an entry is given was sent to its
--- node; and a client that runs a call which breaks promises drops what these are on. A server answers in the boot in which it is
+-- node; and a client that runs a call which breaks promises drops what these are on. A server answers in the boot in which it is, and
+-- a notice tells that of its sender
 abbrev pub IsEntryOf : Script → List Entry → Entry → Type 0
 IsEntryOf s past e = ((e.volumes ≡ []) × IsOfScript s e.actor) × (AreRising (lines_of past) e.lines × (IsLivedBy e.actor past e.lines e.sent × (IsDelivered e.actor past e.lines × (HandlesBreaks e.actor past e.lines × ArePresent (e ∷ past) e.sent))))
 
