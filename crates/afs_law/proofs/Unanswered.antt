@@ -46,7 +46,7 @@ use Rattle.afs_num.specs.declared.types.Key.{Key}
 use Rattle.afs_num.specs.declared.types.Node.{Node}
 use Rattle.afs_num.specs.declared.types.Node.TheVariants.{Client, Server}
 use Rattle.afs_rows.specs.Callbacks.{put}
-use Rattle.afs_rows.specs.ClientRow.{Walked, awaits, begin_row, behind_batch, body_told, call_by, call_of, client_row, counts, dropped, entries_told, entry_told, find_cached, given, gives_by, goes_by, hears, ignores, is_awaited, is_below, is_busy_code, is_older, is_spent, is_trusted, look_at, looked, most_busy, most_reads, opcode_of, put_entries, put_entry, read_lines, refuses, status_look, status_told, takes, takes_bulk, takes_data, takes_entries, takes_entry, takes_given, takes_list, takes_set, takes_shown, takes_status, timeout_row, walked, walks_on, with_statuses}
+use Rattle.afs_rows.specs.ClientRow.{Walked, awaits, begin_row, behind_batch, body_told, call_by, call_of, client_row, counts, dropped, entries_told, entry_told, find_cached, given, gives_by, goes_by, hears, ignores, is_awaited, is_below, is_busy_code, is_older, is_spent, is_trusted, look_at, looked, most_busy, most_reads, opcode_of, put_entries, put_entry, read_lines, reborn, refuses, status_look, status_told, takes, takes_bulk, takes_data, takes_entries, takes_entry, takes_given, takes_list, takes_set, takes_shown, takes_status, timeout_row, walked, walks_on, with_statuses}
 use Rattle.afs_rows.specs.Going.{ClientState, Going, Need, answers, next, with_read}
 use Rattle.afs_rows.specs.Runs.{Cell, Entry, Moved, at_rest, begun_by_disk, blow_line, in_boot, in_step, message_at, moved, server_falls, server_moves, server_rises, server_set, server_stays, start, ticked, voided}
 use Rattle.afs_rows.specs.ServerSteps.{back_timeout_row, server_row, wake_row}
@@ -150,7 +150,9 @@ reply_over j c clock place act m is to r w =
     subst (λ (t : Bool). IsOver c (cond t (hears (Client j) c clock place m.head m.carried) (ignores c place))) (sym (ap (λ (n : Node). same_node n (Client j)) to ∙ same_node-refl (Client j))) (hears_over j c clock place act m.head m.carried is r w)
 
 is_its : (c : ClientState) (act : Going) (head : Head) → head.from ≡ c.callee → head.epoch ≡ c.epoch → head.number ≡ c.last → head.opcode ≡ opcode_of c act → is_awaited c act head ≡ true
-is_its c act head f e n o = rw (ap (λ (q : Node). same_node q c.callee) f ∙ same_node-refl c.callee, eq-eqb head.epoch c.epoch e, eq-eqb head.number c.last n, eq-eqb head.opcode (opcode_of c act) o) refl
+is_its c act head f e n o =
+    let its : (same_node head.from c.callee && (nat_eq head.epoch c.epoch && (nat_eq head.number c.last && nat_eq head.opcode (opcode_of c act)))) ≡ true =
+    rw (ap (λ (q : Node). same_node q c.callee) f ∙ same_node-refl c.callee, eq-eqb head.epoch c.epoch e, eq-eqb head.number c.last n, eq-eqb head.opcode (opcode_of c act) o) refl in its
 
 -- ---- what entries are given
 
@@ -296,8 +298,8 @@ unanswered_moves s = record {
       client_unanswered s c past n _ h (given_acts (by_key (IsKnown K.keys.callees c.clients)) any_told n (c.clients n) c.clock place m (K.keys.replies n) (h.0.0.0.0.0.0.0.0.1.seats n)) (given_follow n (c.clients n) c.clock place m (h.0.0.0.0.0.1 n).0 (each_at (λ m. IsFirm m.head m.carried) c.sent place m at h.0.0.0.0.0.0.1))
       (told_on n (c.clients n) c.clock place m past to ((client_given c past n place m K.hears to at).given (sent_of past) ∙ (ap (λ (ms : List Message). message_at ms place) K.hears.told ∙ at))));
   waited = λ c past n act h r. client_unanswered s c past n _ h (waits_acts n (c.clients n) act r) (waits_follow n (c.clients n) act (h.0.0.0.0.0.1 n).0) (ungiven_on n (c.clients n) (timeout_row (Client n) (c.clients n) act) past (waited_ungiven (Client n) (c.clients n) act));
-  fallen = λ c past n h. client_unanswered s c past n _ h (falls_acts n (c.clients n)) (falls_follow n (c.clients n)) (ungiven_on n (c.clients n) _ past refl);
-  risen = λ c past n h. client_unanswered s c past n _ h (rises_acts n (c.clients n)) (rises_follow n (c.clients n) (h.0.0.0.0.0.1 n).0) (ungiven_on n (c.clients n) _ past refl);
+  fallen = λ c past n h. client_unanswered s c past n _ h (falls_acts n (c.clients n)) (falls_follow n (c.clients n)) (ungiven_on n (c.clients n) (record { state = reborn (c.clients n); lines = lines.Crash (Client n) ∷ []; sent = [] }) past refl);
+  risen = λ c past n h. client_unanswered s c past n _ h (rises_acts n (c.clients n)) (rises_follow n (c.clients n) (h.0.0.0.0.0.1 n).0) (ungiven_on n (c.clients n) (record { state = c.clients n; lines = lines.Restart (Client n) (c.clients n).epoch ∷ []; sent = [] }) past refl);
   served = λ c past i place m armed h up at to. idle_unanswered c past (server_moves c i armed (server_row (Server i) (c.hosts i).state c.clock place (Whole m))).entry h.1 (of_server i);
   cut = λ c past i place m t h up at to. idle_unanswered c past (server_falls c i (lines.Given place ∷ blow_line i t ∷ []) (in_step m c.clock)).entry h.1 (of_server i);
   stopped = λ c past i h up. idle_unanswered c past (server_falls c i (lines.Crash (Server i) ∷ []) at_rest).entry h.1 (of_server i);

@@ -71,7 +71,7 @@ AllLines G s history = EachEntry (λ past e. EachLine G e.actor past [] e.lines)
 -- ---- entries
 
 -- each entry of a run is of a node of the script and lays no volume; a server that begins again in it was down, and is then in a boot
--- above the last one that it began; it tells what its node, up or down, can tell, is given what was sent to that, and drops what is broken in it; and what it sends as a server's reply to a client is of its present boot or to a change, and is that of the entry which ran its call
+-- above the last one that it began; it tells what its node, up or down, can tell, is given what was sent to that, and drops what is broken in it; and what it sends as a server's reply to a client is of its present boot or to a change, and is that of the entry which ran its call. A notice tells the boot of its sender
 abbrev pub EntriesAreSound : Type 0
 EntriesAreSound = (s : Script) (history : List Entry) (end : Cell) → RunsTo history s end → EachEntry (λ past e. IsEntryOf s past e × WereRun (e ∷ past) e.sent) (set_up s ∷ []) history
 

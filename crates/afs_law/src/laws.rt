@@ -235,8 +235,8 @@ pub fn breaks_are_once()
     ensures { BreaksAreOnce }
 {}
 
-/// Each timeout is of a call that was sent before, and is its first or has the one below it before; it is the third at most, and a client
-/// waits for the reply still.
+/// Each timeout is of a call that was sent before, and is its first or has the one below it before; it is the third at most. A client
+/// waits for the reply still, which no entry was given, and answers its act -1 after the third.
 pub fn timeouts_are_good()
     ensures { TimeoutsAreGood }
 {}
