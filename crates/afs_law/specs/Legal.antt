@@ -706,7 +706,7 @@ abbrev pub AreDroppedIn : Node → Node → List Fid → List Line → Type 0
 AreDroppedIn server c [] ls = ⊤
 AreDroppedIn server c (f ∷ fs) ls = HasDrop server c (Some f) ls × AreDroppedIn server c fs ls
 
--- these lines drop what a call of this header breaks
+-- what a call of this header breaks
 abbrev pub DropsBroken : Node → Head → Carried → List Line → Type 0
 DropsBroken c head (carried.Call user (ask.File (calls.CallBack fids callbacks))) ls = AreDroppedIn head.from c fids ls
 DropsBroken c head (carried.Call user (ask.File calls.InitCallBackState)) ls = HasDrop head.from c None ls
@@ -716,7 +716,7 @@ abbrev pub DropsGiven : Node → Option Message → List Line → Type 0
 DropsGiven c None ls = ⊤
 DropsGiven c (Some m) ls = DropsBroken c m.head m.carried ls
 
--- a client that runs in its present epoch a call which breaks promises drops in that step what these are on
+-- a client that runs a call which breaks promises drops in that step what these are on
 abbrev pub HandlesBreaks : Actor → List Entry → List Line → Type 0
 HandlesBreaks (actors.Node (Client j)) past ls = (k : Key) → RunsHere (Client j) k past ls → DropsGiven (Client j) (given_message ls (sent_of past)) ls
 HandlesBreaks who past ls = ⊤
