@@ -52,6 +52,7 @@ use Rattle.afs_num.specs.declared.volume_calls.VolCall.TheVariants as volumes
 use Rattle.afs_num.specs.declared.histories.Actor.TheVariants as actors
 use Rattle.afs_num.specs.declared.messages.Call.TheVariants as ask
 use Rattle.afs_num.specs.declared.types.Half.TheVariants as halves
+use Rattle.afs_num.specs.declared.histories.Body.{Body}
 use Rattle.afs_num.specs.declared.histories.Body.TheVariants as bodies
 use Rattle.afs_num.specs.declared.histories.ReadBody.TheVariants as seen
 use Rattle.afs_num.specs.declared.histories.ReadSource.{ReadSource}
@@ -1173,10 +1174,36 @@ read_what_was_only_looked_at : Legal (entries (start (script 1)) stat_front ++ s
 unfolding moved begin_row client_row server_row back_timeout_row wake_row start_row record_bytes head_form volume_form spelled opaque pad word laid_at led name_ok directory_bytes name_bytes rights_of image acl_text digits entry_text directory_of names_at opaque_at word_at counted_at whole_at count_at name_at spelled_at bytes_below
 read_what_was_only_looked_at h =
     elim h.1.1.1.0.0.0.1.0.1.brought.1 [
-      | inl x ↦ x.1.1
+      | inl x ↦ x.1.1.0
       | inr y ↦ elim y [
-        | inl x ↦ let e : seen.Status status ≡ seen.Contents (bodies.File (codes "abc")) = x.1.1.1 in absurd cc
+        | inl x ↦ let e : seen.Status status ≡ seen.Contents (bodies.File (codes "abc")) = x.1.1.1.1 in absurd cc
         | inr x ↦ x
+      ]
+    ]
+
+-- it had read the file once, and since then another set its mode; now it looks at the file again, and shows the contents of before as those of the
+-- version at which it looked: its server wasn't asked whether it may read them still
+abbrev looked_again : List Input
+looked_again =
+    begins 1 (acts.Open (operands.Fid file)) ∷ gives 1 steady ∷ gives 2 steady ∷ begins 2 (acts.SetMode (operands.Fid file) 384) ∷ gives 3 steady ∷ gives 4 steady ∷ gives 5 steady ∷ gives 6 steady ∷ begins 1 (acts.Stat (operands.Fid file)) ∷ gives 7 steady ∷ gives 8 steady ∷ []
+
+status_not : (a : ReadStatus) (b : Body) → seen.Status a ≡ seen.Contents b → ⊥
+status_not a b e = absurd cc
+
+contents_of_another_version : Legal (entries (start (script 2)) looked_again ++ step_of (Client 1) (begun 1 ∷ lines.Read (Client 1) file 2 Cached (seen.Contents (bodies.File (codes "abc"))) ∷ answer 1 ∷ []) [] ∷ []) (script 2) → ⊥
+unfolding moved begin_row client_row server_row back_timeout_row wake_row start_row record_bytes head_form volume_form spelled opaque pad word laid_at led name_ok directory_bytes name_bytes rights_of image acl_text digits entry_text directory_of names_at opaque_at word_at counted_at whole_at count_at name_at spelled_at bytes_below
+contents_of_another_version h =
+    elim h.1.1.1.1.1.1.1.1.1.1.1.0.0.0.1.0.1.brought.1 [
+      | inl x ↦ x.1.1.0
+      | inr a ↦ elim a [
+        | inl x ↦ status_not _ _ x.1.1.1.1
+        | inr b ↦ elim b [
+          | inl x ↦ two_clients x.0
+          | inr d ↦ elim d [
+            | inl x ↦ x.1.1.0
+            | inr e ↦ elim e [ inl x ↦ let n : 1 ≡ 2 = x.1.1.0 in absurd (omega (arith, n)) | inr x ↦ x ]
+          ]
+        ]
       ]
     ]
 

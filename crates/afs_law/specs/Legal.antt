@@ -101,14 +101,15 @@ abbrev pub StoresBy : Option Going → Fid → Body → Type 0
 StoresBy None f body = ⊥
 StoresBy (Some act) f body = Stores (asked act) f body
 
--- by these lines, the newest first, this body of the object, of whichever version, came to the client since it last crashed: by a read that
--- was fetched, or by its own store, which was answered 0
-abbrev pub HasBrought : Script → Node → Fid → Body → List Line → Type 0
-HasBrought s c f body [] = ⊥
-HasBrought s c f body (lines.Read m g index source shown ∷ older) = ((m ≡ c) × ((g ≡ f) × ((source ≡ Fetched) × (shown ≡ shows.Contents body)))) ⊎ HasBrought s c f body older
-HasBrought s c f body (lines.Answer m code ∷ older) = ((m ≡ c) × ((code.0 ≡ pos 0) × StoresBy (running s c older) f body)) ⊎ HasBrought s c f body older
-HasBrought s c f body (lines.Crash n ∷ older) = Unless (same_node n c) (HasBrought s c f body older)
-HasBrought s c f body (l ∷ older) = HasBrought s c f body older
+-- a call that sets the status or the rights of an object, and leaves what is in it
+abbrev pub Sets : FsCall → Fid → Type 0
+Sets (calls.StoreStatus g status) f = g ≡ f
+Sets (calls.StoreAcl g acl) f = g ≡ f
+Sets call f = ⊥
+
+abbrev pub SetsBy : Option Going → Fid → Type 0
+SetsBy None f = ⊥
+SetsBy (Some act) f = Sets (asked act) f
 
 -- it is a change of this node's own call
 abbrev pub IsOwnChange : Node → Option (Node × Key) → Type 0
@@ -131,14 +132,25 @@ HasLearned c f index (lines.Answer m code ∷ older) = ((m ≡ c) × ((code.0 �
 HasLearned c f index (lines.Crash n ∷ older) = Unless (same_node n c) (HasLearned c f index older)
 HasLearned c f index (l ∷ older) = HasLearned c f index older
 
--- contents came to the client as just this body, of whichever version
-abbrev pub AreBrought : Script → Node → Fid → ReadBody → List Line → Type 0
-AreBrought s c f (shows.Contents body) ls = HasBrought s c f body ls
-AreBrought s c f body ls = ⊤
+-- By these lines, the newest first, this body came to the client since it last crashed, as that of the version of this index. It came by a read
+-- that was fetched; or by an own act that made the version and was answered 0: a store of the whole, or a setting of the status or the rights,
+-- over contents that had come as those of the index below
+abbrev pub HasBrought : Script → Node → Fid → ℕ → Body → List Line → Type 0
+HasBrought s c f index body [] = ⊥
+HasBrought s c f index body (lines.Read m g i source shown ∷ older) = ((m ≡ c) × ((g ≡ f) × ((i ≡ index) × ((source ≡ Fetched) × (shown ≡ shows.Contents body))))) ⊎ HasBrought s c f index body older
+HasBrought s c f index body (lines.Answer m code ∷ older) =
+    ((m ≡ c) × ((code.0 ≡ pos 0) × (HasMadeItself c f index older × (StoresBy (running s c older) f body ⊎ ((below : ℕ) × ((index ≡ below + 1) × (SetsBy (running s c older) f × HasBrought s c f below body older))))))) ⊎ HasBrought s c f index body older
+HasBrought s c f index body (lines.Crash n ∷ older) = Unless (same_node n c) (HasBrought s c f index body older)
+HasBrought s c f index body (l ∷ older) = HasBrought s c f index body older
+
+-- contents came to the client as just this body of that version; also where it dropped them since
+abbrev pub AreBrought : Script → Node → Fid → ℕ → ReadBody → List Line → Type 0
+AreBrought s c f index (shows.Contents body) ls = HasBrought s c f index body ls
+AreBrought s c f index body ls = ⊤
 
 -- what is read from the cache came to the client: the version of this index, and contents
 abbrev pub IsBrought : Script → Node → Fid → ℕ → ReadSource → ReadBody → List Line → Type 0
-IsBrought s c f index Cached body ls = HasLearned c f index ls × AreBrought s c f body ls
+IsBrought s c f index Cached body ls = HasLearned c f index ls × AreBrought s c f index body ls
 IsBrought s c f index Fetched body ls = ⊤
 
 -- a version of this index was told, whatever its body

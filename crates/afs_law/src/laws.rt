@@ -241,7 +241,7 @@ pub fn timeouts_are_good()
     ensures { TimeoutsAreGood }
 {}
 
-/// What a client reads from its cache came to it since it last crashed: by a read that was fetched, or by its own store.
+/// What a client reads from its cache came to it since it last crashed: by a read that was fetched, or by an own act that made that version.
 pub fn cached_are_brought()
     ensures { CachedAreBrought }
 {}
