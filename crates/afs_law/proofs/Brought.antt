@@ -241,11 +241,11 @@ put_had s n capacity u cache o h learned new f e found = elim (put_found capacit
   | inl x ↦ (
     subst (λ (g : Fid). HasLearned (Client n) g e.index o) x.0 (subst (λ (i : ℕ). HasLearned (Client n) u.fid i o) (ap (λ (v : CacheEntry). v.index) x.1) learned),
     λ b body. subst (λ (g : Fid). HasBrought s (Client n) g e.index b o) x.0
-    (subst (λ (i : ℕ). HasBrought s (Client n) u.fid i b o) (ap (λ (v : CacheEntry). v.index) x.1)
-    (elim (kept_by u.body u.index (find_cached u.fid cache) b (ap (λ (v : CacheEntry). v.body) x.1 ∙ body)) [
-      | inl y ↦ new b y
-      | inr y ↦ subst (λ (i : ℕ). HasBrought s (Client n) u.fid i b o) y.1.1.1 ((h u.fid y.0 y.1.0).1 b y.1.1.0)
-    ])),
+        (subst (λ (i : ℕ). HasBrought s (Client n) u.fid i b o) (ap (λ (v : CacheEntry). v.index) x.1)
+        (elim (kept_by u.body u.index (find_cached u.fid cache) b (ap (λ (v : CacheEntry). v.body) x.1 ∙ body)) [
+          | inl y ↦ new b y
+          | inr y ↦ subst (λ (i : ℕ). HasBrought s (Client n) u.fid i b o) y.1.1.1 ((h u.fid y.0 y.1.0).1 b y.1.1.0)
+        ])),
   )
   | inr x ↦ h f e x.1
 ]
@@ -380,10 +380,10 @@ status_carries s n clock place c past act f status call itself run same plain se
     if_carries (not c.spoiled && is_below clock index (find_cached f c.cache)) s n past _ _
     (λ t. stored_carries s n place clock c past f index (status_told status) (λ body. body) itself
     (λ g u b e found trusted body.
-        let low : is_below clock index (find_cached f c.cache) ≡ true = (both (not c.spoiled) (is_below clock index (find_cached f c.cache)) t).1 in
-        let at : find_cached f c.cache ≡ Some u = ap (λ (h : Fid). find_cached h c.cache) e ∙ found in
-        let above : index ≡ u.index + 1 = below_by clock index u trusted (subst (λ (o : Option CacheEntry). is_below clock index o ≡ true) at low) in
-        subst (λ (h : Fid). HasBrought s (Client n) h index b (lines.Answer (Client n) zero_code ∷ lines.Given place ∷ lines_of past)) e (sets_by s n place c past act call f index u.index b itself above N.runs run same plain sets ((N.had f u at).1 b body)))
+    let low : is_below clock index (find_cached f c.cache) ≡ true = (both (not c.spoiled) (is_below clock index (find_cached f c.cache)) t).1 in
+    let at : find_cached f c.cache ≡ Some u = ap (λ (h : Fid). find_cached h c.cache) e ∙ found in
+    let above : index ≡ u.index + 1 = below_by clock index u trusted (subst (λ (o : Option CacheEntry). is_below clock index o ≡ true) at low) in
+    subst (λ (h : Fid). HasBrought s (Client n) h index b (lines.Answer (Client n) zero_code ∷ lines.Given place ∷ lines_of past)) e (sets_by s n place c past act call f index u.index b itself above N.runs run same plain sets ((N.had f u at).1 b body)))
     N)
     (plain_carries s n place c past call zero_code N)
 
