@@ -15,10 +15,11 @@ use Rattle.afs_law.proofs.Readings.{run_reads}
 use Rattle.afs_law.proofs.Sending.{run_own}
 use Rattle.afs_law.proofs.Singly.{run_singly}
 use Rattle.afs_law.proofs.Timed.{run_timed}
+use Rattle.afs_law.proofs.Unmade.{run_room}
 use Rattle.afs_law.specs.ClientParts.{IsAlone, IsFair}
 use Rattle.afs_law.specs.Ideal.{set_up}
 use Rattle.afs_law.specs.Laws.{RunsAreLegal}
-use Rattle.afs_law.specs.Legal.{AreForOnce, AreGood, AreGoodSent, AreOwnCalls, GoodReply, IsEntryOf, IsGood, IsInPlace, LegalAfter, WereRun}
+use Rattle.afs_law.specs.Legal.{AreForOnce, AreGood, AreGoodSent, AreOwnCalls, GoodNoRoom, GoodReply, IsEntryOf, IsGood, IsInPlace, LegalAfter, WereRun}
 use Rattle.afs_law.specs.Parts.{EachEntry, EachLine, EachSent, IsIdeal, IsOwn, IsOwnCall, LineRule}
 use Rattle.afs_law.specs.ServerParts.{GoodReadsAreLegal, IsBreakGood, IsBreakOnce, IsCodeGood, IsGrantGood, IsReadGood, IsTimeoutGood}
 use Rattle.afs_num.specs.declared.histories.Actor.{Actor}
@@ -56,9 +57,9 @@ good_lines s who past own (l ∷ ls) p g i a b r c t = (
   good_lines s who past (l ∷ own) ls p.1 g.1 i.1 a.1 b.1 r.1 c.1 t.1,
 )
 
-good_sent : (past : List Entry) (ms : List Message) → EachSent IsOwn past ms → EachSent IsFair past ms → EachSent GoodReply past ms → AreGoodSent past ms
-good_sent past [] o f r = tt
-good_sent past (m ∷ ms) o f r = (record { sender = o.0.0; half = f.0.0; reply = r.0; gift = f.0.1; key = o.0.1 }, good_sent past ms o.1 f.1 r.1)
+good_sent : (past : List Entry) (ms : List Message) → EachSent IsOwn past ms → EachSent IsFair past ms → EachSent GoodReply past ms → EachSent GoodNoRoom past ms → AreGoodSent past ms
+good_sent past [] o f r n = tt
+good_sent past (m ∷ ms) o f r n = (record { sender = o.0.0; half = f.0.0; reply = r.0; room = n.0; gift = f.0.1; key = o.0.1 }, good_sent past ms o.1 f.1 r.1 n.1)
 
 own_sent : (s : Script) (past : List Entry) (ms : List Message) → EachSent (IsOwnCall s) past ms → AreOwnCalls s past ms
 own_sent s past [] h = tt
@@ -76,16 +77,16 @@ abbrev OfSent : (List Entry → Message → Type 0) → List Entry → List Entr
 OfSent G past es = EachEntry (λ before e. EachSent G (e ∷ before) e.sent) past es
 
 legal_from : (s : Script) (past es : List Entry) → OfLines (IsInPlace s) past es → OfLines IsGrantGood past es → OfLines (IsIdeal s) past es → OfLines (IsAlone s) past es → OfLines (IsBreakGood s) past es → OfLines (IsReadGood s) past es → OfLines (IsCodeGood s) past es
-    → OfSent IsOwn past es → OfSent IsFair past es → OfSent GoodReply past es → EachEntry (λ before e. IsEntryOf s before e × WereRun (e ∷ before) e.sent) past es → OfSent (IsOwnCall s) past es → OfLines IsTimeoutGood past es → OfLines IsBreakOnce past es → LegalAfter s past es
-legal_from s past [] p g i a b r c o f w n q t u = tt
-legal_from s past (e ∷ es) p g i a b r c o f w n q t u = (
-  ((good_lines s e.actor past [] e.lines p.0 g.0 i.0 a.0 b.0 r.0 c.0 t.0, good_sent (e ∷ past) e.sent o.0 f.0 w.0), (n.0.0, (n.0.1, (own_sent s (e ∷ past) e.sent q.0, once_lines e.actor past [] e.lines u.0)))),
-  legal_from s (e ∷ past) es p.1 g.1 i.1 a.1 b.1 r.1 c.1 o.1 f.1 w.1 n.1 q.1 t.1 u.1,
+    → OfSent IsOwn past es → OfSent IsFair past es → OfSent GoodReply past es → EachEntry (λ before e. IsEntryOf s before e × WereRun (e ∷ before) e.sent) past es → OfSent (IsOwnCall s) past es → OfLines IsTimeoutGood past es → OfLines IsBreakOnce past es → OfSent GoodNoRoom past es → LegalAfter s past es
+legal_from s past [] p g i a b r c o f w n q t u m = tt
+legal_from s past (e ∷ es) p g i a b r c o f w n q t u m = (
+  ((good_lines s e.actor past [] e.lines p.0 g.0 i.0 a.0 b.0 r.0 c.0 t.0, good_sent (e ∷ past) e.sent o.0 f.0 w.0 m.0), (n.0.0, (n.0.1, (own_sent s (e ∷ past) e.sent q.0, once_lines e.actor past [] e.lines u.0)))),
+  legal_from s (e ∷ past) es p.1 g.1 i.1 a.1 b.1 r.1 c.1 o.1 f.1 w.1 n.1 q.1 t.1 u.1 m.1,
 )
 
 pub run_by_reads : GoodReadsAreLegal
 run_by_reads s h end r reads codes =
-    legal_from s (set_up s ∷ []) h (run_placed s h end r) (run_grants s h end r) (run_ideal s h end r) (run_alone s h end r) (run_breaks s h end r) reads codes (run_own s h end r) (run_gifts s h end r) (run_waits s h end r) (run_entered s h end r) (run_claims s h end r) (run_timed s h end r) (run_singly s h end r)
+    legal_from s (set_up s ∷ []) h (run_placed s h end r) (run_grants s h end r) (run_ideal s h end r) (run_alone s h end r) (run_breaks s h end r) reads codes (run_own s h end r) (run_gifts s h end r) (run_waits s h end r) (run_entered s h end r) (run_claims s h end r) (run_timed s h end r) (run_singly s h end r) (run_room s h end r)
 
 pub run_legal : RunsAreLegal
 run_legal s h end cell r = run_by_reads s h end r (run_reads s h end r) (run_codes s h end cell r)

@@ -97,6 +97,7 @@ pub mod Bringing
 pub mod Receiving
 pub mod Beside
 pub mod Watched
+pub mod Unmade
 pub mod Entering
 pub mod Trusted
 pub mod Brought

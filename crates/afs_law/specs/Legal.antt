@@ -516,13 +516,31 @@ GoodCall head c past = ⊤
 abbrev pub HasOwnHalf : Message → Type 0
 HasOwnHalf m = IsCall m.carried → m.head.half ≡ halves.Call
 
+-- Something was changed under another key of the act to which this key belongs: at some moment of these entries both were keys of calls of the
+-- act which the key's node had begun last. The act may be over since
+pub record HasActed (k : Key) (past : List Entry) : Type 0 where
+  pub newer : List Entry
+  pub older : List Entry
+  pub split : past ≡ newer ++ older
+  pub of_act : is_of_act k.node k older ≡ true
+  pub changed : Key
+  pub other : k ≡ changed → ⊥
+  pub change : HasChange changed (lines_of past)
+  pub same : is_of_act k.node changed older ≡ true
+
+-- Where a server tells a client that it has no room for a change, nothing was changed by another call of the act before this one ran
+abbrev pub GoodNoRoom : List Entry → Message → Type 0
+GoodNoRoom past m =
+    code_told m.carried ≡ Some (pos 108) → (i j : ℕ) → m.head.from ≡ Server i → m.head.to ≡ Client j → (ran : Ran m.head past) (user : List ℕ) (call : FsCall) → ran.message.carried ≡ carried.Call user (ask.File call) → IsChanging (answer_at user call ran.older) → HasActed (answered_key m.head) ran.older → ⊥
+
 -- A message is sent by the node that its header names as sender, in the entry with which `past` begins, and a call is one by its header.
--- A reply of a server waits for its breaks, what a call gives back was dropped, and a client's call has a key that no file call had
--- which was sent before the act that it began last
+-- A reply of a server waits for its breaks, and isn't that there is no room where its act has changed something. What a call gives back was dropped, and a
+-- client's call has a key that no file call had which was sent before the act that it began last
 pub record GoodMessage (past : List Entry) (m : Message) : Type 0 where
   pub sender : IsBy m.head.from past
   pub half : HasOwnHalf m
   pub reply : GoodReply past m
+  pub room : GoodNoRoom past m
   pub gift : GoodGift m.head m.carried (lines_of past)
   pub key : GoodCall m.head m.carried past
 
@@ -537,7 +555,7 @@ IsKind call (carried.Reply (tell.File reply)) = reply_number reply ≡ call_numb
 IsKind call c = ⊥
 
 -- What is sent as a server's reply to a client is that of the entry which ran its call, one before or the one that sends it. It has the code
--- of the ideal operation there, and, unless it is a refusal, it is of that call's kind
+-- that `IsResult` allows there, and, unless it is a refusal, it is of that call's kind
 pub record Answered (m : Message) (past : List Entry) : Type 0 where
   pub ran : Ran m.head past
   pub user : List ℕ
