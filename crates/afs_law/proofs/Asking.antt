@@ -1,7 +1,6 @@
 -- What a client sends is the call of its running act, under its last pair, to the server of what it names, however many servers a cell has.
 use Rattle.afs_history.specs.declared.lines.Line.{Line}
 use Rattle.afs_history.specs.declared.scripts.Script.{Script}
-use Rattle.afs_ideal.specs.Operations.{volume_called}
 use Rattle.afs_law.proofs.Acting.{Acts, IsTheCall, begins_acts, falls_acts, given_acts, last_key, rises_acts, waits_acts, who_at}
 use Rattle.afs_law.proofs.Addressed.{AsksOf, IsHome, IsOneIn}
 use Rattle.afs_law.proofs.Basics.{ByClient, Each, IfCall, OfCall, UpTo, at_put, by_client, each_map, if_call}
@@ -24,15 +23,14 @@ use Rattle.afs_num.specs.declared.messages.Message.{Message}
 use Rattle.afs_num.specs.declared.types.Fid.{Fid}
 use Rattle.afs_num.specs.declared.types.Head.{Head}
 use Rattle.afs_num.specs.declared.types.Key.{Key}
-use Rattle.afs_num.specs.declared.types.Node.TheVariants.{Client, Server}
+use Rattle.afs_num.specs.declared.types.Node.TheVariants.{Client}
 use Rattle.afs_num.specs.declared.types.Node.{Node}
 use Rattle.afs_rows.specs.Callbacks.{put}
-use Rattle.afs_rows.specs.ClientRow.{server_at}
 use Rattle.afs_rows.specs.Going.{ClientState}
-use Rattle.afs_rows.specs.Runs.{Cell, Entry, Moved, locations}
+use Rattle.afs_rows.specs.Runs.{Cell, Entry, Moved}
 use Rattle.afs_rows.specs.ServerRow.{key_of}
 use Rattle.afs_rows.specs.Steps.{Step}
-use Rattle.std.proofs.Common.{◌≡◌, ℕ, inl, inr, List, [], ◌∷◌, Some, refl, sym, subst}
+use Rattle.std.proofs.Common.{◌≡◌, ℕ, inl, inr, List, [], ◌∷◌, refl, sym, subst}
 
 -- ---- what is sent now
 

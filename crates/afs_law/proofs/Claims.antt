@@ -4,7 +4,7 @@ use Rattle.afs_law.proofs.Addressed.{Addressed, IsHome, homes_first, homes_kept}
 use Rattle.afs_law.proofs.Asking.{AsksNow, IsNow, asks_moves, is_at_home, its_last}
 use Rattle.afs_law.proofs.Basics.{ByClient, Each, IfCall, OfCall, OfClient, by_client, client_number, same_key-true}
 use Rattle.afs_law.proofs.KeysOnce.{IsKnown}
-use Rattle.afs_law.proofs.Learning.{KnownLearnt, IsToBegun, LearntIn, learnt_first, learnt_kept}
+use Rattle.afs_law.proofs.Learning.{KnownLearnt, IsToBegun, learnt_first, learnt_kept}
 use Rattle.afs_law.proofs.Moving.{IsKept, each_moved}
 use Rattle.afs_law.proofs.Sent.{call_is, each_front}
 use Rattle.afs_law.proofs.Words.{IsOne}

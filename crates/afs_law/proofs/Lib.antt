@@ -81,6 +81,7 @@ pub mod Codes
 pub mod Using
 pub mod Handling
 pub mod Present
+pub mod Unmade
 pub mod Entering
 pub mod Kept
 pub mod Later

@@ -21,13 +21,12 @@ use Rattle.afs_ideal.specs.AccessLists.{rights_of, acl_text, entry_text, acl_at,
 use Rattle.afs_ideal.specs.AccessLists as access
 use Rattle.afs_ideal.specs.Directories.{directory_bytes, name_bytes, directory_of, names_at, whole_at, count_at, name_at, spelled_at, bytes_below}
 use Rattle.afs_ideal.specs.SetUp.{acl_laid, laid_at, led}
-use Rattle.afs_ideal.specs.Operations.{Result}
 use Rattle.afs_ideal.specs.VnodeImage.{image}
 use Rattle.afs_law.proofs.Basics.{both, same_key-refl, some_of}
 use Rattle.afs_law.proofs.Passing.{sent_right}
 use Rattle.afs_law.proofs.Recent.{sent_before}
 use Rattle.afs_law.proofs.Heard.{ran_heard}
-use Rattle.afs_law.specs.Grants.{GrantOf, IsDropped, until}
+use Rattle.afs_law.specs.Grants.{IsDropped}
 use Rattle.afs_num.specs.declared.histories.Actor.{Actor}
 use Rattle.afs_num.specs.declared.types.Node.{Node}
 use Rattle.afs_law.proofs.Worked.{apart_numbers, home, by_lines, stores, alters, answer, begun, entries, file, root, script, six_front}
@@ -44,7 +43,7 @@ use Rattle.afs_law.specs.Ideal.{IsLast, last_version, set_up}
 use Rattle.afs_num.specs.declared.histories.Version.{Version}
 use Rattle.std.specs.Option.{option_map}
 use Rattle.afs_law.specs.Once.{past_of}
-use Rattle.afs_law.specs.Past.{HasChangeBy, IsLatest, WasSent, SendsTo, has_begun, has_sent, is_called, same_key, onto, lines_on, IsCall, server_boot, CalledSince, IsToCome, called_key, Ran, answered_key, code_told, given_message, lines_of, sent_of}
+use Rattle.afs_law.specs.Past.{HasChangeBy, IsLater, IsLatest, WasSent, SendsTo, has_begun, has_sent, is_called, same_key, onto, lines_on, IsCall, server_boot, CalledSince, IsToCome, called_key, Ran, answered_key, code_told, given_message, lines_of, sent_of}
 use Rattle.afs_num.specs.declared.calls.AfsCallBack.{AfsCallBack}
 use Rattle.afs_num.specs.declared.calls.FsCall.{FsCall}
 use Rattle.afs_num.specs.declared.calls.FsCall.TheVariants as calls
@@ -1489,7 +1488,7 @@ restarts = stops 1 ∷ starts_again 1 false comes_up ∷ []
 
 answered_from_before : Legal (entries (start (script 1)) (fetch_front ++ restarts) ++ step_of (Server 1) [] (sent_by (start (script 1)) fetch_front) ∷ []) (script 1) → ⊥
 unfolding moved begin_row client_row server_row back_timeout_row wake_row start_row record_bytes head_form volume_form spelled opaque pad word laid_at led name_ok directory_bytes name_bytes rights_of image acl_text digits entry_text directory_of names_at opaque_at word_at counted_at whole_at count_at name_at spelled_at bytes_below
-answered_from_before h = elim (h.1.1.1.1.0.1.0.1.1.1.1.1.0 1 1 (refl, tt) refl refl) [ inl e ↦ absurd (two_boots e) | inr x ↦ x ]
+answered_from_before h = elim (h.1.1.1.1.0.1.0.1.1.1.1.1.0.0 1 1 (refl, tt) refl refl) [ inl e ↦ absurd (two_boots e) | inr x ↦ x ]
   where
     two_boots : ◌≡◌ {A = Option ℕ} (Some 2) (Some 1) → ⊥
     two_boots e = absurd cc
@@ -1617,3 +1616,53 @@ refused_what_was_done h =
       (λ x. again_changed _ _ (inl (refl, refl)) x),
       ((λ x. again_none _ _ refl x), ((λ x. again_none _ _ refl x), ((λ x. again_none _ _ refl x), ((λ x. again_first _ _ _ refl refl x), ((λ x. again_none _ _ refl x), ((λ x. again_none _ _ refl x), tt)))))),
     ) (ran_again _ (h.1.1.1.1.1.0.1.1.0.0 1 1 (refl, tt) refl refl).ran)
+
+-- ---- no room for what the act has changed
+
+-- A client asks twice for its store, under two numbers: the server makes the first, and has no room for the second
+abbrev no_room_for_two : Message
+no_room_for_two = record {
+  head = record { half = halves.Reply; from = Server 1; to = Client 1; epoch = 1; number = 2; boot = 1; stamp = 0; opcode = 133 };
+  carried = carried.Refusal (record { 0 = pos 108 });
+}
+
+abbrev made_first : List Entry
+made_first = alters 1 asked_anew_as_two (entries (start (script 1)) (begins 1 (acts.Close (operands.Fid file) (Hex (codes "def"))) ∷ waits 1 ∷ gives 1 steady ∷ []))
+
+abbrev refuses_second : Entry
+refuses_second = step_of (Server 1) (lines.Given 2 ∷ []) (no_room_for_two ∷ [])
+
+abbrev made_past_first : List Entry
+made_past_first = past_of (set_up (script 1) ∷ []) made_first
+
+one_before_two : (l : Key) → key_of_one 1 ≡ l → IsLater (key_of_one 2) l
+one_before_two l e = subst (IsLater (key_of_one 2)) e (inr (refl, omega arith))
+
+two_not_one : key_of_one 2 ≡ key_of_one 1 → ⊥
+two_not_one e = let no_ : 2 ≡ 1 = ap (λ (k : Key). k.number) e in absurd (omega (arith, no_))
+
+ran_second : Ran no_room_for_two.head (refuses_second ∷ made_past_first)
+unfolding moved begin_row client_row server_row back_timeout_row wake_row start_row record_bytes head_form volume_form spelled opaque pad word laid_at led name_ok directory_bytes name_bytes rights_of image acl_text digits entry_text directory_of names_at opaque_at word_at counted_at whole_at count_at name_at spelled_at bytes_below
+ran_second = record {
+  newer = [];
+  at = refuses_second;
+  older = made_past_first;
+  split = refl;
+  message = record { head = record { half = halves.Call; from = Client 1; to = Server 1; epoch = 1; number = 2; boot = 1; stamp = 0; opcode = 133 }; carried = carried.Call (codes "guest") (ask.File (stored_whole file (codes "def"))) };
+  given = refl;
+  is_call = tt;
+  key = refl;
+  opcode = refl;
+  boot = refl;
+  up = refl;
+  callee = refl;
+  node = refl;
+  first = ((λ x. elim x.1.0.1 [ inl y ↦ let no_ : 1 < 1 = y in absurd (omega arith) | inr y ↦ let no_ : 2 ≤ 1 = y.1 in absurd (omega arith) ]), ((λ x. x), ((λ x. x), ((λ x. x), tt))));
+  latest = λ l h same. elim h [ inl x ↦ one_before_two l x.1 | inr x ↦ absurd x ];
+}
+
+no_room_for_what_was_made : Legal (made_first ++ refuses_second ∷ []) (script 1) → ⊥
+unfolding moved begin_row client_row server_row back_timeout_row wake_row start_row record_bytes head_form volume_form spelled opaque pad word laid_at led name_ok directory_bytes name_bytes rights_of image acl_text digits entry_text directory_of names_at opaque_at word_at counted_at whole_at count_at name_at spelled_at bytes_below
+no_room_for_what_was_made h =
+    h.1.1.1.0.1.0.1.1.1.1.1.0.1 refl 1 1 refl refl ran_second (codes "guest") (stored_whole file (codes "def")) refl tt
+    (record { newer = take 1 made_past_first; older = drop 1 made_past_first; split = refl; of_act = refl; changed = key_of_one 1; other = λ e. two_not_one e; change = inl refl; same = refl })

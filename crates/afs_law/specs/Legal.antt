@@ -588,9 +588,27 @@ HasOwnHalf m = IsCall m.carried → m.head.half ≡ halves.Call
 abbrev pub IsPresent : List Entry → Message → Type 0
 IsPresent past m = (i j : ℕ) → IsReply m → m.head.from ≡ Server i → m.head.to ≡ Client j → (server_boot m.head.from (lines_of past) ≡ Some m.head.boot) ⊎ HasChangeBy m.head.from (answered_key m.head) (lines_of past)
 
+-- Something was changed under another key of the act to which this key belongs: at some moment of these entries both were keys of calls of the
+-- act which the key's node had begun last. The act may be over since
+pub record HasActed (k : Key) (past : List Entry) : Type 0 where
+  pub newer : List Entry
+  pub older : List Entry
+  pub split : past ≡ newer ++ older
+  pub of_act : is_of_act k.node k older ≡ true
+  pub changed : Key
+  pub other : k ≡ changed → ⊥
+  pub change : HasChange changed (lines_of past)
+  pub same : is_of_act k.node changed older ≡ true
+
+-- Where a server tells a client that it has no room for a change, nothing was changed by another call of the act before this one ran
+abbrev pub GoodNoRoom : List Entry → Message → Type 0
+GoodNoRoom past m =
+    code_told m.carried ≡ Some (pos 108) → (i j : ℕ) → m.head.from ≡ Server i → m.head.to ≡ Client j → (ran : Ran m.head past) (user : List ℕ) (call : FsCall) → ran.message.carried ≡ carried.Call user (ask.File call) → IsChanging (answer_at user call ran.older) → HasActed (answered_key m.head) ran.older → ⊥
+
+-- what servers answer is of now, and none is refused since there is no room where its act has changed something
 abbrev pub ArePresent : List Entry → List Message → Type 0
 ArePresent past [] = ⊤
-ArePresent past (m ∷ ms) = IsPresent past m × ArePresent past ms
+ArePresent past (m ∷ ms) = (IsPresent past m × GoodNoRoom past m) × ArePresent past ms
 
 -- A message is sent by the node that its header names as sender, in the entry with which `past` begins, and a call is one by its header.
 -- A reply of a server waits for its breaks, what a call gives back was dropped, and a client's call has a key that no file call had
@@ -843,7 +861,8 @@ IsOfScript s actors.Nobody = ⊤
 
 -- An entry lays no volumes, for the set-up alone does; and it is of a node of the script. A server that begins again was down, and is then in
 -- a boot above the last one that it began. A node that is down does nothing but begin again, or fail to. What an entry is given was sent to its
--- node; and a client that runs a call which breaks promises drops what these are on. A server answers in the boot in which it is
+-- node; and a client that runs a call which breaks promises drops what these are on. A server answers in the boot in which it is,
+-- and doesn't say that it has no room where the act has changed something
 abbrev pub IsEntryOf : Script → List Entry → Entry → Type 0
 IsEntryOf s past e = ((e.volumes ≡ []) × IsOfScript s e.actor) × (AreRising (lines_of past) e.lines × (IsLivedBy e.actor past e.lines e.sent × (IsDelivered e.actor past e.lines × (HandlesBreaks e.actor past e.lines × ArePresent (e ∷ past) e.sent))))
 

@@ -98,7 +98,7 @@ IsOwn past m = IsBy m.head.from past × GoodCall m.head m.carried past
 abbrev pub MessagesAreOwn : Type 0
 MessagesAreOwn = (s : Script) (history : List Entry) (end : Cell) → RunsTo history s end → EachEntry (λ past e. EachSent IsOwn (e ∷ past) e.sent) (set_up s ∷ []) history
 
--- a client's file call is made for its user, and is the one under its key, to the one callee
+-- a client's call is one of its running act, in order, the one under its key, and to the server of what it names
 abbrev pub IsOwnCall : Script → List Entry → Message → Type 0
 IsOwnCall s past m = OwnCall s m.head m.carried past
 
