@@ -1,6 +1,6 @@
 #!/bin/sh
-# The program at its edge: standard streams that are closed, disks of a folder that are no files of their own or are changed by
-# somebody else, and little memory. AFSCELL names the program to test.
+# The program at its edge: standard streams that are closed or full, disks of a folder that are no files of their own, are changed
+# by somebody else or fail, and little memory. AFSCELL names the program to test.
 set -eu
 
 cd "$(dirname "$0")/.."
@@ -141,8 +141,78 @@ cut_short() { : > "$work/disks/node-1"; }
 disturbed 'a file that was cut' cut_short
 disturbed 'a folder that was removed' rm -r "$work/disks"
 
-# With little memory the program ends well, with status 7, or is not even begun. Words that it had no memory for are not called
-# wrong. Each limit is in kilobytes of address space, and they rise until the program ends with 0 four times.
+# A device that is full at the first byte: set-up fails, and nothing is told. A limit on files stands for such a device. It would
+# cut standard error too, so both streams are pipes.
+fresh
+status=0
+told=$(trap '' XFSZ && ulimit -f 0 && "$program" replay --disks "$work/disks" < examples/open_close.afs 2>&1) || status=$?
+holds "a disk that fails at set-up: status $status, wanted 6" [ "$status" = 6 ]
+holds 'a disk that fails at set-up: its line alone' [ "$told" = 'disk fault' ]
+
+# The example, and behind it as many ticks as fill each buffer and pipe: all of its changes are on the disk before the first byte
+# is written, and the final part comes when most was read. What has to be printed is the row's text with the ticks in it.
+{
+    sed '/^end$/d' examples/open_close.afs
+    awk 'BEGIN { for (i = 0; i < 20000; i++) print "tick 1" }'
+    echo end
+} > "$work/ticks.afs"
+{
+    sed '/^final$/,$d' "$work/text"
+    awk -v last="$(grep -c '^entry ' "$work/text")" 'BEGIN { for (i = 1; i <= 20000; i++) printf "entry %d clock\ntick 1\n", last + i }'
+} > "$work/history"
+{
+    cat "$work/history"
+    sed -n '/^final$/,$p' "$work/text"
+} > "$work/all"
+
+# A sink with little room holds a beginning.
+status=0
+(trap '' XFSZ && ulimit -f 20 && exec "$program" replay < "$work/ticks.afs") > "$work/out" 2> "$work/err" || status=$?
+head -c "$(wc -c < "$work/out")" "$work/all" > "$work/beginning"
+holds "a sink with little room: status $status, wanted 5" [ "$status" = 5 ]
+holds 'a sink with little room: its line' [ "$(cat "$work/err")" = 'write fault' ]
+holds 'a sink with little room: something was written' [ -s "$work/out" ]
+holds 'a sink with little room: a beginning' cmp -s "$work/beginning" "$work/out"
+
+# Once the first byte can be read, the disk has its last record, and the program waits for a reader. at_end STATUS all COMMAND..
+# does something with the disk, and then reads the rest; with 'away' in the place of 'all' the reader goes away.
+mkfifo "$work/pipe"
+at_end() {
+    want=$1
+    reads=$2
+    shift 2
+    fresh
+    (trap '' PIPE && exec "$program" replay --disks "$work/disks" < "$work/ticks.afs") > "$work/pipe" 2> "$work/err" &
+    running=$!
+    exec 3< "$work/pipe"
+    head -c 1 <&3 > "$work/out"
+    "$@"
+    if [ "$reads" = all ]; then cat <&3 >> "$work/out"; fi
+    exec 3<&-
+    status=0
+    wait "$running" || status=$?
+    holds "$name: status $status, wanted $want" [ "$status" = "$want" ]
+}
+name='a disk that is whole at the end'
+at_end 0 all true
+holds "$name: the text" cmp -s "$work/all" "$work/out"
+name='a disk that fails at the end'
+at_end 6 all cut_short
+holds "$name: its line" [ "$(cat "$work/err")" = 'disk fault' ]
+holds "$name: the history alone" cmp -s "$work/history" "$work/out"
+
+# Behind a sink that failed the script is played on, with all that its disk keeps. That is read before the final part is written, so
+# a failure there is what is told.
+name='a reader that went away'
+at_end 5 away true
+holds "$name: its line" [ "$(cat "$work/err")" = 'write fault' ]
+holds "$name: the disk" cmp -s "$work/whole" "$work/disks/node-1"
+name='a reader that went away, and a disk that fails at the end'
+at_end 6 away cut_short
+holds "$name: its line" [ "$(cat "$work/err")" = 'disk fault' ]
+
+# With little memory the program ends well, with status 7 and its line, or is not even begun. Words that it had no memory for are
+# not called wrong. Each limit is in kilobytes of address space, and they rise until the program ends with 0 four times.
 if (ulimit -v 1000000) 2> /dev/null; then
     wrong=
     sevens=0
@@ -153,7 +223,10 @@ if (ulimit -v 1000000) 2> /dev/null; then
         (ulimit -v "$limit" && exec "$program" replay < examples/open_close.afs) > "$work/out" 2> "$work/err" || status=$?
         case $status in
         0) ends=$((ends + 1)) ;;
-        7) sevens=$((sevens + 1)) ;;
+        7)
+            sevens=$((sevens + 1))
+            [ "$(cat "$work/err")" = 'out of memory' ] || wrong="$wrong $limit:line"
+            ;;
         126 | 127 | 139) ;;
         *) wrong="$wrong $limit:$status" ;;
         esac

@@ -67,18 +67,30 @@ uninstall() {
     rm -rf "${program%/*}"
 }
 
-# The stand-in of the kit writes down how it was called. It proves all crates but one that has a file refuse, and builds the
-# stand-in of the program. A case that it tries has its status, and what is told of it, in its comments.
+# The stand-in of the kit writes down how it was called. It proves all crates but one that has a file refuse, with those that stand
+# on it, and builds the stand-in of the program. A case that it tries has its status, and what is told of it, in its comments.
 cat > "$work/kit/rt" << END
 #!/bin/sh
 echo "\${PWD##*/}: \$*" >> '$work/called'
 case \$1 in
-lib)
-    echo 'so far: 3 of 7 functions checked, 12 s'
-    if [ -e refuse ]; then echo 'refused: low::first'; exit 1; fi
+all)
+    echo 'rt: chose 2 at a time'
+    for crate in low middle afs_top; do
+        echo "== \$crate"
+        echo 'so far: 3 of 7 functions checked, 12 s'
+        if [ -e "../\$crate/refuse" ]; then
+            echo "error: \$crate::first is not proved"
+            echo '== summary'
+            echo "\$crate: failed (1)"
+            exit 1
+        fi
+        echo "fn \$crate::first: proved"
+    done
+    echo '== summary'
+    echo '3 of 3 crates ok'
     ;;
 run)
-    if [ -e refuse ]; then echo 'refused: afs_top::main'; exit 1; fi
+    if [ -e no_program ]; then echo 'the program cannot be linked'; exit 1; fi
     mkdir -p out
     cp '$work/stand_in' out/afs_top
     exec out/afs_top replay
@@ -579,12 +591,15 @@ rm -f "$work/clock" "$work/called"
 wanted 0
 prints 'words: <replay>' first second
 began
-tells 'afscell: proving low, 1 of 3; 2 left; 1 minute so far' 'afscell:   3 of 7 functions' \
-    'afscell: proving middle, 2 of 3; 1 left; 2 minutes so far' 'afscell:   3 of 7 functions' \
-    'afscell: proving afs_top, 3 of 3; 0 left; 3 minutes so far' 'afscell: proved and built in 4 minutes'
+tells 'afscell: checked low, 1 of 3; 2 left; 1 minute so far' 'afscell: checked middle, 2 of 3; 1 left; 2 minutes so far' \
+    'afscell: checked afs_top, 3 of 3; 0 left; 3 minutes so far' 'afscell: proved and built in 4 minutes'
 launch 'proving and building' replay < "$work/script"
-printf 'low: lib\nmiddle: lib\nafs_top: run -- replay\n' > "$work/calls"
-if cmp -s "$work/calls" "$work/called"; then pass; else fail "the kit is called by $(cat "$work/called")"; fi
+printf 'afs_top: all check --jobs JOBS\nafs_top: run -- replay\n' > "$work/calls"
+if sed 's/ --jobs [1-9][0-9]*$/ --jobs JOBS/' "$work/called" | cmp -s - "$work/calls"; then
+    pass
+else
+    fail "the kit is called by $(cat "$work/called")"
+fi
 wanted 0
 prints 'words: <replay>' first second
 launch_at_once 'what was built is run at once' replay < "$work/script"
@@ -595,21 +610,20 @@ touch -d '1 minute' "$home/crates/low/src/lib.rt"
 rm -f "$work/clock"
 wanted 125
 began
-tells 'afscell: proving low, 1 of 3; 2 left; 1 minute so far' 'afscell:   3 of 7 functions' \
-    'afscell: proving middle, 2 of 3; 1 left; 2 minutes so far' 'afscell:   3 of 7 functions' \
-    'so far: 3 of 7 functions checked, 12 s' 'refused: low::first' \
+tells 'afscell: checked low, 1 of 3; 2 left; 1 minute so far' 'afscell: checked middle, 2 of 3; 1 left; 2 minutes so far' \
+    'error: middle::first is not proved' 'middle: failed (1)' \
     "afscell: the program was not proved or not built; all that the kit said is in ${program%/*}/afscell.built.log"
 launch 'a proof that is refused' replay < "$work/script"
-mv "$home/crates/middle/refuse" "$home/crates/afs_top"
+rm -f "$home/crates/middle/refuse"
+: > "$home/crates/afs_top/no_program"
 rm -f "$work/clock"
 wanted 125
 began
-tells 'afscell: proving low, 1 of 3; 2 left; 1 minute so far' 'afscell:   3 of 7 functions' \
-    'afscell: proving middle, 2 of 3; 1 left; 2 minutes so far' 'afscell:   3 of 7 functions' \
-    'afscell: proving afs_top, 3 of 3; 0 left; 3 minutes so far' 'refused: afs_top::main' \
+tells 'afscell: checked low, 1 of 3; 2 left; 1 minute so far' 'afscell: checked middle, 2 of 3; 1 left; 2 minutes so far' \
+    'afscell: checked afs_top, 3 of 3; 0 left; 3 minutes so far' 'the program cannot be linked' \
     "afscell: the program was not proved or not built; all that the kit said is in ${program%/*}/afscell.built.log"
-launch 'a proof of the program that is refused' replay < "$work/script"
-rm -f "$home/crates/afs_top/refuse"
+launch 'a program that is not built' replay < "$work/script"
+rm -f "$home/crates/afs_top/no_program"
 
 # ---- first looks, by the stand-in of the kit
 

@@ -6,6 +6,7 @@
 #   error TEXT, where a line is told on standard error
 #   what is printed
 #   ---- wire, where messages are sent, and what is printed with --wire
+#   ---- disk, in some rows, and the bytes that the server's disk has at the end
 # tests/refusals.table has the inputs that are no script. Then come words that are no form of the program, a source and a
 # sink that fail, disks in a folder, contents at the limit of a close, a directory and a volume that are full, and a
 # script at the limit of its lines. Nothing here writes what is wanted of a row. tests/seeds.sh compares made scripts with
@@ -74,7 +75,8 @@ take_apart() {
         part == "head" && sub(/^status /, "") { print > (row "/status"); next }
         part == "head" && sub(/^error /, "") { print > (row "/error"); next }
         part != "wire" && $0 == "---- wire" { part = "wire"; printf "" > (row "/wire"); next }
-        part == "wire" { print > (row "/wire"); next }
+        part == "wire" && $0 == "---- disk" { part = "disk"; next }
+        part == "wire" || part == "disk" { print > (row "/" part); next }
         { part = "text"; print > (row "/text") }
         END { exit part == "" }
     ' "$1"
@@ -102,11 +104,16 @@ row() {
     play "$name" "$script" replay
     if [ -f "$work/row/wire" ]; then wanted "$want" "$work/row/wire" "$error"; fi
     play "$name with --wire" "$script" replay --wire
-    if is_of_files "$script"; then
+    if [ -f "$work/row/disk" ] || is_of_files "$script"; then
         rm -rf "$work/node"
         mkdir "$work/node"
         wanted "$want" "$work/row/text" "$error"
         play "$name over files" "$script" replay --disks "$work/node"
+    fi
+    if [ -f "$work/row/disk" ]; then
+        od -An -v -tx1 "$work/node/node-1" | tr -d ' \n' > "$work/row/left"
+        tr -d '\n' < "$work/row/disk" > "$work/row/bytes"
+        if cmp -s "$work/row/bytes" "$work/row/left"; then pass; else fail "$name: the bytes of its disk"; fi
     fi
 }
 

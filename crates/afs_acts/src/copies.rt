@@ -1,6 +1,7 @@
 //! Copies.
 
 ghost use Rattle.std.specs.Prelude.{◌≡◌, IfOk};
+ghost use Rattle.afs_history.specs.declared.acts.Act.TheVariants as acts;
 
 use afs_history::acts::{Act, Operand, Path, Written};
 use afs_num::histories::{Body, ReadBody};
@@ -69,64 +70,85 @@ fn copy_written(alloc: Global, written: &Written) -> Mem<Written>
     }
 }
 
+fn copy_close(alloc: Global, operand: &Operand, contents: &Written) -> Mem<Act>
+    ensures { IfOk result (λ c. c ≡ acts.Close operand.now contents.now) }
+{
+    let operand = copy_operand(alloc, operand)?;
+    let contents = copy_written(alloc, contents)?;
+    Ok(Act::Close { operand, contents })
+}
+
+fn copy_set_mode(alloc: Global, operand: &Operand, mode: u32) -> Mem<Act>
+    ensures { IfOk result (λ c. c ≡ acts.SetMode operand.now mode) }
+{
+    let operand = copy_operand(alloc, operand)?;
+    Ok(Act::SetMode { operand, mode })
+}
+
+fn copy_set_access_list(alloc: Global, operand: &Operand, text: &Written) -> Mem<Act>
+    ensures { IfOk result (λ c. c ≡ acts.SetAccessList operand.now text.now) }
+{
+    let operand = copy_operand(alloc, operand)?;
+    let text = copy_written(alloc, text)?;
+    Ok(Act::SetAccessList { operand, text })
+}
+
+fn copy_move(alloc: Global, from: &Path, to: &Path) -> Mem<Act>
+    ensures { IfOk result (λ c. c ≡ acts.Move from.now to.now) }
+{
+    let from = copy_path(alloc, from)?;
+    let to = copy_path(alloc, to)?;
+    Ok(Act::Move { from, to })
+}
+
+fn copy_link(alloc: Global, target: &Path, path: &Path) -> Mem<Act>
+    ensures { IfOk result (λ c. c ≡ acts.Link target.now path.now) }
+{
+    let target = copy_path(alloc, target)?;
+    let path = copy_path(alloc, path)?;
+    Ok(Act::Link { target, path })
+}
+
+fn copy_symlink(alloc: Global, path: &Path, target: &Written) -> Mem<Act>
+    ensures { IfOk result (λ c. c ≡ acts.Symlink path.now target.now) }
+{
+    let path = copy_path(alloc, path)?;
+    let target = copy_written(alloc, target)?;
+    Ok(Act::Symlink { path, target })
+}
+
+/// The act that holds this copy alone.
+macro_rules! holding {
+    ($copy:expr, $act:ident { $field:ident }) => {
+        match $copy {
+            Ok($field) => Ok(Act::$act { $field }),
+            Err(fault) => Err(fault),
+        }
+    };
+}
+
 pub fn copy_act(alloc: Global, act: &Act) -> Mem<Act>
     ensures { IfOk result (λ c. c ≡ act.now) }
 {
     match act {
-        Act::Open { operand } => Ok(Act::Open {
-            operand: copy_operand(alloc, operand)?,
-        }),
-        Act::ListNames { operand } => Ok(Act::ListNames {
-            operand: copy_operand(alloc, operand)?,
-        }),
-        Act::ReadLink { operand } => Ok(Act::ReadLink {
-            operand: copy_operand(alloc, operand)?,
-        }),
-        Act::Stat { operand } => Ok(Act::Stat {
-            operand: copy_operand(alloc, operand)?,
-        }),
-        Act::StatAll { operand } => Ok(Act::StatAll {
-            operand: copy_operand(alloc, operand)?,
-        }),
-        Act::GetAccessList { operand } => Ok(Act::GetAccessList {
-            operand: copy_operand(alloc, operand)?,
-        }),
+        Act::Open { operand } => holding!(copy_operand(alloc, operand), Open { operand }),
+        Act::ListNames { operand } => holding!(copy_operand(alloc, operand), ListNames { operand }),
+        Act::ReadLink { operand } => holding!(copy_operand(alloc, operand), ReadLink { operand }),
+        Act::Stat { operand } => holding!(copy_operand(alloc, operand), Stat { operand }),
+        Act::StatAll { operand } => holding!(copy_operand(alloc, operand), StatAll { operand }),
+        Act::GetAccessList { operand } => {
+            holding!(copy_operand(alloc, operand), GetAccessList { operand })
+        }
         Act::GiveUp => Ok(Act::GiveUp),
-        Act::Close { operand, contents } => Ok(Act::Close {
-            operand: copy_operand(alloc, operand)?,
-            contents: copy_written(alloc, contents)?,
-        }),
-        Act::SetMode { operand, mode } => Ok(Act::SetMode {
-            operand: copy_operand(alloc, operand)?,
-            mode: *mode,
-        }),
-        Act::SetAccessList { operand, text } => Ok(Act::SetAccessList {
-            operand: copy_operand(alloc, operand)?,
-            text: copy_written(alloc, text)?,
-        }),
-        Act::Make { path } => Ok(Act::Make {
-            path: copy_path(alloc, path)?,
-        }),
-        Act::MakeDirectory { path } => Ok(Act::MakeDirectory {
-            path: copy_path(alloc, path)?,
-        }),
-        Act::Remove { path } => Ok(Act::Remove {
-            path: copy_path(alloc, path)?,
-        }),
-        Act::RemoveDirectory { path } => Ok(Act::RemoveDirectory {
-            path: copy_path(alloc, path)?,
-        }),
-        Act::Move { from, to } => Ok(Act::Move {
-            from: copy_path(alloc, from)?,
-            to: copy_path(alloc, to)?,
-        }),
-        Act::Link { target, path } => Ok(Act::Link {
-            target: copy_path(alloc, target)?,
-            path: copy_path(alloc, path)?,
-        }),
-        Act::Symlink { path, target } => Ok(Act::Symlink {
-            path: copy_path(alloc, path)?,
-            target: copy_written(alloc, target)?,
-        }),
+        Act::Close { operand, contents } => copy_close(alloc, operand, contents),
+        Act::SetMode { operand, mode } => copy_set_mode(alloc, operand, *mode),
+        Act::SetAccessList { operand, text } => copy_set_access_list(alloc, operand, text),
+        Act::Make { path } => holding!(copy_path(alloc, path), Make { path }),
+        Act::MakeDirectory { path } => holding!(copy_path(alloc, path), MakeDirectory { path }),
+        Act::Remove { path } => holding!(copy_path(alloc, path), Remove { path }),
+        Act::RemoveDirectory { path } => holding!(copy_path(alloc, path), RemoveDirectory { path }),
+        Act::Move { from, to } => copy_move(alloc, from, to),
+        Act::Link { target, path } => copy_link(alloc, target, path),
+        Act::Symlink { path, target } => copy_symlink(alloc, path, target),
     }
 }

@@ -82,8 +82,8 @@ pub trait Bank {
     /// The disks given back so far, where it tells them: each by its node, and the bytes that a read gives.
     ghost given: { Self → Option (List (ℕ × List ℕ)) };
 
-    /// How often it has failed. It stands still at the last value of a counter, where each call counts as one in which it
-    /// rose.
+    /// How often it has failed. It rises only where a lend or a return fails. It stands still at the last value of a counter, where
+    /// each call counts as one in which it rose.
     ghost faults: { Self → ℕ };
 
     /// The faults of all disks that were given back. Their sum stands still at the last value of a counter.
@@ -103,7 +103,8 @@ pub trait Bank {
         ensures told { IfOk result (λ disk. tells self.old place.now → IsSome (Self.D.seen disk)) }
         ensures tells { (at : At) → tells self.old at → tells self.new at }
         ensures never_falls { faults self.old ≤ faults self.new }
-        ensures cause { IsErrOf result LendFault.Failed → Rose (faults self.old) (faults self.new) };
+        ensures cause { IsErrOf result LendFault.Failed → Rose (faults self.old) (faults self.new) }
+        ensures quiet { ¬ IsErrOf result LendFault.Failed → faults self.new ≡ faults self.old };
 
     /// Takes a disk back.
     fn give_back(&mut self, node: u32, disk: Self::D) -> Result<(), Failed>
@@ -113,5 +114,6 @@ pub trait Bank {
         ensures lent { lent_faults self.new ≡ min (lent_faults self.old + Self.D.faults disk) last_count }
         ensures tells { (at : At) → tells self.old at → tells self.new at }
         ensures never_falls { faults self.old ≤ faults self.new }
-        ensures cause { OnErr result (Rose (faults self.old) (faults self.new)) };
+        ensures cause { OnErr result (Rose (faults self.old) (faults self.new)) }
+        ensures quiet { OnOk result (faults self.new ≡ faults self.old) };
 }

@@ -252,6 +252,7 @@ fn disk_in<R: Files<File = File>>(
 // Counts a fault.
 fn counted(fault: LendFault, faults: &mut u64)
     ensures cause { fault ≡ LendFault.Failed → Rose faults.old faults.new }
+    ensures quiet { ¬ (fault ≡ LendFault.Failed) → faults.new ≡ faults.old }
     ensures never_falls { faults.old ≤ faults.new }
 {
     match fault {
@@ -298,7 +299,7 @@ impl<'a, R: Files<File = File>> Bank for HostBank<'a, R> {
         ensures none { OnErr result (no_lends ≡ no_lends) }
         ensures kind { IfOk result (IsLentAt place.now) }
         ensures memory { host_tells place.now → IsOk result }
-        ensures quiet { OnOk result (self.new.faults ≡ self.old.faults) }
+        ensures quiet { ¬ IsErrOf result LendFault.Failed → self.new.faults ≡ self.old.faults }
     {
         match place {
             Place::Memory => {
@@ -324,7 +325,7 @@ impl<'a, R: Files<File = File>> Bank for HostBank<'a, R> {
         ensures never_falls { self.old.faults ≤ self.new.faults }
         ensures cause { OnErr result (Rose self.old.faults self.new.faults) }
         ensures taken { IsOk result }
-        ensures quiet { self.new.faults ≡ self.old.faults }
+        ensures quiet { OnOk result (self.new.faults ≡ self.old.faults) }
     {
         self.lent_faults = self.lent_faults.saturating_add(disk.faults());
         Ok(())

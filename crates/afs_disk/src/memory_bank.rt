@@ -144,7 +144,7 @@ impl Bank for MemBank {
         ensures fails { IsErrOf result LendFault.Failed ↔ (slice_get self.old.failing self.old.calls ≡ Some 1) }
         ensures never_falls { self.old.faults ≤ self.new.faults }
         ensures cause { IsErrOf result LendFault.Failed → Rose self.old.faults self.new.faults }
-        ensures quiet { OnOk result (self.new.faults ≡ self.old.faults) }
+        ensures quiet { ¬ IsErrOf result LendFault.Failed → self.new.faults ≡ self.old.faults }
         ensures set { (self.new.failing ≡ self.old.failing) × (self.new.disks ≡ self.old.disks) }
     {
         admits(&mut self.calls, self.failing.as_slice(), &mut self.faults)?;

@@ -1,4 +1,5 @@
-//! Tests of the disks, the banks and the journal: worked images, files in a real folder, and each call once.
+//! Tests of the disks, the banks and the journal: worked images, files in a real folder, and each call once. Tests of sources
+//! and sinks: those in memory, over the standard streams, and with a buffer.
 #![tactic(auto)]
 
 #[cfg(test)]
@@ -7,5 +8,7 @@ mod disks;
 mod files;
 #[cfg(test)]
 mod journals;
+#[cfg(test)]
+mod streams;
 #[cfg(test)]
 mod tearing;

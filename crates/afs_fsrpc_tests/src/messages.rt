@@ -4,9 +4,9 @@ use crate::samples::{Interface, Sample, bytes_of, changed, fault_of, refuses_all
 use afs_fsrpc::calls::{decode_call, encode_call};
 use afs_fsrpc::heads::read_head;
 use afs_fsrpc::replies::{decode_reply, encode_reply};
-use afs_num::calls::{FsCall, FsReply};
+use afs_num::calls::FsCall;
 use afs_num::sequences::Octets;
-use afs_num::types::{Code, Fid, Half, Head, Node};
+use afs_num::types::{Code, Half};
 use afs_shape::faults::ShapeFault;
 use afs_xdr::faults::XdrFault;
 use std::alloc::Global;
@@ -412,35 +412,6 @@ const OPEN: &[u32] = &[
 ];
 
 #[test]
-fn the_call_of_an_open(rt: HostRuntime) -> Result<(), Fail> {
-    let bytes = bytes_of(rt.alloc(), OPEN)?;
-    let (head, user, call) = decode_call(rt.alloc(), &bytes)?;
-    assert_eq!(rt; head.from, Node::Client(1));
-    assert_eq!(rt; head.to, Node::Server(1));
-    assert_eq!(rt; user.as_slice(), b"guest".as_slice());
-    match call {
-        FsCall::FetchData {
-            fid,
-            position,
-            length,
-        } => {
-            assert_eq!(rt;
-                fid,
-                Fid {
-                    volume: 536870912,
-                    vnode: 2,
-                    unique: 2
-                }
-            );
-            assert_eq!(rt; position, 0);
-            assert_eq!(rt; length, i32::MAX);
-        }
-        _ => assert!(rt; false, "another call"),
-    }
-    Ok(())
-}
-
-#[test]
 fn an_open_is_refused_with_its_fault(rt: HostRuntime) -> Result<(), Fail> {
     let bytes = bytes_of(rt.alloc(), OPEN)?;
     let short = bytes.len().saturating_sub(1);
@@ -467,57 +438,6 @@ fn an_open_is_refused_with_its_fault(rt: HostRuntime) -> Result<(), Fail> {
 }
 
 #[test]
-fn a_restarted_server_resets_its_client(rt: HostRuntime) -> Result<(), Fail> {
-    let head = Head {
-        half: Half::Call,
-        from: Node::Server(1),
-        to: Node::Client(1),
-        epoch: 1,
-        number: 1,
-        boot: 1,
-        stamp: 0,
-        opcode: 205,
-    };
-    let words = [1, 1, 101, 1, 1, 1, 0, 205, 0];
-    let bytes = bytes_of(rt.alloc(), &words)?;
-    let spelled = encode_call(rt.alloc(), &head, &[], &FsCall::InitCallBackState)?;
-    assert_eq!(rt; spelled.as_slice(), bytes.as_slice());
-    Ok(())
-}
-
-#[test]
-fn the_reply_to_an_open(rt: HostRuntime) -> Result<(), Fail> {
-    let words = [
-        2, 1, 101, 1, 1, 1, 0, 130, 0, 3, 0x61626300, 1, 1, 1, 3, 1, 0, 0, 127, 127, 420, 1, 1, 0,
-        0, 0, 0, 1, 0, 0, 0, 0, 1, 7200, 2, 0, 0, 0, 0, 0, 0,
-    ];
-    let bytes = bytes_of(rt.alloc(), &words)?;
-    let (_, code, reply) = decode_reply(rt.alloc(), &bytes)?;
-    assert_eq!(rt; code, Code(0));
-    match &reply {
-        Some(
-            FsReply::FetchData {
-                contents,
-                status,
-                callback,
-                sync,
-            },
-        ) => {
-            assert_eq!(rt; contents.as_slice(), b"abc".as_slice());
-            assert_eq!(rt; status.length, 3);
-            assert_eq!(rt; status.unix_mode_bits, 420);
-            assert_eq!(rt; status.sync_counter, 1);
-            assert_eq!(rt; callback.expiration_time, 7200);
-            assert_eq!(rt; sync.release, 0);
-        }
-        _ => assert!(rt; false, "another reply"),
-    }
-    let again = reply_again(rt.alloc(), &bytes)?;
-    assert_eq!(rt; again.as_slice(), bytes.as_slice());
-    Ok(())
-}
-
-#[test]
 fn a_refusal_has_no_fields(rt: HostRuntime) -> Result<(), Fail> {
     let bytes = bytes_of(rt.alloc(), &[2, 1, 101, 1, 1, 1, 0, 133, 0xffffffff])?;
     let (_, code, reply) = decode_reply(rt.alloc(), &bytes)?;
@@ -530,8 +450,6 @@ fn a_refusal_has_no_fields(rt: HostRuntime) -> Result<(), Fail> {
 }
 
 const BREAK: &[u32] = &[1, 1, 101, 1, 1, 1, 0, 204, 0, 51];
-
-const STORE_ACL: &[u32] = &[1, 101, 1, 1, 1, 1, 0, 134, 0, 1, 1, 1, 3, 0x31323300];
 
 const LONG_ACL: &[u32] = &[2, 1, 101, 1, 1, 1, 0, 131, 0, 1025];
 
@@ -556,17 +474,6 @@ fn hostile_counts_are_refused(rt: HostRuntime) -> Result<(), Fail> {
     let large = bytes_of(rt.alloc(), STORE)?;
     let fault = fault_of(rt.alloc(), Interface::Files, Half::Call, &large);
     assert_eq!(rt; fault, Some(ShapeFault::Field(6, XdrFault::Short)));
-    Ok(())
-}
-
-#[test]
-fn an_access_list_is_bytes_like_any_others(rt: HostRuntime) -> Result<(), Fail> {
-    let bytes = bytes_of(rt.alloc(), STORE_ACL)?;
-    let (_, _, call) = decode_call(rt.alloc(), &bytes)?;
-    match call {
-        FsCall::StoreAcl { acl, .. } => assert_eq!(rt; acl.as_slice(), b"123".as_slice()),
-        _ => assert!(rt; false, "another call"),
-    }
     Ok(())
 }
 

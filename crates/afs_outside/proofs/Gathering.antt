@@ -1,10 +1,15 @@
 -- What was gathered, and went on to the sink behind.
-use Rattle.std.proofs.Common.{◌≡◌, ℕ, List, [], ◌++◌, length, take, drop, Result, Ok, Err, sym, ap, subst, ◌∙◌, le_refl, take-append-drop, drop_of_length-le}
-use Rattle.std.specs.Prelude.{Option, OnErr}
+use Rattle.std.proofs.Common.{◌≡◌, ℕ, List, [], ◌++◌, length, take, drop, Result, Ok, Err, refl, sym, ap, subst, ◌∙◌, le_refl, append-nil, take-append-drop, drop_of_length-le}
+use Rattle.std.specs.Prelude.{Option, Some, None, OnErr, OnOk}
 use Rattle.std.specs.Io.KnownBytes.{Appends, Keeps, append_known}
 use Rattle.std.proofs.KnownBytes.{append_known-moved, append_known-grown, append_known-kept, Appends-kept, Keeps-refl, Keeps-trans}
 use Rattle.std.proofs.lemmas.List.{take_all}
 use Rattle.afs_outside.specs.Buffered.{Gathered, given_to, PassesSome}
+
+-- where none wait, the sink behind has them all
+none_waits : (known : Option (List ℕ)) → known ≡ append_known known []
+none_waits None = refl
+none_waits (Some xs) = ap (λ (l : List ℕ). Some l) (sym (append-nil xs))
 
 -- what went on no longer waits
 pub moved : {K : Type 0} (held : K → Option (List ℕ)) (old new : Gathered K) (n : ℕ)
@@ -27,6 +32,12 @@ moved_all held old new between (Err e) passed kept none =
     let n = length old.waiting in
     let whole = Appends-kept (held old.inner) between (held new.inner) old.waiting passed kept in
     (n, subst (λ (l : List ℕ). Appends (held old.inner) (held new.inner) l) (sym (take_all n old.waiting (le_refl n))) whole, none ∙ sym (drop_of_length-le old.waiting (le_refl n)))
+
+-- nothing waits any more, and the sink behind has passed on all that it holds
+pub all_passed : {K T E : Type 0} (held : K → Option (List ℕ)) (new : Gathered K) (passed : Option (List ℕ)) (r : Result T E)
+    → new.waiting ≡ [] → OnOk r (passed ≡ held new.inner) → OnOk r (passed ≡ given_to held new)
+all_passed {K} held new passed (Ok x) none all = all ∙ (none_waits (held new.inner) ∙ ap (λ (l : List ℕ). append_known (held new.inner) l) (sym none))
+all_passed {K} held new passed (Err e) none all = tt
 
 -- the sink behind kept what it has, and nothing more was gathered
 pub kept_behind : {K : Type 0} (held : K → Option (List ℕ)) (old between new : Gathered K)

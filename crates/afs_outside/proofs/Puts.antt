@@ -40,17 +40,17 @@ front_kept a b c x (Err e) whole kept = (length x, subst (λ (l : List ℕ). App
 
 -- nothing was written
 pub puts_nothing : {T : Type 0} (a : Option (List ℕ)) (f : ℕ) (u : T) → Puts [] a a f f (Ok u)
-puts_nothing a f u = record { whole = Appends-nil a; front = tt; cause = record { kept = omega (arith); cause = tt } }
+puts_nothing a f u = record { whole = Appends-nil a; front = tt; cause = record { kept = omega (arith); cause = tt; quiet = refl } }
 
 -- the first piece failed: the others weren't begun
 pub puts_stop : {T U : Type 0} (x y : List ℕ) (a b : Option (List ℕ)) (f g : ℕ) (e : Failed) (r : Result U Failed) → IsErr r → Puts {T = T} x a b f g (Err e) → Puts (x ++ y) a b f g r
 puts_stop x y a b f g e (Ok v) failed p = cc
-puts_stop x y a b f g e (Err d) failed p = record { whole = tt; front = front_stops a b x y p.front; cause = record { kept = p.cause.kept; cause = p.cause.cause } }
+puts_stop x y a b f g e (Err d) failed p = record { whole = tt; front = front_stops a b x y p.front; cause = record { kept = p.cause.kept; cause = p.cause.cause; quiet = tt } }
 
 -- the first piece was written, and then what is behind it
 pub puts_then : {T U : Type 0} (x y : List ℕ) (a b c : Option (List ℕ)) (f g h : ℕ) (u : T) (r : Result U Failed) → Puts x a b f g (Ok u) → Puts y b c g h r → Puts (x ++ y) a c f h r
-puts_then x y a b c f g h u (Ok v) p q = record { whole = Appends-trans a b c x y p.whole q.whole; front = tt; cause = record { kept = omega (arith, p.cause.kept, q.cause.kept); cause = tt } }
-puts_then x y a b c f g h u (Err e) p q = record { whole = tt; front = front_then a b c x y p.whole q.front; cause = record { kept = omega (arith, p.cause.kept, q.cause.kept); cause = omega (arith, p.cause.kept, q.cause.kept, q.cause.cause) } }
+puts_then x y a b c f g h u (Ok v) p q = record { whole = Appends-trans a b c x y p.whole q.whole; front = tt; cause = record { kept = omega (arith, p.cause.kept, q.cause.kept); cause = tt; quiet = q.cause.quiet ∙ p.cause.quiet } }
+puts_then x y a b c f g h u (Err e) p q = record { whole = tt; front = front_then a b c x y p.whole q.front; cause = record { kept = omega (arith, p.cause.kept, q.cause.kept); cause = omega (arith, p.cause.kept, q.cause.kept, q.cause.cause); quiet = tt } }
 
 -- ---- in a loop
 
@@ -106,12 +106,12 @@ puts_passed x a b c f g h u r p q = subst (λ (t : List ℕ). Puts t a c f h r) 
 -- the call ends as its last part did
 pub puts_fail : {T U : Type 0} (x : List ℕ) (a b : Option (List ℕ)) (f g : ℕ) (e : Failed) (r : Result U Failed) → IsErr r → Puts {T = T} x a b f g (Err e) → Puts x a b f g r
 puts_fail x a b f g e (Ok v) failed p = cc
-puts_fail x a b f g e (Err d) failed p = record { whole = tt; front = p.front; cause = record { kept = p.cause.kept; cause = p.cause.cause } }
+puts_fail x a b f g e (Err d) failed p = record { whole = tt; front = p.front; cause = record { kept = p.cause.kept; cause = p.cause.cause; quiet = tt } }
 
 -- a beginning was written, and then the rest
 pub puts_rest : {T : Type 0} (n : ℕ) (bytes rest : List ℕ) (a b c : Option (List ℕ)) (f g h : ℕ) (r : Result T Failed)
-    → Appends a b (take n bytes) → f ≤ g → rest ≡ drop n bytes → Puts rest b c g h r → Puts bytes a c f h r
-puts_rest n bytes rest a b c f g h r first kept is p =
-    let begun : Puts {T = Unit {0}} (take n bytes) a b f g (Ok tt) = record { whole = first; front = tt; cause = record { kept = kept; cause = tt } } in
+    → Appends a b (take n bytes) → g ≡ f → rest ≡ drop n bytes → Puts rest b c g h r → Puts bytes a c f h r
+puts_rest n bytes rest a b c f g h r first quiet is p =
+    let begun : Puts {T = Unit {0}} (take n bytes) a b f g (Ok tt) = record { whole = first; front = tt; cause = record { kept = omega (arith, quiet); cause = tt; quiet = quiet } } in
     let left = subst (λ (t : List ℕ). Puts t b c g h r) is p in
     subst (λ (t : List ℕ). Puts t a c f h r) (take-append-drop n bytes) (puts_then (take n bytes) (drop n bytes) a b c f g h tt r begun left)

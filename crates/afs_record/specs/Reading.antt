@@ -1,6 +1,7 @@
 -- What a call that reads a form gives, in terms of the bytes that were left.
 use Rattle.std.specs.Prelude.{◌≡◌, ℕ, List, Option, Some, None, Result, Ok, Err}
 use Rattle.afs_xdr.specs.Reading.{Reading}
+use Rattle.afs_records.specs.Records.{made_at_end}
 use Rattle.afs_record.specs.declared.faults.RecordFault.{RecordFault}
 use Rattle.afs_record.specs.declared.faults.RecordFault.TheVariants as faults
 
@@ -15,3 +16,9 @@ abbrev pub GivesForm : {X : Type 0} → Option X → Result X RecordFault → Ty
 GivesForm read (Ok x) = read ≡ Some x
 GivesForm read (Err faults.NoForm) = read ≡ None
 GivesForm read (Err faults.OutOfMemory) = Unit {0}
+
+-- the result is what is made where nothing is left behind it, unless memory ran out
+abbrev pub MakesAtEnd : {X : Type 0} → Option X → Reading → Result X RecordFault → Type 0
+MakesAtEnd made new (Ok x) = made ≡ made_at_end x new.left
+MakesAtEnd made new (Err faults.NoForm) = made ≡ None
+MakesAtEnd made new (Err faults.OutOfMemory) = Unit {0}

@@ -2,7 +2,7 @@
 
 ghost use Rattle.std.specs.Prelude.{◌≡◌, ◌++◌, OnOk};
 ghost use Rattle.afs_records.specs.Forms as forms;
-ghost use Rattle.afs_records.specs.Records.{between, kind_form, server_form, flag_form, flag_number, most_name};
+ghost use Rattle.afs_records.specs.Records.{between, kind_form, server_form, flag_form, flag_number};
 ghost use Rattle.afs_record.specs.Reading.{ReadsForm};
 
 use crate::faults::RecordFault;
@@ -82,75 +82,42 @@ impl Form for Image {
     }
 }
 
-/// A word from 0 to 2: the kind of a volume.
-pub(crate) struct VolumeKind;
+/// Reads the kind of a volume.
+pub(crate) fn read_volume_kind(r: &mut Reader) -> Result<u32, RecordFault>
+    ensures { ReadsForm kind_form.at (λ n. n) r.old r.new result }
+{
+    read_ranged(r, 0, 2)
+}
 
-impl Form for VolumeKind {
-    type Value = u32;
+/// Reads the number of a server.
+pub(crate) fn read_server(r: &mut Reader) -> Result<u32, RecordFault>
+    ensures { ReadsForm server_form.at (λ n. n) r.old r.new result }
+{
+    read_ranged(r, 1, 8)
+}
 
-    ghost form = { kind_form };
+/// A flag is 0 or 1.
+pub(crate) fn flag_number(flag: bool) -> u32
+    ensures { result ≡ flag_number flag }
+{
+    if flag { 1 } else { 0 }
+}
 
-    fn read(_alloc: Global, r: &mut Reader) -> Result<u32, RecordFault> {
-        read_ranged(r, 0, 2)
-    }
-
-    fn write(value: &u32, w: &mut Writer) -> Mem<()> {
-        w.word(*value)
+/// Reads a flag.
+pub(crate) fn read_flag(r: &mut Reader) -> Result<bool, RecordFault>
+    ensures { ReadsForm flag_form.at (λ b. b) r.old r.new result }
+{
+    match r.word()? {
+        0 => Ok(false),
+        1 => Ok(true),
+        _ => Err(RecordFault::NoForm),
     }
 }
 
-/// The number of a server.
-pub(crate) struct Server;
-
-impl Form for Server {
-    type Value = u32;
-
-    ghost form = { server_form };
-
-    fn read(_alloc: Global, r: &mut Reader) -> Result<u32, RecordFault> {
-        read_ranged(r, 1, 8)
-    }
-
-    fn write(value: &u32, w: &mut Writer) -> Mem<()> {
-        w.word(*value)
-    }
-}
-
-/// 0 or 1.
-pub(crate) struct Flag;
-
-impl Form for Flag {
-    type Value = bool;
-
-    ghost form = { flag_form };
-
-    fn read(_alloc: Global, r: &mut Reader) -> Result<bool, RecordFault> {
-        match r.word()? {
-            0 => Ok(false),
-            1 => Ok(true),
-            _ => Err(RecordFault::NoForm),
-        }
-    }
-
-    fn write(value: &bool, w: &mut Writer) -> Mem<()> {
-        w.word(if *value { 1 } else { 0 })
-    }
-}
-
-/// At most so many bytes.
-pub(crate) struct Text<const MOST: u32>;
-
-impl<const MOST: u32> Form for Text<MOST> {
-    type Value = Octets;
-
-    ghost form = { forms.text_form MOST };
-
-    fn read(alloc: Global, r: &mut Reader) -> Result<Octets, RecordFault> {
-        let bytes = r.opaque(MOST)?;
-        Ok(Octets::from_slice(alloc, bytes)?)
-    }
-
-    fn write(value: &Octets, w: &mut Writer) -> Mem<()> {
-        w.opaque(value.as_slice())
-    }
+/// Reads a text of at most so many bytes.
+pub(crate) fn read_text(alloc: Global, r: &mut Reader, most: u32) -> Result<Octets, RecordFault>
+    ensures { ReadsForm (forms.text_form most).at (λ b. b) r.old r.new result }
+{
+    let bytes = r.opaque(most)?;
+    Ok(Octets::from_slice(alloc, bytes)?)
 }

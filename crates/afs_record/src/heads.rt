@@ -5,7 +5,7 @@ ghost use Rattle.afs_records.specs.Records.{caller_form, caller_number, head_for
 ghost use Rattle.afs_record.specs.Reading.{ReadsForm};
 
 use crate::faults::RecordFault;
-use crate::forms::{Form, Text};
+use crate::forms::read_text;
 use afs_num::records::RecordHead;
 use afs_num::types::{Mem, Node};
 use afs_xdr::reading::Reader;
@@ -49,7 +49,7 @@ pub(crate) fn read_head(alloc: Global, r: &mut Reader) -> Result<RecordHead, Rec
     let caller = read_caller(r)?;
     let epoch = r.word()?;
     let number = r.word()?;
-    let reply = Text::<MOST_REPLY>::read(alloc, r)?;
+    let reply = read_text(alloc, r, MOST_REPLY)?;
     Ok(RecordHead {
         family,
         stamp,

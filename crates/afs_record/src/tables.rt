@@ -1,11 +1,14 @@
-//! The kinds of records: a line for each, with its number and its fields in order, each of its form.
+//! The kinds of records: for each its number, and its fields in order, each of its form.
 
-ghost use Rattle.std.specs.Prelude.{◌≡◌, ◌++◌, OnOk};
+ghost use Rattle.std.specs.Prelude.{◌≡◌, ◌++◌, [], false, OnOk};
+ghost use Rattle.afs_num.specs.declared.records.RecordBody.TheVariants as bodies;
 ghost use Rattle.afs_records.specs.Records.{body_at, row};
-ghost use Rattle.afs_record.specs.Reading.{GivesForm};
+ghost use Rattle.afs_record.specs.Reading.{GivesForm, MakesAtEnd};
 
 use crate::faults::RecordFault;
-use crate::forms::{Flag, Form, Image, Server, Text, VolumeKind, Word};
+use crate::forms::{
+    Form, Image, Word, flag_number, read_flag, read_server, read_text, read_volume_kind,
+};
 use crate::lists::ListOf;
 use crate::volumes::{MOST_NAME, Volume};
 use afs_num::records::RecordBody;
@@ -17,75 +20,22 @@ use std::alloc::Global;
 /// The most bytes of a dump.
 const MOST_DUMP: u32 = 33_554_432;
 
-macro_rules! with_rows {
-    ($arms:ident $value:tt) => {
-        $arms! {
-            $value
-            [
-                1 First { volumes: ListOf<Volume> },
-                2 Change { id: Word, counter: Word, unique: Word, vnodes: ListOf<Image>, removed: ListOf<Word> },
-                3 Boot { boot: Word },
-                4 Create { id: Word, family: Word, name: Text<MOST_NAME>, kind: VolumeKind, flags: Word, quota: Word, is_new: Flag },
-                5 Delete { id: Word },
-                6 Clone { source: Word, id: Word, name: Text<MOST_NAME>, kind: VolumeKind, release: Word },
-                7 Restore { id: Word, dump: Text<MOST_DUMP> },
-                8 Flags { id: Word, flags: Word },
-                9 Forward { id: Word, server: Server },
-                10 Stamp {}
-            ]
-        }
-    };
-}
-
-/// The number of a body's kind.
-macro_rules! number_of_row {
-    (
-        ($body:ident)
-        [$($number:literal $name:ident { $($field:ident: $form:ty),* }),*]
-    ) => {
-        match $body {
-            $(RecordBody::$name { .. } => $number,)*
-        }
-    };
-}
-
-/// Appends the fields of a body.
-macro_rules! write_row {
-    (
-        ($body:ident, $w:ident)
-        [$($number:literal $name:ident { $($field:ident: $form:ty),* }),*]
-    ) => {
-        match $body {
-            $(RecordBody::$name { $($field),* } => {
-                $(<$form as Form>::write($field, $w)?;)*
-                Ok(())
-            })*
-        }
-    };
-}
-
-/// Reads the fields of the body with this number, to the last byte.
-macro_rules! read_row {
-    (
-        ($number_read:ident, $alloc:ident, $r:ident)
-        [$($number:literal $name:ident { $($field:ident: $form:ty),* }),*]
-    ) => {
-        match $number_read {
-            $($number => {
-                $(let $field = <$form as Form>::read($alloc, $r)?;)*
-                $r.end()?;
-                Ok(RecordBody::$name { $($field),* })
-            })*
-            _ => Err(RecordFault::NoForm),
-        }
-    };
-}
-
 /// The number of a body's kind.
 pub(crate) fn number_of(body: &RecordBody) -> u32
     ensures { result ≡ (row body.now).number }
 {
-    with_rows!(number_of_row(body))
+    match body {
+        RecordBody::First { .. } => 1,
+        RecordBody::Change { .. } => 2,
+        RecordBody::Boot { .. } => 3,
+        RecordBody::Create { .. } => 4,
+        RecordBody::Delete { .. } => 5,
+        RecordBody::Clone { .. } => 6,
+        RecordBody::Restore { .. } => 7,
+        RecordBody::Flags { .. } => 8,
+        RecordBody::Forward { .. } => 9,
+        RecordBody::Stamp => 10,
+    }
 }
 
 /// Appends the fields of a body.
@@ -93,7 +43,148 @@ pub(crate) fn write_body(body: &RecordBody, w: &mut Writer) -> Mem<()>
     requires { (row body.now).Fits }
     ensures { OnOk result (w.new ≡ w.old ++ (row body.now).spelled) }
 {
-    with_rows!(write_row(body, w))
+    match body {
+        RecordBody::First { volumes } => ListOf::<Volume>::write(volumes, w),
+        RecordBody::Change {
+            id,
+            counter,
+            unique,
+            vnodes,
+            removed,
+        } => {
+            w.words(&[*id, *counter, *unique])?;
+            ListOf::<Image>::write(vnodes, w)?;
+            ListOf::<Word>::write(removed, w)
+        }
+        RecordBody::Boot { boot } => w.word(*boot),
+        RecordBody::Create {
+            id,
+            family,
+            name,
+            kind,
+            flags,
+            quota,
+            is_new,
+        } => {
+            w.words(&[*id, *family])?;
+            w.opaque(name.as_slice())?;
+            w.words(&[*kind, *flags, *quota, flag_number(*is_new)])
+        }
+        RecordBody::Delete { id } => w.word(*id),
+        RecordBody::Clone {
+            source,
+            id,
+            name,
+            kind,
+            release,
+        } => {
+            w.words(&[*source, *id])?;
+            w.opaque(name.as_slice())?;
+            w.words(&[*kind, *release])
+        }
+        RecordBody::Restore { id, dump } => {
+            w.word(*id)?;
+            w.opaque(dump.as_slice())
+        }
+        RecordBody::Flags { id, flags } => w.words(&[*id, *flags]),
+        RecordBody::Forward { id, server } => w.words(&[*id, *server]),
+        RecordBody::Stamp => Ok(()),
+    }
+}
+
+fn read_change(alloc: Global, r: &mut Reader) -> Result<RecordBody, RecordFault>
+    ensures { MakesAtEnd ((row (bodies.Change 0 0 0 [] [])).make r.old.left) r.new result }
+{
+    let id = r.word()?;
+    let counter = r.word()?;
+    let unique = r.word()?;
+    let vnodes = ListOf::<Image>::read(alloc, r)?;
+    let removed = ListOf::<Word>::read(alloc, r)?;
+    Ok(RecordBody::Change {
+        id,
+        counter,
+        unique,
+        vnodes,
+        removed,
+    })
+}
+
+fn read_create(alloc: Global, r: &mut Reader) -> Result<RecordBody, RecordFault>
+    ensures { MakesAtEnd ((row (bodies.Create 0 0 [] 0 0 0 false)).make r.old.left) r.new result }
+{
+    let id = r.word()?;
+    let family = r.word()?;
+    let name = read_text(alloc, r, MOST_NAME)?;
+    let kind = read_volume_kind(r)?;
+    let flags = r.word()?;
+    let quota = r.word()?;
+    let is_new = read_flag(r)?;
+    Ok(RecordBody::Create {
+        id,
+        family,
+        name,
+        kind,
+        flags,
+        quota,
+        is_new,
+    })
+}
+
+fn read_clone(alloc: Global, r: &mut Reader) -> Result<RecordBody, RecordFault>
+    ensures { MakesAtEnd ((row (bodies.Clone 0 0 [] 0 0)).make r.old.left) r.new result }
+{
+    let source = r.word()?;
+    let id = r.word()?;
+    let name = read_text(alloc, r, MOST_NAME)?;
+    let kind = read_volume_kind(r)?;
+    let release = r.word()?;
+    Ok(RecordBody::Clone {
+        source,
+        id,
+        name,
+        kind,
+        release,
+    })
+}
+
+/// Reads the fields of the body with this number.
+fn read_fields(alloc: Global, number: u32, r: &mut Reader) -> Result<RecordBody, RecordFault>
+    ensures { MakesAtEnd (body_at number r.old.left) r.new result }
+{
+    match number {
+        1 => {
+            let volumes = ListOf::<Volume>::read(alloc, r)?;
+            Ok(RecordBody::First { volumes })
+        }
+        2 => read_change(alloc, r),
+        3 => {
+            let boot = r.word()?;
+            Ok(RecordBody::Boot { boot })
+        }
+        4 => read_create(alloc, r),
+        5 => {
+            let id = r.word()?;
+            Ok(RecordBody::Delete { id })
+        }
+        6 => read_clone(alloc, r),
+        7 => {
+            let id = r.word()?;
+            let dump = read_text(alloc, r, MOST_DUMP)?;
+            Ok(RecordBody::Restore { id, dump })
+        }
+        8 => {
+            let id = r.word()?;
+            let flags = r.word()?;
+            Ok(RecordBody::Flags { id, flags })
+        }
+        9 => {
+            let id = r.word()?;
+            let server = read_server(r)?;
+            Ok(RecordBody::Forward { id, server })
+        }
+        10 => Ok(RecordBody::Stamp),
+        _ => Err(RecordFault::NoForm),
+    }
 }
 
 /// Reads the body with this number, to the last byte.
@@ -104,5 +195,7 @@ pub(crate) fn read_body(
 ) -> Result<RecordBody, RecordFault>
     ensures { GivesForm (body_at number r.old.left) result }
 {
-    with_rows!(read_row(number, alloc, r))
+    let body = read_fields(alloc, number, r)?;
+    r.end()?;
+    Ok(body)
 }

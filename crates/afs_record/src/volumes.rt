@@ -2,12 +2,12 @@
 
 ghost use Rattle.std.specs.Prelude.{◌≡◌, ◌++◌, map, OnOk};
 ghost use Rattle.std.specs.List.{flat_map, AllByRecursion, list_all};
-ghost use Rattle.afs_records.specs.Forms.{many_at};
+ghost use Rattle.afs_records.specs.Forms.{word_form, ◌before◌, many_at};
 ghost use Rattle.afs_records.specs.Records.{are_listed, are_whole, ascend_from, listed, listed_form, mark_form, marked_form, vnodes_form, volume_form, was_changed};
 ghost use Rattle.afs_record.specs.Reading.{ReadsForm};
 
 use crate::faults::RecordFault;
-use crate::forms::{Form, Image, Text, VolumeKind, Word};
+use crate::forms::{Form, Image, read_text, read_volume_kind};
 use crate::lists::{ListOf, read_many, write_many};
 use afs_num::records::StoredVolume;
 use afs_num::types::Mem;
@@ -29,6 +29,15 @@ const MOST_VNODES: usize = 4_096;
 /// The most bytes of a volume's name.
 pub(crate) const MOST_NAME: u32 = 32;
 
+/// Reads two words.
+fn read_two(r: &mut Reader) -> Result<(u32, u32), RecordFault>
+    ensures { ReadsForm (word_form before word_form).at (λ p. p) r.old r.new result }
+{
+    let first = r.word()?;
+    let second = r.word()?;
+    Ok((first, second))
+}
+
 /// The number and the unique of a vnode.
 struct Listed;
 
@@ -38,9 +47,7 @@ impl Form for Listed {
     ghost form = { listed_form };
 
     fn read(_alloc: Global, r: &mut Reader) -> Result<(u32, u32), RecordFault> {
-        let vnode = r.word()?;
-        let unique = r.word()?;
-        Ok((vnode, unique))
+        read_two(r)
     }
 
     fn write(value: &(u32, u32), w: &mut Writer) -> Mem<()> {
@@ -174,16 +181,13 @@ impl Form for Volume {
 
     #[tactic(auto, unfolding(afs_records::specs::Records::volume_form))]
     fn read(alloc: Global, r: &mut Reader) -> Result<StoredVolume, RecordFault> {
-        let name = Text::<MOST_NAME>::read(alloc, r)?;
+        let name = read_text(alloc, r, MOST_NAME)?;
         let flags = r.word()?;
         read_mark(r, VOLUME_MARK)?;
-        let id = r.word()?;
-        let family = r.word()?;
-        let kind = VolumeKind::read(alloc, r)?;
-        let quota = r.word()?;
-        let unique = r.word()?;
-        let counter = r.word()?;
-        let release = r.word()?;
+        let (id, family) = read_two(r)?;
+        let kind = read_volume_kind(r)?;
+        let (quota, unique) = read_two(r)?;
+        let (counter, release) = read_two(r)?;
         let vnodes = read_vnodes(alloc, r)?;
         Ok(StoredVolume {
             head: VolumeHead {

@@ -18,7 +18,7 @@ use Rattle.afs_server_parts.specs.Turning.{IsBreakToNode}
 use Rattle.afs_volstore.specs.Stores.{Store}
 use Rattle.afs_server.specs.Ending.{backs_left, lists_timed, Ends}
 use Rattle.afs_server.specs.Handling.{server_seen, Makes}
-use Rattle.afs_server.specs.Seen.{backs_seen, lasting_of, IsPromiseToNode, KeepsForNodes, Memory, Serves}
+use Rattle.afs_server.specs.Seen.{backs_seen, lasting_of, IsPromiseToNode, IsToNodes, KeepsForNodes, Memory, Serves}
 use Rattle.afs_server.specs.declared.ending.Ended.{Ended}
 
 -- what is in memory after a step
@@ -91,3 +91,22 @@ pub turned_as : {D : Type 0} (t u : row.Turn) (old new : Memory) (s v : Store D)
     Makes (stepped s.node (server_seen old s) t.lines t) [] new v outs × (Serves v.node new v.durable × (v ≡ record s { drawn = v.drawn })) →
     Makes (stepped s.node (server_seen old s) u.lines u) [] new v outs × (Serves v.node new v.durable × (v ≡ record s { drawn = v.drawn }))
 turned_as {D} t u old new s v outs same made = (subst (λ (x : row.Turn). Makes (stepped s.node (server_seen old s) x.lines x) [] new v outs) same made.0, made.1)
+
+-- ---- what a step asked its store, and what it left in memory
+
+-- what holds by the numbers that a store told holds by those that it keeps
+pub as_asked : {D : Type 0} (P : Node → ℕ → ℕ → Type 0) (s : Store D) (n : Node) (boot last : ℕ) → n ≡ s.node → boot ≡ s.durable.boot → last ≡ s.drawn → P n boot last → P s.node s.durable.boot s.drawn
+as_asked {D} P s n boot last node boots lasts h =
+    subst (λ (k : ℕ). P s.node s.durable.boot k) lasts (subst (λ (k : ℕ). P s.node k last) boots (subst (λ (m : Node). P m boot last) node h))
+
+pub to_nodes : (me n : Node) (m : Memory) (d : Durable) → n ≡ me → Serves me m d → IsToNodes n m
+to_nodes me n m d is serves = subst (λ (x : Node). IsToNodes x m) (sym is) (record { node = serves.node; owed = serves.owed; calls = serves.calls })
+
+-- memory as it was inside, but for its promises and what the step left
+pub remembered : (inside old new : Memory) (l k : Lists) (e : Ended) → inside ≡ old → l ≡ k → new ≡ record inside { lists = l; callees = e.callees.items; held = e.held } → new ≡ record old { lists = k; callees = e.callees.items; held = e.held }
+remembered inside old new l k e is lists kept = kept ∙ (λ i. record (is i) { lists = lists i; callees = e.callees.items; held = e.held })
+
+-- and for its callers
+pub replied_in : (old new : Memory) (boot : ℕ) (seats seats_now : List Seat) (l k : Lists) (e : Ended) → boot ≡ old.boot → seats ≡ seats_now → l ≡ k →
+    new ≡ record { boot = boot; seats = seats; lists = l; callees = e.callees.items; held = e.held } → new ≡ record old { seats = seats_now; lists = k; callees = e.callees.items; held = e.held }
+replied_in old new boot seats seats_now l k e boots seated lists kept = kept ∙ (λ i. record { boot = boots i; seats = seated i; lists = lists i; callees = e.callees.items; held = e.held })

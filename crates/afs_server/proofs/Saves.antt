@@ -25,8 +25,16 @@ use Rattle.afs_server.specs.Seen.{lasting_of, Memory, Serves}
 use Rattle.afs_server.specs.declared.faults.NodeFault.{NodeFault}
 use Rattle.afs_server.specs.declared.faults.NodeFault.TheVariants as faults
 use Rattle.afs_server.specs.declared.saving.Planned.{Planned}
+use Rattle.afs_server.proofs.Making.{as_asked}
 use Rattle.afs_server.proofs.Folded.{folds, lasting_left, record_is, reply_is}
 use Rattle.afs_server.proofs.Saved.{effects_as, saved_made}
+
+-- ---- what was planned, by what the store told
+
+pub planned_as : {D : Type 0} (s : Store D) (clock : ℕ) (head : Head) (id : ℕ) (x y : made_of.Change) (old : Memory) (p : Planned) (n : Node) (boot last : ℕ) → x ≡ y → n ≡ s.node → boot ≡ s.durable.boot → last ≡ s.drawn →
+    IsPlanned n boot last clock head id x old p → IsPlanned s.node s.durable.boot s.drawn clock head id y old p
+planned_as {D} s clock head id x y old p n boot last same node boots lasts plan =
+    as_asked (λ (m : Node) (k l : ℕ). IsPlanned m k l clock head id y old p) s n boot last node boots lasts (subst (λ (z : made_of.Change). IsPlanned n boot last clock head id z old p) same plan)
 
 -- ---- whether there is room
 

@@ -1,6 +1,8 @@
 -- What a step does to the disk: nothing, or what the commit of its record does.
 use Rattle.std.proofs.Common.{◌≡◌, ◌≤◌, ◌<◌, ◌+◌, inl, inr, ⊎_elim, ℕ, List, Option, Some, None, refl, sym, ap, subst, ◌∙◌, arith}
 use Rattle.std.specs.Prelude.{◌↔◌, Result, Ok, Err, IsSome, OnOk}
+use Rattle.std.specs.Result.{IsErrAnd}
+use Rattle.std.proofs.lemmas.Result.{err_from_is_err_and}
 use Rattle.afs_disk.specs.Disk.{LeavesOnly, PassesAll, SameDisk, Setting}
 use Rattle.afs_journal.specs.Log.{SameCounts}
 use Rattle.afs_journal.specs.Records.{whole_records}
@@ -12,6 +14,10 @@ use Rattle.afs_server.specs.Handling.{IsQuiet, IsWritten, Ran}
 use Rattle.afs_server.specs.Putting.{calls_for, IsStill, OnDisk}
 use Rattle.afs_server.specs.declared.faults.NodeFault.{NodeFault}
 use Rattle.afs_server.specs.declared.faults.NodeFault.TheVariants as nodes
+
+-- a want of memory is handed up as a node's fault
+pub out_of_memory : {T : Type 0} (r : Result T NodeFault) → IsErrAnd r (λ (e : NodeFault). e ≡ nodes.OutOfMemory) → r ≡ Err nodes.OutOfMemory
+out_of_memory {T} r h = let p = err_from_is_err_and r h in subst (λ (e : NodeFault). r ≡ Err e) p.2 p.1
 
 as_told : (o p : Option (List ℕ)) → p ≡ o → IsSome p ↔ IsSome o
 as_told o p e = (λ h. subst (λ (q : Option (List ℕ)). IsSome q) e h, λ h. subst (λ (q : Option (List ℕ)). IsSome q) (sym e) h)

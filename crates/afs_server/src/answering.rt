@@ -1,14 +1,17 @@
 //! What a server answers to calls that change nothing on its disk.
 
 ghost use Rattle.std.specs.Prelude.{◌≡◌, ◌≤◌, [], false, IfOk, OnErr, OnOk};
+ghost use Rattle.afs_num.specs.declared.messages.Carried.TheVariants as carried;
+ghost use Rattle.afs_num.specs.declared.messages.Reply.TheVariants as tell;
 ghost use Rattle.afs_num.specs.Nodes.{IsNode};
+ghost use Rattle.afs_shape.specs.Rows.{IsWithin};
 ghost use Rattle.afs_model.specs.Calls.{call_seat, paired, runs};
+ghost use Rattle.afs_model.specs.CellRows.{cell_replies, reply_number};
 ghost use Rattle.afs_model.specs.Heads.{is_zero, IsSoundHead};
-ghost use Rattle.afs_model.specs.Messages.{HasSpelling};
 ghost use Rattle.afs_breaks.specs.Promises.{expired, lasting_breaks, Lists};
 ghost use Rattle.afs_rows.specs.Callbacks as row;
 ghost use Rattle.afs_rows.specs.Callbacks.{gives_up_all, is_seat_of, pumped};
-ghost use Rattle.afs_rows.specs.ServerRow.{boot_told, given_up_read, read_reply_to, refusal};
+ghost use Rattle.afs_rows.specs.ServerRow.{boot_told, given_up_read, promised_in, read_reply_to, refusal, replied};
 ghost use Rattle.afs_server_parts.specs.Called.{AreGoodCalls};
 ghost use Rattle.afs_server_parts.specs.Kept.{IsSpelling, Spells};
 ghost use Rattle.afs_server_parts.specs.Turning.{backs_with, IsFresh, IsTurn};
@@ -22,12 +25,11 @@ use crate::server::FileServer;
 use afs_disk::Disk;
 use afs_history::lines::Outs;
 use afs_num::calls::FsReply;
-use afs_num::messages::Message;
 use afs_num::sequences::{Octets, Sequence};
 use afs_num::types::{Fid, Head, Key, Mem, Node};
 use afs_promise::Promises;
 use afs_server_parts::callers::Callers;
-use afs_server_parts::replies::{key, notice, refusal, reply};
+use afs_server_parts::replies::{key, notice, promised, refusal, reply};
 use afs_server_parts::spelled::SpelledMessage;
 use afs_server_parts::turns::Turn;
 use afs_volstore::VolStore;
@@ -70,6 +72,25 @@ fn give_up_all(promises: &mut Promises, node: Node, fids: &[Fid])
     }
 }
 
+/// The reply to the call of this header, which is told this, with a promise where it has a place for one.
+pub fn reply_told(
+    alloc: Global,
+    boot: u32,
+    head: &Head,
+    told: FsReply,
+    expiry: u32,
+) -> Mem<SpelledMessage>
+    requires head { IsSoundHead head.now }
+    requires opcode { head.now.opcode ≡ reply_number (tell.File told) }
+    requires within { IsWithin cell_replies (tell.File told) }
+    ensures { IfOk result (λ m. m ≡ replied boot head.now (carried.Reply (tell.File (promised_in expiry told)))) }
+{
+    let told = promised(alloc, told, expiry)?;
+    let message = reply(boot, head, told);
+    let spelled = SpelledMessage::from_message(alloc, message)?;
+    Ok(spelled)
+}
+
 /// A reply goes out at once.
 fn answer_now(alloc: Global, turn: &mut Turn, reply: SpelledMessage) -> Mem<()>
     requires fresh { IsFresh turn.old }
@@ -106,24 +127,26 @@ fn keep_answer(callers: &mut Callers, head: &Head, reply: Octets) -> Mem<()>
 }
 
 impl FileServer {
-    /// What comes of it that a message goes out.
-    fn plan_sent(
+    /// What comes of it that a caller is told this server's boot number.
+    fn plan_boot_told(
         &self,
         server: Node,
         boot: u32,
         last: u32,
-        message: &Message,
+        head: &Head,
         now: u32,
     ) -> Mem<Ended>
         requires nodes { IsToNodes server self.now }
-        requires spelling { HasSpelling message.now }
-        ensures ends { IfOk result (λ e. Ends (expired now self.now.lists) (pumped server boot (sent_turn message.now (row.expired now (backs_seen self.now last)))) e) }
+        requires head { IsSoundHead head.now }
+        ensures ends { IfOk result (λ e. Ends (expired now self.now.lists) (pumped server boot (sent_turn (boot_told boot head.now) (row.expired now (backs_seen self.now last)))) e) }
         ensures lines { IfOk result (λ e. e.outs.lines ≡ []) }
         ensures drawn { IfOk result (λ e. last ≤ e.last) }
         ensures good { IfOk result (λ e. AreGoodCalls server e.callees.items) }
     {
+        let message = notice(boot, head);
+        let told = SpelledMessage::from_message(self.alloc, message)?;
         let mut turn = self.turn(last, now)?;
-        turn.send(self.alloc, message)?;
+        turn.send(told)?;
         let ended = end(self.alloc, server, boot, turn)?;
         Ok(ended)
     }
@@ -192,28 +215,6 @@ impl FileServer {
         Ok(Replied { ended, kept })
     }
 
-    /// What comes of a reply to a call that ran.
-    pub(crate) fn plan_reply(
-        &self,
-        server: Node,
-        boot: u32,
-        last: u32,
-        message: &Message,
-        now: u32,
-    ) -> Mem<Replied>
-        requires nodes { IsToNodes server self.now }
-        requires spelling { HasSpelling message.now }
-        ensures ends { IfOk result (λ r. (l : Lists) → l.owed ≡ lasting_breaks now self.now.lists.owed → Ends l (pumped server boot (answer_turn message.now [] false (with_lists l (backs_seen self.now last)))) r.ended) }
-        ensures lines { IfOk result (λ r. r.ended.outs.lines ≡ []) }
-        ensures drawn { IfOk result (λ r. last ≤ r.ended.last) }
-        ensures good { IfOk result (λ r. AreGoodCalls server r.ended.callees.items) }
-        ensures kept { IfOk result (λ r. Spells message.now r.kept) }
-    {
-        let reply = SpelledMessage::of(self.alloc, message)?;
-        let replied = self.plan_spelled(server, boot, last, reply, now)?;
-        Ok(replied)
-    }
-
     /// What comes of it that a call that runs is refused with this code.
     fn plan_refused(
         &self,
@@ -234,7 +235,8 @@ impl FileServer {
         ensures kept { IfOk result (λ r. Spells (refusal boot head.now code) r.kept) }
     {
         let message = refusal(boot, head, code);
-        let replied = self.plan_reply(server, boot, last, &message, now)?;
+        let reply = SpelledMessage::from_message(self.alloc, message)?;
+        let replied = self.plan_spelled(server, boot, last, reply, now)?;
         Ok(replied)
     }
 
@@ -257,7 +259,8 @@ impl FileServer {
         ensures kept { IfOk result (λ r. Spells (read_reply_to boot head.now 0 (given_up_read [])) r.kept) }
     {
         let message = reply(boot, head, FsReply::GiveUpCallBacks);
-        let replied = self.plan_reply(server, boot, last, &message, now)?;
+        let told = SpelledMessage::from_message(self.alloc, message)?;
+        let replied = self.plan_spelled(server, boot, last, told, now)?;
         Ok(replied)
     }
 
@@ -272,16 +275,14 @@ impl FileServer {
         requires head { IsSoundHead head.now }
         ensures { Turns (sent_turn (boot_told store.old.durable.boot head.now) (row.expired now (backs_seen self.old store.old.drawn))) self.old self.new store.old store.new result }
     {
-        let message = notice(store.boot_number(), head);
-        let ended = self.plan_sent(
+        let ended = self.plan_boot_told(
             store.node(),
             store.boot_number(),
             store.last_number(),
-            &message,
+            head,
             now,
         )?;
-        self.promises.expire(now);
-        let outs = self.keep(store, ended);
+        let outs = self.keep_at(store, ended, now);
         Ok(outs)
     }
 
@@ -305,8 +306,7 @@ impl FileServer {
             good,
             now,
         )?;
-        self.promises.expire(now);
-        let outs = self.keep(store, ended);
+        let outs = self.keep_at(store, ended, now);
         Ok(outs)
     }
 
@@ -334,8 +334,7 @@ impl FileServer {
         )?;
         let Replied { ended, kept } = replied;
         keep_answer(&mut self.callers, head, kept)?;
-        self.promises.expire(now);
-        let outs = self.keep(store, ended);
+        let outs = self.keep_at(store, ended, now);
         Ok(outs)
     }
 

@@ -3,6 +3,7 @@
 ghost use Rattle.std.specs.Prelude.{◌≡◌, ◌≤◌, ◌<◌, IfOk};
 ghost use Rattle.std.specs.List.{All};
 ghost use Rattle.afs_num.specs.Nodes.{IsNode};
+ghost use Rattle.afs_breaks.specs.Promises.{expired};
 ghost use Rattle.afs_model.specs.Messages.{messages_spelled, parcels_read};
 ghost use Rattle.afs_rows.specs.Callbacks as row;
 ghost use Rattle.afs_rows.specs.Callbacks.{pumped};
@@ -93,5 +94,21 @@ impl FileServer {
         self.held = held;
         draw(store, last);
         outs
+    }
+
+    /// The same, where promises and breaks have ended first whose time has come.
+    pub(crate) fn keep_at<D: Disk>(
+        &mut self,
+        store: &mut VolStore<D>,
+        ended: Ended,
+        now: u32,
+    ) -> Outs
+        requires { store.old.drawn ≤ ended.last }
+        ensures server { self.new ≡ record self.old { lists = expired now self.old.lists; callees = ended.callees.items; held = ended.held } }
+        ensures store { store.new ≡ record store.old { drawn = ended.last } }
+        ensures outs { result ≡ ended.outs }
+    {
+        self.promises.expire(now);
+        self.keep(store, ended)
     }
 }

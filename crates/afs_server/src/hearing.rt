@@ -154,8 +154,7 @@ impl FileServer {
             call,
             now,
         )?;
-        self.promises.expire(now);
-        let outs = self.keep(store, ended);
+        let outs = self.keep_at(store, ended, now);
         Ok(outs)
     }
 

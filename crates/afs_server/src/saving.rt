@@ -1,60 +1,50 @@
 //! A change is saved: its record is put on the disk, and what it withdraws is owed.
 
-ghost use Rattle.std.specs.Prelude.{◌≡◌, ◌≤◌, ◌<◌, ◌+◌, ◌^◌, ◌∷◌, ◌++◌, [], ℕ, Some, false, true, length, map, IfOk, IsErrOf, IsSome, OnOk};
+ghost use Rattle.std.specs.Prelude.{◌≡◌, ◌≤◌, ◌<◌, ◌+◌, ◌^◌, ◌∷◌, ◌++◌, [], ℕ, Some, false, true, length, map, IfOk, OnOk};
 ghost use Rattle.std.specs.List.{All, AllByRecursion};
 ghost use Rattle.afs_num.specs.Nodes.{IsNode};
 ghost use Rattle.afs_num.specs.declared.messages.Reply.TheVariants as tell;
 ghost use Rattle.afs_num.specs.declared.records.RecordBody.TheVariants as bodies;
 ghost use Rattle.afs_num.specs.declared.records.StoreRecord as records;
-ghost use Rattle.afs_disk.specs.Disk.{LeavesOnly, PassesAll, SameDisk};
-ghost use Rattle.afs_journal.specs.Log.{SameCounts};
-ghost use Rattle.afs_journal.specs.Records.{whole_records};
 ghost use Rattle.afs_shape.specs.Rows.{IsWithin};
-ghost use Rattle.afs_ideal.specs.Tables.{get};
 ghost use Rattle.afs_ideal.specs.VnodeImage.{image_words, FitsImage};
 ghost use Rattle.afs_xdr.specs.Words.{AreWords};
-ghost use Rattle.afs_model.specs.Calls.{call_seat, paired, runs};
 ghost use Rattle.afs_model.specs.CellRows.{cell_replies, reply_number};
 ghost use Rattle.afs_model.specs.Heads.{IsSoundHead};
-ghost use Rattle.afs_model.specs.Messages.{HasSpelling};
 ghost use Rattle.afs_history.specs.declared.lines.Line.TheVariants as lines;
 ghost use Rattle.afs_breaks.specs.Promises.{expired, lasting, lasting_breaks, owes_from, withdrawn, Lists};
 ghost use Rattle.afs_records.specs.Changes.{keeping};
-ghost use Rattle.afs_records.specs.Durable.{folded};
 ghost use Rattle.afs_records.specs.Records.{FitsRecord};
 ghost use Rattle.afs_promise.specs.Found.{without_found};
 ghost use Rattle.afs_rows.specs.Callbacks.{alls, numbers, owe_line, pumped};
 ghost use Rattle.afs_num.specs.declared.messages.Carried.TheVariants as carried;
 ghost use Rattle.afs_rows.specs.ServerRow.{is_client, key_of, promised_in, replied, versioned};
 ghost use Rattle.afs_server_parts.specs.Called.{AreGoodCalls};
-ghost use Rattle.afs_server_parts.specs.Kept.{IsSpelling, Spells};
+ghost use Rattle.afs_server_parts.specs.Kept.{Spells};
 ghost use Rattle.afs_server_parts.specs.Telling.{grant_line};
 ghost use Rattle.afs_server_parts.specs.Turning.{backs_with, IsBreakToNode, IsFresh, IsTurn};
-ghost use Rattle.afs_volstore.specs.Stores.{LeftAround, Served};
-ghost use Rattle.afs_server.specs.Answering.{answer_turn, with_lists, KeepsReply};
-ghost use Rattle.afs_server.specs.Deciding.{CanBeWritten, HasKind, IsChanged};
+ghost use Rattle.afs_server.specs.Answering.{answer_turn, with_lists};
+ghost use Rattle.afs_server.specs.Deciding.{CanBeWritten, HasKind};
 ghost use Rattle.afs_server.specs.Ending.{Ends};
-ghost use Rattle.afs_server.specs.Saving.{change_kept, fids_changed, fids_granted, has_fid, hits_fresh, hits_new, new_grants, IsPlanned, IsTaken, Puts};
+ghost use Rattle.afs_server.specs.Saving.{breaks_new, fids_changed, fids_granted, has_fid, hits_each, hits_fresh, hits_new, new_grants, IsPlanned};
 ghost use Rattle.afs_server.specs.Seen.{backs_seen, IsPromiseToNode, IsToNodes};
 ghost use Rattle.afs_server.specs.declared.faults.NodeFault.TheVariants as faults;
 
-use crate::answering::{Replied, keep_reply};
+use crate::answering::{Replied, reply_told};
 use crate::ending::{Ended, end};
 use crate::faults::NodeFault;
 use crate::server::FileServer;
 use afs_breaks::types::{OwedBreak, Promise};
-use afs_disk::Disk;
-use afs_history::lines::{Line, Lines, Outs};
+use afs_history::lines::{Line, Lines};
 use afs_num::calls::{AfsFetchStatus, FsReply};
 use afs_num::histories::{Version, Versions};
-use afs_num::messages::Message;
 use afs_num::records::{RecordBody, RecordHead, StoreRecord};
 use afs_num::sequences::{Octets, Sequence};
 use afs_num::types::{Fid, Head, Key, Mem, Node};
 use afs_num::vnodes::{Vnode, VnodeNumbers, Vnodes};
 use afs_num::volumes::Change;
 use afs_promise::Promises;
-use afs_server_parts::replies::{key, promised, reply};
+use afs_server_parts::replies::key;
 use afs_server_parts::spelled::SpelledMessage;
 use afs_server_parts::telling::{Grant, tell_grants, tell_owed};
 use afs_server_parts::turns::Turn;
@@ -73,6 +63,17 @@ pub struct Planned {
     pub changed: Sequence<Fid>,
     pub withdrawn: Vec<Promise>,
     pub granted: Sequence<Fid>,
+}
+
+/// What a change withdraws and grants: the fids that it changes; the promises that the reply to it grants, and their fids; the
+/// promises that it withdraws, and the breaks that are then owed.
+#[derive(Drop)]
+pub struct Found {
+    pub changed: Sequence<Fid>,
+    pub grants: Sequence<Grant>,
+    pub granted: Sequence<Fid>,
+    pub withdrawn: Vec<Promise>,
+    pub breaks: Vec<OwedBreak>,
 }
 
 /// A promise on a new vnode.
@@ -99,7 +100,7 @@ fn new_grants(alloc: Global, reply: &FsReply) -> Mem<Sequence<Grant>>
 }
 
 /// The fids of promises.
-fn fids_granted(alloc: Global, grants: &[Grant]) -> Mem<Sequence<Fid>>
+pub fn fids_granted(alloc: Global, grants: &[Grant]) -> Mem<Sequence<Fid>>
     ensures { IfOk result (λ fs. fs ≡ fids_granted grants.now) }
 {
     let mut fids = Sequence::new(alloc);
@@ -375,25 +376,6 @@ fn hold(alloc: Global, turn: &mut Turn, reply: SpelledMessage, breaks: &[OwedBre
     Ok(())
 }
 
-/// The reply to the call of this header, which is told this, with a promise where it has a place for one.
-fn reply_told(
-    alloc: Global,
-    boot: u32,
-    head: &Head,
-    told: FsReply,
-    expiry: u32,
-) -> Mem<SpelledMessage>
-    requires head { IsSoundHead head.now }
-    requires opcode { head.now.opcode ≡ reply_number (tell.File told) }
-    requires within { IsWithin cell_replies (tell.File told) }
-    ensures { IfOk result (λ m. m ≡ replied boot head.now (carried.Reply (tell.File (promised_in expiry told)))) }
-{
-    let told = promised(alloc, told, expiry)?;
-    let message = reply(boot, head, told);
-    let spelled = SpelledMessage::of(alloc, &message)?;
-    Ok(spelled)
-}
-
 impl FileServer {
     /// What comes of it that the reply to a change waits for these breaks, and for those on all.
     fn plan_held(
@@ -445,6 +427,72 @@ impl FileServer {
         Ok(Replied { ended, kept })
     }
 
+    /// What a change by this node withdraws and grants.
+    fn found(&self, from: Node, change: &Change, now: u32) -> Mem<Found>
+        requires promised { All IsPromiseToNode self.now.lists.promises }
+        requires draws { self.now.lists.last_owed + length self.now.lists.promises < 4000000000 }
+        ensures changed { IfOk result (λ f. f.changed ≡ fids_changed change.now.versions) }
+        ensures grants { IfOk result (λ f. f.grants ≡ new_grants change.now.reply) }
+        ensures granted { IfOk result (λ f. f.granted ≡ fids_granted (new_grants change.now.reply)) }
+        ensures withdrawn { IfOk result (λ f. f.withdrawn.items ≡ hits_each from f.changed (lasting now self.now.lists.promises)) }
+        ensures breaks { IfOk result (λ f. f.breaks.items ≡ breaks_new from (fids_changed change.now.versions) now self.now.lists) }
+        ensures nodes { IfOk result (λ f. All IsBreakToNode f.breaks.items) }
+    {
+        let changed = fids_changed(self.alloc, change.versions.as_slice())?;
+        let grants = new_grants(self.alloc, &change.reply)?;
+        let granted = fids_granted(self.alloc, grants.as_slice())?;
+        let withdrawn = new_hits(self.alloc, &self.promises, changed.as_slice(), from, now)?;
+        let breaks = new_breaks(self.alloc, &self.promises, &withdrawn)?;
+        Ok(Found {
+            changed,
+            grants,
+            granted,
+            withdrawn,
+            breaks,
+        })
+    }
+
+    /// What comes of it that the call of this header made these versions, withdrew and granted this, and is told this.
+    fn plan_told(
+        &self,
+        server: Node,
+        boot: u32,
+        last: u32,
+        head: &Head,
+        versions: Versions,
+        told: FsReply,
+        found: &Found,
+        now: u32,
+    ) -> Mem<Replied>
+        requires nodes { IsToNodes server self.now }
+        requires clients { All IsBreakToNode found.now.breaks.items }
+        requires head { IsSoundHead head.now }
+        requires opcode { head.now.opcode ≡ reply_number (tell.File told) }
+        requires within { IsWithin cell_replies (tell.File told) }
+        requires few { length versions < 2 ^ 32 }
+        requires now { now ≤ 1000000000 }
+        ensures ends { IfOk result (λ r. (l : Lists) → l.owed ≡ lasting_breaks now self.now.lists.owed ++ found.now.breaks.items → Ends l (pumped server boot (answer_turn (replied boot head.now (carried.Reply (tell.File (promised_in (now + 7200) told)))) (numbers found.now.breaks.items ++ alls (lasting_breaks now self.now.lists.owed)) false (with_lists l (backs_seen self.now last)))) r.ended) }
+        ensures lines { IfOk result (λ r. r.ended.outs.lines ≡ (lines.Change server (key_of head.now) (length versions) ∷ versioned versions []) ++ (map (grant_line server head.now.from (now + 7200)) found.now.grants ++ map (owe_line server) found.now.breaks.items)) }
+        ensures drawn { IfOk result (λ r. last ≤ r.ended.last) }
+        ensures good { IfOk result (λ r. AreGoodCalls server r.ended.callees.items) }
+        ensures kept { IfOk result (λ r. Spells (replied boot head.now (carried.Reply (tell.File (promised_in (now + 7200) told)))) r.kept) }
+    {
+        let expiry = now + PROMISE_TICKS;
+        let grants = found.grants.as_slice();
+        let lines = saved_lines(
+            self.alloc,
+            server,
+            head,
+            versions,
+            grants,
+            expiry,
+            &found.breaks,
+        )?;
+        let mut saved = self.plan_saved(server, boot, last, head, told, &found.breaks, now)?;
+        saved.ended.outs.lines = lines;
+        Ok(saved)
+    }
+
     /// What a change of the volume of this number comes to.
     pub(crate) fn plan_change(
         &self,
@@ -467,6 +515,7 @@ impl FileServer {
         requires now { now ≤ 1000000000 }
         ensures { IfOk result (λ p. IsPlanned server boot last now head.now id change self.now p) }
     {
+        let found = self.found(head.from, &change, now)?;
         let Change {
             versions,
             vnodes,
@@ -475,30 +524,17 @@ impl FileServer {
             unique,
             reply,
         } = change;
-        let changed = fids_changed(self.alloc, versions.as_slice())?;
-        let grants = new_grants(self.alloc, &reply)?;
-        let granted = fids_granted(self.alloc, grants.as_slice())?;
-        let withdrawn = new_hits(
-            self.alloc,
-            &self.promises,
-            changed.as_slice(),
-            head.from,
-            now,
-        )?;
-        let breaks = new_breaks(self.alloc, &self.promises, &withdrawn)?;
-        let mut saved = self.plan_saved(server, boot, last, head, reply, &breaks, now)?;
-        saved.ended.outs.lines = saved_lines(
-            self.alloc,
-            server,
-            head,
-            versions,
-            grants.as_slice(),
-            now + PROMISE_TICKS,
-            &breaks,
-        )?;
+        let saved = self.plan_told(server, boot, last, head, versions, reply, &found, now)?;
         let Replied { ended, kept } = saved;
         let copy = kept.copy(self.alloc)?;
         let rec = change_record(head, copy, id, counter, unique, vnodes, removed);
+        let Found {
+            changed,
+            grants: _,
+            granted,
+            withdrawn,
+            breaks: _,
+        } = found;
         Ok(Planned {
             ended,
             kept,

@@ -21,17 +21,16 @@ ghost use Rattle.afs_server.specs.Ending.{Ends};
 ghost use Rattle.afs_server.specs.Handling.{Answers};
 ghost use Rattle.afs_server.specs.Seen.{backs_seen, IsToNodes, Serves};
 
-use crate::answering::{Replied, keep_reply};
+use crate::answering::{Replied, keep_reply, reply_told};
+use crate::saving::fids_granted;
 use crate::server::FileServer;
 use afs_disk::Disk;
 use afs_history::lines::{Lines, Outs};
 use afs_num::calls::FsReply;
-use afs_num::sequences::{Octets, Sequence};
-use afs_num::types::{Fid, Head, Mem, Node};
+use afs_num::sequences::Octets;
+use afs_num::types::{Head, Mem, Node};
 use afs_promise::Promises;
 use afs_server_parts::callers::Callers;
-use afs_server_parts::replies::{promised, reply};
-use afs_server_parts::spelled::SpelledMessage;
 use afs_server_parts::telling::{Grant, tell_grants};
 use afs_volstore::VolStore;
 use std::alloc::Global;
@@ -39,17 +38,6 @@ use std::slice::from_ref;
 
 /// A promise lasts so many ticks.
 const PROMISE_TICKS: u32 = 7200;
-
-/// The fids of promises.
-fn fids_of(alloc: Global, grants: &[Grant]) -> Mem<Sequence<Fid>>
-    ensures { IfOk result (λ fs. fs ≡ map (λ (g : told.Grant). g.fid) grants.now) }
-{
-    let mut fids = Sequence::new(alloc);
-    for grant in grants {
-        fids.push(grant.fid)?;
-    }
-    Ok(fids)
-}
 
 /// The lines of promises to a client.
 fn granted_lines(
@@ -66,25 +54,6 @@ fn granted_lines(
     Ok(lines)
 }
 
-/// The reply to a call that reads, with what it is told, in its spelling; what it is promised lasts until this time.
-fn shown_reply(
-    alloc: Global,
-    boot: u32,
-    head: &Head,
-    told: FsReply,
-    expiry: u32,
-) -> Mem<SpelledMessage>
-    requires head { IsSoundHead head.now }
-    requires opcode { head.now.opcode ≡ reply_number (tell.File told) }
-    requires within { IsWithin cell_replies (tell.File told) }
-    ensures { IfOk result (λ m. m ≡ replied boot head.now (carried.Reply (tell.File (promised_in expiry told)))) }
-{
-    let told = promised(alloc, told, expiry)?;
-    let message = reply(boot, head, told);
-    let spelled = SpelledMessage::of(alloc, &message)?;
-    Ok(spelled)
-}
-
 /// A client is granted these promises until this time.
 fn grant_told(
     alloc: Global,
@@ -99,7 +68,7 @@ fn grant_told(
     match grants {
         [grant] => promises.grant_all(client, from_ref(&grant.fid), expiry),
         _ => {
-            let fids = fids_of(alloc, grants)?;
+            let fids = fids_granted(alloc, grants)?;
             promises.grant_all(client, fids.as_slice(), expiry)
         }
     }
@@ -152,7 +121,7 @@ impl FileServer {
         ensures good { IfOk result (λ r. AreGoodCalls server r.ended.callees.items) }
         ensures kept { IfOk result (λ r. Spells (replied boot head.now (carried.Reply (tell.File (promised_in expiry told)))) r.kept) }
     {
-        let reply = shown_reply(self.alloc, boot, head, told, expiry)?;
+        let reply = reply_told(self.alloc, boot, head, told, expiry)?;
         let lines = granted_lines(self.alloc, server, head.from, expiry, grants)?;
         let mut replied = self.plan_spelled(server, boot, last, reply, now)?;
         replied.ended.outs.lines = lines;
@@ -198,8 +167,7 @@ impl FileServer {
             grants,
             expiry,
         )?;
-        self.promises.expire(now);
-        let outs = self.keep(store, ended);
+        let outs = self.keep_at(store, ended, now);
         Ok(outs)
     }
 }

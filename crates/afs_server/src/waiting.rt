@@ -58,8 +58,7 @@ impl FileServer {
         ensures { Turns (no_turn (row.expired now (backs_seen self.old store.old.drawn))) self.old self.new store.old store.new result }
     {
         let ended = self.plan_wake(store.node(), store.boot_number(), store.last_number(), now)?;
-        self.promises.expire(now);
-        let outs = self.keep(store, ended);
+        let outs = self.keep_at(store, ended, now);
         Ok(outs)
     }
 

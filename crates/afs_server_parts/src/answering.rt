@@ -4,7 +4,6 @@ ghost use Rattle.std.specs.Prelude.{◌≡◌, ◌∷◌, [], IfNone, IfOk, OnOk
 ghost use Rattle.std.specs.List.{All};
 ghost use Rattle.std.specs.Option.{option_copied};
 ghost use Rattle.afs_num.specs.declared.types.Node.{Node};
-ghost use Rattle.afs_model.specs.Messages.{HasSpelling};
 ghost use Rattle.afs_breaks.specs.Promises.{Lists};
 ghost use Rattle.afs_rows.specs.Callbacks.{alls, held_under, is_reply_to, key_answered, no_turn, repeats_by};
 ghost use Rattle.afs_server_parts.specs.Called.{AreGoodCalls};
@@ -14,7 +13,6 @@ use crate::held::{HeldReply, copy_numbers};
 use crate::owed::alls;
 use crate::spelled::SpelledMessage;
 use crate::turns::Turn;
-use afs_num::messages::Message;
 use afs_num::sequences::Sequence;
 use afs_num::types::{Head, Key, Mem};
 use std::alloc::Global;
@@ -52,14 +50,12 @@ fn held_under<'a>(key: &Key, replies: &'a [HeldReply]) -> Option<&'a HeldReply>
 
 impl Turn {
     /// A message goes out.
-    pub fn send(&mut self, alloc: Global, message: &Message) -> Mem<()>
+    pub fn send(&mut self, message: SpelledMessage) -> Mem<()>
         requires fresh { IsFresh self.old }
-        requires spelling { HasSpelling message.now }
-        ensures turn { OnOk result ((l : Lists) → l.owed ≡ self.old.owed.items → IsTurn (record (no_turn (backs_with l self.old.held self.old.calls)) { sent = message.now ∷ [] }) self.new) }
+        ensures turn { OnOk result ((l : Lists) → l.owed ≡ self.old.owed.items → IsTurn (record (no_turn (backs_with l self.old.held self.old.calls)) { sent = message ∷ [] }) self.new) }
         ensures good { self.new.calls.callees ≡ self.old.calls.callees }
         ensures owed { self.new.owed ≡ self.old.owed }
     {
-        let message = SpelledMessage::of(alloc, message)?;
         self.calls.sent.push(message)?;
         Ok(())
     }

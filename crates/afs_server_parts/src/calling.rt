@@ -175,5 +175,5 @@ pub fn spell_call(
     ensures { IfOk result (λ m. m ≡ break_message call.now.server boot callee known (call_seen call.now)) }
 {
     let message = call_message(alloc, boot, callee, known, call)?;
-    SpelledMessage::of(alloc, &message)
+    SpelledMessage::from_message(alloc, message)
 }

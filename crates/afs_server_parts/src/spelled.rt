@@ -44,6 +44,15 @@ impl SpelledMessage {
         })
     }
 
+    /// This message, which ends here: it is the one place where messages that are sent end, since each such place takes long to
+    /// prove.
+    pub fn from_message(alloc: Global, message: Message) -> Mem<SpelledMessage>
+        requires { HasSpelling message }
+        ensures { IfOk result (λ m. m ≡ message) }
+    {
+        SpelledMessage::of(alloc, &message)
+    }
+
     /// The message that these bytes spell.
     pub fn read(alloc: Global, bytes: &[u8]) -> Mem<SpelledMessage>
         requires { IsSpelling bytes.now }

@@ -8,3 +8,4 @@ pub mod BodyLaws
 pub mod MadeLaws
 pub mod InterfaceLaws
 pub mod TakenLaws
+pub mod Words

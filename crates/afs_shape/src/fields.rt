@@ -71,18 +71,18 @@ macro_rules! reading_arms {
     ) => {
         match $kind {
             Kind::Nothing => Err(FieldFault::Xdr(XdrFault::BadType)),
-            $(Kind::$fixed => {
-                let value = $read($r)?;
-                Ok(Field::$fixed(value))
-            })*
-            $(Kind::$owned => {
-                let value = $read_owned($alloc, $r)?;
-                Ok(Field::$owned(value))
-            })*
-            $(Kind::$limited(most) => {
-                let value = $read_most($alloc, $r, most)?;
-                Ok(Field::$limited(value))
-            })*
+            $(Kind::$fixed => match $read($r) {
+                Ok(value) => Ok(Field::$fixed(value)),
+                Err(fault) => Err(FieldFault::Xdr(fault)),
+            },)*
+            $(Kind::$owned => match $read_owned($alloc, $r) {
+                Ok(value) => Ok(Field::$owned(value)),
+                Err(fault) => Err(fault),
+            },)*
+            $(Kind::$limited(most) => match $read_most($alloc, $r, most) {
+                Ok(value) => Ok(Field::$limited(value)),
+                Err(fault) => Err(fault),
+            },)*
         }
     };
 }

@@ -1,10 +1,10 @@
 //! The parts of a message that are the same number of words in each message.
 
-ghost use Rattle.std.specs.Prelude.{◌≡◌, ◌++◌, OnOk, OnErr};
+ghost use Rattle.std.specs.Prelude.{◌≡◌, ◌++◌, length, OnOk, OnErr};
 ghost use Rattle.afs_xdr.specs.Reading.{Reads, KeepsEnd};
-ghost use Rattle.afs_xdr.specs.Words.{AreWords};
+ghost use Rattle.afs_xdr.specs.Words.{word_at, AreWords};
 ghost use Rattle.afs_shape.specs.Spelling.{fid, store_status, status, callback, sync, listed_volume, site, fid_words, store_status_words, status_words, callback_words, sync_words, listed_volume_words, site_words};
-ghost use Rattle.afs_shape.specs.Items.{fid_at, store_status_at, status_at, callback_at, sync_at, ranged_at, volume_kind_at, server_at, listed_volume_at, site_at};
+ghost use Rattle.afs_shape.specs.Items.{items_at, fid_at, store_status_at, status_at, callback_at, sync_at, ranged_at, volume_kind_at, server_at, listed_volume_at, site_at};
 
 use afs_num::calls::{AfsCallBack, AfsFetchStatus, AfsStoreStatus, AfsVolSync};
 use afs_num::location_calls::LocSite;
@@ -35,6 +35,28 @@ pub trait Item: Drop {
         ensures ok { OnOk result (w.new ≡ w.old ++ item self.now) }
         ensures fits { InRange self.now }
         ensures err { OnErr result (w.new ≡ w.old) };
+}
+
+/// Reads as many words as there are places for.
+fn fill_words(r: &mut Reader, words: &mut [u32]) -> Result<(), XdrFault>
+    ensures value { Reads (items_at word_at (length words.old)) (λ u. words.new) r.old r.new result }
+    ensures end { KeepsEnd r.old r.new }
+{
+    for place in words.iter_mut() {
+        let word = r.word()?;
+        *place = word;
+    }
+    Ok(())
+}
+
+/// Reads words, one after the other.
+fn read_words<const N: usize>(r: &mut Reader) -> Result<[u32; N], XdrFault>
+    ensures value { Reads (items_at word_at N) (λ ns. ns) r.old r.new result }
+    ensures end { KeepsEnd r.old r.new }
+{
+    let mut words = [0; N];
+    fill_words(r, &mut words)?;
+    Ok(words)
 }
 
 /// Reads a word from `low` to `high`. `BadType` at any other.
@@ -97,31 +119,31 @@ impl Item for AfsFetchStatus {
 
     ghost InRange = { λ x. AreWords (status_words x) };
 
-    #[tactic(auto, unfolding(crate::specs::Items::status_at))]
+    #[tactic(auto, using(crate::proofs::Words::status_read, crate::proofs::Words::status_refused))]
     fn read(r: &mut Reader) -> Result<AfsFetchStatus, XdrFault> {
-        let mut ahead = r.fork();
-        let interface_version = ahead.word()?;
-        let file_type = ahead.word()?;
-        let link_count = ahead.word()?;
-        let length = ahead.word()?;
-        let data_version = ahead.word()?;
-        let author = ahead.word()?;
-        let owner = ahead.word()?;
-        let caller_access = ahead.word()?;
-        let anonymous_access = ahead.word()?;
-        let unix_mode_bits = ahead.word()?;
-        let parent_vnode = ahead.word()?;
-        let parent_unique = ahead.word()?;
-        let seg_size = ahead.word()?;
-        let client_mod_time = ahead.word()?;
-        let server_mod_time = ahead.word()?;
-        let group = ahead.word()?;
-        let sync_counter = ahead.word()?;
-        let spare1 = ahead.word()?;
-        let spare2 = ahead.word()?;
-        let spare3 = ahead.word()?;
-        let spare4 = ahead.word()?;
-        *r = ahead;
+        let [
+            interface_version,
+            file_type,
+            link_count,
+            length,
+            data_version,
+            author,
+            owner,
+            caller_access,
+            anonymous_access,
+            unix_mode_bits,
+            parent_vnode,
+            parent_unique,
+            seg_size,
+            client_mod_time,
+            server_mod_time,
+            group,
+            sync_counter,
+            spare1,
+            spare2,
+            spare3,
+            spare4,
+        ] = read_words::<21>(r)?;
         Ok(AfsFetchStatus {
             interface_version,
             file_type,

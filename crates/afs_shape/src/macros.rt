@@ -45,22 +45,23 @@ macro_rules! shape_of {
     (
         ($opcode:ident)
         [$($number:literal $name:ident { $($field:ident: $kind:ident $([$most:expr])?),* }),*]
-    ) => {
+    ) => {{
+        let nothing = $crate::kinds::Kind::Nothing;
         match $opcode {
             $($number => Ok($crate::first_kinds!(
                 $($crate::kinds::Kind::$kind $(($most))?,)*
-                $crate::kinds::Kind::Nothing,
-                $crate::kinds::Kind::Nothing,
-                $crate::kinds::Kind::Nothing,
-                $crate::kinds::Kind::Nothing,
-                $crate::kinds::Kind::Nothing,
-                $crate::kinds::Kind::Nothing,
-                $crate::kinds::Kind::Nothing,
-                $crate::kinds::Kind::Nothing
+                nothing,
+                nothing,
+                nothing,
+                nothing,
+                nothing,
+                nothing,
+                nothing,
+                nothing
             )),)*
             _ => Err($crate::faults::ShapeFault::NoRow($opcode)),
         }
-    };
+    }};
 }
 
 /// A part, by a reference to its value.
@@ -133,6 +134,13 @@ macro_rules! slots_of {
     };
 }
 
+/// The values of fields, each beside those behind it.
+#[macro_export]
+macro_rules! values_of {
+    () => { () };
+    ($first:ident $(, $more:ident)*) => { ($first, $crate::values_of!($($more),*)) };
+}
+
 /// Reads the message of this enum and opcode.
 #[macro_export]
 macro_rules! message_read {
@@ -141,12 +149,10 @@ macro_rules! message_read {
         [$($number:literal $name:ident { $($field:ident: $kind:ident $([$most:expr])?),* }),*]
     ) => {
         match $opcode {
-            $($number => {
-                let rest = $crate::taking::read_values::<$crate::slots_of!($($kind $([$most])?),*)>($alloc, $r)?;
-                $(let ($field, rest) = rest;)*
-                let () = rest;
-                Ok($enum::$name { $($field),* })
-            })*
+            $($number => match $crate::taking::read_values::<$crate::slots_of!($($kind $([$most])?),*)>($alloc, $r) {
+                Ok($crate::values_of!($($field),*)) => Ok($enum::$name { $($field),* }),
+                Err(fault) => Err(fault),
+            },)*
             _ => Err($crate::faults::ShapeFault::NoRow($opcode)),
         }
     };

@@ -47,7 +47,7 @@ lays_nothing before after a b f g (Err e) none p = puts_as before (before ++ [])
 pub laid_behind : (text before between after : List ℕ) (a b : Option (List ℕ)) (f g : ℕ) (u v : Unit {0}) → Lays [] before between a b f g (Ok u) → after ≡ between ++ text → Lays text before after a b f g (Ok v)
 laid_behind text before between after a b f g u v made is =
     let all : made.0 ++ after ≡ before ++ text = ap (λ (l : List ℕ). made.0 ++ l) is ∙ sym (append_assoc made.0 between text) ∙ ap (λ (l : List ℕ). l ++ text) (made.1 ∙ append-nil before) in
-    (made.0, all, record { whole = made.2.whole; front = tt; cause = record { kept = made.2.cause.kept; cause = tt } })
+    (made.0, all, record { whole = made.2.whole; front = tt; cause = record { kept = made.2.cause.kept; cause = tt; quiet = made.2.cause.quiet } })
 
 -- what the piece held couldn't be put
 pub laid_stop : (text before after : List ℕ) (a b : Option (List ℕ)) (f g : ℕ) (e : Failed) (r : Result (Unit {0}) Failed) → IsErr r → Puts {T = Unit {0}} before a b f g (Err e) → Lays text before after a b f g r

@@ -249,20 +249,3 @@ pub fn form_of(alloc: Global, words: &[String]) -> Mem<Option<Form>>
         place,
     }))
 }
-
-#[cfg(test)]
-mod tests {
-    use super::*;
-    use afs_outside::memory::MemSink;
-    use std::test::Fail;
-
-    // the rows show the others
-    #[test]
-    fn want_of_memory_has_a_number_and_a_line(rt: HostRuntime) -> Result<(), Fail> {
-        let mut sink = MemSink::new(rt.alloc(), &[]);
-        assert_eq!(rt; Status::OutOfMemory.number(), 7);
-        assert_eq!(rt; Status::OutOfMemory.print(&mut sink), Ok(()));
-        assert_eq!(rt; sink.as_slice(), b"out of memory\n".as_slice());
-        Ok(())
-    }
-}

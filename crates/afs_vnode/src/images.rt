@@ -1,10 +1,10 @@
 //! The image of a vnode: its words, its access list, its contents.
 
-ghost use Rattle.std.specs.Prelude.{◌≡◌, ◌≤◌, ◌++◌, length, take, OnOk, OnErr, IfOk};
+ghost use Rattle.std.specs.Prelude.{◌≡◌, ◌≤◌, ◌<◌, ◌++◌, length, take, OnOk, OnErr, IfOk};
 ghost use Rattle.afs_xdr.specs.Reading.{KeepsEnd};
 ghost use Rattle.afs_xdr.specs.Words.{words, AreWords};
 ghost use Rattle.afs_ideal.specs.VnodeImage.{kind_fits, word_field, kind_field, opaque_field, image_at, image, image_words, FitsImage};
-ghost use Rattle.afs_vnode.specs.Reading.{ReadsImage};
+ghost use Rattle.afs_vnode.specs.Reading.{three_fields, ReadsImage};
 
 use crate::faults::ImageFault;
 use afs_num::sequences::Octets;
@@ -72,6 +72,18 @@ fn opaque(alloc: Global, r: &mut Reader, place: u32, most: u32) -> Result<Octets
     }
 }
 
+/// Three words, the first of which is the field of this place.
+fn three(r: &mut Reader, place: u32) -> Result<(u32, u32, u32), ImageFault>
+    requires { place < 16 }
+    ensures value { ReadsImage (three_fields place) (λ t. t) r.old r.new result }
+    ensures end { KeepsEnd r.old r.new }
+{
+    let first = word(r, place)?;
+    let second = word(r, place + 1)?;
+    let third = word(r, place + 2)?;
+    Ok((first, second, third))
+}
+
 /// The fields one after the other.
 #[tactic(auto, unfolding(afs_ideal::specs::VnodeImage::image_at))]
 fn fields(alloc: Global, r: &mut Reader) -> Result<Vnode, ImageFault>
@@ -82,18 +94,10 @@ fn fields(alloc: Global, r: &mut Reader) -> Result<Vnode, ImageFault>
     let vnode = word(r, 1)?;
     let unique = word(r, 2)?;
     let kind = kind(r, 3, vnode)?;
-    let index = word(r, 4)?;
-    let data_version = word(r, 5)?;
-    let link_count = word(r, 6)?;
-    let owner = word(r, 7)?;
-    let group = word(r, 8)?;
-    let mode = word(r, 9)?;
-    let segment_size = word(r, 10)?;
-    let client_time = word(r, 11)?;
-    let server_time = word(r, 12)?;
-    let parent_vnode = word(r, 13)?;
-    let parent_unique = word(r, 14)?;
-    let change_counter = word(r, 15)?;
+    let (index, data_version, link_count) = three(r, 4)?;
+    let (owner, group, mode) = three(r, 7)?;
+    let (segment_size, client_time, server_time) = three(r, 10)?;
+    let (parent_vnode, parent_unique, change_counter) = three(r, 13)?;
     let acl = opaque(alloc, r, 16, MOST_ACL)?;
     let contents = opaque(alloc, r, 17, MOST_CONTENTS)?;
     Ok(Vnode {

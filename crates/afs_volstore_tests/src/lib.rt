@@ -1,8 +1,7 @@
-//! Tests of a server's store: records of another program, and a crash at each device call.
+//! Tests of records, of a server's store, and of the end of a run: records of another program, and a crash at each device call of
+//! a start.
 #![tactic(auto)]
 
-#[cfg(test)]
-mod changes;
 #[cfg(test)]
 mod crashes;
 #[cfg(test)]
@@ -10,11 +9,15 @@ mod creates;
 #[cfg(test)]
 mod disks;
 #[cfg(test)]
+mod ends;
+#[cfg(test)]
 mod full;
 #[cfg(test)]
-mod shown;
+mod lines;
 #[cfg(test)]
-mod storing;
+mod records;
+#[cfg(test)]
+mod shown;
 #[cfg(test)]
 mod taken;
 #[cfg(test)]

@@ -3,13 +3,7 @@ use Rattle.std.specs.Prelude.{◌≡◌, true, List, All}
 use Rattle.afs_num.specs.declared.calls.FsCall.{FsCall}
 use Rattle.afs_num.specs.declared.types.Fid.{Fid}
 use Rattle.afs_ideal.specs.Operations.{IsOn}
-use Rattle.afs_volume.specs.Giving.{is_changing, is_reading, FitsCall}
-
--- they change it
-pub record IsCall (call : FsCall) : Type 0 where
-  pub changing : is_changing call ≡ true
-  pub fits : FitsCall call
-  pub on : IsOn 536870912 call
+use Rattle.afs_volume.specs.Giving.{is_reading}
 
 -- they read it
 pub record IsReading (call : FsCall) : Type 0 where

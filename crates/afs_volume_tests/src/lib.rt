@@ -1,17 +1,11 @@
-//! Tests of a volume: what it shows, how it is changed and how it is laid, worked out by hand.
+//! Tests of directories, access lists and vnodes, and of what a volume shows: values that were worked out by hand.
 #![tactic(auto)]
 
 #[cfg(test)]
-mod changes;
+mod acls;
 #[cfg(test)]
-mod laying;
-#[cfg(test)]
-mod limits;
-#[cfg(test)]
-mod printing;
+mod dirs;
 #[cfg(test)]
 mod reading;
 #[cfg(test)]
-mod steps;
-#[cfg(test)]
-mod tried;
+mod vnodes;

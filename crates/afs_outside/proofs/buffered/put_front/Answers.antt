@@ -7,5 +7,5 @@ pub loop-written-preserved : goal.loop-written-preserved
 loop-written-preserved g c = record {
   written = appends_more _ _ _ _ _ _ c.loop-written.invariant.written (rw (← c.split_at.ensures.back) c.in-Ok.ensures.bytes);
   within = search rules;
-  kept = search rules;
+  quiet = search rules;
 }

@@ -7,5 +7,5 @@ pub loop-at-preserved : goal.loop-at-preserved
 loop-at-preserved g c = record {
   written = appends_more _ _ _ _ _ _ c.loop-at.invariant.written (rw (← c.split_at.ensures.back) c.in_ok-at.ensures.bytes);
   within = search rules;
-  kept = search rules;
+  quiet = search rules;
 }

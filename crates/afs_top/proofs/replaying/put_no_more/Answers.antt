@@ -6,4 +6,4 @@ pub returns-in_err-written : goal.returns-in_err-written
 returns-in_err-written g c = λ text start count p. puts_no_more text _ start _ count _ c.args.written _ (search rules) (search rules) p
 
 pub returns : goal.returns
-returns g c = λ text start count p. puts_behind text _ start _ _ count _ _ c.args.written _ (search rules) p c.pass_on.ensures
+returns g c = λ text start count p. puts_behind text _ start _ _ count _ _ c.args.written _ (search rules) p c.pass_on.ensures.puts

@@ -11,4 +11,4 @@ pub returns-in_err-put_final : goal.returns-in_err-put_final
 returns-in_err-put_final g c = λ text start count p. puts_behind text _ start _ _ count _ _ c.args.written _ (search rules) p (puts_fail _ _ _ _ _ _ _ c.from_residual-in_err-put_final.ensures.0 c.in_err-put_final.ensures)
 
 pub returns : goal.returns
-returns g c = λ text start count p. puts_behind text _ start _ _ count _ _ c.args.written _ (search rules) p (puts_passed _ _ _ _ _ _ _ _ _ c.in_ok-put_final.ensures c.pass_on.ensures)
+returns g c = λ text start count p. puts_behind text _ start _ _ count _ _ c.args.written _ (search rules) p (puts_passed _ _ _ _ _ _ _ _ _ c.in_ok-put_final.ensures c.pass_on.ensures.puts)

@@ -1,4 +1,4 @@
-use Rattle.std.proofs.Common.{◌≡◌, rules, Option, refl, ap, sym, subst, ◌∙◌}
+use Rattle.std.proofs.Common.{◌≡◌, Option, refl, ap, sym, subst, ◌∙◌}
 use Rattle.afs_rows.specs.Callbacks as row
 use Rattle.afs_server_parts.specs.Called.{call_to, Called, IsGoodOrNone}
 use Rattle.afs_server.specs.Hearing.{heard_by, noticed_turn, renewed_turn}
@@ -12,7 +12,7 @@ renew_found-requires-clause-good g c =
     let store = c.args.store.now in
     let head = c.args.head.now in
     let call = call_to c.args.self.now.callees head.from in
-    let heard : c.in_ok-call.call ≡ heard_by store.node store.durable.boot head call = search rules in
+    let heard : c.in_ok-call.call ≡ heard_by store.node store.durable.boot head call = c.in_ok-call.ensures.call ∙ (λ i. heard_by (c.node.ensures i) (c.boot_number.ensures i) head call) in
     subst (λ (o : Option Called). IsGoodOrNone store.node head.from o) (sym heard) (heard_good store.node store.durable.boot head call (c.requires.serves.calls head.from))
 
 pub returns : goal.returns
@@ -21,6 +21,6 @@ returns g c =
     let store = c.args.store.now in
     let b = row.expired c.args.now (backs_seen old store.drawn) in
     let call = call_to old.callees c.args.head.now.from in
-    let heard : c.in_ok-call.call ≡ heard_by store.node store.durable.boot c.args.head.now call = search rules in
+    let heard : c.in_ok-call.call ≡ heard_by store.node store.durable.boot c.args.head.now call = c.in_ok-call.ensures.call ∙ (λ i. heard_by (c.node.ensures i) (c.boot_number.ensures i) c.args.head.now call) in
     let turns = ap (renewed_turn store.node store.durable.boot c.args.head.now b) heard ∙ renewed_heard store.node store.durable.boot c.args.head.now b call refl in
     turned_as (renewed_turn store.node store.durable.boot c.args.head.now b c.in_ok-call.call) (noticed_turn store.node store.durable.boot c.args.head.now b) old c.renew_found.new.self store c.renew_found.new.store c.in_ok-outs.outs turns c.in_ok-outs.ensures

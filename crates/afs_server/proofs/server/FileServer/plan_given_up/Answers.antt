@@ -1,4 +1,4 @@
-use Rattle.std.proofs.Common.{◌≡◌, [], false, sym, subst}
+use Rattle.std.proofs.Common.{◌≡◌, [], false, sym, subst, ◌∙◌}
 use Rattle.afs_num.specs.declared.calls.FsReply.TheVariants as replies
 use Rattle.afs_num.specs.declared.messages.Message.{Message}
 use Rattle.afs_model.specs.Messages.{HasSpelling}
@@ -11,13 +11,13 @@ use Rattle.afs_server.specs.Seen.{backs_seen}
 use Rattle.afs_server.proofs.Spelled.{replied_spelled}
 use Rattle.afs_server.proofs.server.FileServer.plan_given_up.Goals as goal
 
-pub plan_reply-requires-clause-spelling : goal.plan_reply-requires-clause-spelling
-plan_reply-requires-clause-spelling c = subst HasSpelling (sym c.reply-message.ensures) (replied_spelled c.args.boot c.args.head.now replies.GiveUpCallBacks c.requires.head c.requires.opcode tt)
+pub from_message-requires : goal.from_message-requires
+from_message-requires c = subst HasSpelling (sym c.reply-message.ensures) (replied_spelled c.args.boot c.args.head.now replies.GiveUpCallBacks c.requires.head c.requires.opcode tt)
 
 pub returns-clause-ends : goal.returns-clause-ends
 returns-clause-ends c l owes =
     subst (λ (m : Message). Ends l (pumped c.args.server c.args.boot (answer_turn m [] false (with_lists l (backs_seen c.args.self.now c.args.last)))) c.in_ok-replied.replied.ended)
-    c.reply-message.ensures (c.in_ok-replied.ensures.ends l owes)
+    (c.in_ok-told.ensures ∙ c.reply-message.ensures) (c.in_ok-replied.ensures.ends l owes)
 
 pub returns-clause-kept : goal.returns-clause-kept
-returns-clause-kept c = subst (λ (m : Message). Spells m c.in_ok-replied.replied.kept) c.reply-message.ensures c.in_ok-replied.ensures.kept
+returns-clause-kept c = subst (λ (m : Message). Spells m c.in_ok-replied.replied.kept) (c.in_ok-told.ensures ∙ c.reply-message.ensures) c.in_ok-replied.ensures.kept

@@ -1,4 +1,4 @@
-use Rattle.std.proofs.Common.{◌≡◌, [], false, rules, sym, subst}
+use Rattle.std.proofs.Common.{◌≡◌, [], false, ap, sym, subst, to_z-of_z, ◌∙◌}
 use Rattle.afs_num.specs.declared.messages.Message.{Message}
 use Rattle.afs_model.specs.Messages.{HasSpelling}
 use Rattle.afs_rows.specs.Callbacks.{pumped}
@@ -10,18 +10,18 @@ use Rattle.afs_server.specs.Seen.{backs_seen}
 use Rattle.afs_server.proofs.Spelled.{refused_spelled}
 use Rattle.afs_server.proofs.server.FileServer.plan_refused.Goals as goal
 
-pub plan_reply-requires-clause-spelling : goal.plan_reply-requires-clause-spelling
-plan_reply-requires-clause-spelling c =
-    let told : c.refusal-message.result ≡ refusal c.args.boot c.args.head.now c.args.code = search rules in
+pub from_message-requires : goal.from_message-requires
+from_message-requires c =
+    let told : c.refusal-message.result ≡ refusal c.args.boot c.args.head.now c.args.code = c.refusal-message.ensures ∙ ap (refusal c.args.boot c.args.head.now) (to_z-of_z c.ranges.code) in
     subst HasSpelling (sym told) (refused_spelled c.args.boot c.args.head.now c.args.code c.requires.head c.requires.code)
 
 pub returns-clause-ends : goal.returns-clause-ends
 returns-clause-ends c l owes =
-    let told : c.refusal-message.result ≡ refusal c.args.boot c.args.head.now c.args.code = search rules in
+    let told : c.in_ok-reply.reply ≡ refusal c.args.boot c.args.head.now c.args.code = c.in_ok-reply.ensures ∙ (c.refusal-message.ensures ∙ ap (refusal c.args.boot c.args.head.now) (to_z-of_z c.ranges.code)) in
     subst (λ (m : Message). Ends l (pumped c.args.server c.args.boot (answer_turn m [] false (with_lists l (backs_seen c.args.self.now c.args.last)))) c.in_ok-replied.replied.ended)
     told (c.in_ok-replied.ensures.ends l owes)
 
 pub returns-clause-kept : goal.returns-clause-kept
 returns-clause-kept c =
-    let told : c.refusal-message.result ≡ refusal c.args.boot c.args.head.now c.args.code = search rules in
+    let told : c.in_ok-reply.reply ≡ refusal c.args.boot c.args.head.now c.args.code = c.in_ok-reply.ensures ∙ (c.refusal-message.ensures ∙ ap (refusal c.args.boot c.args.head.now) (to_z-of_z c.ranges.code)) in
     subst (λ (m : Message). Spells m c.in_ok-replied.replied.kept) told c.in_ok-replied.ensures.kept

@@ -1,4 +1,4 @@
-use Rattle.std.proofs.Common.{◌≡◌, ◌≤◌, ◌+◌, rules, arith, length, ap, sym, subst, ◌∙◌}
+use Rattle.std.proofs.Common.{◌≡◌, ◌≤◌, ◌+◌, ℕ, arith, refl, ap, sym, subst, ◌∙◌}
 use Rattle.std.specs.List.{All}
 use Rattle.afs_num.specs.Nodes.{IsNode}
 use Rattle.afs_num.specs.declared.types.Node.{Node}
@@ -10,9 +10,10 @@ use Rattle.afs_server_parts.specs.Called.{AreGoodCalls}
 use Rattle.afs_server_parts.specs.Turning.{IsBreakToNode}
 use Rattle.afs_volstore.specs.Stores.{Store}
 use Rattle.afs_server.specs.Ending.{Ends}
-use Rattle.afs_server.specs.Seen.{risen_with, IsPromiseToNode, KeepsForNodes}
+use Rattle.afs_server.specs.Seen.{risen_with, IsPromiseToNode, KeepsForNodes, Memory}
 use Rattle.afs_server.proofs.Drawing.{pumped_draws}
 use Rattle.afs_server.proofs.Drawn.{breaks_drawn, clients_draw}
+use Rattle.afs_server.proofs.Making.{as_asked}
 use Rattle.afs_server.proofs.server.FileServer.restart.Goals as goal
 
 pub returns-clause-serves : goal.returns-clause-serves
@@ -20,11 +21,11 @@ returns-clause-serves g c =
     let store = c.args.store.now in
     let e = c.in_ok-ended.ended in
     let planned = c.in_ok-ended.ensures.good in
-    let kept : c.keep-outs.new.store ≡ record store { drawn = e.last } = search rules in
-    let lists : c.keep-outs.new.self.lists ≡ c.in_ok-promises.promises = search rules in
-    let callees : c.keep-outs.new.self.callees ≡ e.callees.items = search rules in
-    let boot : c.keep-outs.new.self.boot ≡ store.durable.boot = search rules in
-    let good : AreGoodCalls store.node e.callees.items = search (rules, planned) in
+    let kept : c.keep-outs.new.store ≡ record store { drawn = e.last } = c.keep-outs.ensures.store in
+    let lists : c.keep-outs.new.self.lists ≡ c.in_ok-promises.promises = ap (λ (m : Memory). m.lists) c.keep-outs.ensures.server in
+    let callees : c.keep-outs.new.self.callees ≡ e.callees.items = ap (λ (m : Memory). m.callees) c.keep-outs.ensures.server in
+    let boot : c.keep-outs.new.self.boot ≡ store.durable.boot = ap (λ (m : Memory). m.boot) c.keep-outs.ensures.server ∙ c.in_ok-callers.ensures.boot in
+    let good : AreGoodCalls store.node e.callees.items = subst (λ (n : Node). AreGoodCalls n e.callees.items) c.node.ensures planned in
     let me : c.keep-outs.new.store.node ≡ store.node = ap (λ x. x.node) kept in
     let durable : c.keep-outs.new.store.durable ≡ store.durable = ap (λ x. x.durable) kept in
     record {
@@ -44,9 +45,10 @@ returns-clause-draws g c =
     let e = c.in_ok-ended.ended in
     let l = c.in_ok-promises.promises in
     let planned = c.in_ok-ended.ensures.ends in
-    let ends : Ends l (pumped store.node store.durable.boot (risen_with store.node l)) e = search (rules, planned) in
-    let kept : c.keep-outs.new.store ≡ record store { drawn = e.last } = search rules in
-    let lists : c.keep-outs.new.self.lists ≡ l = search rules in
+    let ends : Ends l (pumped store.node store.durable.boot (risen_with store.node l)) e =
+    as_asked (λ (n : Node) (boot last : ℕ). Ends l (pumped n boot (risen_with n l)) e) store c.node.result c.boot_number.result store.drawn c.node.ensures c.boot_number.ensures refl planned in
+    let kept : c.keep-outs.new.store ≡ record store { drawn = e.last } = c.keep-outs.ensures.store in
+    let lists : c.keep-outs.new.self.lists ≡ l = ap (λ (m : Memory). m.lists) c.keep-outs.ensures.server in
     let drawn = ap (λ (x : Store _). x.drawn) kept in
     let last = ap (λ (b : Backs). b.last_call) ends.backs in
     let most = pumped_draws store.node store.durable.boot (risen_with store.node l) c.in_ok-promises.ensures.nodes in

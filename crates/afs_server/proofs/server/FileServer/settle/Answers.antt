@@ -1,17 +1,22 @@
-use Rattle.std.proofs.Common.{◌≡◌, rules, refl}
+use Rattle.std.proofs.Common.{◌≡◌, ◌≤◌, ℕ, List, refl, ap, subst, ◌∙◌}
+use Rattle.afs_num.specs.declared.types.Node.{Node}
 use Rattle.afs_breaks.specs.Promises.{expired}
+use Rattle.afs_breaks.specs.declared.types.OwedBreak.{OwedBreak}
 use Rattle.afs_rows.specs.Callbacks as row
 use Rattle.afs_rows.specs.Callbacks.{ends_all, pumped, settles}
 use Rattle.afs_server.specs.Ending.{Ends}
 use Rattle.afs_server.specs.Handling.{server_seen}
-use Rattle.afs_server.specs.Seen.{backs_seen}
-use Rattle.afs_server_parts.specs.Called.{call_seen, AreGoodCalls}
+use Rattle.afs_server.specs.Seen.{backs_seen, Memory}
+use Rattle.afs_server_parts.specs.Called.{call_seen, AreGoodCalls, Called}
 use Rattle.afs_server.proofs.Lasting.{ended_promised, ended_to_nodes, lasting_promised, lasting_to_nodes}
-use Rattle.afs_server.proofs.Making.{steps}
+use Rattle.afs_server.proofs.Making.{as_asked, remembered, steps, to_nodes}
 use Rattle.afs_server.proofs.server.FileServer.settle.Goals as goal
 
 pub plan_settled-requires : goal.plan_settled-requires
-plan_settled-requires g c = record { nodes = record { node = search rules; owed = c.requires.serves.owed; calls = search rules } }
+plan_settled-requires g c = record { nodes = to_nodes c.args.store.now.node c.node.result c.args.self.now c.args.store.now.durable c.node.ensures c.requires.serves }
+
+pub keep-outs-requires : goal.keep-outs-requires
+keep-outs-requires g c = subst (λ (n : ℕ). n ≤ c.in_ok-ended.ended.last) c.last_number.ensures c.in_ok-ended.ensures.drawn
 
 pub returns : goal.returns
 returns g c =
@@ -22,15 +27,17 @@ returns g c =
     let lasting = expired c.args.now old.lists in
     let lists = ends_all call.breaks lasting in
     let turn = settles store.node c.args.node call (row.expired c.args.now (backs_seen old store.drawn)) in
-    let planned = c.in_ok-ended.ensures.ends in
-    let told = c.in_ok-ended.ensures.lines in
-    let good = c.in_ok-ended.ensures.good in
-    let memory : c.keep-outs.new.self ≡ record old { lists = lists; callees = e.callees.items; held = e.held } = search rules in
-    let kept : c.keep-outs.new.store ≡ record store { drawn = e.last } = search rules in
-    let ends : Ends lists (pumped store.node store.durable.boot turn) e = search (rules, planned) in
-    let lines : e.outs.lines ≡ turn.lines = search (rules, told) in
-    let calls : AreGoodCalls store.node e.callees.items = search (rules, good) in
+    let left : c.settle_all.new.promises ≡ lists =
+    c.settle_all.ensures
+    ∙ (ap (λ (os : List OwedBreak). ends_all os c.expire.new.self) (c.as_slice.ensures ∙ ap (λ (k : Called). k.breaks) c.call.view_is)
+    ∙ ap (ends_all call.breaks) (c.expire.ensures ∙ ap (λ (m : Memory). expired c.args.now m.lists) c.self.view_is)) in
+    let memory = remembered _ old c.keep-outs.new.self c.settle_all.new.promises lists e c.self.view_is left c.keep-outs.ensures.server in
+    let ends : Ends lists (pumped store.node store.durable.boot turn) e =
+    as_asked (λ (n : Node) (boot last : ℕ). Ends lists (pumped n boot (settles n c.args.node call (row.expired c.args.now (backs_seen old last)))) e) store c.node.result c.boot_number.result c.last_number.result c.node.ensures c.boot_number.ensures c.last_number.ensures c.in_ok-ended.ensures.ends in
+    let lines : e.outs.lines ≡ turn.lines =
+    as_asked (λ (n : Node) (boot last : ℕ). e.outs.lines ≡ (settles n c.args.node call (row.expired c.args.now (backs_seen old last))).lines) store c.node.result c.boot_number.result c.last_number.result c.node.ensures c.boot_number.ensures c.last_number.ensures c.in_ok-ended.ensures.lines in
     steps (server_seen old store) turn.lines turn old c.keep-outs.new.self store c.keep-outs.new.store e lists c.keep-outs.result
-    refl memory kept c.keep-outs.ensures.outs ends lines c.requires.serves
+    refl memory c.keep-outs.ensures.store c.keep-outs.ensures.outs ends lines c.requires.serves
     (ended_promised call.breaks lasting (lasting_promised c.args.now old.lists.promises c.requires.serves.promises))
-    (ended_to_nodes call.breaks lasting (lasting_to_nodes c.args.now old.lists.owed c.requires.serves.owed)) calls
+    (ended_to_nodes call.breaks lasting (lasting_to_nodes c.args.now old.lists.owed c.requires.serves.owed))
+    (subst (λ (n : Node). AreGoodCalls n e.callees.items) c.node.ensures c.in_ok-ended.ensures.good)

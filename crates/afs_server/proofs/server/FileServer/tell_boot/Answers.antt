@@ -1,7 +1,6 @@
-use Rattle.std.proofs.Common.{◌≡◌, [], rules, refl, sym, subst}
-use Rattle.afs_num.specs.declared.messages.Message.{Message}
+use Rattle.std.proofs.Common.{◌≡◌, ◌≤◌, ℕ, [], refl, subst}
+use Rattle.afs_num.specs.declared.types.Node.{Node}
 use Rattle.afs_breaks.specs.Promises.{expired}
-use Rattle.afs_model.specs.Messages.{HasSpelling}
 use Rattle.afs_rows.specs.Callbacks as row
 use Rattle.afs_rows.specs.Callbacks.{pumped}
 use Rattle.afs_rows.specs.ServerRow.{boot_told}
@@ -11,30 +10,26 @@ use Rattle.afs_server.specs.Handling.{server_seen}
 use Rattle.afs_server.specs.Seen.{backs_seen}
 use Rattle.afs_server_parts.specs.Called.{AreGoodCalls}
 use Rattle.afs_server.proofs.Lasting.{lasting_promised, lasting_to_nodes}
-use Rattle.afs_server.proofs.Making.{steps}
-use Rattle.afs_server.proofs.Spelled.{told_spelled}
+use Rattle.afs_server.proofs.Making.{as_asked, steps, to_nodes}
 use Rattle.afs_server.proofs.server.FileServer.tell_boot.Goals as goal
 
-pub plan_sent-requires-clause-nodes : goal.plan_sent-requires-clause-nodes
-plan_sent-requires-clause-nodes g c = record { node = search rules; owed = c.requires.serves.owed; calls = search rules }
+pub plan_boot_told-requires-clause-nodes : goal.plan_boot_told-requires-clause-nodes
+plan_boot_told-requires-clause-nodes g c = to_nodes c.args.store.now.node c.node.result c.args.self.now c.args.store.now.durable c.node.ensures c.requires.serves
 
-pub plan_sent-requires-clause-spelling : goal.plan_sent-requires-clause-spelling
-plan_sent-requires-clause-spelling g c =
-    let told : c.notice-message.result ≡ boot_told c.args.store.now.durable.boot c.args.head.now = search rules in
-    subst HasSpelling (sym told) (told_spelled c.args.store.now.durable.boot c.args.head.now c.requires.head)
+pub keep_at-outs-requires : goal.keep_at-outs-requires
+keep_at-outs-requires g c = subst (λ (n : ℕ). n ≤ c.in_ok-ended.ended.last) c.last_number.ensures c.in_ok-ended.ensures.drawn
 
 pub returns : goal.returns
 returns g c =
     let old = c.args.self.now in
     let store = c.args.store.now in
+    let head = c.args.head.now in
     let e = c.in_ok-ended.ended in
-    let turn = sent_turn (boot_told store.durable.boot c.args.head.now) (row.expired c.args.now (backs_seen old store.drawn)) in
-    let planned = c.in_ok-ended.ensures.ends in
-    let good = c.in_ok-ended.ensures.good in
-    let memory : c.keep-outs.new.self ≡ record old { lists = expired c.args.now old.lists; callees = e.callees.items; held = e.held } = search rules in
-    let kept : c.keep-outs.new.store ≡ record store { drawn = e.last } = search rules in
-    let ends : Ends (expired c.args.now old.lists) (pumped store.node store.durable.boot turn) e = search (rules, planned) in
-    let calls : AreGoodCalls store.node e.callees.items = search (rules, good) in
-    steps (server_seen old store) [] turn old c.keep-outs.new.self store c.keep-outs.new.store e (expired c.args.now old.lists) c.keep-outs.result
-    refl memory kept c.keep-outs.ensures.outs ends c.in_ok-ended.ensures.lines c.requires.serves
-    (lasting_promised c.args.now old.lists.promises c.requires.serves.promises) (lasting_to_nodes c.args.now old.lists.owed c.requires.serves.owed) calls
+    let lists = expired c.args.now old.lists in
+    let turn = sent_turn (boot_told store.durable.boot head) (row.expired c.args.now (backs_seen old store.drawn)) in
+    let ends : Ends lists (pumped store.node store.durable.boot turn) e =
+    as_asked (λ (n : Node) (boot last : ℕ). Ends lists (pumped n boot (sent_turn (boot_told boot head) (row.expired c.args.now (backs_seen old last)))) e) store c.node.result c.boot_number.result c.last_number.result c.node.ensures c.boot_number.ensures c.last_number.ensures c.in_ok-ended.ensures.ends in
+    steps (server_seen old store) [] turn old c.keep_at-outs.new.self store c.keep_at-outs.new.store e lists c.keep_at-outs.result
+    refl c.keep_at-outs.ensures.server c.keep_at-outs.ensures.store c.keep_at-outs.ensures.outs ends c.in_ok-ended.ensures.lines c.requires.serves
+    (lasting_promised c.args.now old.lists.promises c.requires.serves.promises) (lasting_to_nodes c.args.now old.lists.owed c.requires.serves.owed)
+    (subst (λ (n : Node). AreGoodCalls n e.callees.items) c.node.ensures c.in_ok-ended.ensures.good)

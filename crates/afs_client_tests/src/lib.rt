@@ -1,5 +1,0 @@
-//! Tests of a client's cache.
-#![tactic(auto)]
-
-#[cfg(test)]
-mod caches;
