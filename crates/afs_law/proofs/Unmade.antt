@@ -1,67 +1,31 @@
--- A server that has no room for a change has made none for the same act, however many servers a cell has.
+-- A server answers a changing call only where no other call of its act had changed something before that ran, however many servers a cell has.
 use Rattle.afs_history.specs.declared.lines.Line.{Line}
 use Rattle.afs_history.specs.declared.lines.Line.TheVariants as lines
 use Rattle.afs_history.specs.declared.scripts.Script.{Script}
-use Rattle.afs_ideal.specs.Operations.{Caller, Result, changes, no_operation, op, reads, refused, the_user, volume_called, volume_changed}
-use Rattle.afs_ideal.specs.Volumes.{Volume}
+use Rattle.afs_ideal.specs.Operations.{volume_changed}
 use Rattle.afs_law.proofs.Basics.{ByClient, Each, IfCall, OfCall, by_client}
 use Rattle.afs_law.proofs.Changing.{run_each}
 use Rattle.afs_law.proofs.KeysOnce.{by_onto}
 use Rattle.afs_law.proofs.Lone.{AreChanging, Lones, lones_first, lones_kept}
-use Rattle.afs_law.proofs.Ops.{changes_is}
 use Rattle.afs_law.proofs.Passing.{lone_at}
 use Rattle.afs_law.proofs.Saving.{any_change}
 use Rattle.afs_law.proofs.Sent.{given_each, older_each}
 use Rattle.afs_law.proofs.Words.{AreLone, IsChangingUnder, IsOne}
-use Rattle.afs_law.specs.Ideal.{call_under, set_up, volume_after}
-use Rattle.afs_law.specs.Legal.{GoodNoRoom, HasActed, HasChange, IsChanging, all_on, answer_at, answer_on, op_on, statuses_on}
+use Rattle.afs_law.specs.Ideal.{call_under, set_up}
+use Rattle.afs_law.specs.Legal.{HasActed, HasChange, RunsFirstOfAct}
 use Rattle.afs_law.specs.Parts.{EachEntry, EachSent}
 use Rattle.afs_law.specs.Past.{HasChangeBy, Ran, answered_key, called_key, is_of_act, lines_of, sent_of}
 use Rattle.afs_num.specs.declared.calls.FsCall.{FsCall}
-use Rattle.afs_num.specs.declared.calls.FsCall.TheVariants as calls
 use Rattle.afs_num.specs.declared.messages.Call.TheVariants as ask
 use Rattle.afs_num.specs.declared.messages.Carried.{Carried}
 use Rattle.afs_num.specs.declared.messages.Carried.TheVariants as carried
 use Rattle.afs_num.specs.declared.messages.Message.{Message}
-use Rattle.afs_num.specs.declared.types.Fid.{Fid}
 use Rattle.afs_num.specs.declared.types.Head.{Head}
 use Rattle.afs_num.specs.declared.types.Key.{Key}
 use Rattle.afs_num.specs.declared.types.Node.TheVariants.{Client}
 use Rattle.afs_num.specs.declared.types.Node.{Node}
 use Rattle.afs_rows.specs.Runs.{Cell, Entry, RunsTo, moved, start}
-use Rattle.std.proofs.Common.{◌≡◌, ℕ, inl, inr, true, List, [], ◌∷◌, ◌++◌, Option, Some, None, refl, sym, ap, subst, ◌∙◌, append_assoc}
-
--- ---- what the ideal operation changes is the volume of a changing call
-
-result_changes : (id : ℕ) (caller : Caller) (call : FsCall) (v : Volume) (r : Result) → volume_called call ≡ Some id → op id caller call v ≡ r → IsChanging (Some r) → volume_changed call ≡ None → ⊥
-result_changes id caller call v (refused code) of is h none = h
-result_changes id caller call v (reads shown) of is h none = h
-result_changes id caller call v (changes es n) of is h none = changes_is id caller call v es n of is none
-result_changes id caller call v no_operation of is h none = h
-
-op_changes : (id : ℕ) (caller : Caller) (call : FsCall) (o : Option Volume) → volume_called call ≡ Some id → IsChanging (Some (op_on id caller call o)) → volume_changed call ≡ None → ⊥
-op_changes id caller call None of h none = h
-op_changes id caller call (Some v) of h none = result_changes id caller call v (op id caller call v) of refl h none
-
-on_changes : (user : List ℕ) (call : FsCall) (o : Option ℕ) (past : List Entry) → volume_called call ≡ o → IsChanging (answer_on user call o past) → volume_changed call ≡ None → ⊥
-on_changes user call None past of h none = h
-on_changes user call (Some id) past of h none = op_changes id (the_user user) call (volume_after id past) of h none
-
-all_not : (q r : Result) → (IsChanging (Some r) → ⊥) → IsChanging (Some (all_on q r)) → ⊥
-all_not (refused code) r w h = h
-all_not (reads shown) r w h = w h
-all_not (changes es n) r w h = w h
-all_not no_operation r w h = w h
-
-statuses_not : (caller : Caller) (fids : List Fid) (past : List Entry) → IsChanging (Some (statuses_on caller fids past)) → ⊥
-statuses_not caller [] past h = h
-statuses_not caller (f ∷ fs) past h = all_not (op_on f.volume caller (calls.FetchStatus f) (volume_after f.volume past)) (statuses_on caller fs past) (statuses_not caller fs past) h
-
-is_changing : (user : List ℕ) (call : FsCall) (past : List Entry) → IsChanging (answer_at user call past) → volume_changed call ≡ None → ⊥
-is_changing user (calls.GiveUpCallBacks fids callbacks) past h none = h
-is_changing user calls.GetTime past h none = h
-is_changing user (calls.BulkStatus fids) past h none = statuses_not (the_user user) fids past h
-is_changing user call past h none = on_changes user call (volume_called call) past refl h none
+use Rattle.std.proofs.Common.{◌≡◌, ℕ, inl, inr, true, List, [], ◌∷◌, ◌++◌, Some, None, refl, sym, ap, subst, ◌∙◌, append_assoc}
 
 -- ---- changes under a key
 
@@ -83,12 +47,12 @@ ran_fact P past j m ran user call is to all =
     let its : IfCall P ran.message = given_each (IfCall P) ran.at.lines (sent_of ran.older) ran.message ran.given (older_each (IfCall P) ran.newer ran.at ran.older (subst (λ (p : List Entry). Each (IfCall P) (sent_of p)) ran.split all)) in
     by_client j ran.message.head.from (P ran.message.head user call) (ap (λ (k : Key). k.node) ran.key ∙ to) (subst (λ (x : Carried). OfCall (ByClient P) ran.message.head x) is its)
 
-unmade : (past : List Entry) (j : ℕ) (m : Message) (ran : Ran m.head past) (user : List ℕ) (call : FsCall) → ran.message.carried ≡ carried.Call user (ask.File call) → m.head.to ≡ Client j → AreLone (sent_of past) past → AreChanging past → Each (IfCall (IsOne (sent_of past))) (sent_of past) → IsChanging (answer_at user call ran.older) → HasActed (answered_key m.head) ran.older → ⊥
-unmade past j m ran user call is to lone changing ones ch x =
+unmade : (past : List Entry) (j : ℕ) (m : Message) (ran : Ran m.head past) (user : List ℕ) (call : FsCall) → ran.message.carried ≡ carried.Call user (ask.File call) → m.head.to ≡ Client j → AreLone (sent_of past) past → AreChanging past → Each (IfCall (IsOne (sent_of past))) (sent_of past) → (id : ℕ) → volume_changed call ≡ Some id → HasActed (answered_key m.head) ran.older → ⊥
+unmade past j m ran user call is to lone changing ones id ch x =
     let k : Key = answered_key m.head in
     let l : Key = x.changed in
     let one : call_under (called_key ran.message.head) (sent_of past) ≡ Some (user, call) = ran_fact (IsOne (sent_of past)) past j m ran user call is to ones in
-    let mine : IsChangingUnder k (sent_of past) = record { user = user; call = call; one = subst (λ (q : Key). call_under q (sent_of past) ≡ Some (user, call)) ran.key one; changes = is_changing user call ran.older ch } in
+    let mine : IsChangingUnder k (sent_of past) = record { user = user; call = call; one = subst (λ (q : Key). call_under q (sent_of past) ≡ Some (user, call)) ran.key one; changes = λ none. (let no_ : None ≡ Some id = sym none ∙ ch in absurd cc) } in
     let by = change_who l (lines_of ran.older) x.change in
     let has : HasChangeBy by.0 l (lines_of past) = subst (λ (p : List Entry). HasChangeBy by.0 l (lines_of p)) (sym ran.split) (by_lines by.0 l ran.newer (ran.at ∷ ran.older) (by_onto by.0 l ran.at.lines (lines_of ran.older) by.1)) in
     let split : past ≡ (ran.newer ++ (ran.at ∷ x.newer)) ++ x.older = ran.split ∙ (ap (λ (p : List Entry). ran.newer ++ (ran.at ∷ p)) x.split ∙ sym (append_assoc ran.newer (ran.at ∷ x.newer) x.older)) in
@@ -96,17 +60,17 @@ unmade past j m ran user call is to lone changing ones ch x =
 
 -- ---- every reply
 
-room_of : (s : Script) (c : Cell) (e : Entry) (past : List Entry) → Lones s c (e ∷ past) → (m : Message) → GoodNoRoom (e ∷ past) m
-room_of s c e past L m told i j from to ran user call is ch x =
+first_of : (s : Script) (c : Cell) (e : Entry) (past : List Entry) → Lones s c (e ∷ past) → (m : Message) → RunsFirstOfAct (e ∷ past) m
+first_of s c e past L m i j from to ran user call is id ch x =
     let K = L.0.0.0.0.0.0.0.0 in
     let A = L.0.0.0.0.0.0.0.1 in
     let sent : sent_of (e ∷ past) ≡ c.sent = K.hears.told in
-    unmade (e ∷ past) j m ran user call is to L.0.0.0.1.1 L.1.0 (subst (λ (ms : List Message). Each (IfCall (IsOne ms)) ms) (sym sent) A.ones) ch x
+    unmade (e ∷ past) j m ran user call is to L.0.0.0.1.1 L.1.0 (subst (λ (ms : List Message). Each (IfCall (IsOne ms)) ms) (sym sent) A.ones) id ch x
 
-rooms_of : (s : Script) (c : Cell) (e : Entry) (past : List Entry) → Lones s c (e ∷ past) → (ms : List Message) → EachSent GoodNoRoom (e ∷ past) ms
-rooms_of s c e past L [] = tt
-rooms_of s c e past L (m ∷ ms) = (room_of s c e past L m, rooms_of s c e past L ms)
+firsts_of : (s : Script) (c : Cell) (e : Entry) (past : List Entry) → Lones s c (e ∷ past) → (ms : List Message) → EachSent RunsFirstOfAct (e ∷ past) ms
+firsts_of s c e past L [] = tt
+firsts_of s c e past L (m ∷ ms) = (first_of s c e past L m, firsts_of s c e past L ms)
 
-pub run_room : (s : Script) (history : List Entry) (end : Cell) → RunsTo history s end → EachEntry (λ past e. EachSent GoodNoRoom (e ∷ past) e.sent) (set_up s ∷ []) history
-run_room s h end r =
-    run_each (Lones s) (λ past e. EachSent GoodNoRoom (e ∷ past) e.sent) (lones_kept s) (λ c past x k. rooms_of s (moved c x).cell (moved c x).entry past (lones_kept s c past x k) (moved c x).entry.sent) r.inputs (start s) (set_up s ∷ []) h end (lones_first s) r.leads
+pub run_firsts : (s : Script) (history : List Entry) (end : Cell) → RunsTo history s end → EachEntry (λ past e. EachSent RunsFirstOfAct (e ∷ past) e.sent) (set_up s ∷ []) history
+run_firsts s h end r =
+    run_each (Lones s) (λ past e. EachSent RunsFirstOfAct (e ∷ past) e.sent) (lones_kept s) (λ c past x k. firsts_of s (moved c x).cell (moved c x).entry past (lones_kept s c past x k) (moved c x).entry.sent) r.inputs (start s) (set_up s ∷ []) h end (lones_first s) r.leads

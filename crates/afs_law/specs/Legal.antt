@@ -15,7 +15,7 @@ use Rattle.afs_num.specs.declared.calls.FsCall.{FsCall}
 use Rattle.afs_num.specs.declared.calls.FsCall.TheVariants as calls
 use Rattle.afs_num.specs.declared.messages.Carried.{Carried}
 use Rattle.afs_num.specs.declared.messages.Message.{Message}
-use Rattle.afs_ideal.specs.Operations.{Caller, the_user, Result, refused, changes, no_operation, op, code_of, volume_called}
+use Rattle.afs_ideal.specs.Operations.{Caller, the_user, Result, refused, changes, no_operation, op, code_of, volume_called, volume_changed}
 use Rattle.afs_ideal.specs.Volumes.{Volume, Edit, versions_by}
 use Rattle.afs_law.specs.Breaks.{HasDrop, unbroken_grant, IsNamedIn, AllOwes, HasEnded, HasStopped, HasTimeout, EndedOf, EndedAll, GoodSettle, GoodQuit, live_grant, lines_at, HasOwe, last_number}
 use Rattle.afs_rows.specs.Going.{Going, Need, answers, asks_for, next, asked, gives_back, reads_rights}
@@ -600,15 +600,16 @@ pub record HasActed (k : Key) (past : List Entry) : Type 0 where
   pub change : HasChange changed (lines_of past)
   pub same : is_of_act k.node changed older ≡ true
 
--- Where a server tells a client that it has no room for a change, nothing was changed by another call of the act before this one ran
-abbrev pub GoodNoRoom : List Entry → Message → Type 0
-GoodNoRoom past m =
-    code_told m.carried ≡ Some (pos 108) → (i j : ℕ) → m.head.from ≡ Server i → m.head.to ≡ Client j → (ran : Ran m.head past) (user : List ℕ) (call : FsCall) → ran.message.carried ≡ carried.Call user (ask.File call) → IsChanging (answer_at user call ran.older) → HasActed (answered_key m.head) ran.older → ⊥
+-- What a server tells a client of a call that may change something: when that call ran, nothing had been changed by another call of its act. So a
+-- call that repeats a change of its own act under another key isn't answered, also if that act is over by now
+abbrev pub RunsFirstOfAct : List Entry → Message → Type 0
+RunsFirstOfAct past m =
+    (i j : ℕ) → m.head.from ≡ Server i → m.head.to ≡ Client j → (ran : Ran m.head past) (user : List ℕ) (call : FsCall) → ran.message.carried ≡ carried.Call user (ask.File call) → (id : ℕ) → volume_changed call ≡ Some id → HasActed (answered_key m.head) ran.older → ⊥
 
--- what servers answer is of now, and none is refused since there is no room where its act has changed something
+-- what servers answer is of now, and each reply to a changing call is to the first of its act that changes something
 abbrev pub ArePresent : List Entry → List Message → Type 0
 ArePresent past [] = ⊤
-ArePresent past (m ∷ ms) = (IsPresent past m × GoodNoRoom past m) × ArePresent past ms
+ArePresent past (m ∷ ms) = (IsPresent past m × RunsFirstOfAct past m) × ArePresent past ms
 
 -- A message is sent by the node that its header names as sender, in the entry with which `past` begins, and a call is one by its header.
 -- A reply of a server waits for its breaks, what a call gives back was dropped, and a client's call has a key that no file call had
@@ -862,7 +863,7 @@ IsOfScript s actors.Nobody = ⊤
 -- An entry lays no volumes, for the set-up alone does; and it is of a node of the script. A server that begins again was down, and is then in
 -- a boot above the last one that it began. A node that is down does nothing but begin again, or fail to. What an entry is given was sent to its
 -- node; and a client that runs a call which breaks promises drops what these are on. A server answers in the boot in which it is,
--- and doesn't say that it has no room where the act has changed something
+-- and to a changing call only where no other call of its act had changed something before that ran
 abbrev pub IsEntryOf : Script → List Entry → Entry → Type 0
 IsEntryOf s past e = ((e.volumes ≡ []) × IsOfScript s e.actor) × (AreRising (lines_of past) e.lines × (IsLivedBy e.actor past e.lines e.sent × (IsDelivered e.actor past e.lines × (HandlesBreaks e.actor past e.lines × ArePresent (e ∷ past) e.sent))))
 
