@@ -26,7 +26,7 @@ use Rattle.afs_law.proofs.Basics.{both, same_key-refl, some_of}
 use Rattle.afs_law.proofs.Passing.{sent_right}
 use Rattle.afs_law.proofs.Recent.{sent_before}
 use Rattle.afs_law.proofs.Heard.{ran_heard}
-use Rattle.afs_law.specs.Grants.{IsDropped}
+use Rattle.afs_law.specs.Grants.{GrantOf, IsDropped}
 use Rattle.afs_num.specs.declared.histories.Actor.{Actor}
 use Rattle.afs_num.specs.declared.types.Node.{Node}
 use Rattle.afs_law.proofs.Worked.{apart_numbers, home, by_lines, stores, alters, answer, begun, entries, file, root, script, six_front}
@@ -1662,7 +1662,7 @@ ran_second = record {
 }
 
 no_room_for_what_was_made : Legal (made_first ++ refuses_second ∷ []) (script 1) → ⊥
-unfolding moved begin_row client_row server_row back_timeout_row wake_row start_row record_bytes head_form volume_form spelled opaque pad word laid_at led name_ok directory_bytes name_bytes rights_of image acl_text digits entry_text directory_of names_at opaque_at word_at counted_at whole_at count_at name_at spelled_at bytes_below
+unfolding moved begin_row client_row server_row back_timeout_row wake_row start_row record_bytes head_form volume_form spelled opaque pad word laid_at led name_ok directory_bytes name_bytes rights_of image acl_text digits entry_text directory_of names_at opaque_at word_at counted_at whole_at count_at name_at spelled_at bytes_below ran_second
 no_room_for_what_was_made h =
     h.1.1.1.0.1.0.1.1.1.1.1.0.1 refl 1 1 refl refl ran_second (codes "guest") (stored_whole file (codes "def")) refl tt
     (record { newer = take 1 made_past_first; older = drop 1 made_past_first; split = refl; of_act = refl; changed = key_of_one 1; other = λ e. two_not_one e; change = inl refl; same = refl })
