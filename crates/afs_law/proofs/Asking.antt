@@ -5,6 +5,7 @@ use Rattle.afs_law.proofs.Acting.{Acts, IsTheCall, begins_acts, falls_acts, give
 use Rattle.afs_law.proofs.Addressed.{AsksOf, IsHome, IsOneIn}
 use Rattle.afs_law.proofs.Basics.{ByClient, Each, IfCall, OfCall, UpTo, at_put, by_client, each_map, if_call}
 use Rattle.afs_law.proofs.Calling.{IsUncalled, uncalled_any}
+use Rattle.afs_law.proofs.Homed.{GivesHome}
 use Rattle.afs_law.proofs.KeysOnce.{IsKnown, any_told, by_key, known_pair}
 use Rattle.afs_law.proofs.Knowing.{served_uncalled, started_uncalled, timed_uncalled, woken_uncalled}
 use Rattle.afs_law.proofs.Located.{laid_at}
@@ -101,11 +102,11 @@ accepts_each : (s : Script) (n : Node) (fids : List Fid) (ls : List Line) → ((
 accepts_each s n [] ls w = tt
 accepts_each s n (f ∷ fs) ls w = (any_home s f.volume n ls (w f.volume (inl refl)), accepts_each s n fs ls (λ id x. w id (inr x)))
 
-at_home_by : (s : Script) (n : Node) (call : FsCall) (ls : List Line) → ((id : ℕ) → AsksOf call id → is_at id n s.volumes) → IsAtHome s n call ls
-at_home_by s n (calls.BulkStatus fids) ls w = accepts_each s n fids ls w
-at_home_by s n (calls.GiveUpCallBacks fids callbacks) ls w = λ id e. absurd cc
-at_home_by s n calls.GetTime ls w = λ id e. absurd cc
-at_home_by s n call ls w = λ id e. any_home s id n ls (w id e)
+at_home_by : (s : Script) (n : Node) (call : FsCall) (ls : List Line) → ((id : ℕ) → AsksOf call id → is_at id n s.volumes) → GivesHome s n call → IsAtHome s n call ls
+at_home_by s n (calls.BulkStatus fids) ls w g = accepts_each s n fids ls w
+at_home_by s n (calls.GiveUpCallBacks fids callbacks) ls w g = accepts_each s n fids ls g
+at_home_by s n calls.GetTime ls w g = λ id e. absurd cc
+at_home_by s n call ls w g = λ id e. any_home s id n ls (w id e)
 
-pub is_at_home : (s : Script) (head : Head) (user : List ℕ) (call : FsCall) (ls : List Line) → IsHome s head user call → IsAtHome s head.to call ls
-is_at_home s head user call ls h = at_home_by s head.to call ls (λ id x. subst (λ (q : Node). is_at id q s.volumes) (sym (h.to id x)) (laid_at s id (h.laid id x)))
+pub is_at_home : (s : Script) (head : Head) (user : List ℕ) (call : FsCall) (ls : List Line) → IsHome s head user call → GivesHome s head.to call → IsAtHome s head.to call ls
+is_at_home s head user call ls h g = at_home_by s head.to call ls (λ id x. subst (λ (q : Node). is_at id q s.volumes) (sym (h.to id x)) (laid_at s id (h.laid id x))) g

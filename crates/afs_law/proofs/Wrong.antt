@@ -60,7 +60,7 @@ use Rattle.afs_num.specs.declared.messages.Reply.TheVariants as tell
 use Rattle.afs_num.specs.declared.calls.FsReply.TheVariants as replies
 use Rattle.afs_num.specs.declared.messages.Message.{Message}
 use Rattle.afs_num.specs.declared.types.Node.TheVariants.{Client, Server}
-use Rattle.std.proofs.Common.{arith, ◌<◌, ◌≤◌, ◌≡◌, ◌∙◌, true, false, cond, not, nat_eq, Bool, ℕ, ℤ, List, [], ◌∷◌, ◌++◌, ◌⊎◌, Option, None, Some, ap, sym, subst, refl, inl, inr, negsuc, pos}
+use Rattle.std.proofs.Common.{arith, eqb-true, ◌<◌, ◌≤◌, ◌≡◌, ◌∙◌, true, false, cond, not, nat_eq, Bool, ℕ, ℤ, List, [], ◌∷◌, ◌++◌, ◌⊎◌, Option, None, Some, ap, sym, subst, refl, inl, inr, negsuc, pos}
 use Rattle.std.specs.Fmt.{digits}
 use Rattle.std.specs.Prelude.{⊤, ◌&&◌, codes, drop, map, take}
 
@@ -1358,6 +1358,59 @@ called_ahead : Legal (alters 0 to_boot_two (entries (start (script 1)) (begins 1
 unfolding moved begin_row client_row server_row back_timeout_row wake_row start_row record_bytes head_form volume_form spelled opaque pad word laid_at led name_ok directory_bytes name_bytes rights_of image acl_text digits entry_text directory_of names_at opaque_at word_at counted_at whole_at count_at name_at spelled_at bytes_below
 called_ahead h = let e : 2 ≡ 1 = h.0.1.1.1.0.0.boot in absurd (omega (arith, e))
 
+-- ---- a client's calls are numbered one by one, in its epoch
+
+-- its first call is its seventh
+abbrev as_seven : Entry → Entry
+as_seven e = record e { sent = map (λ (m : Message). record m { head = record m.head { number = 7 } }) e.sent }
+
+sent_if : (b : Bool) → cond b true false ≡ true → b ≡ true
+sent_if true e = refl
+sent_if false e = e
+
+called_seventh_first : Legal (alters 0 as_seven (entries (start (script 1)) (begins 1 (acts.Open (operands.Fid file)) ∷ []))) (script 1) → ⊥
+unfolding moved begin_row client_row server_row back_timeout_row wake_row start_row record_bytes head_form volume_form spelled opaque pad word laid_at led name_ok directory_bytes name_bytes rights_of image acl_text digits entry_text directory_of names_at opaque_at word_at counted_at whole_at count_at name_at spelled_at bytes_below
+called_seventh_first h = elim h.0.1.1.1.0.0.order [
+  | inl e ↦ let no_ : 7 ≡ 1 = e in absurd (omega (arith, no_))
+  | inr x ↦ let same : 7 ≡ x.0 = eqb-true 7 x.0 (sent_if (nat_eq 7 x.0) x.1.1) in absurd (omega (arith, same, x.1.0))
+]
+
+-- it calls in its next epoch, before it crashed
+abbrev in_epoch_two : Entry → Entry
+in_epoch_two e = record e { sent = map (λ (m : Message). record m { head = record m.head { epoch = 2 } }) e.sent }
+
+called_in_the_next_epoch : Legal (alters 0 in_epoch_two (entries (start (script 1)) (begins 1 (acts.Open (operands.Fid file)) ∷ []))) (script 1) → ⊥
+unfolding moved begin_row client_row server_row back_timeout_row wake_row start_row record_bytes head_form volume_form spelled opaque pad word laid_at led name_ok directory_bytes name_bytes rights_of image acl_text digits entry_text directory_of names_at opaque_at word_at counted_at whole_at count_at name_at spelled_at bytes_below
+called_in_the_next_epoch h = let e : 2 ≡ 1 = h.0.1.1.1.0.0.epoch in absurd (omega (arith, e))
+
+-- ---- an act that needs no more calls nobody
+
+called_after_its_end : Legal (step_of (Client 1) (lines.Begin (Client 1) (acts.Open (operands.Fid unknown)) ∷ []) (asks_the_time ∷ []) ∷ []) (script 1) → ⊥
+unfolding moved begin_row client_row server_row back_timeout_row wake_row start_row record_bytes head_form volume_form spelled opaque pad word laid_at led name_ok directory_bytes name_bytes rights_of image acl_text digits entry_text directory_of names_at opaque_at word_at counted_at whole_at count_at name_at spelled_at bytes_below
+called_after_its_end h = let g = h.0.1.1.1.0.0 in subst (λ (a : Going). IsOpen (next a)) (sym (some_of opens_unknown g.act g.runs)) g.unended
+
+-- ---- what is given back is given back to its server, and is something
+
+abbrev gives_front : List Input
+gives_front = begins 1 (acts.Open (operands.Fid file)) ∷ gives 1 steady ∷ gives 2 steady ∷ begins 1 acts.GiveUp ∷ []
+
+abbrev to_client_two : Entry → Entry
+to_client_two e = record e { sent = map (λ (m : Message). record m { head = record m.head { to = Client 2 } }) e.sent }
+
+no_client_two : Server 1 ≡ Client 2 → ⊥
+no_client_two e = absurd cc
+
+gave_back_to_a_client : Legal (alters 3 to_client_two (entries (start (script 2)) gives_front)) (script 2) → ⊥
+unfolding moved begin_row client_row server_row back_timeout_row wake_row start_row record_bytes head_form volume_form spelled opaque pad word laid_at led name_ok directory_bytes name_bytes rights_of image acl_text digits entry_text directory_of names_at opaque_at word_at counted_at whole_at count_at name_at spelled_at bytes_below
+gave_back_to_a_client h = elim h.1.1.1.0.1.1.1.0.0.home.0 [ inl x ↦ no_client_two x.1.1 | inr x ↦ x ]
+
+abbrev names_nothing : Entry → Entry
+names_nothing e = record e { sent = map (λ (m : Message). record m { carried = carried.Call (codes "guest") (ask.File (calls.GiveUpCallBacks [] [])) }) e.sent }
+
+gave_nothing_back : Legal (alters 3 names_nothing (entries (start (script 1)) gives_front)) (script 1) → ⊥
+unfolding moved begin_row client_row server_row back_timeout_row wake_row start_row record_bytes head_form volume_form spelled opaque pad word laid_at led name_ok directory_bytes name_bytes rights_of image acl_text digits entry_text directory_of names_at opaque_at word_at counted_at whole_at count_at name_at spelled_at bytes_below
+gave_nothing_back h = h.1.1.1.0.1.1.1.0.0.gives
+
 -- ---- a break is owed once in an entry, and ends once
 
 owed_twice : Legal (alters 3 (owes_number 2) (entries (start (script 2)) changes_file)) (script 2) → ⊥
@@ -1664,5 +1717,91 @@ ran_second = record {
 no_room_for_what_was_made : Legal (made_first ++ refuses_second ∷ []) (script 1) → ⊥
 unfolding moved begin_row client_row server_row back_timeout_row wake_row start_row record_bytes head_form volume_form spelled opaque pad word laid_at led name_ok directory_bytes name_bytes rights_of image acl_text digits entry_text directory_of names_at opaque_at word_at counted_at whole_at count_at name_at spelled_at bytes_below ran_second
 no_room_for_what_was_made h =
-    h.1.1.1.0.1.0.1.1.1.1.1.0.1 refl 1 1 refl refl ran_second (codes "guest") (stored_whole file (codes "def")) refl tt
+    h.1.1.1.0.1.0.1.1.1.1.1.0.1 1 1 refl refl ran_second (codes "guest") (stored_whole file (codes "def")) refl home refl
     (record { newer = take 1 made_past_first; older = drop 1 made_past_first; split = refl; of_act = refl; changed = key_of_one 1; other = λ e. two_not_one e; change = inl refl; same = refl })
+
+-- A client asks twice for its new directory, under two numbers: the server makes it by the first, and answers the second as if another had made it
+abbrev asked_anew_as_three : Entry → Entry
+asked_anew_as_three e = record e { sent = map (λ (m : Message). record m { head = record m.head { number = 3 } }) e.sent }
+
+abbrev made_by_two : List Entry
+made_by_two =
+    alters 3 asked_anew_as_three (entries (start (script 1)) (begins 1 (acts.MakeDirectory (record { volume = codes "proj"; names = codes "d" ∷ [] })) ∷ gives 1 steady ∷ gives 2 steady ∷ waits 1 ∷ gives 3 steady ∷ []))
+
+abbrev there_already : Message
+there_already = record {
+  head = record { half = halves.Reply; from = Server 1; to = Client 1; epoch = 1; number = 3; boot = 1; stamp = 0; opcode = 141 };
+  carried = carried.Refusal (record { 0 = pos 17 });
+}
+
+abbrev refuses_third : Entry
+refuses_third = step_of (Server 1) (lines.Given 4 ∷ []) (there_already ∷ [])
+
+abbrev made_past_two : List Entry
+made_past_two = past_of (set_up (script 1) ∷ []) made_by_two
+
+two_before_three : (l : Key) → key_of_one 2 ≡ l → IsLater (key_of_one 3) l
+two_before_three l e = subst (IsLater (key_of_one 3)) e (inr (refl, omega arith))
+
+three_not_two : key_of_one 3 ≡ key_of_one 2 → ⊥
+three_not_two e = let no_ : 3 ≡ 2 = ap (λ (k : Key). k.number) e in absurd (omega (arith, no_))
+
+abbrev makes_d : FsCall
+makes_d = calls.MakeDir root (codes "d") nothing_set
+
+ran_third : Ran there_already.head (refuses_third ∷ made_past_two)
+unfolding moved begin_row client_row server_row back_timeout_row wake_row start_row record_bytes head_form volume_form spelled opaque pad word laid_at led name_ok directory_bytes name_bytes rights_of image acl_text digits entry_text directory_of names_at opaque_at word_at counted_at whole_at count_at name_at spelled_at bytes_below
+ran_third = record {
+  newer = [];
+  at = refuses_third;
+  older = made_past_two;
+  split = refl;
+  message = record { head = record { half = halves.Call; from = Client 1; to = Server 1; epoch = 1; number = 3; boot = 1; stamp = 0; opcode = 141 }; carried = carried.Call (codes "guest") (ask.File makes_d) };
+  given = refl;
+  is_call = tt;
+  key = refl;
+  opcode = refl;
+  boot = refl;
+  up = refl;
+  callee = refl;
+  node = refl;
+  first = (
+    (λ x. elim x.1.0.1 [ inl y ↦ let no_ : 1 < 1 = y in absurd (omega arith) | inr y ↦ let no_ : 3 ≤ 2 = y.1 in absurd (omega arith) ]),
+    ((λ x. x), ((λ x. x.0.0), ((λ x. elim x.1.0.1 [ inl y ↦ let no_ : 1 < 1 = y in absurd (omega arith) | inr y ↦ let no_ : 3 ≤ 1 = y.1 in absurd (omega arith) ]), ((λ x. x), ((λ x. x), tt))))),
+  );
+  latest = λ l h same. elim h [ inl x ↦ two_before_three l x.1 | inr x ↦ absurd x ];
+}
+
+refused_what_it_made : Legal (made_by_two ++ refuses_third ∷ []) (script 1) → ⊥
+unfolding moved begin_row client_row server_row back_timeout_row wake_row start_row record_bytes head_form volume_form spelled opaque pad word laid_at led name_ok directory_bytes name_bytes rights_of image acl_text digits entry_text directory_of names_at opaque_at word_at counted_at whole_at count_at name_at spelled_at bytes_below ran_third
+refused_what_it_made h =
+    h.1.1.1.1.1.0.1.0.1.1.1.1.1.0.1 1 1 refl refl ran_third (codes "guest") makes_d refl home refl
+    (record { newer = take 1 made_past_two; older = drop 1 made_past_two; split = refl; of_act = refl; changed = key_of_one 2; other = λ e. three_not_two e; change = inl refl; same = refl })
+
+-- ---- what an act makes of something else its client isn't told
+
+-- A client has a file in its cache, and gives it a second name. By that the file has a new version, whose status no reply tells; but the client keeps
+-- its entry, and shows that
+abbrev linked_front : List Input
+linked_front =
+    begins 1 (acts.Open (operands.Fid file)) ∷ gives 1 steady ∷ gives 2 steady ∷ begins 1 (acts.Link (record { volume = codes "proj"; names = codes "a" ∷ [] }) (record { volume = codes "proj"; names = codes "b" ∷ [] })) ∷ gives 3 steady ∷ gives 4 steady ∷ gives 5 steady ∷ gives 6 steady ∷ []
+
+abbrev linked_status : Line
+linked_status = lines.Read (Client 1) file 2 Cached (seen.Status (record { kind = 1; link_count = 2; length = 3; mode = 420 }))
+
+shown_after_a_link : Legal (alters 7 (instead (lines.Given 6 ∷ answer 1 ∷ [])) (entries (start (script 1)) linked_front) ++ step_of (Client 1) (lines.Begin (Client 1) (acts.Stat (operands.Fid file)) ∷ linked_status ∷ answer 1 ∷ []) [] ∷ []) (script 1) → ⊥
+unfolding moved begin_row client_row server_row back_timeout_row wake_row start_row record_bytes head_form volume_form spelled opaque pad word laid_at led name_ok directory_bytes name_bytes rights_of image acl_text digits entry_text directory_of names_at opaque_at word_at counted_at whole_at count_at name_at spelled_at bytes_below
+shown_after_a_link h =
+    elim h.1.1.1.1.1.1.1.1.0.0.0.1.0.1.brought.0 [
+      | inl x ↦ x.1.1.0
+      | inr y ↦ elim y [
+        | inl x ↦ let no_ : Cached ≡ Fetched = x.1.1.1.0 in absurd cc
+        | inr z ↦ elim z [
+          | inl x ↦ file_apart (sym x.1.0)
+          | inr w ↦ elim w [
+            | inl x ↦ x.1.1.0
+            | inr v ↦ elim v [ inl x ↦ let no_ : 1 ≡ 2 = x.1.1.0 in absurd (omega (arith, no_)) | inr u ↦ u ]
+          ]
+        ]
+      ]
+    ]
