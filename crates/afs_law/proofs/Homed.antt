@@ -42,9 +42,9 @@ use Rattle.afs_num.specs.declared.messages.Reply.TheVariants as tell
 use Rattle.afs_num.specs.declared.types.Fid.{Fid}
 use Rattle.afs_num.specs.declared.types.Head.{Head}
 use Rattle.afs_num.specs.declared.types.Node.{Node}
-use Rattle.afs_num.specs.declared.types.Node.TheVariants.{Client}
+use Rattle.afs_num.specs.declared.types.Node.TheVariants.{Client, Server}
 use Rattle.afs_rows.specs.Callbacks.{put}
-use Rattle.afs_rows.specs.ClientRow.{Walked, admits_call, asking, awaits, batch, batch_to, begin_row, begins_by, behind_batch, body_told, breaks, call_by, call_of, callee_by, client_row, counts, dropped, ended, entries_told, entry_told, find_cached, first_server_of, gift_of, gifts_to, given, gives_by, goes_by, hears, in_order, is_awaited, is_below, is_busy_code, is_older, is_spent, is_trusted, joined, left_after, left_in, look_at, looked, most_busy, most_given, most_reads, put_entries, put_entry, read_lines, reborn, refreshed, runs_carried, status_look, status_told, takes, takes_bulk, takes_data, takes_entries, takes_entry, takes_given, takes_list, takes_set, takes_shown, takes_status, timeout_row, trusted_in, untrusted_in, used_first, walked, walks_on, whole, with_statuses}
+use Rattle.afs_rows.specs.ClientRow.{Walked, admits_call, asking, awaits, batch, batch_to, begin_row, begins_by, behind_batch, body_told, breaks, call_by, call_of, callee_by, client_row, counts, dropped, ended, entries_told, entry_told, find_cached, first_server_of, gift_of, gifts_to, given, gives_by, goes_by, hears, in_order, is_awaited, is_below, is_busy_code, is_older, is_spent, is_trusted, joined, left_after, left_in, look_at, looked, most_busy, most_given, most_reads, put_entries, put_entry, read_lines, reborn, refreshed, runs_carried, status_look, status_told, takes, takes_bulk, takes_data, takes_entry, takes_given, takes_list, takes_set, takes_shown, takes_status, timeout_row, trusted_in, untrusted_in, used_first, walked, walks_on, whole, with_statuses}
 use Rattle.afs_rows.specs.Going.{ClientState, Going, Need, answers, asks_for, began, gives_back, next, reads, reads_rights, reads_status, reads_statuses, with_read}
 use Rattle.afs_rows.specs.Runs.{Cell, Entry, start}
 use Rattle.afs_rows.specs.Scopes.{is_in_scope}
@@ -139,7 +139,7 @@ given_if P false g gs h k = k
 
 given_to : (P : ℕ → Node → Type 0) (gs : List Gift) (k : ℕ) → AreGiven P gs → AreGiven P (gifts_to gs k)
 given_to P [] k h = tt
-given_to P (g ∷ gs) k h = given_if P _ g (gifts_to gs k) h.0 (given_to P gs k h.1)
+given_to P (g ∷ gs) k h = given_if P (same_node g.server (Server k)) g (gifts_to gs k) h.0 (given_to P gs k h.1)
 
 both_given : (P : ℕ → Node → Type 0) (gs hs : List Gift) → AreGiven P gs → AreGiven P hs → AreGiven P (gs ++ hs)
 both_given P [] hs h k = k

@@ -494,7 +494,7 @@ abbrev pub dropped_first : Node → List Entry → List Fid
 dropped_first c [] = []
 dropped_first c (e ∷ past) = if has_begun c e.lines then drops_in c e.lines else dropped_first c past
 
--- a call that the client sent since it began its act gives back what it was promised on f
+-- a call that the client sent since it began its act names f among what it gives back
 pub record IsGivenBack (s : Script) (c : Node) (past : List Entry) (f : Fid) : Type 0 where
   pub key : Key
   pub node : key.node ≡ c
@@ -503,7 +503,7 @@ pub record IsGivenBack (s : Script) (c : Node) (past : List Entry) (f : Fid) : T
   pub called : CalledSince key (user_of s c) (calls.GiveUpCallBacks fids callbacks) past
   pub named : IsNamedIn f fids
 
--- an act that gives promises back is answered 0, in a later entry than that in which it began, only where its calls gave back all that
+-- an act that gives promises back is answered 0, in a later entry than that in which it began, only where its calls named all that
 -- its client gave up when it began
 abbrev pub GivesAllBack : Script → Node → ℤ → List Entry → List Line → Type 0
 GivesAllBack s c code past own = (act : Going) (f : Fid) → running s c (own ++ lines_of past) ≡ Some act → act.act ≡ acts.GiveUp → code ≡ pos 0 → has_begun c own ≡ false → IsNamedIn f (dropped_first c past) → IsGivenBack s c past f
@@ -596,7 +596,7 @@ GoodCall head c past = ⊤
 abbrev pub HasOwnHalf : Message → Type 0
 HasOwnHalf m = IsCall m.carried → m.head.half ≡ halves.Call
 
--- a server answers a client in the boot in which it is; or it repeats its reply to a change, which it keeps over all boots
+-- a server answers a client in the boot in which it is; or the call is one that changed something, the reply to which is kept over all boots
 abbrev pub IsPresent : List Entry → Message → Type 0
 IsPresent past m = (i j : ℕ) → IsReply m → m.head.from ≡ Server i → m.head.to ≡ Client j → (server_boot m.head.from (lines_of past) ≡ Some m.head.boot) ⊎ HasChangeBy m.head.from (answered_key m.head) (lines_of past)
 
