@@ -618,7 +618,7 @@ abbrev pub RunsFirstOfAct : List Entry → Message → Type 0
 RunsFirstOfAct past m =
     (i j : ℕ) → m.head.from ≡ Server i → m.head.to ≡ Client j → (ran : Ran m.head past) (user : List ℕ) (call : FsCall) → ran.message.carried ≡ carried.Call user (ask.File call) → (id : ℕ) → volume_changed call ≡ Some id → HasActed (answered_key m.head) ran.older → ⊥
 
--- what servers answer is of now, and each reply to a changing call is to the first of its act that changes something
+-- what servers answer is of now, and none answers a changing call that ran after another of its act had changed something
 abbrev pub ArePresent : List Entry → List Message → Type 0
 ArePresent past [] = ⊤
 ArePresent past (m ∷ ms) = (IsPresent past m × RunsFirstOfAct past m) × ArePresent past ms
