@@ -81,6 +81,7 @@ pub mod Codes
 pub mod Using
 pub mod Handling
 pub mod Present
+pub mod Unmade
 pub mod Entering
 pub mod Kept
 pub mod Later
@@ -107,8 +108,10 @@ pub mod Learned
 pub mod Brought
 pub mod OneRun
 pub mod Readings
-pub mod Asking
 pub mod Returning
+pub mod Homed
+pub mod Asking
+pub mod Numbered
 pub mod Claims
 pub mod Counting
 pub mod Timed

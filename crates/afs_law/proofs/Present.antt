@@ -19,7 +19,7 @@ use Rattle.afs_law.proofs.Sending.{run_own}
 use Rattle.afs_law.proofs.Words.{up_boot}
 use Rattle.afs_law.specs.Ideal.{set_up}
 use Rattle.afs_law.specs.Laws.{seat_key}
-use Rattle.afs_law.specs.Legal.{ArePresent, IsBy, IsInBoot}
+use Rattle.afs_law.specs.Legal.{IsBy, IsInBoot, IsPresent, TellsItsBoot}
 use Rattle.afs_law.specs.Lives.{AreCalls, epoch_after}
 use Rattle.afs_law.specs.Parts.{EachEntry, EachSent, IsOwn}
 use Rattle.afs_law.specs.Past.{HasChangeBy, HasCode, IsCall, IsReply, answered_key, lines_of, onto, server_boot}
@@ -289,6 +289,9 @@ OfServers past e = (i : ℕ) → e.actor ≡ actors.Node (Server i) → EachSent
 run_now : (s : Script) (h : List Entry) (end : Cell) → RunsTo h s end → EachEntry OfServers (set_up s ∷ []) h
 run_now s h end r = run_each KnownCurrent OfServers current_kept (λ c past x k. (each_moved KnownCurrent PresentStep present_moves c past x k (known_sits_kept c past x k.0)).sent) r.inputs (start s) (set_up s ∷ []) h end (current_first s) r.leads
 
+abbrev pub TrueNow : List Entry → Message → Type 0
+TrueNow past m = IsPresent past m × TellsItsBoot past m
+
 -- by the nodes that send them
 in_boot_of : (n : Node) (boot : ℕ) (ls : List Line) → ((j : ℕ) → n ≡ Client j → epoch_after (Client j) ls ≡ boot) → ((i : ℕ) → n ≡ Server i → server_boot (Server i) ls ≡ Some boot) → IsInBoot n boot ls
 in_boot_of (Client j) boot ls c w = c j refl
@@ -296,7 +299,7 @@ in_boot_of (Server i) boot ls c w = w i refl
 in_boot_of (Admin i) boot ls c w = tt
 in_boot_of Loc boot ls c w = tt
 
-sent_present : (e : Entry) (past : List Entry) (ms : List Message) → EachSent IsOwn (e ∷ past) ms → ((j : ℕ) → e.actor ≡ actors.Node (Client j) → EachSent (TellsEpoch j) (e ∷ past) ms) → ((i : ℕ) → e.actor ≡ actors.Node (Server i) → EachSent (IsOfNow i) (e ∷ past) ms) → ArePresent (e ∷ past) ms
+sent_present : (e : Entry) (past : List Entry) (ms : List Message) → EachSent IsOwn (e ∷ past) ms → ((j : ℕ) → e.actor ≡ actors.Node (Client j) → EachSent (TellsEpoch j) (e ∷ past) ms) → ((i : ℕ) → e.actor ≡ actors.Node (Server i) → EachSent (IsOfNow i) (e ∷ past) ms) → EachSent TrueNow (e ∷ past) ms
 sent_present e past [] o c w = tt
 sent_present e past (m ∷ ms) o c w = (
   (
@@ -306,9 +309,9 @@ sent_present e past (m ∷ ms) o c w = (
   sent_present e past ms o.1 (λ j is. (c j is).1) (λ i is. (w i is).1),
 )
 
-all_present : (past es : List Entry) → EachEntry (λ before e. EachSent IsOwn (e ∷ before) e.sent) past es → EachEntry OfClients past es → EachEntry OfServers past es → EachEntry (λ before e. ArePresent (e ∷ before) e.sent) past es
+all_present : (past es : List Entry) → EachEntry (λ before e. EachSent IsOwn (e ∷ before) e.sent) past es → EachEntry OfClients past es → EachEntry OfServers past es → EachEntry (λ before e. EachSent TrueNow (e ∷ before) e.sent) past es
 all_present past [] o c w = tt
 all_present past (e ∷ es) o c w = (sent_present e past e.sent o.0 c.0 w.0, all_present (e ∷ past) es o.1 c.1 w.1)
 
-pub run_present : (s : Script) (h : List Entry) (end : Cell) → RunsTo h s end → EachEntry (λ past e. ArePresent (e ∷ past) e.sent) (set_up s ∷ []) h
+pub run_present : (s : Script) (h : List Entry) (end : Cell) → RunsTo h s end → EachEntry (λ past e. EachSent TrueNow (e ∷ past) e.sent) (set_up s ∷ []) h
 run_present s h end r = all_present (set_up s ∷ []) h (run_own s h end r) (run_noticed s h end r) (run_now s h end r)

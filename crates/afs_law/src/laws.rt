@@ -210,7 +210,7 @@ pub fn messages_are_own()
     ensures { MessagesAreOwn }
 {}
 
-/// A client's file call is made for its user, and is the one under its key, to the one callee.
+/// A client's call is one that its running act asks for, numbered in order, the one under its key, and to the server of what it asks or gives back.
 pub fn calls_are_own()
     ensures { CallsAreOwn }
 {}
