@@ -80,6 +80,7 @@ pub mod Due
 pub mod Codes
 pub mod Using
 pub mod Handling
+pub mod Noticing
 pub mod Present
 pub mod Unmade
 pub mod Entering
@@ -114,6 +115,7 @@ pub mod Asking
 pub mod Numbered
 pub mod Claims
 pub mod Counting
+pub mod Unanswered
 pub mod Timed
 pub mod Singly
 pub mod Assembled
