@@ -114,6 +114,7 @@ pub record Asks (j : ℕ) (x : Who) (s : Step ClientState) : Type 0 where
 
 pub record Stops (j : ℕ) (x : Who) (s : Step ClientState) : Type 0 where
   pub epoch : s.state.epoch ≡ x.epoch + 1
+  pub last : s.state.last ≡ 0
   pub act : s.state.running ≡ None
   pub sent : s.sent ≡ []
   pub lines : s.lines ≡ lines.Crash (Client j) ∷ []
@@ -484,7 +485,7 @@ waits_acts j c act r = either_acts (nat_lt c.tries 2) j (who_at c) c.gifts _ _
     (then_front j c.table (Some act) act act (λ ls. timeout_line (Client j) c 3 ∷ ls) (dropped (Client j) (given_up_in (volume_changed (call_of c act)) c.cache)) (timeout_front j c c.table act 3) (dropped_more j act (given_up_in (volume_changed (call_of c act)) c.cache)))))
 
 pub falls_acts : (j : ℕ) (c : ClientState) → Acts j (who_at c) c.gifts (record { state = reborn c; lines = lines.Crash (Client j) ∷ []; sent = [] })
-falls_acts j c = record { user = refl; table = refl; of = one_of j true refl; runs = λ S t o r. rw (same_node-refl (Client j)) refl; goes = inr (inr (record { epoch = refl; act = refl; sent = refl; lines = refl })); each = λ S past t r. (refl, tt); seats = λ k n seat m e. absurd cc; from = tt }
+falls_acts j c = record { user = refl; table = refl; of = one_of j true refl; runs = λ S t o r. rw (same_node-refl (Client j)) refl; goes = inr (inr (record { epoch = refl; last = refl; act = refl; sent = refl; lines = refl })); each = λ S past t r. (refl, tt); seats = λ k n seat m e. absurd cc; from = tt }
 
 pub rises_acts : (j : ℕ) (c : ClientState) → Acts j (who_at c) c.gifts (record { state = c; lines = lines.Restart (Client j) c.epoch ∷ []; sent = [] })
 rises_acts j c = record { user = refl; table = refl; of = one_of j true refl; runs = λ S t o r. r; goes = inl (record { epoch = refl; last = refl; act = inr (refl, (refl, refl)); sent = tt }); each = λ S past t r. ((refl, tt), tt); seats = λ k. k; from = tt }

@@ -1,4 +1,4 @@
--- What a client shows of a file from its cache came to it since it last crashed, however many servers a cell has.
+-- What a client shows of a file from its cache came to it since it last crashed, as that of this version, however many servers a cell has.
 use Rattle.afs_history.specs.declared.acts.Act.{Act}
 use Rattle.afs_history.specs.declared.lines.Line.{Line}
 use Rattle.afs_history.specs.declared.lines.Line.TheVariants as lines
@@ -24,7 +24,7 @@ use Rattle.afs_law.proofs.Walking.{looked_more, walked_found}
 use Rattle.afs_law.proofs.Words.{AreApart}
 use Rattle.afs_law.specs.Ideal.{Unless, set_up}
 use Rattle.afs_law.specs.Grants.{is_promised}
-use Rattle.afs_law.specs.Legal.{HasBrought, HasLearned, HasMadeItself, IsBrought, Stores, StoresBy, as_asked}
+use Rattle.afs_law.specs.Legal.{HasBrought, HasLearned, HasMadeItself, IsBrought, Sets, SetsBy, Stores, StoresBy, StoresInto, StoresIntoBy, as_asked}
 use Rattle.afs_law.specs.Parts.{EachLine}
 use Rattle.afs_law.specs.Past.{HasCode, lines_of, onto, running}
 use Rattle.afs_law.specs.ServerParts.{CachedAreBrought, IsBroughtGood}
@@ -66,7 +66,7 @@ use Rattle.afs_rows.specs.Scopes.{is_in_scope}
 use Rattle.afs_rows.specs.ServerSteps.{back_timeout_row, server_row, wake_row}
 use Rattle.afs_rows.specs.States.{CacheEntry, Gift}
 use Rattle.afs_rows.specs.Steps.{Step}
-use Rattle.std.proofs.Common.{suc, ◌≡◌, ℕ, ◌⊎◌, inl, inr, Bool, true, false, cond, List, [], ◌∷◌, ◌++◌, map, Option, Some, None, refl, sym, ap, subst, ◌∙◌, filter, not, pos, nat_eq, nat_lt}
+use Rattle.std.proofs.Common.{suc, ◌≡◌, ℕ, ◌+◌, eqb-true, ◌⊎◌, inl, inr, Bool, true, false, cond, List, [], ◌∷◌, ◌++◌, map, Option, Some, None, refl, sym, ap, subst, ◌∙◌, filter, not, pos, nat_eq, nat_lt}
 use Rattle.std.specs.List.{list_any}
 use Rattle.std.specs.Prelude.{⊤, ◌&&◌}
 
@@ -91,42 +91,42 @@ bare_steady : (ls : List Line) → all_lines is_bare ls ≡ true → all_lines i
 bare_steady [] h = refl
 bare_steady (l ∷ ls) h = let q = both (is_bare l) (all_lines is_bare ls) h in rw (bare_line l q.0, bare_steady ls q.1) refl
 
-brought_line : (s : Script) (c : Node) (f : Fid) (b : Body) (l : Line) (o : List Line) → is_steady l ≡ true → HasBrought s c f b o → HasBrought s c f b (l ∷ o)
-brought_line s c f b (lines.Crash n) o h k = absurd cc
-brought_line s c f b (lines.Read m g index source body) o h k = inr k
-brought_line s c f b (lines.Answer m code) o h k = inr k
-brought_line s c f b l o h k = k
+brought_line : (s : Script) (c : Node) (f : Fid) (i : ℕ) (b : Body) (l : Line) (o : List Line) → is_steady l ≡ true → HasBrought s c f i b o → HasBrought s c f i b (l ∷ o)
+brought_line s c f i b (lines.Crash n) o h k = absurd cc
+brought_line s c f i b (lines.Read m g index source body) o h k = inr k
+brought_line s c f i b (lines.Answer m code) o h k = inr k
+brought_line s c f i b l o h k = k
 
-brought_onto : (s : Script) (c : Node) (f : Fid) (b : Body) (ls o : List Line) → all_lines is_steady ls ≡ true → HasBrought s c f b o → HasBrought s c f b (onto o ls)
-brought_onto s c f b [] o h k = k
-brought_onto s c f b (l ∷ ls) o h k = let q = both (is_steady l) (all_lines is_steady ls) h in brought_onto s c f b ls (l ∷ o) q.1 (brought_line s c f b l o q.0 k)
+brought_onto : (s : Script) (c : Node) (f : Fid) (i : ℕ) (b : Body) (ls o : List Line) → all_lines is_steady ls ≡ true → HasBrought s c f i b o → HasBrought s c f i b (onto o ls)
+brought_onto s c f i b [] o h k = k
+brought_onto s c f i b (l ∷ ls) o h k = let q = both (is_steady l) (all_lines is_steady ls) h in brought_onto s c f i b ls (l ∷ o) q.1 (brought_line s c f i b l o q.0 k)
 
-learned_line : (c : Node) (f : Fid) (i : ℕ) (l : Line) (o : List Line) → is_steady l ≡ true → HasLearned c f i o → HasLearned c f i (l ∷ o)
-learned_line c f i (lines.Crash n) o h k = absurd cc
-learned_line c f i (lines.Read m g index source body) o h k = inr k
-learned_line c f i (lines.Answer m code) o h k = inr k
-learned_line c f i l o h k = k
+learned_line : (s : Script) (c : Node) (f : Fid) (i : ℕ) (l : Line) (o : List Line) → is_steady l ≡ true → HasLearned s c f i o → HasLearned s c f i (l ∷ o)
+learned_line s c f i (lines.Crash n) o h k = absurd cc
+learned_line s c f i (lines.Read m g index source body) o h k = inr k
+learned_line s c f i (lines.Answer m code) o h k = inr k
+learned_line s c f i l o h k = k
 
-learned_onto : (c : Node) (f : Fid) (i : ℕ) (ls o : List Line) → all_lines is_steady ls ≡ true → HasLearned c f i o → HasLearned c f i (onto o ls)
-learned_onto c f i [] o h k = k
-learned_onto c f i (l ∷ ls) o h k = let q = both (is_steady l) (all_lines is_steady ls) h in learned_onto c f i ls (l ∷ o) q.1 (learned_line c f i l o q.0 k)
+learned_onto : (s : Script) (c : Node) (f : Fid) (i : ℕ) (ls o : List Line) → all_lines is_steady ls ≡ true → HasLearned s c f i o → HasLearned s c f i (onto o ls)
+learned_onto s c f i [] o h k = k
+learned_onto s c f i (l ∷ ls) o h k = let q = both (is_steady l) (all_lines is_steady ls) h in learned_onto s c f i ls (l ∷ o) q.1 (learned_line s c f i l o q.0 k)
 
 -- what stands in the cache came to the client: its version, and its body
 abbrev pub IsHad : Script → ℕ → Fid → CacheEntry → List Line → Type 0
-IsHad s n f e o = HasLearned (Client n) f e.index o × ((b : Body) → e.body ≡ Some b → HasBrought s (Client n) f b o)
+IsHad s n f e o = HasLearned s (Client n) f e.index o × ((b : Body) → e.body ≡ Some b → HasBrought s (Client n) f e.index b o)
 
 abbrev pub Had : Script → ℕ → List CacheEntry → List Line → Type 0
 Had s n cache o = (f : Fid) (e : CacheEntry) → find_cached f cache ≡ Some e → IsHad s n f e o
 
 -- behind a line that brings nothing
 had_behind : (s : Script) (n : ℕ) (cache : List CacheEntry) (l : Line) (o : List Line) → is_steady l ≡ true → Had s n cache o → Had s n cache (l ∷ o)
-had_behind s n cache l o h k f e x = (learned_line (Client n) f e.index l o h (k f e x).0, λ b y. brought_line s (Client n) f b l o h ((k f e x).1 b y))
+had_behind s n cache l o h k f e x = (learned_line s (Client n) f e.index l o h (k f e x).0, λ b y. brought_line s (Client n) f e.index b l o h ((k f e x).1 b y))
 
 abbrev Within : List CacheEntry → List CacheEntry → Type 0
 Within a b = (f : Fid) (e : CacheEntry) → find_cached f a ≡ Some e → find_cached f b ≡ Some e
 
 had_onto : (s : Script) (n : ℕ) (cache : List CacheEntry) (ls o : List Line) → all_lines is_steady ls ≡ true → Had s n cache o → Had s n cache (onto o ls)
-had_onto s n cache ls o h k f e x = (learned_onto (Client n) f e.index ls o h (k f e x).0, λ b y. brought_onto s (Client n) f b ls o h ((k f e x).1 b y))
+had_onto s n cache ls o h k f e x = (learned_onto s (Client n) f e.index ls o h (k f e x).0, λ b y. brought_onto s (Client n) f e.index b ls o h ((k f e x).1 b y))
 
 abbrev Told : Script → ℕ → List Entry → List Line → List Line → Type 0
 Told s n past own ls = EachLine (IsBroughtGood s) (actors.Node (Client n)) past own ls
@@ -226,24 +226,26 @@ walks_carry s n clock y past front own act first o =
 
 -- ---- what a reply brings
 
-kept_by : (o : Option Body) (index : ℕ) (old : Option CacheEntry) (b : Body) → body_kept o index old ≡ Some b → (o ≡ Some b) ⊎ ((u : CacheEntry) × ((old ≡ Some u) × (u.body ≡ Some b)))
+kept_by : (o : Option Body) (index : ℕ) (old : Option CacheEntry) (b : Body) → body_kept o index old ≡ Some b → (o ≡ Some b) ⊎ ((u : CacheEntry) × ((old ≡ Some u) × ((u.body ≡ Some b) × (u.index ≡ index))))
 kept_by (Some body) index old b e = inl e
 kept_by None index None b e = absurd cc
-kept_by None index (Some u) b e = inr (u, (refl, same_by (nat_eq u.index index) u.body b e))
+kept_by None index (Some u) b e = let q = same_by (nat_eq u.index index) u.body b e in inr (u, (refl, (q.0, eqb-true u.index index q.1)))
   where
-    same_by : (t : Bool) (o : Option Body) (b : Body) → cond t o None ≡ Some b → o ≡ Some b
-    same_by true o b e = e
+    same_by : (t : Bool) (o : Option Body) (b : Body) → cond t o None ≡ Some b → (o ≡ Some b) × (t ≡ true)
+    same_by true o b e = (e, refl)
     same_by false o b e = absurd cc
 
 -- of an entry that is put beside what the cache has
-put_had : (s : Script) (n capacity : ℕ) (u : CacheEntry) (cache : List CacheEntry) (o : List Line) → Had s n cache o → HasLearned (Client n) u.fid u.index o → ((b : Body) → u.body ≡ Some b → HasBrought s (Client n) u.fid b o) → Had s n (put_entry capacity u cache) o
+put_had : (s : Script) (n capacity : ℕ) (u : CacheEntry) (cache : List CacheEntry) (o : List Line) → Had s n cache o → HasLearned s (Client n) u.fid u.index o → ((b : Body) → u.body ≡ Some b → HasBrought s (Client n) u.fid u.index b o) → Had s n (put_entry capacity u cache) o
 put_had s n capacity u cache o h learned new f e found = elim (put_found capacity f u cache e found) [
   | inl x ↦ (
-    subst (λ (g : Fid). HasLearned (Client n) g e.index o) x.0 (subst (λ (i : ℕ). HasLearned (Client n) u.fid i o) (ap (λ (v : CacheEntry). v.index) x.1) learned),
-    λ b body. subst (λ (g : Fid). HasBrought s (Client n) g b o) x.0 (elim (kept_by u.body u.index (find_cached u.fid cache) b (ap (λ (v : CacheEntry). v.body) x.1 ∙ body)) [
-      | inl y ↦ new b y
-      | inr y ↦ (h u.fid y.0 y.1.0).1 b y.1.1
-    ]),
+    subst (λ (g : Fid). HasLearned s (Client n) g e.index o) x.0 (subst (λ (i : ℕ). HasLearned s (Client n) u.fid i o) (ap (λ (v : CacheEntry). v.index) x.1) learned),
+    λ b body. subst (λ (g : Fid). HasBrought s (Client n) g e.index b o) x.0
+        (subst (λ (i : ℕ). HasBrought s (Client n) u.fid i b o) (ap (λ (v : CacheEntry). v.index) x.1)
+        (elim (kept_by u.body u.index (find_cached u.fid cache) b (ap (λ (v : CacheEntry). v.body) x.1 ∙ body)) [
+          | inl y ↦ new b y
+          | inr y ↦ subst (λ (i : ℕ). HasBrought s (Client n) u.fid i b o) y.1.1.1 ((h u.fid y.0 y.1.0).1 b y.1.1.0)
+        ])),
   )
   | inr x ↦ h f e x.1
 ]
@@ -255,7 +257,7 @@ entry_carries s n clock place c past act u body p is N =
     (walks_carry s n clock c past (read_lines (Client n) place (look_at Fetched u body)) own (with_read u.fid body act) (put_entry c.capacity u c.cache) (record {
       rule = λ tail h. (tt, (tt, h));
       comes = λ tail. refl;
-      had = put_had s n c.capacity u c.cache (own ++ lines_of past) (had_onto s n c.cache (lines.Given place ∷ lines.Read (Client n) u.fid u.index Fetched body ∷ []) (lines_of past) refl N.had) (inl (refl, (refl, (refl, (refl, p))))) (λ b e. inl (refl, (refl, (refl, is b e))));
+      had = put_had s n c.capacity u c.cache (own ++ lines_of past) (had_onto s n c.cache (lines.Given place ∷ lines.Read (Client n) u.fid u.index Fetched body ∷ []) (lines_of past) refl N.had) (inl (refl, (refl, (refl, (refl, p))))) (λ b e. inl (refl, (refl, (refl, (refl, is b e)))));
     }))
     (bare_step s n c past _ N refl (λ f e x. x))
 
@@ -265,17 +267,17 @@ AreBodiless [] = ⊤
 AreBodiless (e ∷ es) = (e.body ≡ None) × AreBodiless es
 
 -- their versions came
-abbrev AreLearned : ℕ → List CacheEntry → List Line → Type 0
-AreLearned n [] o = ⊤
-AreLearned n (e ∷ es) o = HasLearned (Client n) e.fid e.index o × AreLearned n es o
+abbrev AreLearned : Script → ℕ → List CacheEntry → List Line → Type 0
+AreLearned s n [] o = ⊤
+AreLearned s n (e ∷ es) o = HasLearned s (Client n) e.fid e.index o × AreLearned s n es o
 
-reads_learned : (n : ℕ) (es : List CacheEntry) (o : List Line) → AreLearned n es (onto o (looked (Client n) (map status_look es) []))
-reads_learned n [] o = tt
-reads_learned n (e ∷ es) o =
+reads_learned : (s : Script) (n : ℕ) (es : List CacheEntry) (o : List Line) → AreLearned s n es (onto o (looked (Client n) (map status_look es) []))
+reads_learned s n [] o = tt
+reads_learned s n (e ∷ es) o =
     let x : Line = lines.Read (Client n) e.fid e.index Fetched (seen.Status e.status) in
-    (learned_onto (Client n) e.fid e.index (looked (Client n) (map status_look es) []) (x ∷ o) (looked_steady (Client n) (map status_look es) [] refl) (inl (refl, (refl, (refl, (refl, refl))))), reads_learned n es (x ∷ o))
+    (learned_onto s (Client n) e.fid e.index (looked (Client n) (map status_look es) []) (x ∷ o) (looked_steady (Client n) (map status_look es) [] refl) (inl (refl, (refl, (refl, (refl, refl))))), reads_learned s n es (x ∷ o))
 
-puts_had : (s : Script) (n capacity : ℕ) (es cache : List CacheEntry) (o : List Line) → AreBodiless es → AreLearned n es o → Had s n cache o → Had s n (put_entries capacity es cache) o
+puts_had : (s : Script) (n capacity : ℕ) (es cache : List CacheEntry) (o : List Line) → AreBodiless es → AreLearned s n es o → Had s n cache o → Had s n (put_entries capacity es cache) o
 puts_had s n capacity [] cache o h l k = k
 puts_had s n capacity (u ∷ es) cache o h l k = puts_had s n capacity es (put_entry capacity u cache) o h.1 l.1 (put_had s n capacity u cache o k l.0 (λ b e. (let no_ : None ≡ Some b = sym h.0 ∙ e in absurd cc)))
 
@@ -307,7 +309,7 @@ entries_carry s n clock place c past act es none N =
     (walks_carry s n clock c past (λ ls. given place (looked (Client n) (map status_look es) ls)) own (with_statuses es act) (put_entries c.capacity es c.cache) (record {
       rule = λ tail h. (tt, statuses_told s n past es (lines.Given place ∷ []) tail h);
       comes = λ tail. ap (onto (lines.Given place ∷ lines_of past)) (looked_more (Client n) (map status_look es) tail) ∙ (onto_more (lines.Given place ∷ lines_of past) seen_ tail ∙ ap (λ (o : List Line). onto o tail) on);
-      had = subst (Had s n (put_entries c.capacity es c.cache)) on (puts_had s n c.capacity es c.cache (onto (lines.Given place ∷ lines_of past) seen_) none (reads_learned n es (lines.Given place ∷ lines_of past))
+      had = subst (Had s n (put_entries c.capacity es c.cache)) on (puts_had s n c.capacity es c.cache (onto (lines.Given place ∷ lines_of past) seen_) none (reads_learned s n es (lines.Given place ∷ lines_of past))
           (had_onto s n c.cache seen_ (lines.Given place ∷ lines_of past) (looked_steady (Client n) (map status_look es) [] refl) (had_behind s n c.cache (lines.Given place) (lines_of past) refl N.had)));
     }))
 
@@ -316,18 +318,18 @@ entries_carry s n clock place c past act es none N =
 plain_carries : (s : Script) (n place : ℕ) (c : ClientState) (past : List Entry) (call : FsCall) (code : Code) → IsNow s n c past → Carries s n past (record { state = ended c (left_after call c.cache); lines = given place (dropped (Client n) (dropped_after call c.cache) (lines.Answer (Client n) code ∷ [])); sent = [] })
 plain_carries s n place c past call code N = bare_step s n c past _ N (dropped_bare (Client n) (dropped_after call c.cache) (lines.Answer (Client n) code ∷ []) refl) (within_filter (λ e. not (is_in_scope call e.fid)) c.cache N.apart)
 
-made_by : (t : Bool) (u x e : CacheEntry) (b : Body) → cond t x u ≡ e → e.body ≡ Some b → ((t ≡ true) × (x.body ≡ Some b)) ⊎ (u.body ≡ Some b)
-made_by true u x e b is h = inl (refl, ap (λ (v : CacheEntry). v.body) is ∙ h)
-made_by false u x e b is h = inr (ap (λ (v : CacheEntry). v.body) is ∙ h)
+made_at : (t : Bool) (u x e : CacheEntry) (b : Body) → cond t x u ≡ e → e.body ≡ Some b → ((t ≡ true) × ((x.body ≡ Some b) × (x.index ≡ e.index))) ⊎ ((u.body ≡ Some b) × (u.index ≡ e.index))
+made_at true u x e b is h = inl (refl, (ap (λ (v : CacheEntry). v.body) is ∙ h, ap (λ (v : CacheEntry). v.index) is))
+made_at false u x e b is h = inr (ap (λ (v : CacheEntry). v.body) is ∙ h, ap (λ (v : CacheEntry). v.index) is)
 
 index_by : (t : Bool) (u x e : CacheEntry) → cond t x u ≡ e → ((t ≡ true) × (x.index ≡ e.index)) ⊎ (u.index ≡ e.index)
 index_by true u x e is = inl (refl, ap (λ (v : CacheEntry). v.index) is)
 index_by false u x e is = inr (ap (λ (v : CacheEntry). v.index) is)
 
 -- the client's own store made this version
-stored_carries : (s : Script) (n place clock : ℕ) (c : ClientState) (past : List Entry) (g : Fid) (index : ℕ) (status : ReadStatus) (made : Option Body → Option Body) → HasMadeItself (Client n) g index (lines_of past) → ((f : Fid) (u : CacheEntry) (b : Body) → g ≡ f → find_cached f c.cache ≡ Some u → made u.body ≡ Some b → HasBrought s (Client n) f b (lines.Answer (Client n) zero_code ∷ lines.Given place ∷ lines_of past)) → IsNow s n c past
+stored_carries : (s : Script) (n place clock : ℕ) (c : ClientState) (past : List Entry) (g : Fid) (index : ℕ) (status : ReadStatus) (made : Option Body → Option Body) → ((f : Fid) → g ≡ f → StoresIntoBy (running s (Client n) (lines_of past)) f) → HasMadeItself (Client n) g index (lines_of past) → ((f : Fid) (u : CacheEntry) (b : Body) → g ≡ f → find_cached f c.cache ≡ Some u → is_trusted clock u ≡ true → made u.body ≡ Some b → HasBrought s (Client n) f index b (lines.Answer (Client n) zero_code ∷ lines.Given place ∷ lines_of past)) → IsNow s n c past
     → Carries s n past (record { state = ended c (map (refreshed clock g index status made) c.cache); lines = given place (lines.Answer (Client n) zero_code ∷ []); sent = [] })
-stored_carries s n place clock c past g index status made itself new N = record {
+stored_carries s n place clock c past g index status made into itself new N = record {
   told = (tt, (tt, tt));
   after = λ f e found.
       let u = mapped (find_cached f c.cache) (refreshed clock g index status made) e (sym (found-refreshed clock g f index status made c.cache) ∙ found) in
@@ -335,26 +337,58 @@ stored_carries s n place clock c past g index status made itself new N = record 
       let x : CacheEntry = record u.0 { index = index; status = status; body = made u.0.body } in
       let fid : t ≡ true → g ≡ f = λ z. sym (same_fid-true u.0.fid g (both (same_fid u.0.fid g) (is_trusted clock u.0) z).0) ∙ same_fid-true u.0.fid f (found-cached-fid f c.cache u.0 u.1.0) in (
         elim (index_by t u.0 x e u.1.1) [
-          | inl y ↦ inl (refl, (refl, subst (λ (i : ℕ). HasMadeItself (Client n) f i (lines.Given place ∷ lines_of past)) y.1 (subst (λ (h : Fid). HasMadeItself (Client n) h index (lines_of past)) (fid y.0) itself)))
-          | inr y ↦ inr (subst (λ (i : ℕ). HasLearned (Client n) f i (lines_of past)) y (N.had f u.0 u.1.0).0)
+          | inl y ↦ inl (refl, (refl, (into f (fid y.0), subst (λ (i : ℕ). HasMadeItself (Client n) f i (lines.Given place ∷ lines_of past)) y.1 (subst (λ (h : Fid). HasMadeItself (Client n) h index (lines_of past)) (fid y.0) itself))))
+          | inr y ↦ inr (subst (λ (i : ℕ). HasLearned s (Client n) f i (lines_of past)) y (N.had f u.0 u.1.0).0)
         ],
-        λ b body. elim (made_by t u.0 x e b u.1.1 body) [
-          | inl y ↦ new f u.0 b (fid y.0) u.1.0 y.1
-          | inr y ↦ inr ((N.had f u.0 u.1.0).1 b y)
+        λ b body. elim (made_at t u.0 x e b u.1.1 body) [
+          | inl y ↦ subst (λ (i : ℕ). HasBrought s (Client n) f i b (lines.Answer (Client n) zero_code ∷ lines.Given place ∷ lines_of past)) y.1.1 (new f u.0 b (fid y.0) u.1.0 (both (same_fid u.0.fid g) (is_trusted clock u.0) y.0).1 y.1.0)
+          | inr y ↦ inr (subst (λ (i : ℕ). HasBrought s (Client n) f i b (lines_of past)) y.1 ((N.had f u.0 u.1.0).1 b y.0))
         ],
       );
 }
 
--- the store of an act
-stores_by : (s : Script) (n place : ℕ) (c : ClientState) (past : List Entry) (act : Going) (call : FsCall) (f : Fid) (b : Body) → running s (Client n) (lines_of past) ≡ c.running → c.running ≡ Some act → call_of c act ≡ call → as_asked call ≡ call → Stores call f b → HasBrought s (Client n) f b (lines.Answer (Client n) zero_code ∷ lines.Given place ∷ lines_of past)
-stores_by s n place c past act call f b runs run same plain h =
-    let asks : asked act ≡ call = sym (call_is c act) ∙ (ap as_asked same ∙ plain) in
-    inl (refl, (refl, subst (λ (o : Option Going). StoresBy o f b) (sym (runs ∙ run)) (subst (λ (k : FsCall). Stores k f b) (sym asks) h)))
+-- the act that runs asks for this call
+asks_call : (s : Script) (n : ℕ) (c : ClientState) (past : List Entry) (act : Going) (call : FsCall) (P : Option Going → Type 0) → running s (Client n) (lines_of past) ≡ c.running → c.running ≡ Some act → P (Some act) → P (running s (Client n) (lines_of past))
+asks_call s n c past act call P runs run h = subst P (sym (runs ∙ run)) h
 
-status_carries : (s : Script) (n clock place : ℕ) (c : ClientState) (past : List Entry) (f : Fid) (status : AfsFetchStatus) (call : FsCall) → HasMadeItself (Client n) f status.sync_counter (lines_of past) → IsNow s n c past → Carries s n past (takes_status (Client n) c clock place f status call)
-status_carries s n clock place c past f status call itself N =
-    either_carries (not c.spoiled && is_below clock status.sync_counter (find_cached f c.cache)) s n past _ _
-    (stored_carries s n place clock c past f status.sync_counter (status_told status) (λ body. body) itself (λ g u b e found body. inr ((N.had g u found).1 b body)) N)
+asked_is : (c : ClientState) (act : Going) (call : FsCall) → call_of c act ≡ call → as_asked call ≡ call → asked act ≡ call
+asked_is c act call same plain = sym (call_is c act) ∙ (ap as_asked same ∙ plain)
+
+-- and it is of just this object
+into_by : (s : Script) (n : ℕ) (c : ClientState) (past : List Entry) (act : Going) (call : FsCall) (f : Fid) → running s (Client n) (lines_of past) ≡ c.running → c.running ≡ Some act → call_of c act ≡ call → as_asked call ≡ call → StoresInto call f → StoresIntoBy (running s (Client n) (lines_of past)) f
+into_by s n c past act call f runs run same plain h = asks_call s n c past act call (λ o. StoresIntoBy o f) runs run (subst (λ (k : FsCall). StoresInto k f) (sym (asked_is c act call same plain)) h)
+
+-- a store of the whole
+stores_by : (s : Script) (n place : ℕ) (c : ClientState) (past : List Entry) (act : Going) (call : FsCall) (f : Fid) (index : ℕ) (b : Body) → HasMadeItself (Client n) f index (lines_of past) → running s (Client n) (lines_of past) ≡ c.running → c.running ≡ Some act → call_of c act ≡ call → as_asked call ≡ call → Stores call f b → HasBrought s (Client n) f index b (lines.Answer (Client n) zero_code ∷ lines.Given place ∷ lines_of past)
+stores_by s n place c past act call f index b itself runs run same plain h =
+    inl (refl, (refl, (itself, inl (asks_call s n c past act call (λ o. StoresBy o f b) runs run (subst (λ (k : FsCall). Stores k f b) (sym (asked_is c act call same plain)) h)))))
+
+-- and a setting of what isn't in the object, over contents of the index below
+sets_by : (s : Script) (n place : ℕ) (c : ClientState) (past : List Entry) (act : Going) (call : FsCall) (f : Fid) (index below : ℕ) (b : Body) → HasMadeItself (Client n) f index (lines_of past) → index ≡ below + 1 → running s (Client n) (lines_of past) ≡ c.running → c.running ≡ Some act → call_of c act ≡ call → as_asked call ≡ call → Sets call f → HasBrought s (Client n) f below b (lines_of past) → HasBrought s (Client n) f index b (lines.Answer (Client n) zero_code ∷ lines.Given place ∷ lines_of past)
+sets_by s n place c past act call f index below b itself above runs run same plain h had =
+    inl (refl, (refl, (itself, inr (below, (above, (asks_call s n c past act call (λ o. SetsBy o f) runs run (subst (λ (k : FsCall). Sets k f) (sym (asked_is c act call same plain)) h), had))))))
+
+if_carries : (t : Bool) (s : Script) (n : ℕ) (past : List Entry) (a b : Step ClientState) → (t ≡ true → Carries s n past a) → Carries s n past b → Carries s n past (cond t a b)
+if_carries true s n past a b h k = h refl
+if_carries false s n past a b h k = k
+
+-- a trusted entry that stands below the index is of the one below
+below_by : (clock index : ℕ) (u : CacheEntry) → is_trusted clock u ≡ true → is_below clock index (Some u) ≡ true → index ≡ u.index + 1
+below_by clock index u trusted low =
+    let one : nat_eq (u.index + 1) index ≡ true = sym (ap (λ (t : Bool). cond t (nat_eq (u.index + 1) index) true) trusted) ∙ low in
+    sym (eqb-true (u.index + 1) index one)
+
+status_carries : (s : Script) (n clock place : ℕ) (c : ClientState) (past : List Entry) (act : Going) (f : Fid) (status : AfsFetchStatus) (call : FsCall) → ((g : Fid) → f ≡ g → StoresIntoBy (running s (Client n) (lines_of past)) g) → HasMadeItself (Client n) f status.sync_counter (lines_of past) → c.running ≡ Some act → call_of c act ≡ call → as_asked call ≡ call → Sets call f → IsNow s n c past → Carries s n past (takes_status (Client n) c clock place f status call)
+status_carries s n clock place c past act f status call into itself run same plain sets N =
+    let index : ℕ = status.sync_counter in
+    if_carries (not c.spoiled && is_below clock index (find_cached f c.cache)) s n past _ _
+    (λ t. stored_carries s n place clock c past f index (status_told status) (λ body. body) into itself
+    (λ g u b e found trusted body.
+    let low : is_below clock index (find_cached f c.cache) ≡ true = (both (not c.spoiled) (is_below clock index (find_cached f c.cache)) t).1 in
+    let at : find_cached f c.cache ≡ Some u = ap (λ (h : Fid). find_cached h c.cache) e ∙ found in
+    let above : index ≡ u.index + 1 = below_by clock index u trusted (subst (λ (o : Option CacheEntry). is_below clock index o ≡ true) at low) in
+    subst (λ (h : Fid). HasBrought s (Client n) h index b (lines.Answer (Client n) zero_code ∷ lines.Given place ∷ lines_of past)) e (sets_by s n place c past act call f index u.index b itself above N.runs run same plain sets ((N.had f u at).1 b body)))
+    N)
     (plain_carries s n place c past call zero_code N)
 
 -- what the act's store made, by the status in its reply
@@ -364,9 +398,9 @@ Made n past call status = (f : Fid) → stored_fid call ≡ Some f → HasMadeIt
 set_carries : (s : Script) (n clock place : ℕ) (c : ClientState) (past : List Entry) (act : Going) (status : AfsFetchStatus) (call : FsCall) → Made n past call status → c.running ≡ Some act → call_of c act ≡ call → IsNow s n c past → Carries s n past (takes_set (Client n) c clock place status call)
 set_carries s n clock place c past act status (calls.StoreData f set position wanted file_length contents) M run same N =
     either_carries c.spoiled s n past _ _ (plain_carries s n place c past (calls.StoreData f set position wanted file_length contents) zero_code N)
-    (stored_carries s n place clock c past f status.sync_counter (status_told status) (λ body. Some (bodies.File contents)) (M f refl) (λ g u b e found body. stores_by s n place c past act (calls.StoreData f set position wanted file_length contents) g b N.runs run same refl (e, sym (some_of (bodies.File contents) b body))) N)
-set_carries s n clock place c past act status (calls.StoreAcl f acl) M run same N = status_carries s n clock place c past f status (calls.StoreAcl f acl) (M f refl) N
-set_carries s n clock place c past act status (calls.StoreStatus f set) M run same N = status_carries s n clock place c past f status (calls.StoreStatus f set) (M f refl) N
+    (stored_carries s n place clock c past f status.sync_counter (status_told status) (λ body. Some (bodies.File contents)) (λ g e. into_by s n c past act (calls.StoreData f set position wanted file_length contents) g N.runs run same refl e) (M f refl) (λ g u b e found trusted body. stores_by s n place c past act (calls.StoreData f set position wanted file_length contents) g status.sync_counter b (subst (λ (h : Fid). HasMadeItself (Client n) h status.sync_counter (lines_of past)) e (M f refl)) N.runs run same refl (e, sym (some_of (bodies.File contents) b body))) N)
+set_carries s n clock place c past act status (calls.StoreAcl f acl) M run same N = status_carries s n clock place c past act f status (calls.StoreAcl f acl) (λ g e. into_by s n c past act (calls.StoreAcl f acl) g N.runs run same refl e) (M f refl) run same refl refl N
+set_carries s n clock place c past act status (calls.StoreStatus f set) M run same N = status_carries s n clock place c past act f status (calls.StoreStatus f set) (λ g e. into_by s n c past act (calls.StoreStatus f set) g N.runs run same refl e) (M f refl) run same refl refl N
 set_carries s n clock place c past act status call M run same N = plain_carries s n place c past call zero_code N
 
 -- ---- replies, by their calls
@@ -525,23 +559,23 @@ any_made : (s : Script) (c : Cell) (past : List Entry) (n place : ℕ) (m : Mess
 any_made s c past n place m B at to act run awaited r status file told f is = store_made s c past n act m r (call_of (c.clients n) act) f status B (arrives s c past n place act m B at (reply_code m.carried r file) to run awaited) file refl is told
 
 -- another node's lines crash another
-else_line : (s : Script) (j : ℕ) (f : Fid) (b : Body) (l : Line) (o : List Line) → ((n : Node) → l ≡ lines.Crash n → same_node n (Client j) ≡ false) → HasBrought s (Client j) f b o → HasBrought s (Client j) f b (l ∷ o)
-else_line s j f b (lines.Crash n) o h k = subst (λ (t : Bool). Unless t (HasBrought s (Client j) f b o)) (sym (h n refl)) k
-else_line s j f b (lines.Read m g index source body) o h k = inr k
-else_line s j f b (lines.Answer m code) o h k = inr k
-else_line s j f b l o h k = k
+else_line : (s : Script) (j : ℕ) (f : Fid) (i : ℕ) (b : Body) (l : Line) (o : List Line) → ((n : Node) → l ≡ lines.Crash n → same_node n (Client j) ≡ false) → HasBrought s (Client j) f i b o → HasBrought s (Client j) f i b (l ∷ o)
+else_line s j f i b (lines.Crash n) o h k = subst (λ (t : Bool). Unless t (HasBrought s (Client j) f i b o)) (sym (h n refl)) k
+else_line s j f i b (lines.Read m g index source body) o h k = inr k
+else_line s j f i b (lines.Answer m code) o h k = inr k
+else_line s j f i b l o h k = k
 
-else_learned : (j : ℕ) (f : Fid) (i : ℕ) (l : Line) (o : List Line) → ((n : Node) → l ≡ lines.Crash n → same_node n (Client j) ≡ false) → HasLearned (Client j) f i o → HasLearned (Client j) f i (l ∷ o)
-else_learned j f i (lines.Crash n) o h k = subst (λ (t : Bool). Unless t (HasLearned (Client j) f i o)) (sym (h n refl)) k
-else_learned j f i (lines.Read m g index source body) o h k = inr k
-else_learned j f i (lines.Answer m code) o h k = inr k
-else_learned j f i l o h k = k
+else_learned : (s : Script) (j : ℕ) (f : Fid) (i : ℕ) (l : Line) (o : List Line) → ((n : Node) → l ≡ lines.Crash n → same_node n (Client j) ≡ false) → HasLearned s (Client j) f i o → HasLearned s (Client j) f i (l ∷ o)
+else_learned s j f i (lines.Crash n) o h k = subst (λ (t : Bool). Unless t (HasLearned s (Client j) f i o)) (sym (h n refl)) k
+else_learned s j f i (lines.Read m g index source body) o h k = inr k
+else_learned s j f i (lines.Answer m code) o h k = inr k
+else_learned s j f i l o h k = k
 
 other_crash : (i j : ℕ) (l : Line) → is_of i l ≡ true → (i ≡ j → ⊥) → (n : Node) → l ≡ lines.Crash n → same_node n (Client j) ≡ false
 other_crash i j l h ne n e = other_node n i j (ap (is_of i) (sym e) ∙ h) ne
 
 else_had : (s : Script) (j : ℕ) (cache : List CacheEntry) (l : Line) (o : List Line) → ((n : Node) → l ≡ lines.Crash n → same_node n (Client j) ≡ false) → Had s j cache o → Had s j cache (l ∷ o)
-else_had s j cache l o h k f e x = (else_learned j f e.index l o h (k f e x).0, λ b y. else_line s j f b l o h ((k f e x).1 b y))
+else_had s j cache l o h k f e x = (else_learned s j f e.index l o h (k f e x).0, λ b y. else_line s j f e.index b l o h ((k f e x).1 b y))
 
 other_onto : (s : Script) (i j : ℕ) (cache : List CacheEntry) (ls o : List Line) → all_lines (is_of i) ls ≡ true → (i ≡ j → ⊥) → Had s j cache o → Had s j cache (onto o ls)
 other_onto s i j cache [] o h ne k = k

@@ -204,11 +204,11 @@ by_act more clock act cache (reads f) w = at_act more clock act cache (reads f) 
 by_act more clock act cache (reads_status f) w = at_act more clock act cache (reads_status f) (find_cached f cache) w
 by_act more clock act cache need w = refl
 
-walked_act : (n clock : ℕ) (act : Going) (cache : List CacheEntry) → (walked n clock act cache).act.act ≡ act.act
+pub walked_act : (n clock : ℕ) (act : Going) (cache : List CacheEntry) → (walked n clock act cache).act.act ≡ act.act
 walked_act zero clock act cache = refl
 walked_act (suc n) clock act cache = by_act (walked n clock) clock act cache (next act) (walked_act n clock)
 
-statuses_act : (es : List CacheEntry) (act : Going) → (with_statuses es act).act ≡ act.act
+pub statuses_act : (es : List CacheEntry) (act : Going) → (with_statuses es act).act ≡ act.act
 statuses_act [] act = refl
 statuses_act (e ∷ es) act = statuses_act es (with_read e.fid (seen.Status e.status) act)
 
