@@ -31,7 +31,7 @@ use Rattle.afs_num.specs.declared.histories.Actor.{Actor}
 use Rattle.afs_num.specs.declared.types.Node.{Node}
 use Rattle.afs_law.proofs.Worked.{apart_numbers, home, by_lines, stores, alters, answer, begun, entries, file, root, script, six_front}
 use Rattle.afs_law.specs.Breaks.{HasStopped, IsCarried, IsNamedIn}
-use Rattle.afs_law.specs.Legal.{Answered, Brings, IsKind, IsOpen, IsPromisedBy, Cause, EndsAct, IsGivenBack, IsResult, Legal, answer_at, code_given}
+use Rattle.afs_law.specs.Legal.{Answered, Brings, IsKind, IsOpen, IsPromisedBy, Cause, EndsAct, IsGivenBack, IsNeededFrom, IsResult, Legal, answer_at, code_given}
 use Rattle.afs_model.specs.Messages.{spelled}
 use Rattle.afs_num.specs.Names.{name_ok}
 use Rattle.afs_num.specs.declared.types.Fid.{Fid}
@@ -318,6 +318,17 @@ promises_nothing (e ∷ f ∷ es) = e ∷ promises_nothing (f ∷ es)
 granted_beside_no_call : Legal (promises_nothing (entries (start (script 2)) six_front)) (script 2) → ⊥
 unfolding moved begin_row client_row server_row back_timeout_row wake_row start_row record_bytes head_form volume_form spelled opaque pad word laid_at led name_ok directory_bytes name_bytes rights_of image acl_text digits entry_text directory_of names_at opaque_at word_at counted_at whole_at count_at name_at spelled_at bytes_below
 granted_beside_no_call h = h.1.1.1.0.0.0.0.1.ran.given
+
+-- a promise to a server, which asked for the file as if it were a client
+abbrev asks_as_a_server : Message
+asks_as_a_server = record {
+  head = record { half = halves.Call; from = Server 2; to = Server 1; epoch = 1; number = 1; boot = 1; stamp = 0; opcode = 130 };
+  carried = carried.Call (codes "guest") (ask.File (calls.FetchData file (pos 0) (pos 2147483647)));
+}
+
+granted_to_a_server : Legal (step_of (Server 2) [] (asks_as_a_server ∷ []) ∷ step_of (Server 1) (lines.Given 1 ∷ lines.Grant (Server 1) (Server 2) file 1 7200 ∷ []) [] ∷ []) (record (script 1) { servers = 2 }) → ⊥
+unfolding moved begin_row client_row server_row back_timeout_row wake_row start_row record_bytes head_form volume_form spelled opaque pad word laid_at led name_ok directory_bytes name_bytes rights_of image acl_text digits entry_text directory_of names_at opaque_at word_at counted_at whole_at count_at name_at spelled_at bytes_below
+granted_to_a_server h = h.1.0.0.0.1.0.1.client
 
 -- one that ends before its time
 abbrev shortly : Entry → Entry
@@ -653,9 +664,25 @@ gave_back_what_is_new h = h.1.1.0.0.1.0.gift.0
 
 -- ---- an entry is given one message
 
+not_none : (l : Line) (ls : List Line) → l ∷ ls ≡ [] → ⊥
+not_none l ls e = absurd cc
+
 given_two : Legal (alters 2 (instead (lines.Given 2 ∷ lines.Given 2 ∷ [])) (entries (start (script 1)) (begins 1 (acts.Open (operands.Fid file)) ∷ gives 1 steady ∷ gives 2 steady ∷ []))) (script 1) → ⊥
 unfolding moved begin_row client_row server_row back_timeout_row wake_row start_row record_bytes head_form volume_form spelled opaque pad word laid_at led name_ok directory_bytes name_bytes rights_of image acl_text digits entry_text directory_of names_at opaque_at word_at counted_at whole_at count_at name_at spelled_at bytes_below
-given_two h = let e : true ≡ false = h.1.1.0.0.0.1.0 in absurd cc
+given_two h = not_none _ _ h.1.1.0.0.0.1.0
+
+-- and begins nothing before
+given_behind_a_begin : Legal (alters 3 (instead (begun 1 ∷ lines.Given 2 ∷ [])) (entries (start (script 1)) again_front)) (script 1) → ⊥
+unfolding moved begin_row client_row server_row back_timeout_row wake_row start_row record_bytes head_form volume_form spelled opaque pad word laid_at led name_ok directory_bytes name_bytes rights_of image acl_text digits entry_text directory_of names_at opaque_at word_at counted_at whole_at count_at name_at spelled_at bytes_below
+given_behind_a_begin h = not_none _ _ h.1.1.1.0.0.0.1.0
+
+-- a stop is set in the step that answers a call
+abbrev sets_a_stop_too : Entry → Entry
+sets_a_stop_too e = record e { lines = e.lines ++ lines.Stop (Server 1) 0 0 ∷ [] }
+
+set_beside_another : Legal (alters 1 sets_a_stop_too (entries (start (script 1)) fetch_front)) (script 1) → ⊥
+unfolding moved begin_row client_row server_row back_timeout_row wake_row start_row record_bytes head_form volume_form spelled opaque pad word laid_at led name_ok directory_bytes name_bytes rights_of image acl_text digits entry_text directory_of names_at opaque_at word_at counted_at whole_at count_at name_at spelled_at bytes_below
+set_beside_another h = not_none _ _ h.1.0.0.0.1.1.0.1.0
 
 -- ---- whose an entry is, and which boot a server begins
 
@@ -1179,6 +1206,11 @@ read_what_was_only_looked_at h =
         | inr x ↦ x
       ]
     ]
+
+-- an act that needs a status shows what is in the file besides
+shown_unneeded : Legal (entries (start (script 1)) open_front ++ step_of (Client 1) (lines.Begin (Client 1) (acts.Stat (operands.Fid file)) ∷ shown Cached ∷ []) [] ∷ []) (script 1) → ⊥
+unfolding moved begin_row client_row server_row back_timeout_row wake_row start_row record_bytes head_form volume_form spelled opaque pad word laid_at led name_ok directory_bytes name_bytes rights_of image acl_text digits entry_text directory_of names_at opaque_at word_at counted_at whole_at count_at name_at spelled_at bytes_below
+shown_unneeded h = let x = h.1.1.1.0.0.0.1.0.0.1 in subst (λ (a : Going). IsNeededFrom Cached file (seen.Contents (bodies.File (codes "abc"))) (next a)) (sym (some_of _ _ x.runs)) x.needs
 
 -- it had read the file once, and since then another set its mode; now it looks at the file again, and shows the contents of before as those of the
 -- version at which it looked: its server wasn't asked whether it may read them still

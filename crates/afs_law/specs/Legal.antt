@@ -18,7 +18,7 @@ use Rattle.afs_num.specs.declared.messages.Message.{Message}
 use Rattle.afs_ideal.specs.Operations.{Caller, the_user, Result, refused, changes, no_operation, op, code_of, volume_called, volume_changed}
 use Rattle.afs_ideal.specs.Volumes.{Volume, Edit, versions_by}
 use Rattle.afs_law.specs.Breaks.{HasDrop, unbroken_grant, IsNamedIn, AllOwes, HasEnded, HasStopped, HasTimeout, EndedOf, EndedAll, GoodSettle, GoodQuit, live_grant, lines_at, HasOwe, last_number}
-use Rattle.afs_rows.specs.Going.{Going, Need, answers, asks_for, next, asked, gives_back, reads_rights}
+use Rattle.afs_rows.specs.Going.{Going, Need, answers, asks_for, next, asked, gives_back, reads, reads_rights, reads_status}
 use Rattle.afs_law.specs.Grants.{change_below, is_promised, read_reply, GrantOf, since, until, IsWithdrawn, IsChangedByOther, IsDropped}
 use Rattle.afs_law.specs.Ideal.{last_version, Unless, set_up, IsLast, WasLast, HasBeen, HasVersion, Accepts, clock_of, user_of, seen, change_in, change_key, call_under, callee_under, volume_after}
 use Rattle.afs_history.specs.declared.acts.Act.TheVariants as acts
@@ -550,9 +550,14 @@ IsPromisedBy f (calls.CreateFile d name status) r past = IsNewIn d.volume f r (v
 IsPromisedBy f (calls.MakeDir d name status) r past = IsNewIn d.volume f r (volume_after d.volume past)
 IsPromisedBy f call r past = ⊥
 
--- A server makes a promise in the entry in which it runs a call of the client, for 7200 ticks. The call's reply promises the fid, and
+abbrev pub IsClient : Node → Type 0
+IsClient (Client j) = ⊤
+IsClient n = ⊥
+
+-- A server makes a promise to a client in the entry in which it runs a call of that, for 7200 ticks. The call's reply promises the fid, and
 -- the ideal operation gives it code 0. The index that the grant tells is the fid's last one
 pub record GoodGrant (server c : Node) (f : Fid) (index expiry : ℕ) (past : List Entry) (own : List Line) : Type 0 where
+  pub client : IsClient c
   pub key : Key
   pub node : key.node ≡ c
   pub ran : RunsHere server key past own
@@ -878,6 +883,27 @@ IsOfServer who n = ⊥
 abbrev pub IsTimed : Node → List Line → List Line → Type 0
 IsTimed c own next = ((has_given own ≡ false) × (has_begun c own ≡ false)) × ((has_given next ≡ false) × (has_begun c next ≡ false))
 
+-- it is the only line of its entry
+abbrev pub IsOnlyLine : List Line → List Line → Type 0
+IsOnlyLine own next = (own ≡ []) × (next ≡ [])
+
+-- what this shows of the object is what an act needs
+abbrev pub IsNeeded : Fid → ReadBody → Need → Type 0
+IsNeeded f (shows.Contents body) (reads g) = g ≡ f
+IsNeeded f (shows.Status status) (reads_status g) = g ≡ f
+IsNeeded f body need = ⊥
+
+-- so is what is read from the cache; what is fetched comes by a call that the act asked for
+abbrev pub IsNeededFrom : ReadSource → Fid → ReadBody → Need → Type 0
+IsNeededFrom Cached f body need = IsNeeded f body need
+IsNeededFrom Fetched f body need = ⊤
+
+-- an act runs at the client; and what this shows from the cache is what that needs next
+pub record NeedsRead (s : Script) (c : Node) (f : Fid) (source : ReadSource) (body : ReadBody) (past : List Entry) (own : List Line) : Type 0 where
+  pub act : Going
+  pub runs : running s c (own ++ lines_of past) ≡ Some act
+  pub needs : IsNeededFrom source f body (next act)
+
 -- an act begins first in its entry, while none runs
 abbrev pub IsBegun : Script → Node → List Entry → List Line → Type 0
 IsBegun s c past own = (own ≡ []) × (running s c (lines_of past) ≡ None)
@@ -890,16 +916,16 @@ IsBegun s c past own = (own ≡ []) × (running s c (lines_of past) ≡ None)
 -- fault of a server alone, for clients have no disk
 abbrev pub IsInPlace : Script → Actor → Line → List Entry → List Line → List Line → Type 0
 IsInPlace s who (lines.Begin c act) past own next = IsOfClient who c × IsBegun s c past own
-IsInPlace s who (lines.Given place) past own next = has_given own ≡ false
+IsInPlace s who (lines.Given place) past own next = own ≡ []
 IsInPlace s who (lines.Grant server c f index expiry) past own next = IsOfServer who server
 IsInPlace s who (lines.Change server k count) past own next = IsOfServer who server
 IsInPlace s who (lines.Version v) past own next = IsUnderChange own
-IsInPlace s who (lines.Read c f index source body) past own next = IsOfClient who c × HasAct s c past own
+IsInPlace s who (lines.Read c f index source body) past own next = IsOfClient who c × NeedsRead s c f source body past own
 IsInPlace s who (lines.Answer c code) past own next = IsOfClient who c × HasAct s c past own
 IsInPlace s who (lines.Timeout c callee epoch number count) past own next = (who ≡ actors.Node c) × IsTimed c own next
-IsInPlace s who (lines.Tick n) past own next = (who ≡ actors.Clock) × ((0 < n) × ((own ≡ []) × (next ≡ [])))
-IsInPlace s who (lines.Stop n calls pick) past own next = IsOfServer who n
-IsInPlace s who (lines.Fail n call) past own next = IsOfServer who n
+IsInPlace s who (lines.Tick n) past own next = (who ≡ actors.Clock) × ((0 < n) × IsOnlyLine own next)
+IsInPlace s who (lines.Stop n calls pick) past own next = IsOfServer who n × IsOnlyLine own next
+IsInPlace s who (lines.Fail n call) past own next = IsOfServer who n × IsOnlyLine own next
 IsInPlace s who (lines.Crash n) past own next = who ≡ actors.Node n
 IsInPlace s who (lines.Fault n) past own next = IsOfServer who n
 IsInPlace s who (lines.Restart n boot) past own next = (who ≡ actors.Node n) × GoodRestart s n next
