@@ -118,7 +118,7 @@ found_by : (P : ℕ → Node → Type 0) (t : Bool) (x : CacheEntry) (o : Option
 found_by P true x o e h q w = subst (λ (y : CacheEntry). P y.fid.volume y.server) (some_of x e q) h
 found_by P false x o e h q w = w q
 
-kept_found : (P : ℕ → Node → Type 0) (f : Fid) (cache : List CacheEntry) (e : CacheEntry) → AreKept P cache → find_cached f cache ≡ Some e → P e.fid.volume e.server
+pub kept_found : (P : ℕ → Node → Type 0) (f : Fid) (cache : List CacheEntry) (e : CacheEntry) → AreKept P cache → find_cached f cache ≡ Some e → P e.fid.volume e.server
 kept_found P f [] e h q = absurd cc
 kept_found P f (x ∷ cache) e h q = found_by P (same_fid x.fid f) x (find_cached f cache) e h.0 q (kept_found P f cache e h.1)
 

@@ -1212,11 +1212,11 @@ shown_unneeded : Legal (entries (start (script 1)) open_front ++ step_of (Client
 unfolding moved begin_row client_row server_row back_timeout_row wake_row start_row record_bytes head_form volume_form spelled opaque pad word laid_at led name_ok directory_bytes name_bytes rights_of image acl_text digits entry_text directory_of names_at opaque_at word_at counted_at whole_at count_at name_at spelled_at bytes_below
 shown_unneeded h = let x = h.1.1.1.0.0.0.1.0.0.1 in subst (λ (a : Going). IsNeededFrom Cached file (seen.Contents (bodies.File (codes "abc"))) (next a)) (sym (some_of _ _ x.runs)) x.needs
 
--- it had read the file once, and since then another set its mode; now it looks at the file again, and shows the contents of before as those of the
--- version at which it looked: its server wasn't asked whether it may read them still
+-- it had read the file once, and when its promise was over another set the mode; now it looks at the file again, and shows the contents of before as
+-- those of the version at which it looked: its server wasn't asked whether it may read them still
 abbrev looked_again : List Input
 looked_again =
-    begins 1 (acts.Open (operands.Fid file)) ∷ gives 1 steady ∷ gives 2 steady ∷ begins 2 (acts.SetMode (operands.Fid file) 384) ∷ gives 3 steady ∷ gives 4 steady ∷ gives 5 steady ∷ gives 6 steady ∷ begins 1 (acts.Stat (operands.Fid file)) ∷ gives 7 steady ∷ gives 8 steady ∷ []
+    begins 1 (acts.Open (operands.Fid file)) ∷ gives 1 steady ∷ gives 2 steady ∷ ticks 7200 ∷ begins 2 (acts.SetMode (operands.Fid file) 384) ∷ gives 3 steady ∷ gives 4 steady ∷ begins 1 (acts.Stat (operands.Fid file)) ∷ gives 5 steady ∷ gives 6 steady ∷ []
 
 status_not : (a : ReadStatus) (b : Body) → seen.Status a ≡ seen.Contents b → ⊥
 status_not a b e = absurd cc
@@ -1224,7 +1224,7 @@ status_not a b e = absurd cc
 contents_of_another_version : Legal (entries (start (script 2)) looked_again ++ step_of (Client 1) (begun 1 ∷ lines.Read (Client 1) file 2 Cached (seen.Contents (bodies.File (codes "abc"))) ∷ answer 1 ∷ []) [] ∷ []) (script 2) → ⊥
 unfolding moved begin_row client_row server_row back_timeout_row wake_row start_row record_bytes head_form volume_form spelled opaque pad word laid_at led name_ok directory_bytes name_bytes rights_of image acl_text digits entry_text directory_of names_at opaque_at word_at counted_at whole_at count_at name_at spelled_at bytes_below
 contents_of_another_version h =
-    elim h.1.1.1.1.1.1.1.1.1.1.1.0.0.0.1.0.1.brought.1 [
+    elim h.1.1.1.1.1.1.1.1.1.1.0.0.0.1.0.1.brought.1 [
       | inl x ↦ x.1.1.0
       | inr a ↦ elim a [
         | inl x ↦ status_not _ _ x.1.1.1.1
@@ -1417,6 +1417,22 @@ begun_again_when_up h = elim h.0.1.0.1.1.0 [ inl x ↦ restart_not _ _ _ x.0 | i
 called_ahead : Legal (alters 0 to_boot_two (entries (start (script 1)) (begins 1 (acts.Open (operands.Fid file)) ∷ []))) (script 1) → ⊥
 unfolding moved begin_row client_row server_row back_timeout_row wake_row start_row record_bytes head_form volume_form spelled opaque pad word laid_at led name_ok directory_bytes name_bytes rights_of image acl_text digits entry_text directory_of names_at opaque_at word_at counted_at whole_at count_at name_at spelled_at bytes_below
 called_ahead h = let e : 2 ≡ 1 = h.0.1.1.1.0.0.boot in absurd (omega (arith, e))
+
+-- it had read the file, gave up all that it kept, and looks at the same version again: it shows the contents that it has no more
+abbrev given_up_front : List Input
+given_up_front =
+    begins 1 (acts.Open (operands.Fid file)) ∷ gives 1 steady ∷ gives 2 steady ∷ begins 1 acts.GiveUp ∷ gives 3 steady ∷ gives 4 steady ∷ begins 1 (acts.Stat (operands.Fid file)) ∷ gives 5 steady ∷ gives 6 steady ∷ []
+
+contents_that_were_dropped : Legal (entries (start (script 1)) given_up_front ++ step_of (Client 1) (begun 1 ∷ shown Cached ∷ answer 1 ∷ []) [] ∷ []) (script 1) → ⊥
+unfolding moved begin_row client_row server_row back_timeout_row wake_row start_row record_bytes head_form volume_form spelled opaque pad word laid_at led name_ok directory_bytes name_bytes rights_of image acl_text digits entry_text directory_of names_at opaque_at word_at counted_at whole_at count_at name_at spelled_at bytes_below
+contents_that_were_dropped h =
+    elim h.1.1.1.1.1.1.1.1.1.0.0.0.1.0.1.brought.1 [
+      | inl x ↦ x.1.1.0
+      | inr a ↦ elim a [
+        | inl x ↦ status_not _ _ x.1.1.1.1
+        | inr b ↦ elim b [ inl x ↦ x.1.1.0 | inr d ↦ d ]
+      ]
+    ]
 
 -- ---- a client's calls are numbered one by one, in its epoch
 

@@ -144,18 +144,20 @@ HasLearned s c f index (lines.Answer m code ∷ older) = ((m ≡ c) × ((code.0 
 HasLearned s c f index (lines.Crash n ∷ older) = Unless (same_node n c) (HasLearned s c f index older)
 HasLearned s c f index (l ∷ older) = HasLearned s c f index older
 
--- By these lines, the newest first, this body came to the client since it last crashed, as that of the version of this index. It came by a read
--- that was fetched; or by an own act that made the version and was answered 0: a store of the whole, or a setting of the status or the rights,
--- over contents that had come as those of the index below
+-- By these lines, the newest first, this body came to the client as that of the version of this index, and since then it neither dropped the object
+-- nor crashed. It came by a read that was fetched; or by an own act that made the version and was answered 0: a store of the whole, or a setting of
+-- the status or the rights, over contents that had come as those of the index below. What drops all of a server drops the objects of its volumes
 abbrev pub HasBrought : Script → Node → Fid → ℕ → Body → List Line → Type 0
 HasBrought s c f index body [] = ⊥
 HasBrought s c f index body (lines.Read m g i source shown ∷ older) = ((m ≡ c) × ((g ≡ f) × ((i ≡ index) × ((source ≡ Fetched) × (shown ≡ shows.Contents body))))) ⊎ HasBrought s c f index body older
 HasBrought s c f index body (lines.Answer m code ∷ older) =
     ((m ≡ c) × ((code.0 ≡ pos 0) × (HasMadeItself c f index older × (StoresBy (running s c older) f body ⊎ ((below : ℕ) × ((index ≡ below + 1) × (SetsBy (running s c older) f × HasBrought s c f below body older))))))) ⊎ HasBrought s c f index body older
+HasBrought s c f index body (lines.Drop m g ∷ older) = Unless (same_node m c && same_fid g f) (HasBrought s c f index body older)
+HasBrought s c f index body (lines.DropAll m server ∷ older) = (m ≡ c → Accepts s f.volume server older → ⊥) × HasBrought s c f index body older
 HasBrought s c f index body (lines.Crash n ∷ older) = Unless (same_node n c) (HasBrought s c f index body older)
 HasBrought s c f index body (l ∷ older) = HasBrought s c f index body older
 
--- contents came to the client as just this body of that version; also where it dropped them since
+-- contents came to the client as just this body of that version, and it has them still
 abbrev pub AreBrought : Script → Node → Fid → ℕ → ReadBody → List Line → Type 0
 AreBrought s c f index (shows.Contents body) ls = HasBrought s c f index body ls
 AreBrought s c f index body ls = ⊤
