@@ -100,7 +100,8 @@ abbrev pub IsBroughtGood : Script → LineRule
 IsBroughtGood s who (lines.Read c f index source body) past own next = IsBrought s c f index source body (own ++ lines_of past)
 IsBroughtGood s who l past own next = ⊤
 
--- what a client of a run reads from its cache came to it since it last crashed: that version, and contents as just this body of it
+-- what a client of a run reads from its cache came to it since it last crashed: that version, and contents as just this body of it, which it didn't
+-- drop since
 abbrev pub CachedAreBrought : Type 0
 CachedAreBrought = (s : Script) (history : List Entry) (end : Cell) → RunsTo history s end → AllLines (IsBroughtGood s) s history
 
