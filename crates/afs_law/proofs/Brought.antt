@@ -648,7 +648,7 @@ begun_carries s n clock c act past N = first_carries s n clock c act (began c.ta
 
 spared_left : (m : Node) (o : Option ℕ) (cache : List CacheEntry) (ls : List Line) → AreApart cache → all_lines is_mild ls ≡ true → Spared (left_in o cache) (dropped m (given_up_in o cache) ls)
 spared_left m None cache ls apart h f e found = (mild_lines f ls h).1
-spared_left m (Some id) cache ls apart h = spared_filter m (λ e. nat_eq e.fid.volume id) cache ls apart h
+spared_left m (Some id) cache ls apart h f e found = spared_filter m (λ u. nat_eq u.fid.volume id) cache ls apart h f e found
 
 within_left : (o : Option ℕ) (cache : List CacheEntry) → AreApart cache → Within (left_in o cache) cache
 within_left None cache apart f e x = x

@@ -12,8 +12,7 @@ use Rattle.afs_law.proofs.Following.{AreOpen, Follows, IsNoGift, begins_follow, 
 use Rattle.afs_law.proofs.Located.{running_homes}
 use Rattle.afs_law.proofs.Moving.{Behind, EachMove, IsKept, each_moved}
 use Rattle.afs_law.proofs.Nexts.{asks_change}
-use Rattle.afs_law.proofs.Returning.{statuses_act, walked_act}
-use Rattle.afs_law.proofs.Walking.{walked_keeps}
+use Rattle.afs_law.proofs.Walking.{statuses_act, walked_act, walked_keeps}
 use Rattle.afs_law.specs.Ideal.{is_at, set_up}
 use Rattle.afs_law.specs.Legal.{GivesSome, IsOpen}
 use Rattle.afs_law.specs.Past.{lines_of}
@@ -165,7 +164,7 @@ abbrev IsNoGive : Going → Type 0
 IsNoGive act = act.act ≡ acts.GiveUp → ⊥
 
 asks_homed : (P : ℕ → Node → Type 0) (y : ClientState) (act : Going) → IsNoGive act → AreKept P y.cache → AreGiven P y.gifts → Homed P (asking y act)
-asks_homed P y act no h g = record { cache = h; gifts = g; some = λ a r k z. no (ap (λ (x : Going). x.act) (some_of act a r) ∙ k) }
+asks_homed P y act plain h g = record { cache = h; gifts = g; some = λ a r k z. plain (ap (λ (x : Going). x.act) (some_of act a r) ∙ k) }
 
 ends_homed : (P : ℕ → Node → Type 0) (y : ClientState) (cache : List CacheEntry) → AreKept P cache → Homed P (ended y cache)
 ends_homed P y cache h = record { cache = h; gifts = tt; some = λ a r. absurd cc }
@@ -178,13 +177,13 @@ again_homed : (P : ℕ → Node → Type 0) (c : ClientState) (act : Going) → 
 again_homed P c act h run = record { cache = h.cache; gifts = h.gifts; some = λ a r give none. h.some a (run ∙ r) give none }
 
 goes_homed : (P : ℕ → Node → Type 0) (n : ℕ) (y : ClientState) (front : List Line → List Line) (w : Walked) (need : Need) → IsNoGive w.act → AreKept P w.cache → AreGiven P y.gifts → Homed P (goes_by (Client n) y front w need).state
-goes_homed P n y front w (answers k) no h g = ends_homed P y w.cache h
-goes_homed P n y front w need no h g = asks_homed P (record y { cache = w.cache }) w.act no h g
+goes_homed P n y front w (answers k) plain h g = ends_homed P y w.cache h
+goes_homed P n y front w need plain h g = asks_homed P (record y { cache = w.cache }) w.act plain h g
 
 walks_homed : (P : ℕ → Node → Type 0) (n clock : ℕ) (y : ClientState) (front : List Line → List Line) (act : Going) (cache : List CacheEntry) → IsNoGive act → AreKept P cache → AreGiven P y.gifts → Homed P (walks_on (Client n) y clock front act cache).state
-walks_homed P n clock y front act cache no h g =
+walks_homed P n clock y front act cache plain h g =
     let w : Walked = walked (most_reads act) clock act cache in
-    goes_homed P n y front w (next w.act) (λ e. no (sym (walked_act (most_reads act) clock act cache) ∙ e)) (walked_kept P (most_reads act) clock act cache h) g
+    goes_homed P n y front w (next w.act) (λ e. plain (sym (walked_act (most_reads act) clock act cache) ∙ e)) (walked_kept P (most_reads act) clock act cache h) g
 
 either_homed : (P : ℕ → Node → Type 0) (t : Bool) (a b : Step ClientState) → Homed P a.state → Homed P b.state → Homed P (cond t a b).state
 either_homed P true a b h k = h
@@ -203,8 +202,8 @@ plain_homed : (P : ℕ → Node → Type 0) (c : ClientState) (call : FsCall) �
 plain_homed P c call h = ends_homed P c (left_after call c.cache) (kept_filter P (λ e. not (is_in_scope call e.fid)) c.cache h.cache)
 
 entry_homed : (P : ℕ → Node → Type 0) (n clock place : ℕ) (c : ClientState) (act : Going) (e : CacheEntry) (body : ReadBody) → Homed P c → IsNoGive act → P e.fid.volume e.server → Homed P (takes_entry (Client n) c clock place act e body).state
-entry_homed P n clock place c act e body h no x =
-    either_homed P (is_trusted clock e) _ _ (walks_homed P n clock c (read_lines (Client n) place (look_at Fetched e body)) (with_read e.fid body act) (put_entry c.capacity e c.cache) no (kept_put P c.capacity e c.cache x h.cache) h.gifts) (asks_homed P c act no h.cache h.gifts)
+entry_homed P n clock place c act e body h plain x =
+    either_homed P (is_trusted clock e) _ _ (walks_homed P n clock c (read_lines (Client n) place (look_at Fetched e body)) (with_read e.fid body act) (put_entry c.capacity e c.cache) plain (kept_put P c.capacity e c.cache x h.cache) h.gifts) (asks_homed P c act plain h.cache h.gifts)
 
 -- what the call asks of is at its callee
 called_at : (P : ℕ → Node → Type 0) (c : ClientState) (act : Going) (call : FsCall) → AsksHome P c → c.running ≡ Some act → call_of c act ≡ call → (id : ℕ) → AsksOf call id → P id c.callee
@@ -242,10 +241,10 @@ set_homed P n clock place c status call h = plain_homed P c call h
 bulk_homed : (P : ℕ → Node → Type 0) (n clock place : ℕ) (c : ClientState) (act : Going) (statuses : List AfsFetchStatus) (callbacks : List AfsCallBack) (sync : AfsVolSync) (call : FsCall) → AsksHome P c → Homed P c → c.running ≡ Some act → call_of c act ≡ call → Homed P (takes_bulk (Client n) c clock place act statuses callbacks sync call).state
 bulk_homed P n clock place c act statuses callbacks sync (calls.BulkStatus fids) t h r same =
     let es : List CacheEntry = entries_told c.callee sync fids statuses callbacks in
-    let no : IsNoGive act = no_give c act (calls.BulkStatus fids) same tt in
+    let plain : IsNoGive act = no_give c act (calls.BulkStatus fids) same tt in
     let at : AreKept P es = kept_told P c.callee sync fids statuses callbacks (called_at P c act (calls.BulkStatus fids) t r same) in
-    either_homed P (list_any (λ e. not (is_trusted clock e)) es) _ _ (asks_homed P c act no h.cache h.gifts)
-    (walks_homed P n clock c (λ ls. given place (looked (Client n) (map status_look es) ls)) (with_statuses es act) (put_entries c.capacity es c.cache) (λ e. no (sym (statuses_act es act) ∙ e)) (kept_puts P c.capacity es c.cache at h.cache) h.gifts)
+    either_homed P (list_any (λ e. not (is_trusted clock e)) es) _ _ (asks_homed P c act plain h.cache h.gifts)
+    (walks_homed P n clock c (λ ls. given place (looked (Client n) (map status_look es) ls)) (with_statuses es act) (put_entries c.capacity es c.cache) (λ e. plain (sym (statuses_act es act) ∙ e)) (kept_puts P c.capacity es c.cache at h.cache) h.gifts)
 bulk_homed P n clock place c act statuses callbacks sync call t h r same = plain_homed P c call h
 
 gives_homed : (P : ℕ → Node → Type 0) (n : ℕ) (y : ClientState) (front : List Line → List Line) (act : Going) (gs : List Gift) → AreKept P y.cache → AreGiven P gs → Homed P (gives_by (Client n) y front act gs).state
@@ -310,7 +309,7 @@ unfolding client_row
 given_home P n clock place c m t h = either_homed P (same_node m.head.to (Client n)) _ _ (hears_homed P n clock place c m.head m.carried t h) h
 
 not_given : (act : Going) (need : Need) → next act ≡ need → (need ≡ gives_back → ⊥) → IsNoGive act
-not_given act need is no e = no (sym is ∙ need_of_give act e)
+not_given act need is plain e = plain (sym is ∙ need_of_give act e)
 
 first_homed : (P : ℕ → Node → Type 0) (n clock : ℕ) (y : ClientState) (front : List Line → List Line) (act : Going) (need : Need) → next act ≡ need → AreKept P y.cache → AreGiven P y.gifts → Homed P (begins_by (Client n) y clock front act need).state
 first_homed P n clock y front act gives_back is h g =

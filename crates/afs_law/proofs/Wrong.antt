@@ -1246,7 +1246,7 @@ status_that_never_came : Legal (entries (start (script 2)) mode_front ++ step_of
 unfolding moved begin_row client_row server_row back_timeout_row wake_row start_row record_bytes head_form volume_form spelled opaque pad word laid_at led name_ok directory_bytes name_bytes rights_of image acl_text digits entry_text directory_of names_at opaque_at word_at counted_at whole_at count_at name_at spelled_at bytes_below
 status_that_never_came h =
     elim h.1.1.1.1.1.0.0.0.1.0.1.brought.0 [
-      | inl x ↦ x.1.1
+      | inl x ↦ x.1.1.0
       | inr y ↦ elim y [ inl x ↦ let e : 1 ≡ 2 = x.1.1.0 in absurd (omega (arith, e)) | inr x ↦ x ]
     ]
 
