@@ -1,5 +1,5 @@
 -- How a replay ends, by what its parts promise.
-use Rattle.std.specs.Prelude.{◌≡◌, ◌≤◌, ◌<◌, ◌⊎◌, ℕ, suc, ◌+◌, List, [], ◌∷◌, ◌++◌, length, map, Bool, false, Option, Some, None, Result, Ok, Err, OnOk, OnErr}
+use Rattle.std.specs.Prelude.{◌≡◌, ◌≤◌, ◌<◌, ◌⊎◌, ℕ, zero, suc, ◌+◌, List, [], ◌∷◌, ◌++◌, length, map, Bool, false, Option, Some, None, Result, Ok, Err, OnOk, OnErr}
 use Rattle.std.proofs.Common.{refl, ap, sym, subst, ◌∙◌, inl, inr, arith}
 use Rattle.std.specs.Option.{option_map}
 use Rattle.afs_num.specs.declared.devices.Failed.{Failed}
@@ -31,11 +31,11 @@ use Rattle.afs_final.specs.declared.reading.Left.{Left}
 use Rattle.afs_lending.specs.Lending.{faults_of, kept_disks, lends, with_faults, AreLent, AreUnused, GivesBackAll, GivesBackSome}
 use Rattle.afs_top.specs.Outside.{span, IsUnchanged, Outside, RoseBy, Span, Writes, WritesAll, WritesText, WritesWhole}
 use Rattle.afs_top.specs.Parts.{lend_status, returned, set_up_status, TellsLeft}
-use Rattle.afs_top.specs.Top.{lends_of, AreKept, AtBankFault, EndsReplay, EndsRun, GivesBack, GivesBackLent, IsFew, IsFull, IsLegalRun, LendingLeaves, NotToItsEnd, ReadingFails, Replays, ReplaysFirst, ReplaysSome, ReplaysUnread, SetUpLeaves, SomeOfIt, ToItsEnd, WritesEntries, WritesRun}
+use Rattle.afs_top.specs.Top.{lends_of, AreKept, AreOf, AtBankFault, EndsReplay, EndsRun, GivesBack, GivesBackLent, GivesBackThose, IsFew, IsFull, IsLegalRun, LendingLeaves, NotToItsEnd, ReadingFails, Replays, ReplaysFirst, ReplaysSome, ReplaysUnread, SetUpLeaves, SomeOfIt, ToItsEnd, WritesEntries, WritesRun}
 use Rattle.afs_top.specs.declared.statuses.Status.{Status}
 use Rattle.afs_top.specs.declared.statuses.Status.TheVariants as statuses
 use Rattle.afs_top.proofs.Counts.{counted, counts_lent, found_failed, found_no_less, grown, none_fell, one_grown, rose_once, rose_since, AtLeast}
-use Rattle.afs_top.proofs.Ending.{given_so, left_so, legal_run, length_told, lent_length, no_others, read_so}
+use Rattle.afs_top.proofs.Ending.{found_come, given_so, left_so, legal_run, length_told, lent_come, lent_length, no_others, read_so}
 
 -- ---- the disks go back
 
@@ -147,6 +147,7 @@ reading_fails {D} seen may_leave faults limit s w fs wire o is found failed writ
         end = p.1.cell;
         run = legal_run seen may_leave faults limit is.law (ToItsEnd s) 1 s w o.disk_faults is.in_cell is.world.safe.entries p.1 (rose_by _ _ o.disk_faults back.counts (one_grown _ _ _ less more (counts_lent faults _ 1 w.servers p.1.runs.counts)));
         written = written_told seen may_leave faults limit s w wire o is.world p.1.runs.read written;
+        given = found_come (RoseBy 1 o.bank_faults) seen faults limit s.servers w.servers fs o.given.before o.given.after is.world.safe.server_count p.0 found (excused o.bank_faults.before o.bank_faults.after back.never_falls back.gives) back.some;
       };
     }
 
@@ -161,6 +162,7 @@ reading_stops {D} seen may_leave faults limit s w fs wire o is found written bac
       end = p.1.cell;
       run = legal_run seen may_leave faults limit is.law (SomeOfIt s) 0 s w o.disk_faults is.in_cell is.world.safe.entries some (no_others _ o.disk_faults (rose_by _ _ o.disk_faults back.counts many));
       written = written_told seen may_leave faults limit s w wire o is.world p.1.runs.read written;
+      given = found_come (RoseBy 1 o.bank_faults) seen faults limit s.servers w.servers fs o.given.before o.given.after is.world.safe.server_count p.0 found (excused o.bank_faults.before o.bank_faults.after back.never_falls back.gives) back.some;
     }
 
 pub ended : {D : Type 0} (seen : D → Option (List ℕ)) (may_leave : D → List ℕ → Type 0) (faults limit : D → ℕ) (s : Script) (w : WorldState D) (fs : List (Left (Store D) D)) (wire : Bool) (o : Outside) (status : Status) (taken : Result (Unit {0}) Failed)
@@ -206,6 +208,7 @@ stopped {D} seen may_leave faults limit s w wire o is written back p = record {
   end = p.1.cell;
   run = legal_run seen may_leave faults limit is.law (SomeOfIt s) 0 s w o.disk_faults is.in_cell is.world.safe.entries p.1 (no_others _ o.disk_faults (rose_by _ _ o.disk_faults back.counts (counts_lent faults _ 1 w.servers p.1.runs.counts)));
   written = written_told seen may_leave faults limit s w wire o is.world p.1.runs.read written;
+  given = lent_come (RoseBy 1 o.bank_faults) seen s.servers w.servers o.given.before o.given.after is.world.safe.server_count p.0 (excused o.bank_faults.before o.bank_faults.after back.never_falls back.gives) back.some;
 }
 
 -- all was played by then
@@ -300,6 +303,20 @@ given_map a b f kept (Some before) after g = (g.0, (g.1.0, kept_map a b f 1 kept
 given_since : (a b : Type 0) (o earlier : Outside) → Since o earlier → (a → b) → (kept : List Durable) → GivesBack a kept o.given.before o.given.after → GivesBack b kept earlier.given.before earlier.given.after
 given_since a b o earlier since f kept g = subst (λ (x : Span Given). GivesBack b kept x.before x.after) (sym since.given) (given_map a b f kept o.given.before o.given.after g)
 
+of_map : (a b : Type 0) → (a → b) → (i n : ℕ) (disks : List (ℕ × List ℕ)) → AreOf a i n disks → AreOf b i n disks
+of_map a b f i zero disks h = h
+of_map a b f i (suc n) [] (inl h) = absurd h
+of_map a b f i (suc n) (disk ∷ disks) (inl h) = inl (h.0, of_map a b f (i + 1) n disks h.1)
+of_map a b f i (suc n) [] (inr h) = inr (f h.0, of_map a b f (i + 1) n [] h.1)
+of_map a b f i (suc n) (disk ∷ disks) (inr h) = inr (f h.0, of_map a b f (i + 1) n (disk ∷ disks) h.1)
+
+those_map : (a b : Type 0) → (a → b) → (n : ℕ) (before after : Given) → GivesBackThose a n before after → GivesBackThose b n before after
+those_map a b f n None after g = tt
+those_map a b f n (Some before) after g = (g.0, (g.1.0, of_map a b f 1 n g.0 g.1.1))
+
+those_since : (n : ℕ) (o earlier : Outside) → Since o earlier → GivesBackThose (RoseBy 1 o.bank_faults) n o.given.before o.given.after → GivesBackThose (RoseBy 1 earlier.bank_faults) n earlier.given.before earlier.given.after
+those_since n o earlier since g = subst (λ (x : Span Given). GivesBackThose (RoseBy 1 earlier.bank_faults) n x.before x.after) (sym since.given) (those_map _ _ (bank_since o earlier since) n o.given.before o.given.after g)
+
 replays_since : (s : Script) (wire : Bool) (Writes WritesToo : List ℕ → Type 0) (a b : Type 0) (o earlier : Outside) → Since o earlier → ((t : List ℕ) → Writes t → WritesToo t) → (a → b) → Replays s wire Writes a o → Replays s wire WritesToo b earlier
 replays_since s wire Writes WritesToo a b o earlier since w f r = record {
   history = r.history;
@@ -354,6 +371,7 @@ some_since s wire o earlier since r = record {
   end = r.end;
   run = subst (λ (x : Span ℕ). IsLegalRun s (SomeOfIt s) 0 x r.history r.end) (sym since.disk_faults) r.run;
   written = writes_since o earlier since (history_text wire r.history) r.written;
+  given = those_since s.servers o earlier since r.given;
 }
 
 whole_since : (o earlier : Outside) → Since o earlier → (t : List ℕ) → WritesAll o t → WritesAll earlier t
@@ -374,6 +392,7 @@ unread_since s wire o earlier since r = record {
   end = r.end;
   run = subst (λ (x : Span ℕ). IsLegalRun s (ToItsEnd s) 1 x r.history r.end) (sym since.disk_faults) r.run;
   written = writes_since o earlier since (history_text wire r.history) r.written;
+  given = those_since s.servers o earlier since r.given;
 }
 
 bank_fault_since : (s : Script) (wire : Bool) (tells tells_too left left_too : Type 0) (o earlier : Outside) → Since o earlier → (tells_too → tells) → (left → left_too) → AtBankFault s wire tells left o → AtBankFault s wire tells_too left_too earlier

@@ -27,7 +27,7 @@ use Rattle.afs_final.specs.declared.reading.Left.{Left}
 use Rattle.afs_final.specs.declared.reading.Left.TheVariants as left
 use Rattle.afs_lending.specs.Lending.{kept_disks, GivesBackAll, GivesBackSome}
 use Rattle.afs_top.specs.Outside.{RoseBy, Span}
-use Rattle.afs_top.specs.Top.{AreKept, GivesBack, IsLegalRun, MayKeep}
+use Rattle.afs_top.specs.Top.{AreKept, AreOf, GivesBack, GivesBackThose, IsLegalRun, MayKeep}
 
 some_of : {A : Type 0} (o : Option A) → IsSome o → (x : A) × (o ≡ Some x)
 some_of {A} None some = absurd cc
@@ -213,6 +213,63 @@ left_so {D} seen may_leave limit w c is tells stand =
     let all = tells_from seen 1 w.servers (each_is (λ (i : ℕ) (s : ServerSeat D). IsSome (seen (seat_disk s))) w.servers tells) in
     let left = parts_stand seen limit c 1 (lent_from 1 w.servers) each all (numbered_from 1 w.servers) (omega (arith, lent_length 1 w.servers, is.host_count)) in
     (left.0, record { keep = left.1.0; stand = left.1.1 })
+
+-- ---- disks go back, whatever they hold
+
+-- each of these disks is that of its server, by number from this one on, and tells
+abbrev TellFrom : {D : Type 0} → (D → Option (List ℕ)) → ℕ → List (Lent D) → Type 0
+TellFrom {D} seen i [] = Unit {0}
+TellFrom {D} seen i (l ∷ ls) = ((l.node ≡ i) × IsSome (seen l.disk)) × TellFrom seen (i + 1) ls
+
+come_each : {D : Type 0} (excuse : Type 0) (seen : D → Option (List ℕ)) (i : ℕ) (ls : List (Lent D)) (given : Given) (new : Option Given) → TellFrom seen i ls → GivesBackEach excuse seen ls (Some given) new → (disks : Given) × ((new ≡ Some (given ++ disks)) × AreOf excuse i (length ls) disks)
+come_each {D} excuse seen i [] given new tell back = ([], (back ∙ ap (λ (x : Given). Some x) (sym (append-nil given)), refl))
+come_each {D} excuse seen i (l ∷ ls) given new tell (after, (inl goes, back)) =
+    let bytes = some_of (seen l.disk) tell.0.1 in
+    let next = given_next (seen l.disk) l.node given after bytes.0 bytes.1 goes in
+    let more = come_each excuse seen (i + 1) ls (given ++ (l.node, bytes.0) ∷ []) new tell.1 (subst (λ (o : Option Given). GivesBackEach excuse seen ls o new) next back) in
+    ((l.node, bytes.0) ∷ more.0, (more.1.0 ∙ ap (λ (x : Given). Some x) (append_assoc given ((l.node, bytes.0) ∷ []) more.0), inl (tell.0.0, more.1.1)))
+come_each {D} excuse seen i (l ∷ ls) given new tell (after, (inr missing, back)) =
+    let more = come_each excuse seen (i + 1) ls given new tell.1 (subst (λ (o : Option Given). GivesBackEach excuse seen ls o new) missing.1 back) in
+    (more.0, (more.1.0, inr (missing.0, more.1.1)))
+
+-- as the bank takes them: all, or some where the rest is excused
+come_back : {D : Type 0} (excuse : Type 0) (seen : D → Option (List ℕ)) (count : ℕ) (ls : List (Lent D)) (old new : Option Given) → length ls ≡ count → TellFrom seen 1 ls → GivesBackEach excuse seen ls old new → GivesBackThose excuse count old new
+come_back {D} excuse seen count ls None new are tell back = tt
+come_back {D} excuse seen count ls (Some given) new are tell back =
+    let disks = come_each excuse seen 1 ls given new tell back in
+    (disks.0, (disks.1.0, subst (λ (n : ℕ). AreOf excuse 1 n disks.0) are disks.1.1))
+
+as_each : {D : Type 0} (excuse : Type 0) (seen : D → Option (List ℕ)) (ls : List (Lent D)) (old new : Option Given) → GivesBackAll seen ls old new ⊎ excuse → GivesBackSome seen ls old new → GivesBackEach excuse seen ls old new
+as_each {D} excuse seen ls old new (inl all) some = all_as_each excuse seen ls old new all
+as_each {D} excuse seen ls old new (inr excused) some = some_as_each excuse seen ls old new excused some
+
+tell_lent : {D : Type 0} (seen : D → Option (List ℕ)) (i : ℕ) (ss : List (ServerSeat D)) → EachFrom i (λ (i : ℕ) (s : ServerSeat D). IsSome (seen (seat_disk s))) ss → TellFrom seen i (lent_from i ss)
+tell_lent {D} seen i [] tell = tt
+tell_lent {D} seen i (s ∷ ss) tell = ((refl, tell.0), tell_lent seen (i + 1) ss tell.1)
+
+-- those of a world, as they are
+pub lent_come : {D : Type 0} (excuse : Type 0) (seen : D → Option (List ℕ)) (count : ℕ) (ss : List (ServerSeat D)) (old new : Option Given) → length ss ≡ count → AllTell seen ss → GivesBackAll seen (lent_from 1 ss) old new ⊎ excuse → GivesBackSome seen (lent_from 1 ss) old new → GivesBackThose excuse count old new
+lent_come {D} excuse seen count ss old new are tell gives some =
+    come_back excuse seen count (lent_from 1 ss) old new (lent_length 1 ss ∙ are) (tell_lent seen 1 ss (each_is (λ (i : ℕ) (s : ServerSeat D). IsSome (seen (seat_disk s))) ss tell)) (as_each excuse seen (lent_from 1 ss) old new gives some)
+
+tell_found : {D : Type 0} (seen : D → Option (List ℕ)) (faults limit : D → ℕ) (i : ℕ) (ls : List (Lent D)) (fs : List (Left (Store D) D)) → AreFound seen faults limit ls fs → EachFrom i (Tells seen) ls → TellFrom seen i (kept_disks i fs)
+tell_found {D} seen faults limit i [] [] found tells = tt
+tell_found {D} seen faults limit i [] (f ∷ fs) found tells = absurd found
+tell_found {D} seen faults limit i (l ∷ ls) [] found tells = absurd found
+tell_found {D} seen faults limit i (l ∷ ls) (f ∷ fs) found tells = ((refl, found.0.told.1 tells.0), tell_found seen faults limit (i + 1) ls fs found.1 tells.1)
+
+found_count : {D : Type 0} (seen : D → Option (List ℕ)) (faults limit : D → ℕ) (i : ℕ) (ls : List (Lent D)) (fs : List (Left (Store D) D)) → AreFound seen faults limit ls fs → length (kept_disks i fs) ≡ length ls
+found_count {D} seen faults limit i [] [] found = refl
+found_count {D} seen faults limit i [] (f ∷ fs) found = absurd found
+found_count {D} seen faults limit i (l ∷ ls) [] found = absurd found
+found_count {D} seen faults limit i (l ∷ ls) (f ∷ fs) found = ap suc (found_count seen faults limit (i + 1) ls fs found.1)
+
+-- those of a world, after they were read
+pub found_come : {D : Type 0} (excuse : Type 0) (seen : D → Option (List ℕ)) (faults limit : D → ℕ) (count : ℕ) (ss : List (ServerSeat D)) (fs : List (Left (Store D) D)) (old new : Option Given) → length ss ≡ count → AllTell seen ss → AreFound seen faults limit (lent_from 1 ss) fs
+    → GivesBackAll seen (kept_disks 1 fs) old new ⊎ excuse → GivesBackSome seen (kept_disks 1 fs) old new → GivesBackThose excuse count old new
+found_come {D} excuse seen faults limit count ss fs old new are tell found gives some =
+    let all = tells_from seen 1 ss (each_is (λ (i : ℕ) (s : ServerSeat D). IsSome (seen (seat_disk s))) ss tell) in
+    come_back excuse seen count (kept_disks 1 fs) old new (found_count seen faults limit 1 (lent_from 1 ss) fs found ∙ (lent_length 1 ss ∙ are)) (tell_found seen faults limit 1 (lent_from 1 ss) fs found all) (as_each excuse seen (kept_disks 1 fs) old new gives some)
 
 -- ---- the history
 

@@ -1,6 +1,6 @@
 -- What the program promises: what it writes is the text of a legal history of the script that it read, and the disks that it
 -- gives back stand for what that history leaves.
-use Rattle.std.specs.Prelude.{◌≡◌, ◌≤◌, ◌<◌, ◌⊎◌, ℕ, ◌+◌, List, [], ◌∷◌, ◌++◌, length, Bool, Option, Some, None, Ok, Err}
+use Rattle.std.specs.Prelude.{◌≡◌, ◌≤◌, ◌<◌, ◌⊎◌, ℕ, zero, suc, ◌+◌, List, [], ◌∷◌, ◌++◌, length, Bool, Option, Some, None, Ok, Err}
 use Rattle.std.specs.Option.{option_map}
 use Rattle.std.specs.Io.KnownBytes.{IsAtEnd}
 use Rattle.afs_num.specs.declared.scripts.Reason.{Reason}
@@ -59,6 +59,22 @@ AreKept excuse i (d ∷ ds) disks = FirstIsKept i d disks (λ rest. AreKept excu
 abbrev pub GivesBack : Type 0 → List Durable → Option (List (ℕ × List ℕ)) → Option (List (ℕ × List ℕ)) → Type 0
 GivesBack excuse kept None after = Unit {0}
 GivesBack excuse kept (Some before) after = (disks : List (ℕ × List ℕ)) × ((after ≡ Some (before ++ disks)) × AreKept excuse 1 kept disks)
+
+-- the first of these disks is that of this server, whatever it holds, and of the others this is so
+abbrev pub FirstIsOf : ℕ → List (ℕ × List ℕ) → (List (ℕ × List ℕ) → Type 0) → Type 0
+FirstIsOf i [] rest = ⊥
+FirstIsOf i (disk ∷ disks) rest = (disk.0 ≡ i) × rest disks
+
+-- These are the disks of so many servers, in order of number from this one on, whatever they hold. One may be missing only with this
+-- excuse.
+abbrev pub AreOf : Type 0 → ℕ → ℕ → List (ℕ × List ℕ) → Type 0
+AreOf excuse i zero disks = disks ≡ []
+AreOf excuse i (suc more) disks = FirstIsOf i disks (λ rest. AreOf excuse (i + 1) more rest) ⊎ (excuse × AreOf excuse (i + 1) more disks)
+
+-- those are the disks that the bank was given back, where it tells them
+abbrev pub GivesBackThose : Type 0 → ℕ → Option (List (ℕ × List ℕ)) → Option (List (ℕ × List ℕ)) → Type 0
+GivesBackThose excuse count None after = Unit {0}
+GivesBackThose excuse count (Some before) after = (disks : List (ℕ × List ℕ)) × ((after ≡ Some (before ++ disks)) × AreOf excuse 1 count disks)
 
 -- one disk for each server of the script, in order of number, with the script's capacity
 abbrev pub lends_of : Script → Place → List Lend
@@ -121,20 +137,22 @@ pub record ReplaysFirst (s : Script) (wire : Bool) (excuse : Type 0) (o : Outsid
   pub given : GivesBack excuse kept o.given.before o.given.after
 
 -- The first events were played, however many, and the text of their history was written, or where the sink failed, a beginning of it.
--- Nothing of the final part stands there.
+-- Nothing of the final part stands there. The disks were given back, whatever they hold.
 pub record ReplaysSome (s : Script) (wire : Bool) (o : Outside) : Type 0 where
   pub history : List Entry
   pub end : Cell
   pub run : IsLegalRun s (SomeOfIt s) 0 o.disk_faults history end
   pub written : Writes o (history_text wire history)
+  pub given : GivesBackThose (RoseBy 1 o.bank_faults) s.servers o.given.before o.given.after
 
 -- The script was played to its end, and then a disk failed: that failure is none of the history's. The text of the history was written,
--- without the final part, or where the sink failed, a beginning of it.
+-- without the final part, or where the sink failed, a beginning of it. The disks were given back, whatever they hold.
 pub record ReplaysUnread (s : Script) (wire : Bool) (o : Outside) : Type 0 where
   pub history : List Entry
   pub end : Cell
   pub run : IsLegalRun s (ToItsEnd s) 1 o.disk_faults history end
   pub written : Writes o (history_text wire history)
+  pub given : GivesBackThose (RoseBy 1 o.bank_faults) s.servers o.given.before o.given.after
 
 -- ---- texts, whatever the disks tell
 
