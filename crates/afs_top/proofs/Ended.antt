@@ -21,6 +21,7 @@ use Rattle.afs_text.specs.KeptText.{kept_history_text}
 use Rattle.afs_text.specs.Telling.{told, AreRead}
 use Rattle.afs_text.proofs.Kept.{history_told}
 use Rattle.afs_volstore.specs.Stores.{Store}
+use Rattle.afs_cell.specs.Steps as cells
 use Rattle.afs_cell.specs.Ends.{AreLeft, IsRefused}
 use Rattle.afs_cell.specs.Steps.{lent_from, AreStanding, HasPlayedAll, HasPlayedFirst, HasPlayedSome}
 use Rattle.afs_cell.specs.Worlds.{most_entries, AllTell, IsCell, IsWorld, WorldState}
@@ -31,7 +32,7 @@ use Rattle.afs_final.specs.declared.reading.Left.{Left}
 use Rattle.afs_lending.specs.Lending.{faults_of, kept_disks, lends, with_faults, AreLent, AreUnused, GivesBackAll, GivesBackSome}
 use Rattle.afs_top.specs.Outside.{span, IsUnchanged, Outside, RoseBy, Span, Writes, WritesAll, WritesText, WritesWhole}
 use Rattle.afs_top.specs.Parts.{lend_status, returned, set_up_status, TellsLeft}
-use Rattle.afs_top.specs.Top.{lends_of, AreKept, AreOf, AtBankFault, EndsReplay, EndsRun, GivesBack, GivesBackLent, GivesBackThose, IsFew, IsFull, IsLegalRun, LendingLeaves, NotToItsEnd, ReadingFails, Replays, ReplaysFirst, ReplaysSome, ReplaysUnread, SetUpLeaves, SomeOfIt, ToItsEnd, WritesEntries, WritesRun}
+use Rattle.afs_top.specs.Top.{lends_of, AreKept, AreOf, AreOfServers, AtBankFault, EndsReplay, EndsRun, GivesBack, GivesBackLent, GivesBackThose, IsFew, IsFull, IsLegalRun, LendingLeaves, NotToItsEnd, ReadingFails, Replays, ReplaysFirst, ReplaysSome, ReplaysUnread, SetUpLeaves, SomeOfIt, ToItsEnd, WritesEntries, WritesRun}
 use Rattle.afs_top.specs.declared.statuses.Status.{Status}
 use Rattle.afs_top.specs.declared.statuses.Status.TheVariants as statuses
 use Rattle.afs_top.proofs.Counts.{counted, counts_lent, found_failed, found_no_less, grown, none_fell, one_grown, rose_once, rose_since, AtLeast}
@@ -243,18 +244,23 @@ lent_back : {D : Type 0} (seen : D → Option (List ℕ)) (failed : ℕ) (ls : L
 lent_back {D} seen failed ls o often (inl all) some = inl all
 lent_back {D} seen failed ls o often (inr rose) some = inr (often rose, some)
 
+-- disks that were lent in order of number are those of the servers
+pub of_servers : {D : Type 0} (limit : D → ℕ) (capacity i : ℕ) (ls : List (Lent D)) → cells.AreLent limit capacity i ls → AreOfServers i ls
+of_servers {D} limit capacity i [] are = tt
+of_servers {D} limit capacity i (l ∷ ls) are = (are.0, of_servers limit capacity (i + 1) ls are.1.1)
+
 pub not_set_up : {D : Type 0} (seen : D → Option (List ℕ)) (may_leave : D → List ℕ → Type 0) (faults : D → ℕ) (s : Script) (wire : Bool) (tells : Type 0) (disks : List (Lent D)) (e : SetupFault × List (Lent D)) (o : Outside)
-    → AreUnused faults disks → IsRefused faults disks e → AreLeft seen may_leave s 1 disks e.1 → IsUnchanged o.sink → GoesBack seen faults e.1 o → EndsRun s wire tells (SetUpLeaves seen may_leave faults s o) o (set_up_status e.0)
-not_set_up {D} seen may_leave faults s wire tells disks (setup.Disk n, back) o unused refused left unwritten gone =
+    → AreUnused faults disks → IsRefused faults disks e → AreLeft seen may_leave s 1 disks e.1 → AreOfServers 1 e.1 × (length e.1 ≡ s.servers) → IsUnchanged o.sink → GoesBack seen faults e.1 o → EndsRun s wire tells (SetUpLeaves seen may_leave faults s o) o (set_up_status e.0)
+not_set_up {D} seen may_leave faults s wire tells disks (setup.Disk n, back) o unused refused left whose unwritten gone =
     inl (record {
       rose = rose_by 1 _ o.disk_faults gone.counts (none_fell faults disks back refused.0 refused.1);
       written = unwritten;
-      only_set_up = record { lent = disks; unused = unused; back = back; left = left; given = lent_back seen 1 back o (λ rose. rose_once o.bank_faults.before o.bank_faults.after rose gone.never_falls) gone.gives gone.some };
+      only_set_up = record { lent = disks; unused = unused; back = back; counted = whose.1; are = whose.0; left = left; given = lent_back seen 1 back o (λ rose. rose_once o.bank_faults.before o.bank_faults.after rose gone.never_falls) gone.gives gone.some };
     })
-not_set_up {D} seen may_leave faults s wire tells disks (setup.OutOfMemory, back) o unused refused left unwritten gone =
+not_set_up {D} seen may_leave faults s wire tells disks (setup.OutOfMemory, back) o unused refused left whose unwritten gone =
     inl (record {
       written = unwritten;
-      only_set_up = record { lent = disks; unused = unused; back = back; left = left; given = lent_back seen 1 back o (λ rose. rose_once o.bank_faults.before o.bank_faults.after rose gone.never_falls) gone.gives gone.some };
+      only_set_up = record { lent = disks; unused = unused; back = back; counted = whose.1; are = whose.0; left = left; given = lent_back seen 1 back o (λ rose. rose_once o.bank_faults.before o.bank_faults.after rose gone.never_falls) gone.gives gone.some };
     })
 
 -- ---- seen from before
@@ -436,6 +442,8 @@ left_since {D} seen may_leave faults s o earlier since l = record {
   lent = l.lent;
   unused = l.unused;
   back = l.back;
+  counted = l.counted;
+  are = l.are;
   left = l.left;
   given = lent_since seen l.back o earlier since l.given;
 }
@@ -508,10 +516,10 @@ played_on s played wire tells tells_too left o status same tell run =
 
 -- the disks that set-up handed back went back to the bank
 pub refused_of : {D : Type 0} (seen : D → Option (List ℕ)) (may_leave : D → List ℕ → Type 0) (faults : D → ℕ) (s : Script) (wire : Bool) (tells : Type 0) (disks : List (Lent D)) (fault : SetupFault) (back : List (Lent D)) (o : Outside) (result status : Status)
-    → AreUnused faults disks → IsRefused faults disks (fault, back) → AreLeft seen may_leave s 1 disks back → IsUnchanged o.sink
+    → AreUnused faults disks → IsRefused faults disks (fault, back) → AreLeft seen may_leave s 1 disks back → AreOfServers 1 back × (length back ≡ s.servers) → IsUnchanged o.sink
     → GivesBackAll seen back o.given.before o.given.after ⊎ Rose o.bank_faults.before o.bank_faults.after → GivesBackSome seen back o.given.before o.given.after
     → o.disk_faults.after ≡ with_faults (faults_of faults back) o.disk_faults.before → o.bank_faults.before ≤ o.bank_faults.after → result ≡ status → status ≡ set_up_status fault
     → EndsRun s wire tells (SetUpLeaves seen may_leave faults s o) o result
-refused_of {D} seen may_leave faults s wire tells disks fault back o result status unused refused left unwritten gives some counts never_falls is meant =
+refused_of {D} seen may_leave faults s wire tells disks fault back o result status unused refused left whose unwritten gives some counts never_falls is meant =
     subst (λ (x : Status). EndsRun s wire tells (SetUpLeaves seen may_leave faults s o) o x) (sym (is ∙ meant))
-    (not_set_up seen may_leave faults s wire tells disks (fault, back) o unused refused left unwritten (record { gives = gives; some = some; counts = counts; never_falls = never_falls }))
+    (not_set_up seen may_leave faults s wire tells disks (fault, back) o unused refused left whose unwritten (record { gives = gives; some = some; counts = counts; never_falls = never_falls }))

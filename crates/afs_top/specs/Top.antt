@@ -185,12 +185,20 @@ pub record WritesRun (s : Script) (wire : Bool) (Writes : List ℕ → Type 0) :
 
 -- ---- disks that come back unplayed
 
--- What comes back of disks that were lent and set up, but not played. No disk had failed when it was lent. Where it told its bytes, and
--- there were none, it comes back with the record of the script's set-up, or with none. A bank need not lend empty disks.
+-- these disks are those of the servers from this number on, in order
+abbrev pub AreOfServers : {D : Type 0} → ℕ → List (Lent D) → Type 0
+AreOfServers {D} i [] = Unit {0}
+AreOfServers {D} i (l ∷ ls) = (l.node ≡ i) × AreOfServers (i + 1) ls
+
+-- What comes back of disks that were lent and set up, but not played: one for each server, in order of number. No disk had failed when it
+-- was lent. Where it told its bytes, and there were none, it comes back with the record of the script's set-up, or with none. A bank need
+-- not lend empty disks.
 pub record SetUpLeaves {D : Type 0} (seen : D → Option (List ℕ)) (may_leave : D → List ℕ → Type 0) (faults : D → ℕ) (s : Script) (o : Outside) : Type 0 where
   pub lent : List (Lent D)
   pub unused : AreUnused faults lent
   pub back : List (Lent D)
+  pub counted : length back ≡ s.servers
+  pub are : AreOfServers 1 back
   pub left : AreLeft seen may_leave s 1 lent back
   pub given : GivesBackLent seen 1 back o
 
