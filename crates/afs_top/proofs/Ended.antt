@@ -381,7 +381,9 @@ some_since s wire o earlier since r = record {
 }
 
 whole_since : (o earlier : Outside) → Since o earlier → (t : List ℕ) → WritesAll o t → WritesAll earlier t
-whole_since o earlier since t w = subst (λ (x : Span (Option (List ℕ))). WritesWhole x earlier.passed t) (sym since.sink) (subst (λ (x : Option (List ℕ)). WritesWhole o.sink x t) (sym since.passed) w)
+whole_since o earlier since t w =
+    subst (λ (x : Span (Option (List ℕ))). WritesWhole x earlier.passed earlier.sink_faults t) (sym since.sink)
+    (subst (λ (x : Option (List ℕ)). WritesWhole o.sink x earlier.sink_faults t) (sym since.passed) (subst (λ (x : Span ℕ). WritesWhole o.sink o.passed x t) (sym since.sink_faults) w))
 
 front_since : (o earlier : Outside) → Since o earlier → (t : List ℕ) → AppendsFront o.sink.before o.sink.after t → AppendsFront earlier.sink.before earlier.sink.after t
 front_since o earlier since t w = subst (λ (x : Span (Option (List ℕ))). AppendsFront x.before x.after t) (sym since.sink) w

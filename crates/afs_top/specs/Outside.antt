@@ -32,16 +32,16 @@ pub record Outside : Type 0 where
 abbrev pub RoseBy : ℕ → Span ℕ → Type 0
 RoseBy n count = (count.before + n ≤ count.after) ⊎ (last_count ≤ count.after)
 
--- all of the text was written, and nothing of it waits in the sink
-abbrev pub WritesWhole : Span (Option (List ℕ)) → Option (List ℕ) → List ℕ → Type 0
-WritesWhole sink passed text = Appends sink.before sink.after text × (passed ≡ sink.after)
+-- all of the text was written, nothing of it waits in the sink, and the sink didn't fail
+abbrev pub WritesWhole : Span (Option (List ℕ)) → Option (List ℕ) → Span ℕ → List ℕ → Type 0
+WritesWhole sink passed faults text = Appends sink.before sink.after text × ((passed ≡ sink.after) × IsUnchanged faults)
 
 -- so it was, or where the sink failed, a beginning of the text was written
 abbrev pub WritesText : Span (Option (List ℕ)) → Option (List ℕ) → Span ℕ → List ℕ → Type 0
-WritesText sink passed faults text = WritesWhole sink passed text ⊎ (RoseBy 1 faults × AppendsFront sink.before sink.after text)
+WritesText sink passed faults text = WritesWhole sink passed faults text ⊎ (RoseBy 1 faults × AppendsFront sink.before sink.after text)
 
 abbrev pub WritesAll : Outside → List ℕ → Type 0
-WritesAll o text = WritesWhole o.sink o.passed text
+WritesAll o text = WritesWhole o.sink o.passed o.sink_faults text
 
 abbrev pub Writes : Outside → List ℕ → Type 0
 Writes o text = WritesText o.sink o.passed o.sink_faults text

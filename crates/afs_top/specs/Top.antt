@@ -317,8 +317,9 @@ most_bytes = 16777216
 abbrev pub IsReadOut : Span (Option (List ℕ)) → Type 0
 IsReadOut source = IsAtEnd source.after ⊎ ((front : List ℕ) × TakesTooMuch most_bytes source.before source.after front)
 
--- The words ask for a replay. All was read that the source had left, and that is a script. Its replay ends so.
-pub record Answers (words : List (List ℕ)) (source : Span (Option (List ℕ))) (Ends : Script → Bool → Place → Type 0) : Type 0 where
+-- The words ask for a replay. All was read that the source had left, which didn't fail, and that is a script. Its replay ends so.
+pub record Answers (words : List (List ℕ)) (source : Span (Option (List ℕ))) (source_faults : Span ℕ) (Ends : Script → Bool → Place → Type 0) : Type 0 where
+  pub quiet : IsUnchanged source_faults
   pub wire : Bool
   pub place : Place
   pub asked : Asks (Replay wire place) words
@@ -329,8 +330,9 @@ pub record Answers (words : List (List ℕ)) (source : Span (Option (List ℕ)))
   pub read : script_of level input ≡ Ok script
   pub ends : Ends script wire place
 
--- The words ask for a replay, and what the source had left is no script. It was read out before that was said.
-pub record Refuses (words : List (List ℕ)) (source : Span (Option (List ℕ))) (line : ℕ) (reason : Reason) : Type 0 where
+-- The words ask for a replay, and what the source had left is no script. It was read out before that was said, and didn't fail.
+pub record Refuses (words : List (List ℕ)) (source : Span (Option (List ℕ))) (source_faults : Span ℕ) (line : ℕ) (reason : Reason) : Type 0 where
+  pub quiet : IsUnchanged source_faults
   pub asked : HaveForm words
   pub input : List ℕ
   pub had : HadAll source.before input
@@ -347,10 +349,10 @@ pub record DoesNothing (o : Outside) : Type 0 where
 -- comes back of them where they are only set up, or where not all are lent.
 abbrev pub Ends : List (List ℕ) → Span (Option (List ℕ)) → Span ℕ → (Place → Type 0) → (Script → Outside → Type 0) → (Script → Outside → ℕ → ℕ → Type 0) → Outside → Status → Type 0
 Ends words source source_faults Tells Left Unlent o statuses.Usage = HaveForm words → ⊥
-Ends words source source_faults Tells Left Unlent o (statuses.Script line reason) = Refuses words source line reason
+Ends words source source_faults Tells Left Unlent o (statuses.Script line reason) = Refuses words source source_faults line reason
 Ends words source source_faults Tells Left Unlent o statuses.ReadFault = HaveForm words × RoseBy 1 source_faults
-Ends words source source_faults Tells Left Unlent o statuses.OutOfMemory = HaveForm words × (DoesNothing o ⊎ Answers words source (λ s wire place. EndsReplay s wire place (Tells place) (Left s o) (Unlent s o) o statuses.OutOfMemory))
-Ends words source source_faults Tells Left Unlent o status = Answers words source (λ s wire place. EndsReplay s wire place (Tells place) (Left s o) (Unlent s o) o status)
+Ends words source source_faults Tells Left Unlent o statuses.OutOfMemory = HaveForm words × ((IsUnchanged source_faults × DoesNothing o) ⊎ Answers words source source_faults (λ s wire place. EndsReplay s wire place (Tells place) (Left s o) (Unlent s o) o statuses.OutOfMemory))
+Ends words source source_faults Tells Left Unlent o status = Answers words source source_faults (λ s wire place. EndsReplay s wire place (Tells place) (Left s o) (Unlent s o) o status)
 
 -- these statuses come before anything is lent or written
 abbrev pub IsBeforeReplay : Status → Type 0
