@@ -9,7 +9,7 @@ use Rattle.afs_lending.proofs.lending.give_back.Goals as goal
 
 pub loop-found-init : goal.loop-found-init
 loop-found-init g c =
-    let all : kept_disks 1 (into_iter_items c.into_iter.result) ≡ kept_disks 1 c.args.left.items = search rules in
+    let all : kept_disks 1 (into_iter_items c.into_iter-found-iterator.result) ≡ kept_disks 1 c.args.left.items = ap (kept_disks 1) c.into_iter-found-iterator.ensures.into_iter_gives.0 in
     record {
       place = search rules;
       back = none_yet g.B.D.Disk.seen _ _ _ _ _ all;

@@ -7,7 +7,7 @@ use Rattle.afs_lending.proofs.lending.give_back_all.Goals as goal
 
 pub loop-lent-init : goal.loop-lent-init
 loop-lent-init g c =
-    let all : into_iter_items c.into_iter.result ≡ c.args.disks = search rules in
+    let all : into_iter_items c.into_iter-lent-iterator.result ≡ c.args.disks = search rules in
     record {
       back = none_yet g.B.D.Disk.seen _ _ _ _ _ all;
       cause = tt;
