@@ -46,8 +46,8 @@ abbrev pub kept_disks : {D : Type 0} → ℕ → List (Left (Store D) D) → Lis
 kept_disks {D} i [] = []
 kept_disks {D} i (f ∷ fs) = record { node = i; disk = kept_disk f } ∷ kept_disks (i + 1) fs
 
--- The bank failed so often, or more often, as it was given back disks; its count stands where it didn't fail. A count that stands at the
--- last value of a counter counts as risen.
+-- A bank failed so often: its count of faults rose by so many, or by more, and where it didn't fail, it stands. One that stands at the last
+-- value of a counter counts as risen.
 abbrev pub HasFailed : ℕ → ℕ → ℕ → Type 0
 HasFailed times before after = ((before + times ≤ after) ⊎ (last_count ≤ after)) × (times ≡ 0 → after ≡ before)
 
@@ -57,7 +57,7 @@ GivesBackBut {D} seen missing [] old new = (missing ≡ 0) × (new ≡ old)
 GivesBackBut {D} seen missing (l ∷ ls) old new = ((next : Option (List (ℕ × List ℕ))) × (GivesBack l.node (seen l.disk) old next × GivesBackBut seen missing ls next new))
     ⊎ ((others : ℕ) × ((missing ≡ others + 1) × GivesBackBut seen others ls old new))
 
--- These go back: the bank failed as often as one of them is missing.
+-- These go back, but for those at which the bank failed.
 pub record GoBack {D : Type 0} (seen : D → Option (List ℕ)) (ls : List (Lent D)) (old new : Option (List (ℕ × List ℕ))) (before after : ℕ) : Type 0 where
   pub missing : ℕ
   pub given : GivesBackBut seen missing ls old new

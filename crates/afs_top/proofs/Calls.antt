@@ -136,7 +136,7 @@ completes_replayed s wire place tells left Unlent o status ends sink bank disks 
   either statuses.ReadFault (inr run) = absurd run.1
   either statuses.WriteFault (inl unlent) = absurd unlent.why
   either statuses.WriteFault (inr run) = absurd (sink run.1.rose)
-  either statuses.BankFault (inl unlent) = absurd (bank unlent.why.1)
+  either statuses.BankFault (inl unlent) = absurd (bank unlent.why)
   either statuses.BankFault (inr run) = absurd (no_bank_fault s wire tells left o run.1 bank disks)
   either statuses.OutOfMemory how = inr (inl refl)
   either statuses.Limit how = inr (inr refl)

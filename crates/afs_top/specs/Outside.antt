@@ -3,6 +3,7 @@ use Rattle.std.specs.Prelude.{◌≡◌, ◌≤◌, ◌⊎◌, ℕ, ◌+◌, Lis
 use Rattle.std.specs.Io.KnownBytes.{Appends}
 use Rattle.afs_disk.specs.Fuses.{last_count}
 use Rattle.afs_disk.specs.declared.bank.Lend.{Lend}
+use Rattle.afs_lending.specs.Lending.{HasFailed}
 use Rattle.afs_outside.specs.Outside.{AppendsFront}
 
 -- what stood there before the call, and what stands there after it
@@ -31,6 +32,10 @@ pub record Outside : Type 0 where
 -- The count rose by so many, or by more. One that stands at the last value of a counter counts as risen.
 abbrev pub RoseBy : ℕ → Span ℕ → Type 0
 RoseBy n count = (count.before + n ≤ count.after) ⊎ (last_count ≤ count.after)
+
+-- So many failed: the count rose so, and where none failed it stands.
+abbrev pub SoManyFailed : ℕ → Span ℕ → Type 0
+SoManyFailed n count = HasFailed n count.before count.after
 
 -- all of the text was written, nothing of it waits in the sink, and the sink didn't fail
 abbrev pub WritesWhole : Span (Option (List ℕ)) → Option (List ℕ) → Span ℕ → List ℕ → Type 0
