@@ -253,7 +253,7 @@ pub not_set_up : {D : Type 0} (seen : D → Option (List ℕ)) (may_leave : D �
     → AreUnused faults disks → IsRefused faults disks e → AreLeft seen may_leave s 1 disks e.1 → AreOfServers 1 e.1 × (length e.1 ≡ s.servers) → IsUnchanged o.sink → GoesBack seen faults e.1 o → EndsRun s wire tells (SetUpLeaves seen may_leave faults s o) o (set_up_status e.0)
 not_set_up {D} seen may_leave faults s wire tells disks (setup.Disk n, back) o unused refused left whose unwritten gone =
     inl (record {
-      rose = rose_by 1 _ o.disk_faults gone.counts (none_fell faults disks back refused.0 refused.1);
+      rose = rose_by 1 _ o.disk_faults gone.counts (none_fell faults n 1 disks back refused.0 refused.1);
       written = unwritten;
       only_set_up = record { lent = disks; unused = unused; back = back; counted = whose.1; are = whose.0; left = left; given = missed_of seen faults back o gone };
     })
