@@ -37,11 +37,11 @@ none_yet {D} seen rest all given count taken same = record {
   missing = 0;
   adds = λ others last more. subst (λ (ds : List (Lent D)). GivesBackBut seen others ds given last) same more;
   failed = (inl (omega (arith)), λ none. refl);
-  none = none_of taken;
+  none = none_of 0 taken;
 } where
-  none_of : (taken : Result (Unit {0}) Failed) → OnOk taken (0 ≡ 0)
-  none_of (Ok x) = refl
-  none_of (Err e) = tt
+  none_of : (n : ℕ) (taken : Result (Unit {0}) Failed) → OnOk taken (n ≡ n)
+  none_of n (Ok x) = refl
+  none_of n (Err e) = tt
 
 nothing_said : (taken : Result (Unit {0}) Failed) (P : Type 0) → IsErr taken → OnOk taken P
 nothing_said (Ok x) P err = absurd cc
@@ -67,18 +67,21 @@ goes_on {D} seen ls rest all l given next old b0 b1 b2 before now is falls so (i
 
 -- ---- none is left
 
+but_missing : {D : Type 0} (seen : D → Option (List ℕ)) (ls all : List (Lent D)) (given old : Given) (b0 b1 : ℕ) (taken : Result (Unit {0}) Failed) → ls ≡ [] → (so : SoFar seen ls all given old b0 b1 taken) → GivesBackBut seen so.missing all old given
+but_missing {D} seen ls all given old b0 b1 taken none so =
+    let same : so.missing + 0 ≡ so.missing = omega (arith) in
+    subst (λ (n : ℕ). GivesBackBut seen n all old given) same (so.adds 0 given (subst (λ (ds : List (Lent D)). GivesBackBut seen 0 ds given given) (sym none) (refl, refl)))
+
 pub gone_back : {D : Type 0} (seen : D → Option (List ℕ)) (ls all : List (Lent D)) (given old : Given) (b0 b1 : ℕ) (taken : Result (Unit {0}) Failed) → ls ≡ [] → SoFar seen ls all given old b0 b1 taken → GoBack seen all old given b0 b1
 gone_back {D} seen ls all given old b0 b1 taken none so = record {
   missing = so.missing;
-  given =
-      let same : so.missing + 0 ≡ so.missing = omega (arith) in
-      subst (λ (n : ℕ). GivesBackBut seen n all old given) same (so.adds 0 given (subst (λ (ds : List (Lent D)). GivesBackBut seen 0 ds given given) (sym none) (refl, refl)));
+  given = but_missing seen ls all given old b0 b1 taken none so;
   failed = so.failed;
 }
 
 -- all were taken
 pub all_back : {D : Type 0} (seen : D → Option (List ℕ)) (ls all : List (Lent D)) (given old : Given) (b0 b1 : ℕ) (taken : Result (Unit {0}) Failed) → ls ≡ [] → SoFar seen ls all given old b0 b1 taken → OnOk taken (GivesBackBut seen 0 all old given)
-all_back {D} seen ls all given old b0 b1 (Ok x) none so = subst (λ (n : ℕ). GivesBackBut seen n all old given) so.none (gone_back seen ls all given old b0 b1 (Ok x) none so).given
+all_back {D} seen ls all given old b0 b1 (Ok x) none so = subst (λ (n : ℕ). GivesBackBut seen n all old given) so.none (but_missing seen ls all given old b0 b1 (Ok x) none so)
 all_back {D} seen ls all given old b0 b1 (Err e) none so = tt
 
 pub all_quiet : {D : Type 0} (seen : D → Option (List ℕ)) (ls all : List (Lent D)) (given old : Given) (b0 b1 : ℕ) (taken : Result (Unit {0}) Failed) → SoFar seen ls all given old b0 b1 taken → OnOk taken (b1 ≡ b0)
