@@ -35,7 +35,9 @@ pub record SoFar {D : Type 0} (seen : D → Option (List ℕ)) (rest all : List 
 pub none_yet : {D : Type 0} (seen : D → Option (List ℕ)) (rest all : List (Lent D)) (given : Given) (count : ℕ) (taken : Result (Unit {0}) Failed) → rest ≡ all → SoFar seen rest all given given count count taken
 none_yet {D} seen rest all given count taken same = record {
   missing = 0;
-  adds = λ others last more. subst (λ (ds : List (Lent D)). GivesBackBut seen others ds given last) same more;
+  adds = λ others last more.
+      let all_others : others ≡ 0 + others = omega (arith) in
+      subst (λ (n : ℕ). GivesBackBut seen n all given last) all_others (subst (λ (ds : List (Lent D)). GivesBackBut seen others ds given last) same more);
   failed = (inl (omega (arith)), λ none. refl);
   none = none_of 0 taken;
 } where

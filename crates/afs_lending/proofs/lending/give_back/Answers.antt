@@ -31,7 +31,7 @@ loop-found-preserved g c =
     ap (kept_disks n) steps ∙ ap (λ (d : g.row.B-D.Denot). record { node = n; disk = d } ∷ rest) (sym c.disk_in.ensures) in
     record {
       place = omega (arith, i.place, ap length steps);
-      back = goes_on g.B.D.Disk.seen (kept_disks n (into_iter_items c.loop-found.found-iterator)) rest (kept_disks 1 c.args.left.items) lent _ _ _ _ _ _ _ _ next e.never_falls i.back e.goes;
+      back = goes_on g.B.D.Disk.seen (kept_disks n (into_iter_items c.loop-found.found-iterator)) rest (kept_disks 1 c.args.left.items) lent (g.B.Bank.given c.loop-found.bank) (g.B.Bank.given c.give_one-all.new.bank) (g.B.Bank.given c.args.bank.now) (g.B.Bank.faults c.args.bank.now) (g.B.Bank.faults c.loop-found.bank) (g.B.Bank.faults c.give_one-all.new.bank) c.loop-found.all c.give_one-all.result next e.never_falls i.back e.goes;
       cause = cause_next c.loop-found.all c.give_one-all.result (g.B.Bank.faults c.args.bank.now) (g.B.Bank.faults c.loop-found.bank) (g.B.Bank.faults c.give_one-all.new.bank) i.never_falls e.never_falls i.cause e.cause;
       sum = sum_next g.B.D.Disk.faults (kept_disks n (into_iter_items c.loop-found.found-iterator)) rest lent (g.B.Bank.lent_faults c.loop-found.bank) (g.B.Bank.lent_faults c.give_one-all.new.bank) next e.faults ∙ i.sum;
       lends = e.lends ∙ i.lends;

@@ -22,7 +22,7 @@ loop-lent-preserved g c =
     let e = c.give_one-all.ensures in
     let steps : into_iter_items c.loop-lent.lent-iterator ≡ c.in-Some.lent ∷ into_iter_items c.next.new.self = search rules in
     record {
-      back = goes_on g.B.D.Disk.seen (into_iter_items c.loop-lent.lent-iterator) (into_iter_items c.next.new.self) c.args.disks c.in-Some.lent _ _ _ _ _ _ _ _ steps e.never_falls i.back e.goes;
+      back = goes_on g.B.D.Disk.seen (into_iter_items c.loop-lent.lent-iterator) (into_iter_items c.next.new.self) c.args.disks c.in-Some.lent (g.B.Bank.given c.loop-lent.bank) (g.B.Bank.given c.give_one-all.new.bank) (g.B.Bank.given c.args.bank.now) (g.B.Bank.faults c.args.bank.now) (g.B.Bank.faults c.loop-lent.bank) (g.B.Bank.faults c.give_one-all.new.bank) c.loop-lent.all c.give_one-all.result steps e.never_falls i.back e.goes;
       cause = cause_next c.loop-lent.all c.give_one-all.result (g.B.Bank.faults c.args.bank.now) (g.B.Bank.faults c.loop-lent.bank) (g.B.Bank.faults c.give_one-all.new.bank) i.never_falls e.never_falls i.cause e.cause;
       sum = sum_next g.B.D.Disk.faults (into_iter_items c.loop-lent.lent-iterator) (into_iter_items c.next.new.self) c.in-Some.lent (g.B.Bank.lent_faults c.loop-lent.bank) (g.B.Bank.lent_faults c.give_one-all.new.bank) steps e.faults ∙ i.sum;
       lends = e.lends ∙ i.lends;
