@@ -1,11 +1,11 @@
 //! Operations that make a vnode or a further name: CreateFile, Symlink, MakeDir, Link.
 
-ghost use Rattle.std.specs.Prelude.{◌≡◌, ◌≤◌, ◌+◌, ◌∷◌, [], Some, None, true, length};
+ghost use Rattle.std.specs.Prelude.{◌≡◌, ◌≤◌, ◌+◌, ◌&&◌, ◌∷◌, [], Some, None, true, length, nat_eq};
 ghost use Rattle.afs_num.specs.declared.calls.FsCall.TheVariants as calls;
-ghost use Rattle.afs_ideal.specs.Operations.{adds_name, by_tests, creates, first_failing, is_kind, is_mask, names_in};
+ghost use Rattle.afs_ideal.specs.Operations.{adds_name, by_tests, changes, creates, first_failing, is_kind, is_mask, linking, may_link, names_in};
 ghost use Rattle.afs_ideal.specs.Tables.{get};
 ghost use Rattle.afs_ideal.specs.VnodeImage.{most_contents, FitsImage};
-ghost use Rattle.afs_ideal.specs.Volumes.{a_directory, vnode_of};
+ghost use Rattle.afs_ideal.specs.Volumes.{a_directory, ascending, vnode_of};
 ghost use Rattle.afs_volume.specs.Giving.{caller_seen, planned, volume_of, Plans};
 ghost use Rattle.afs_volume.specs.Seen.{seen, IsReadable};
 
@@ -126,29 +126,20 @@ impl Volume {
         self.creates(fid, d, name.as_slice(), status, Some(links_of(d) + 1), made)
     }
 
-    /// Link: a further name of a file.
-    pub(crate) fn link(
-        &self,
-        caller: &Caller,
-        fid: &Fid,
-        name: &Octets,
-        existing: &Fid,
-    ) -> Result<Plan, OpFault>
-        ensures { Plans (planned (caller_seen caller.now) (calls.Link fid.now name.now existing.now) (volume_of self.now)) result }
+    /// A further name of a file, in a directory that the caller may change: 22, 17, 27.
+    fn links(&self, fid: &Fid, d: &Vnode, name: &[u8], existing: &Fid) -> Result<Plan, OpFault>
+        requires found { vnode_of fid.now (volume_of self.now) ≡ Some (seen d.now) }
+        requires there { get fid.now.vnode self.now.vnodes.table ≡ Some d.now }
+        requires directory { is_kind (seen d.now).kind a_directory ≡ true }
+        ensures { Plans (by_tests (first_failing (adds_name name.now (names_in (Some (seen d.now))) (nat_eq existing.now.volume fid.now.volume && may_link fid.now (vnode_of existing.now (volume_of self.now))))) (changes (ascending (linking fid.now name.now existing.now (volume_of self.now))) existing.now.vnode)) result }
     {
-        let d = self.found(fid)?;
-        let is_here = existing.volume == fid.volume;
         let x = self.vnode(existing);
-        check(!is_here || x.is_some(), 102)?;
-        check(is_directory(d), 20)?;
-        check(self.is_writable(), 30)?;
-        check(self.may(caller, 4, d), 13)?;
-        let good = is_here && may_link(fid, x);
+        let good = existing.volume == fid.volume && may_link(fid, x);
         let names = spelled_with(
             self.alloc,
             self.names(fid.vnode, d),
             d.contents.as_slice(),
-            name.as_slice(),
+            name,
             existing.vnode,
             existing.unique,
             good,
@@ -161,5 +152,24 @@ impl Volume {
             edits: ascending(self.alloc, edits)?,
             shown: existing.vnode,
         })
+    }
+
+    /// Link: a further name of a file.
+    pub(crate) fn link(
+        &self,
+        caller: &Caller,
+        fid: &Fid,
+        name: &Octets,
+        existing: &Fid,
+    ) -> Result<Plan, OpFault>
+        ensures { Plans (planned (caller_seen caller.now) (calls.Link fid.now name.now existing.now) (volume_of self.now)) result }
+    {
+        let d = self.found(fid)?;
+        let is_here = existing.volume == fid.volume;
+        check(!is_here || self.vnode(existing).is_some(), 102)?;
+        check(is_directory(d), 20)?;
+        check(self.is_writable(), 30)?;
+        check(self.may(caller, 4, d), 13)?;
+        self.links(fid, d, name.as_slice(), existing)
     }
 }

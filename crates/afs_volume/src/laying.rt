@@ -117,7 +117,10 @@ impl Volume {
             name: name.copy(self.alloc)?,
             status: nothing_set(),
         };
-        self.plan_within(&Caller::AllRights, &call)?;
+        let planned = self.plan_within(&Caller::AllRights, &call);
+        // (One call to prove. The end of the scope would be one for each part of each kind of call.)
+        drop(call);
+        planned?;
         Ok(())
     }
 
