@@ -14,7 +14,7 @@ ghost use Rattle.afs_volume.specs.Giving.{volume_of};
 ghost use Rattle.afs_volume.specs.Taking.{stored_of, IsAtSetUp};
 ghost use Rattle.afs_xdr.specs.Words.{AreWords};
 ghost use Rattle.afs_volstore.specs.Laying.{head_words, AreLaid, HasShortName, HaveShortNames, IsLaid};
-ghost use Rattle.afs_volstore.specs.Numbered.{AreNumbered};
+ghost use Rattle.afs_memory.specs.Numbered.{AreNumbered};
 ghost use Rattle.afs_volstore.specs.Opening.{CanBeSetUp};
 
 use afs_history::scripts::{SetupLine, VolumeLine};
