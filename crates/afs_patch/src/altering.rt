@@ -111,13 +111,15 @@ fn remade(alloc: Global, volume: Volume, change: Change) -> Result<Volume, Unfit
     ensures bad { result ≡ Err Bad → changed_stored change.counter change.unique change.vnodes change.removed (stored_of volume) ≡ None }
 {
     let Change {
-        versions: _,
+        versions,
         vnodes: changed,
         removed,
         counter,
         unique,
-        reply: _,
+        reply,
     } = change;
+    drop(versions);
+    drop(reply);
     let (head, vnodes) = volume.into_parts();
     let after = vnodes_after(vnodes, changed, removed)?;
     match Volume::assemble(alloc, counted(head, counter, unique), after) {
@@ -134,9 +136,16 @@ fn taken_in(volume: Volume, change: ReadyChange) -> Mem<Volume>
     ensures id { IfOk result (λ v. v.head.id ≡ volume.head.id) }
 {
     let mut volume = volume;
-    volume.reserve(&change)?;
-    volume.take_in(change);
-    Ok(volume)
+    match volume.reserve(&change) {
+        Ok(()) => {
+            volume.take_in(change);
+            Ok(volume)
+        }
+        Err(fault) => {
+            drop(change);
+            Err(fault)
+        }
+    }
 }
 
 /// The volume after a change. `Bad` where a disk may not hold it. A change that passes the test of what it touches is taken
@@ -148,9 +157,12 @@ pub fn changed(alloc: Global, volume: Volume, change: ReadyChange) -> Result<Vol
     ensures id { IfOk result (λ v. v.head.id ≡ volume.head.id) }
     ensures bad { result ≡ Err Bad → changed_stored change.counter change.unique change.vnodes change.removed (stored_of volume) ≡ None }
 {
-    if can_take(alloc, &volume, &change)? {
-        Ok(taken_in(volume, change)?)
-    } else {
-        remade(alloc, volume, change.into_change())
+    match can_take(alloc, &volume, &change) {
+        Ok(true) => Ok(taken_in(volume, change)?),
+        Ok(false) => remade(alloc, volume, change.into_change()),
+        Err(_) => {
+            drop(change);
+            Err(Unfit::OutOfMemory)
+        }
     }
 }

@@ -87,6 +87,7 @@ fn read(alloc: Global, first: bool, bytes: &[u8]) -> Result<StoreRecord, Unfit>
         Err(RecordFault::OutOfMemory) => return Err(Unfit::OutOfMemory),
     };
     if first && !is_first(&rec.body) {
+        drop(rec);
         return Err(Unfit::Bad);
     }
     Ok(rec)

@@ -86,11 +86,16 @@ fn place<D: Disk>(
 {
     let len = prepared.bytes.len() as u64;
     if !journal.is_closed() && !journal.fits(len) {
+        // (A record is dropped by a call. The end of a scope would be a step of the proof for each part of each kind of record.)
+        drop(prepared);
         return Err(StoreFault::Full(journal.len(), journal.capacity()));
     }
     match make_room(journal, state, &prepared.redo, len) {
         Ok(()) => Ok(prepared),
-        Err(_) => Err(StoreFault::OutOfMemory),
+        Err(_) => {
+            drop(prepared);
+            Err(StoreFault::OutOfMemory)
+        }
     }
 }
 
@@ -315,7 +320,9 @@ impl<D: Disk> VolStore<D> {
             return Err(StoreFault::Full(self.journal.len(), self.journal.capacity()));
         }
         let rec = start_record(self.alloc, self.state.boot + 1);
-        self.prepare(&rec)?;
+        let prepared = self.prepare(&rec);
+        drop(rec);
+        prepared?;
         self.commit()?;
         Ok(Lines::new(self.alloc))
     }

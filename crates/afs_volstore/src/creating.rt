@@ -45,8 +45,13 @@ fn first_spelled(alloc: Global, volumes: &[&VolumeLine]) -> Mem<(StoreRecord, u6
     ensures small { IfOk result (λ r. r.1 < 2 ^ 63) }
 {
     let rec = first_record(alloc, volumes)?;
-    let len = record_length(alloc, &rec)?;
-    Ok((rec, len))
+    match record_length(alloc, &rec) {
+        Ok(len) => Ok((rec, len)),
+        Err(fault) => {
+            drop(rec);
+            Err(fault)
+        }
+    }
 }
 
 /// Cuts a disk to nothing. An empty one stays as it is.
@@ -197,9 +202,18 @@ impl<D: Disk> VolStore<D> {
         };
         let capacity = disk.capacity();
         if len + FRAME > capacity {
+            drop(rec);
             return Err((StoreFault::Full(EMPTY, capacity), disk));
         }
-        let journal = begin(alloc, disk)?;
-        filled(alloc, journal, node, &rec)
+        let journal = match begin(alloc, disk) {
+            Ok(journal) => journal,
+            Err(refused) => {
+                drop(rec);
+                return Err(refused);
+            }
+        };
+        let store = filled(alloc, journal, node, &rec);
+        drop(rec);
+        store
     }
 }

@@ -72,9 +72,10 @@ impl<D: Disk> VolStore<Fuse<D>> {
             journal,
             node,
             state,
-            prepared: _,
+            prepared,
             drawn: _,
         } = self;
+        drop(prepared);
         let len = journal.len();
         let disk = journal.into_disk().into_inner();
         again(alloc, disk, node, state, len)

@@ -185,5 +185,7 @@ pub fn first_length(alloc: Global, volumes: &[&VolumeLine]) -> Mem<u64>
     ensures { IfOk result (λ n. first_length (map (λ l. l.now) volumes.now) ≡ Some n) }
 {
     let rec = first_record(alloc, volumes)?;
-    record_length(alloc, &rec)
+    let len = record_length(alloc, &rec);
+    drop(rec);
+    len
 }
