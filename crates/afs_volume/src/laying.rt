@@ -200,11 +200,13 @@ impl Volume {
         let draft = self.draft(edits, 0)?;
         let unique = self.unique_left(edits);
         let Draft {
+            versions,
             vnodes,
             names,
             removed,
             ..
         } = draft;
+        drop(versions);
         let vnodes = all_at_first(self.alloc, vnodes)?;
         self.make_room(vnodes.len())?;
         self.take(vnodes, names.into_vec(), removed, 1, unique);
