@@ -188,7 +188,8 @@ impl Volume {
     {
         let d = self.found(fid)?;
         let is_here = existing.volume == fid.volume;
-        check(!is_here || self.vnode(existing).is_some(), 102)?;
+        let x = self.vnode(existing);
+        check(!is_here || x.is_some(), 102)?;
         check(is_directory(d), 20)?;
         check(self.is_writable(), 30)?;
         check(self.may(caller, 4, d), 13)?;
