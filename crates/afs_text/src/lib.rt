@@ -12,6 +12,7 @@ mod bodies;
 mod bytes;
 pub mod histories;
 mod laying;
+pub mod laws;
 mod lines;
 mod numbers;
 pub mod pieces;

@@ -1,0 +1,82 @@
+-- What texts with the bytes of messages tell, and what no text tells of numbers that are too long.
+use Rattle.std.proofs.Common.{◌≡◌, ℕ, ◌^◌, ◌*◌, Bool, true, false, List, [], ◌∷◌, Option, Some, None, refl, ap, sym, ◌∙◌, codes}
+use Rattle.std.specs.Fmt.{decimal, digits}
+use Rattle.afs_num.specs.declared.histories.Actor.TheVariants as actors
+use Rattle.afs_num.specs.declared.messages.Message.{Message}
+use Rattle.afs_num.specs.declared.messages.Received.{Received}
+use Rattle.afs_num.specs.declared.messages.Received.TheVariants.{Whole}
+use Rattle.afs_history.specs.declared.lines.Line.{Line}
+use Rattle.afs_history.specs.declared.lines.Line.TheVariants as lines
+use Rattle.afs_model.specs.LineText.{tick_text}
+use Rattle.afs_model.specs.Messages.{FitsMessage, received, spelled}
+use Rattle.afs_model.specs.Text.{step_text}
+use Rattle.afs_model.proofs.Spellings.{message_again}
+use Rattle.afs_rows.specs.Runs.{Entry}
+use Rattle.afs_text.specs.HistoryText.{entry_text, history_text}
+use Rattle.afs_text.specs.RunText.{line_text, lines_text}
+use Rattle.afs_text.specs.Shown.{AreFit, HaveFit, LongNumbersAreCut, ShownEntry, ShownMessage, TextsTellMessages, bare, shown, shown_entry, shown_message, shown_messages}
+use Rattle.afs_text.proofs.RowsRead.{texts_tell_entries}
+
+-- ---- messages
+
+one_message : (m n : Message) → FitsMessage m → FitsMessage n → shown_message true m ≡ shown_message true n → m ≡ n
+one_message m n fits other same =
+    let bytes : (let o : Option (List ℕ) = Some (spelled m) in o) ≡ Some (spelled n) = ap (λ (s : ShownMessage). s.bytes) same in
+    let one : spelled m ≡ spelled n = cc in
+    let whole : (let r : Received = Whole m in r) ≡ Whole n = sym (message_again m fits) ∙ ap received one ∙ message_again n other in
+    cc
+
+one_sending : (ms ns : List Message) → AreFit ms → AreFit ns → shown_messages true ms ≡ shown_messages true ns → ms ≡ ns
+one_sending [] [] fit other same = refl
+one_sending [] (n ∷ ns) fit other same = cc
+one_sending (m ∷ ms) [] fit other same = cc
+one_sending (m ∷ ms) (n ∷ ns) fit other same =
+    let first : shown_message true m ≡ shown_message true n = cc in
+    let rest : shown_messages true ms ≡ shown_messages true ns = cc in
+    let one : m ≡ n = one_message m n fit.0 other.0 first in
+    let more : ms ≡ ns = one_sending ms ns fit.1 other.1 rest in
+    (λ i. one i ∷ more i)
+
+one_history : (a b : List Entry) → HaveFit a → HaveFit b → shown true a ≡ shown true b → bare a ≡ bare b
+one_history [] [] fit other same = refl
+one_history [] (e ∷ es) fit other same = cc
+one_history (d ∷ ds) [] fit other same = cc
+one_history (d ∷ ds) (e ∷ es) fit other same =
+    let first : shown_entry true d ≡ shown_entry true e = cc in
+    let rest : shown true ds ≡ shown true es = cc in
+    let actor : d.actor ≡ e.actor = ap (λ (s : ShownEntry). s.actor) first in
+    let told : d.lines ≡ e.lines = ap (λ (s : ShownEntry). s.lines) first in
+    let sent : d.sent ≡ e.sent = one_sending d.sent e.sent fit.0 other.0 (ap (λ (s : ShownEntry). s.sent) first) in
+    let more : bare ds ≡ bare es = one_history ds es fit.1 other.1 rest in
+    (λ i. record { actor = actor i; lines = told i; sent = sent i; volumes = [] } ∷ more i)
+
+pub texts_tell_messages : TextsTellMessages
+texts_tell_messages a b whole other fit also same = one_history a b fit also (texts_tell_entries true a b whole other same)
+
+-- ---- numbers that are too long
+
+-- the clock rises by so many ticks
+abbrev ticked : ℕ → List Entry
+ticked n = record { actor = actors.Clock; lines = lines.Tick n ∷ []; sent = []; volumes = [] } ∷ []
+
+-- 1 and 63 zeros, and the same with a 1 before it
+one_decimal : decimal (10 ^ 63) ≡ decimal (11 * 10 ^ 63)
+unfolding digits
+one_decimal = refl
+
+abbrev ticks_of : List Line → ℕ
+ticks_of (lines.Tick n ∷ ls) = n
+ticks_of _ = 0
+
+abbrev first_ticks : List ShownEntry → ℕ
+first_ticks (e ∷ es) = ticks_of e.lines
+first_ticks [] = 0
+
+pub long_numbers_are_cut : LongNumbersAreCut
+unfolding history_text entry_text lines_text line_text tick_text
+long_numbers_are_cut = (
+  ticked (10 ^ 63),
+  ticked (11 * 10 ^ 63),
+  rw one_decimal refl,
+  λ same. let no : 10 ^ 63 ≡ 11 * 10 ^ 63 = ap first_ticks same in omega arith,
+)
