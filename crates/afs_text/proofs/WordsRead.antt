@@ -3,8 +3,8 @@
 use Rattle.std.proofs.Common.{◌≡◌, ℕ, zero, suc, ◌+◌, ◌-◌, ◌*◌, ◌/◌, ◌%◌, ◌^◌, ◌<◌, ◌≤◌, Bool, true, false, cond, not, List, [], ◌∷◌, ◌++◌, drop, length, subst, Option, Some, None, ℤ, pos, negsuc, refl, ap, sym, ◌∙◌, append_assoc, codes, nat_eq, nat_lt, lt-ltb, ne_eqb, arith}
 use Rattle.std.specs.Fmt.{decimal, signed_decimal, digits, digits_onto, digit_glyph}
 use Rattle.std.proofs.lemmas.Fmt.{digits_is_IsNumeral, decimal_is_IsNumeral_wide, decimal_digit}
-use Rattle.core.specs.Str.Parse.{AllDigits, digits_value_after}
-use Rattle.core.specs.Char.{digit_value}
+use Rattle.std.specs.Str.Parse.{AllDigits, digits_value_after}
+use Rattle.std.specs.Char.{digit_value}
 use Rattle.afs_num.specs.Texts.{node_text, fid_text, key_text}
 use Rattle.afs_num.specs.declared.types.Fid.{Fid}
 use Rattle.afs_num.specs.declared.types.Key.{Key}
