@@ -19,7 +19,7 @@ use Rattle.afs_model.specs.LineText.{body_text, directory_text, entry_name_text,
 use Rattle.afs_text.specs.ActText.{act_text, names_text, octal, operand_text, path_text, written_text}
 use Rattle.afs_text.specs.Whole.{AreWholeNames, IsWholeAct, IsWholeBody, IsWholeName, IsWholeOperand, IsWholeReadBody, IsWholeStatus, IsWholeWritten}
 use Rattle.afs_text.proofs.WordsRead.{Refuses, at_word, behind, closed, ends_number, fid_at, fid_last, in_row, is_digit, mode_at, mode_last, number_at, number_last, number_open, number_row, number_tail, read, refuses_joined}
-use Rattle.afs_text.proofs.BytesRead.{ends_name, hex_at, hex_last, name_open, name_tail}
+use Rattle.afs_text.proofs.BytesRead.{ends_name, hex_at, hex_last, name_open, name_tail, no_name}
 
 -- ---- items, each behind a mark
 
@@ -50,17 +50,17 @@ module _ {A : Type 0} (mark : ℕ) (at : List ℕ → A × List ℕ) (text : A �
 
   many_tail : (xs : List A) → AllAre Good xs → (k : ℕ) → length xs ≤ k → (tail : List ℕ) → ends tail ≡ true → starts mark tail ≡ false → many_from mark at k (items_text mark text xs ++ tail) ≡ (xs, tail)
   unfolding many_from
-  many_tail [] good zero fit tail e no = refl
-  many_tail [] good (suc k) fit [] e no = refl
-  many_tail [] good (suc k) fit (c ∷ cs) e no = rw no refl
-  many_tail (x ∷ xs) good zero fit tail e no = absurd (omega arith)
-  many_tail (x ∷ xs) good (suc k) fit tail e no =
+  many_tail [] good zero fit tail e stop = refl
+  many_tail [] good (suc k) fit [] e stop = refl
+  many_tail [] good (suc k) fit (c ∷ cs) e stop = rw stop refl
+  many_tail (x ∷ xs) good zero fit tail e stop = absurd (omega arith)
+  many_tail (x ∷ xs) good (suc k) fit tail e stop =
       let here : at ((text x ++ items_text mark text xs) ++ tail) ≡ (x, items_text mark text xs ++ tail) = ap at (append_assoc (text x) (items_text mark text xs) tail) ∙ again x good.0 (items_text mark text xs ++ tail) (many_end xs tail e) in
-      rw (eq-eqb mark mark refl, here, many_tail xs good.1 k (omega arith) tail e no) refl
+      rw (eq-eqb mark mark refl, here, many_tail xs good.1 k (omega arith) tail e stop) refl
 
   -- all of them, as many as there may be in these bytes
   many_again : (xs : List A) → AllAre Good xs → (tail : List ℕ) → ends tail ≡ true → starts mark tail ≡ false → many_from mark at (length (items_text mark text xs ++ tail)) (items_text mark text xs ++ tail) ≡ (xs, tail)
-  many_again xs good tail e no = many_tail xs good (length (items_text mark text xs ++ tail)) (many_fit xs tail) tail e no
+  many_again xs good tail e stop = many_tail xs good (length (items_text mark text xs ++ tail)) (many_fit xs tail) tail e stop
 
 -- ---- names
 
@@ -87,7 +87,7 @@ directory_at bytes =
 
 directory_last : (ns : List Name) → AreWholeNames ns → (rest : List ℕ) → directory_at (directory_text ns ++ 10 ∷ rest) ≡ (ns, rest)
 unfolding directory_at directory_text more_names_text
-directory_last [] whole rest = rw (name_tail [] (10 ∷ rest) refl) refl
+directory_last [] whole rest = rw (no_name (10 ∷ rest) refl) refl
 directory_last (n ∷ ns) whole rest =
     let behind_it = more_names_text ns ++ 10 ∷ rest in
     let apart : directory_text (n ∷ ns) ++ 10 ∷ rest ≡ entry_name_text n ++ behind_it = append_assoc (entry_name_text n) (more_names_text ns) (10 ∷ rest) in
@@ -160,15 +160,15 @@ path_at bytes = read (name_open bytes) (λ v r. read (many_from 47 name_open (le
 
 path_last : (p : Path) (c : ℕ) → ends_name (c ∷ []) ≡ true → nat_eq c 47 ≡ false → (rest : List ℕ) → path_at (path_text p ++ c ∷ rest) ≡ (p, rest)
 unfolding path_at path_text names_text
-path_last p c stop no rest =
+path_last p c stop other rest =
     let behind_it = names_text p.names ++ c ∷ rest in
     let apart : path_text p ++ c ∷ rest ≡ name_text p.volume ++ behind_it = append_assoc (name_text p.volume) (names_text p.names) (c ∷ rest) in
     let ended : ends_name behind_it ≡ true = many_end 47 name_open name_text (λ (n : List ℕ). Unit {0}) ends_name name_mark (λ x. refl) p.names (c ∷ rest) stop in
     ap path_at apart
-    ∙ rw (name_tail p.volume behind_it ended, many_again 47 name_open name_text (λ (n : List ℕ). Unit {0}) ends_name name_mark (λ x. refl) p.names (all_names p.names) (c ∷ rest) stop no) refl
+    ∙ rw (name_tail p.volume behind_it ended, many_again 47 name_open name_text (λ (n : List ℕ). Unit {0}) ends_name name_mark (λ x. refl) p.names (all_names p.names) (c ∷ rest) stop other) refl
 
 path_row : (p : Path) (c : ℕ) → ends_name (c ∷ []) ≡ true → nat_eq c 47 ≡ false → (x rest : List ℕ) → path_at ((path_text p ++ c ∷ x) ++ rest) ≡ (p, x ++ rest)
-path_row p c stop no x rest = in_row path_at (path_text p) c x rest p (path_last p c stop no (x ++ rest))
+path_row p c stop other x rest = in_row path_at (path_text p) c x rest p (path_last p c stop other (x ++ rest))
 
 -- no path begins with the sign of a fid
 byte_refuses : (b : ℕ) (tail : List ℕ) → behind (codes "@") (name_byte b ++ tail) ≡ None

@@ -109,6 +109,11 @@ name_ends (c ∷ cs) stop = by (nat_eq c 37) (is_plain c) stop
     by false true h = cc
     by false false h = refl
 
+-- no name at all
+pub no_name : (tail : List ℕ) → ends_name tail ≡ true → name_open tail ≡ ([], tail)
+unfolding name_open
+no_name tail stop = name_ends tail stop
+
 -- the sign of an escape is no plain byte
 plain_is_other : (b : ℕ) → is_plain b ≡ true → nat_eq b 37 ≡ false
 plain_is_other b e = ne_eqb b 37 (λ p. let no : false ≡ true = ap is_plain (sym p) ∙ e in cc)

@@ -258,9 +258,9 @@ entries_gathered wire (e ∷ es) =
 texts_tell : (wire : Bool) (a b : List Entry) (x y : List ℕ) → AreWholeEntries a → AreWholeEntries b → row_at wire x ≡ None → row_at wire y ≡ None
     → history_text wire a ++ x ≡ history_text wire b ++ y → (shown wire a ≡ shown wire b) × (x ≡ y)
 unfolding history_text
-texts_tell wire a b x y whole other none no same =
+texts_tell wire a b x y whole other none also same =
     let read_b = subst (λ (t : List ℕ). Reads wire t (rows_of wire b) y) (sym same) (entries_read wire 1 1 b other y) in
-    let one = one_reading wire (rows_of wire a) (rows_of wire b) (entries_text wire 1 1 a ++ x) x y (entries_read wire 1 1 a whole x) read_b none no in
+    let one = one_reading wire (rows_of wire a) (rows_of wire b) (entries_text wire 1 1 a ++ x) x y (entries_read wire 1 1 a whole x) read_b none also in
     (ap (λ (g : Gathered). g.entries) (sym (entries_gathered wire a) ∙ ap gathered one.0 ∙ entries_gathered wire b), one.1)
 
 nothing_is_no_row : (wire : Bool) → row_at wire [] ≡ None

@@ -140,15 +140,15 @@ small_glyph d small =
     let shown : AllDigits 10 ((48 + d) ∷ []) = subst (AllDigits 10) (decimal_digit d small) (decimal_is_IsNumeral_wide d (omega arith)).0.1 in
     subst (λ (g : ℕ). digit_value g < 10) (sym glyph) shown.0
 
+chosen_digits : (t : Bool) (a b : List ℕ) → AllDigits 10 a → AllDigits 10 b → AllDigits 10 (cond t a b)
+chosen_digits true a b p q = p
+chosen_digits false a b p q = q
+
 onto_digits : (k n : ℕ) (acc : List ℕ) → AllDigits 10 acc → AllDigits 10 (digits_onto k 10 false n acc)
 onto_digits zero n acc all = all
 onto_digits (suc k) n acc all =
     let more : AllDigits 10 (digit_glyph false (n % 10) ∷ acc) = (small_glyph (n % 10) (omega arith), all) in
-    by (nat_eq (n / 10) 0) more
-  where
-    by : (t : Bool) → AllDigits 10 (digit_glyph false (n % 10) ∷ acc) → AllDigits 10 (cond t (digit_glyph false (n % 10) ∷ acc) (digits_onto k 10 false (n / 10) (digit_glyph false (n % 10) ∷ acc)))
-    by true more = more
-    by false more = onto_digits k (n / 10) (digit_glyph false (n % 10) ∷ acc) more
+    chosen_digits (nat_eq (n / 10) 0) _ _ more (onto_digits k (n / 10) (digit_glyph false (n % 10) ∷ acc) more)
 
 decimal_digits : (n : ℕ) → AllDigits 10 (decimal n)
 unfolding digits
