@@ -1,32 +1,38 @@
 -- What texts with the bytes of messages tell, and what no text tells of numbers that are too long.
-use Rattle.std.proofs.Common.{◌≡◌, ℕ, ◌^◌, ◌*◌, Bool, true, false, List, [], ◌∷◌, Option, Some, None, refl, ap, sym, ◌∙◌, codes, arith}
+use Rattle.std.proofs.Common.{◌≡◌, ℕ, ◌^◌, ◌*◌, Bool, true, false, List, [], ◌∷◌, take, drop, Option, Some, None, refl, ap, subst, sym, ◌∙◌, codes, arith}
 use Rattle.std.specs.Fmt.{decimal, digits}
 use Rattle.afs_num.specs.declared.histories.Actor.TheVariants as actors
+use Rattle.afs_num.specs.declared.types.Parcel.{Parcel}
 use Rattle.afs_num.specs.declared.messages.Message.{Message}
 use Rattle.afs_num.specs.declared.messages.Received.{Received}
 use Rattle.afs_num.specs.declared.messages.Received.TheVariants.{Whole}
+use Rattle.afs_history.specs.declared.lines.Entry as kept
 use Rattle.afs_history.specs.declared.lines.Line.{Line}
 use Rattle.afs_history.specs.declared.lines.Line.TheVariants as lines
 use Rattle.afs_model.specs.LineText.{tick_text}
-use Rattle.afs_model.specs.Messages.{FitsMessage, received, spelled}
+use Rattle.afs_model.specs.Messages.{received, spelled}
 use Rattle.afs_model.specs.Text.{step_text}
-use Rattle.afs_model.proofs.Spellings.{message_again}
+use Rattle.afs_model.specs.Telling.{AreRead, messages_of, with_received}
 use Rattle.afs_rows.specs.Runs.{Entry}
 use Rattle.afs_text.specs.HistoryText.{entry_text, history_text}
+use Rattle.afs_text.specs.KeptText.{kept_history_text}
+use Rattle.afs_text.specs.Telling.{told}
 use Rattle.afs_text.specs.RunText.{line_text, lines_text}
-use Rattle.afs_text.specs.Shown.{AreFit, HaveFit, LongNumbersAreCut, ShownEntry, ShownMessage, TextsTellMessages, bare, shown, shown_entry, shown_message, shown_messages}
+use Rattle.afs_text.specs.Shown.{AreReadAgain, SendReadable, IsKeptHistory, IsReadAgain, LongNumbersAreCut, PrintedTellHistories, ShownEntry, ShownMessage, TextsTellMessages, bare, shown, shown_entry, shown_message, shown_messages}
+use Rattle.afs_text.proofs.Kept.{history_told}
 use Rattle.afs_text.proofs.RowsRead.{texts_tell_entries}
+use Rattle.afs_text.proofs.Sent.{read_next, read_take}
 
 -- ---- messages
 
-one_message : (m n : Message) → FitsMessage m → FitsMessage n → shown_message true m ≡ shown_message true n → m ≡ n
+one_message : (m n : Message) → IsReadAgain m → IsReadAgain n → shown_message true m ≡ shown_message true n → m ≡ n
 one_message m n fits other same =
     let bytes : (let o : Option (List ℕ) = Some (spelled m) in o) ≡ Some (spelled n) = ap (λ (s : ShownMessage). s.bytes) same in
     let one : spelled m ≡ spelled n = cc in
-    let whole : (let r : Received = Whole m in r) ≡ Whole n = sym (message_again m fits) ∙ ap received one ∙ message_again n other in
+    let whole : (let r : Received = Whole m in r) ≡ Whole n = sym fits ∙ ap received one ∙ other in
     cc
 
-one_sending : (ms ns : List Message) → AreFit ms → AreFit ns → shown_messages true ms ≡ shown_messages true ns → ms ≡ ns
+one_sending : (ms ns : List Message) → AreReadAgain ms → AreReadAgain ns → shown_messages true ms ≡ shown_messages true ns → ms ≡ ns
 one_sending [] [] fit other same = refl
 one_sending [] (n ∷ ns) fit other same = cc
 one_sending (m ∷ ms) [] fit other same = cc
@@ -37,7 +43,7 @@ one_sending (m ∷ ms) (n ∷ ns) fit other same =
     let more : ms ≡ ns = one_sending ms ns fit.1 other.1 rest in
     (λ i. one i ∷ more i)
 
-one_history : (a b : List Entry) → HaveFit a → HaveFit b → shown true a ≡ shown true b → bare a ≡ bare b
+one_history : (a b : List Entry) → SendReadable a → SendReadable b → shown true a ≡ shown true b → bare a ≡ bare b
 one_history [] [] fit other same = refl
 one_history [] (e ∷ es) fit other same = cc
 one_history (d ∷ ds) [] fit other same = cc
@@ -52,6 +58,29 @@ one_history (d ∷ ds) (e ∷ es) fit other same =
 
 pub texts_tell_messages : TextsTellMessages
 texts_tell_messages a b whole other fit also same = one_history a b fit also (texts_tell_entries true a b whole other same)
+
+-- ---- what the program keeps
+
+parcels_again : (ps : List Parcel) → AreRead ps → AreReadAgain (messages_of ps)
+parcels_again [] read = tt
+parcels_again (p ∷ ps) read =
+    let next = read_next p ps read in
+    subst (λ (r : Received). AreReadAgain (with_received r (messages_of ps))) (sym next.read) (ap received (sym next.bytes) ∙ next.read, parcels_again ps next.others)
+
+told_again : (ps : List Parcel) (es : List kept.Entry) → AreRead ps → SendReadable (told ps es)
+told_again ps [] read = tt
+told_again ps (e ∷ es) read =
+    let both = read_take e.sent ps read in
+    (parcels_again (take e.sent ps) both.0, told_again (drop e.sent ps) es both.1)
+
+bare_told : (ps : List Parcel) (es : List kept.Entry) → bare (told ps es) ≡ told ps es
+bare_told ps [] = refl
+bare_told ps (e ∷ es) = ap (λ (rest : List Entry). record { actor = e.actor; lines = e.lines; sent = messages_of (take e.sent ps); volumes = [] } ∷ rest) (bare_told (drop e.sent ps) es)
+
+pub printed_tell_histories : PrintedTellHistories
+printed_tell_histories ps qs es fs one other same =
+    let texts : history_text true (told ps es) ≡ history_text true (told qs fs) = sym (history_told true ps es one.read one.all) ∙ same ∙ history_told true qs fs other.read other.all in
+    sym (bare_told ps es) ∙ texts_tell_messages (told ps es) (told qs fs) one.whole other.whole (told_again ps es one.read) (told_again qs fs other.read) texts ∙ bare_told qs fs
 
 -- ---- numbers that are too long
 
