@@ -1,5 +1,5 @@
 -- What versions and reads hold, and acts, as they are read back.
-use Rattle.std.proofs.Common.{◌≡◌, ℕ, zero, suc, ◌+◌, ◌/◌, ◌%◌, ◌≤◌, Bool, true, false, cond, not, List, [], ◌∷◌, ◌++◌, drop, length, length-append, Option, Some, None, refl, ap, sym, ◌∙◌, append_assoc, codes, nat_eq, eq-eqb, ne_eqb, arith}
+use Rattle.std.proofs.Common.{◌≡◌, ℕ, zero, suc, ◌/◌, ◌%◌, ◌≤◌, Bool, true, false, cond, List, [], ◌∷◌, ◌++◌, drop, length, length-append, None, refl, ap, ◌∙◌, append_assoc, codes, nat_eq, eq-eqb, ne_eqb, arith}
 use Rattle.std.specs.List.{flat_map}
 use Rattle.std.specs.Fmt.{decimal, digit_glyph}
 use Rattle.afs_num.specs.declared.directories.Name.{Name}
@@ -18,7 +18,7 @@ use Rattle.afs_history.specs.declared.acts.Written.TheVariants.{Hex, Fill}
 use Rattle.afs_model.specs.LineText.{body_text, directory_text, entry_name_text, hex_byte, hex_text, is_plain, more_names_text, name_byte, name_text, read_body_text, status_text}
 use Rattle.afs_text.specs.ActText.{act_text, names_text, octal, operand_text, path_text, written_text}
 use Rattle.afs_text.specs.Whole.{AreWholeNames, IsWholeAct, IsWholeBody, IsWholeName, IsWholeOperand, IsWholeReadBody, IsWholeStatus, IsWholeWritten}
-use Rattle.afs_text.proofs.WordsRead.{Refuses, at_word, behind, closed, ends_number, fid_at, fid_last, in_row, is_digit, mode_at, mode_last, number_at, number_last, number_open, number_row, number_tail, read, refuses_joined}
+use Rattle.afs_text.proofs.WordsRead.{at_word, behind, ends_number, fid_at, fid_last, in_row, is_digit, mode_at, mode_last, number_at, number_last, number_open, number_row, number_tail, read}
 use Rattle.afs_text.proofs.BytesRead.{ends_name, hex_at, hex_last, name_open, name_tail, no_name}
 
 -- ---- items, each behind a mark

@@ -1,18 +1,17 @@
 -- Lines of a history, as they are read back: by their first word, and then field by field.
-use Rattle.std.proofs.Common.{◌≡◌, ℕ, Bool, true, false, cond, List, [], ◌∷◌, ◌++◌, drop, Option, Some, None, refl, ap, sym, ◌∙◌, append_assoc, codes, nat_eq}
+use Rattle.std.proofs.Common.{◌≡◌, ℕ, List, [], ◌∷◌, ◌++◌, drop, Option, Some, None, refl, codes}
 use Rattle.std.specs.Fmt.{decimal}
 use Rattle.afs_num.specs.Texts.{fid_text}
 use Rattle.afs_num.specs.declared.types.Fid.{Fid}
 use Rattle.afs_num.specs.declared.histories.ReadSource.{ReadSource}
 use Rattle.afs_num.specs.declared.histories.ReadSource.TheVariants.{Cached, Fetched}
-use Rattle.afs_num.specs.declared.histories.Version.{Version}
 use Rattle.afs_history.specs.declared.lines.Line.{Line}
 use Rattle.afs_history.specs.declared.lines.Line.TheVariants as lines
 use Rattle.afs_model.specs.LineText.{answer_text, change_text, crash_text, drop_all_text, drop_text, fail_text, fault_text, full_text, given_text, grant_text, owe_text, owed_text, quit_text, read_text, restart_text, settle_text, source_text, stop_text, tick_text, timeout_text, version_text}
 use Rattle.afs_text.specs.ActText.{begin_text}
 use Rattle.afs_text.specs.RunText.{line_text}
 use Rattle.afs_text.specs.Whole.{IsWholeFid, IsWholeLine, IsWholeOwed}
-use Rattle.afs_text.proofs.WordsRead.{Refuses, at_word, behind, fid_at, fid_row, in_row, is_digit, key_at, key_row, node_at, node_row, number_at, number_refuses, number_row, read, refuses_joined, signed_at, signed_row}
+use Rattle.afs_text.proofs.WordsRead.{Refuses, at_word, behind, fid_at, fid_row, key_at, key_row, node_at, node_row, number_at, number_refuses, number_row, read, refuses_joined, signed_at, signed_row}
 use Rattle.afs_text.proofs.BodiesRead.{act_at, act_row, body_at, body_row, read_body_at, read_body_row}
 
 -- ---- what stands for a fid where all promises are meant

@@ -1,5 +1,5 @@
 -- What texts with the bytes of messages tell, and what no text tells of numbers that are too long.
-use Rattle.std.proofs.Common.{◌≡◌, ℕ, ◌^◌, ◌*◌, Bool, true, false, List, [], ◌∷◌, take, drop, Option, Some, None, refl, ap, subst, sym, ◌∙◌, codes, arith}
+use Rattle.std.proofs.Common.{◌≡◌, ℕ, ◌^◌, ◌*◌, true, List, [], ◌∷◌, take, drop, Option, Some, refl, ap, subst, sym, ◌∙◌, arith}
 use Rattle.std.specs.Fmt.{decimal, digits}
 use Rattle.afs_num.specs.declared.histories.Actor.TheVariants as actors
 use Rattle.afs_num.specs.declared.types.Parcel.{Parcel}
@@ -11,14 +11,12 @@ use Rattle.afs_history.specs.declared.lines.Line.{Line}
 use Rattle.afs_history.specs.declared.lines.Line.TheVariants as lines
 use Rattle.afs_model.specs.LineText.{tick_text}
 use Rattle.afs_model.specs.Messages.{received, spelled}
-use Rattle.afs_model.specs.Text.{step_text}
 use Rattle.afs_model.specs.Telling.{AreRead, messages_of, with_received}
 use Rattle.afs_rows.specs.Runs.{Entry}
 use Rattle.afs_text.specs.HistoryText.{entry_text, history_text}
-use Rattle.afs_text.specs.KeptText.{kept_history_text}
 use Rattle.afs_text.specs.Telling.{told}
 use Rattle.afs_text.specs.RunText.{line_text, lines_text}
-use Rattle.afs_text.specs.Shown.{AreReadAgain, SendReadable, IsKeptHistory, IsReadAgain, LongNumbersAreCut, PrintedTellHistories, ShownEntry, ShownMessage, TextsTellMessages, bare, shown, shown_entry, shown_message, shown_messages}
+use Rattle.afs_text.specs.Shown.{AreReadAgain, SendReadable, IsReadAgain, LongNumbersAreCut, PrintedTellHistories, ShownEntry, ShownMessage, TextsTellMessages, bare, shown, shown_entry, shown_message, shown_messages}
 use Rattle.afs_text.proofs.Kept.{history_told}
 use Rattle.afs_text.proofs.RowsRead.{texts_tell_entries}
 use Rattle.afs_text.proofs.Sent.{read_next, read_take}

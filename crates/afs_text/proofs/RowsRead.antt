@@ -1,6 +1,6 @@
 -- The rows of a text, as they are read back: heads of entries, lines, and messages. What rows there are tells the entries.
-use Rattle.std.proofs.Common.{◌≡◌, ℕ, ℤ, ◌+◌, Bool, true, false, List, [], ◌∷◌, ◌++◌, map, length, drop, Option, Some, None, refl, ap, sym, ◌∙◌, subst, append_assoc, append-nil, codes, nat_eq}
-use Rattle.std.specs.Fmt.{decimal, signed_decimal}
+use Rattle.std.proofs.Common.{◌≡◌, ℕ, ℤ, ◌+◌, Bool, true, false, List, [], ◌∷◌, ◌++◌, length, drop, Option, Some, None, refl, ap, sym, ◌∙◌, subst, append_assoc, append-nil, codes}
+use Rattle.std.specs.Fmt.{decimal}
 use Rattle.afs_num.specs.Texts.{node_text}
 use Rattle.afs_num.specs.declared.types.Half.{Half}
 use Rattle.afs_num.specs.declared.types.Half.TheVariants as halves
@@ -18,9 +18,9 @@ use Rattle.afs_records.specs.Durable.{Durable}
 use Rattle.afs_text.specs.FinalText.{final_text}
 use Rattle.afs_text.specs.HistoryText.{entries_text, entry_text, history_text, text}
 use Rattle.afs_text.specs.RunText.{line_text, lines_text}
-use Rattle.afs_text.specs.Shown.{TextsTellEntries, TextsTellRuns, ShownEntry, ShownMessage, shown, shown_bytes, shown_code, shown_entry, shown_message, shown_messages}
-use Rattle.afs_text.specs.Whole.{AreWholeEntries, AreWholeLines, AreWholeMessages, IsWhole, IsWholeActor, IsWholeNode, IsWholeEntry, IsWholeHead, IsWholeLine, IsWholeMessage, IsWholeSigned}
-use Rattle.afs_text.proofs.WordsRead.{Refuses, any_row, at_word, behind, is_digit, node_at, node_row, number_at, number_last, number_refuses, number_row, read, refuses_joined, signed_at, signed_row}
+use Rattle.afs_text.specs.Shown.{TextsTellEntries, TextsTellRuns, ShownEntry, ShownMessage, shown, shown_bytes, shown_code, shown_message, shown_messages}
+use Rattle.afs_text.specs.Whole.{AreWholeEntries, AreWholeLines, AreWholeMessages, IsWhole, IsWholeActor, IsWholeNode, IsWholeHead, IsWholeLine, IsWholeMessage, IsWholeSigned}
+use Rattle.afs_text.proofs.WordsRead.{Refuses, any_row, at_word, behind, node_at, node_row, number_at, number_last, number_refuses, number_row, read, refuses_joined, signed_at, signed_row}
 use Rattle.afs_text.proofs.BytesRead.{hex_at, hex_row}
 use Rattle.afs_text.proofs.LinesRead.{line_at, line_again}
 

@@ -1,6 +1,6 @@
 -- What texts are read back from: words, numbers, and what names nodes, objects and calls. A reader gives what it read, and the bytes behind
 -- that; most leave out the byte that ends it.
-use Rattle.std.proofs.Common.{◌≡◌, ℕ, zero, suc, ◌+◌, ◌-◌, ◌*◌, ◌/◌, ◌%◌, ◌^◌, ◌<◌, ◌≤◌, Bool, true, false, cond, not, List, [], ◌∷◌, ◌++◌, drop, length, subst, Option, Some, None, ℤ, pos, negsuc, refl, ap, sym, ◌∙◌, append_assoc, codes, nat_eq, nat_lt, lt-ltb, ne_eqb, arith}
+use Rattle.std.proofs.Common.{◌≡◌, ℕ, zero, suc, ◌+◌, ◌*◌, ◌/◌, ◌%◌, ◌<◌, Bool, true, false, cond, not, List, [], ◌∷◌, ◌++◌, drop, length, subst, Option, Some, None, ℤ, pos, negsuc, refl, ap, sym, ◌∙◌, append_assoc, codes, nat_eq, nat_lt, lt-ltb, ne_eqb, arith}
 use Rattle.std.specs.Fmt.{decimal, signed_decimal, digits, digits_onto, digit_glyph}
 use Rattle.std.proofs.lemmas.Fmt.{digits_is_IsNumeral, decimal_is_IsNumeral_wide, decimal_digit}
 use Rattle.std.specs.Str.Parse.{AllDigits, digits_value_after}

@@ -1,6 +1,5 @@
 -- Numbers that a text writes whole. A text writes 64 digits of a number, the last ones where it has more.
 use Rattle.std.specs.Prelude.{ℕ, suc, ◌^◌, ◌<◌, List, [], ◌∷◌, Option, Some, None, ℤ, pos, negsuc}
-use Rattle.afs_num.specs.declared.types.Code.{Code}
 use Rattle.afs_num.specs.declared.types.Fid.{Fid}
 use Rattle.afs_num.specs.declared.types.Head.{Head}
 use Rattle.afs_num.specs.declared.types.Key.{Key}
