@@ -1,100 +1,139 @@
+use crate::called::Call::{Crash, Cut, Length, Read, Sync, Write};
+use crate::called::{Call, make_calls, put_calls, told};
+use crate::journals::put_disk;
 use afs_disk::{Bank, Disk, LendFault, MemBank, MemDisk, Place};
-use afs_num::devices::Failed;
 use afs_num::sequences::{Octets, Records};
 use std::alloc::Global;
-use std::test::Fail;
+use std::fmt::Write as _;
 
-// A disk in memory that holds `abc`, and over it two writes that aren't synced.
-fn unsynced(alloc: Global) -> Result<MemDisk, Fail> {
+// What calls give on an empty disk in memory whose calls all succeed, but for those that bring `abc` there, and over it two
+// writes that aren't synced.
+fn told_unsynced(alloc: Global, calls: &[Call]) -> String {
     let mut disk = MemDisk::new(alloc, 100, Octets::new(alloc));
-    disk.room(3, 3)?;
-    disk.write_at(0, b"abc")?;
-    disk.sync()?;
-    disk.room(5, 4)?;
-    write_after(&mut disk, 1, b"XY")?;
-    write_after(&mut disk, 3, b"ZZ")?;
-    Ok(disk)
+    let before = [Write(0, b"abc"), Sync, Write(1, b"XY"), Write(3, b"ZZ")];
+    make_calls(alloc, &mut disk, &before);
+    let told = told(alloc, &mut disk, calls);
+    drop(disk);
+    told
 }
 
-// Writes at a place that the disk reaches, with room made first.
-pub(crate) fn write_after<D: Disk>(disk: &mut D, at: u64, bytes: &[u8]) -> Result<(), Fail> {
-    if disk.len() < at || 1000 < at || 1000 < bytes.len() {
-        return Err("a place that isn't there".into());
+// What a crash with this pick leaves, and that it is durable.
+fn told_crashed(alloc: Global, pick: u8) -> String {
+    told_unsynced(alloc, &[Crash(pick), Read(0), Crash(0), Read(0)])
+}
+
+#[test]
+fn a_crash_leaves_one_of_four_images(rt: HostRuntime) {
+    for (pick, image) in IMAGES {
+        assert_eq!(rt; told_crashed(rt.alloc(), *pick).as_str(), *image);
     }
-    disk.room(at + bytes.len() as u64, bytes.len() as u64)?;
-    disk.write_at(at, bytes)?;
-    Ok(())
 }
 
+const IMAGES: &[(u8, &str)] = &[
+    (0, "3:616263 3:616263 "),
+    (1, "5:6158595a5a 5:6158595a5a "),
+    (2, "5:6100000000 5:6100000000 "),
+    (3, "5:61ffffffff 5:61ffffffff "),
+];
+
 #[test]
-fn a_crash_leaves_one_of_four_images(rt: HostRuntime) -> Result<(), Fail> {
-    let alloc = rt.alloc();
-    let images: [&[u8]; 4] = [b"abc", b"aXYZZ", b"a\0\0\0\0", b"a\xff\xff\xff\xff"];
-    let mut pick = 0u8;
-    for image in images {
-        let mut disk = unsynced(alloc)?;
-        disk.crash(pick);
-        assert_eq!(rt; disk.bytes(), image);
-        // What is left is durable.
-        disk.crash(0);
-        assert_eq!(rt; disk.bytes(), image);
-        pick = pick.saturating_add(1);
+fn what_was_cut_off_comes_back(rt: HostRuntime) {
+    let calls = [Sync, Cut(2), Write(2, b"Q"), Read(0), Crash(0), Read(0)];
+    let told = told_unsynced(rt.alloc(), &calls);
+    assert_eq!(rt; told.as_str(), "ok ok ok 3:615851 5:6158595a5a ");
+}
+
+// What these calls give on a disk in memory whose second call fails, and the bytes and the count of calls that it has then.
+fn told_failing(alloc: Global, calls: &[Call]) -> String {
+    let mut out = String::new(alloc);
+    if let Ok(failing) = Octets::from_slice(alloc, &[0, 1]) {
+        let mut disk = MemDisk::new(alloc, 100, failing);
+        put_calls(&mut out, &mut disk, calls);
+        put_disk(&mut out, &disk);
+        drop(disk);
     }
-    Ok(())
+    out
 }
 
 #[test]
-fn what_was_cut_off_comes_back(rt: HostRuntime) -> Result<(), Fail> {
-    let alloc = rt.alloc();
-    let mut disk = unsynced(alloc)?;
-    disk.room(0, 0)?;
-    disk.sync()?;
-    if disk.len() < 2 {
-        return Err("it is shorter than what was written".into());
-    }
-    disk.cut(2)?;
-    write_after(&mut disk, 2, b"Q")?;
-    assert_eq!(rt; disk.bytes(), b"aXQ".as_slice());
-    disk.crash(0);
-    assert_eq!(rt; disk.bytes(), b"aXYZZ".as_slice());
-    Ok(())
+fn a_call_fails_where_the_list_says_so(rt: HostRuntime) {
+    let calls = [Sync, Write(0, b"abc"), Length, Write(0, b"abc"), Length];
+    let told = told_failing(rt.alloc(), &calls);
+    assert_eq!(rt; told.as_str(), "ok failed 0 ok 3 97 98 99 calls 3");
 }
 
-#[test]
-fn a_call_fails_where_the_list_says_so(rt: HostRuntime) -> Result<(), Fail> {
-    let alloc = rt.alloc();
-    let mut disk = MemDisk::new(alloc, 100, Octets::from_slice(alloc, &[0, 1])?);
-    disk.room(3, 6)?;
-    assert_eq!(rt; disk.sync(), Ok(()));
-    assert_eq!(rt; disk.write_at(0, b"abc"), Err(Failed));
-    assert_eq!(rt; disk.bytes().len(), 0);
-    write_after(&mut disk, 0, b"abc")?;
-    assert_eq!(rt; disk.bytes(), b"abc".as_slice());
-    assert_eq!(rt; disk.calls(), 3);
-    Ok(())
+// A bank whose second call fails.
+fn bank(alloc: Global) -> Option<MemBank> {
+    let failing = Octets::from_slice(alloc, &[0, 1]).ok()?;
+    Some(MemBank::new(alloc, failing, Records::new(alloc)))
 }
 
-#[test]
-fn a_bank_in_memory_tells_what_it_lent(rt: HostRuntime) -> Result<(), Fail> {
-    let alloc = rt.alloc();
-    let mut bank = MemBank::new(
-        alloc,
-        Octets::from_slice(alloc, &[0, 1])?,
-        Records::new(alloc),
-    );
-    let mut disk = bank.lend(&Place::Memory, 3, 50).map_err(|_| "not lent")?;
-    assert_eq!(rt; disk.capacity(), 50);
-    assert_eq!(rt;
-        bank.lend(&Place::Memory, 4, 50).err(),
-        Some(LendFault::Failed)
-    );
-    write_after(&mut disk, 0, b"abc")?;
-    bank.give_back(3, disk)?;
-    assert_eq!(rt; bank.lends().len(), 1);
+fn lent(bank: &mut MemBank, node: u32) -> Result<MemDisk, LendFault> {
+    bank.lend(&Place::Memory, node, 50)
+}
+
+fn put_lent(out: &mut String, bank: &mut MemBank, node: u32) {
+    let word = match lent(bank, node) {
+        Ok(disk) => {
+            drop(disk);
+            "lent "
+        }
+        Err(LendFault::Failed) => "not lent ",
+        Err(LendFault::OutOfMemory) => "out of memory ",
+    };
+    let _ = out.push_str(word);
+}
+
+fn put_taken(out: &mut String, bank: &mut MemBank, node: u32, disk: MemDisk) {
+    let is_taken = bank.give_back(node, disk).is_ok();
+    let _ = out.push_str(if is_taken { "taken " } else { "not taken " });
+}
+
+// What the bank tells of what it lent and took back.
+fn put_bank(out: &mut String, bank: &MemBank) {
+    let _ = write!(out, "{} lent: ", bank.lends().len());
     for given in bank.given() {
-        assert_eq!(rt; given.node, 3);
-        assert_eq!(rt; given.disk.bytes(), b"abc".as_slice());
+        let _ = write!(out, "node {}: ", given.node);
+        put_disk(out, &given.disk);
     }
-    assert_eq!(rt; bank.given().len(), 1);
-    Ok(())
+}
+
+// A disk is lent that some calls are made of, and given back.
+fn put_lent_and_taken(out: &mut String, bank: &mut MemBank, asked: &[u32], calls: &[Call]) {
+    if let Ok(disk) = lent(bank, 3) {
+        let mut disk = disk;
+        put_calls(out, &mut disk, calls);
+        let _ = write!(out, "{} ", disk.capacity());
+        for node in asked {
+            put_lent(out, bank, *node);
+        }
+        put_taken(out, bank, 3, disk);
+    }
+}
+
+// What a bank tells where some calls are made of a disk that it lent, and disks of these nodes are asked for before it comes back.
+fn told_of_bank(alloc: Global, asked: &[u32], calls: &[Call]) -> String {
+    let mut out = String::new(alloc);
+    if let Some(lending) = bank(alloc) {
+        let mut bank = lending;
+        put_lent_and_taken(&mut out, &mut bank, asked, calls);
+        put_bank(&mut out, &bank);
+        drop(bank);
+    }
+    out
+}
+
+#[test]
+fn a_bank_in_memory_tells_what_it_lent(rt: HostRuntime) {
+    let told = told_of_bank(rt.alloc(), &[4], &[Write(0, b"abc")]);
+    assert_eq!(rt;
+        told.as_str(),
+        "ok 50 not lent taken 1 lent: node 3: 97 98 99 calls 1"
+    );
+}
+
+#[test]
+fn a_bank_in_memory_may_take_no_disk_back(rt: HostRuntime) {
+    let told = told_of_bank(rt.alloc(), &[], &[]);
+    assert_eq!(rt; told.as_str(), "50 not taken 1 lent: ");
 }

@@ -3,6 +3,8 @@
 #![tactic(auto)]
 
 #[cfg(test)]
+mod called;
+#[cfg(test)]
 mod disks;
 #[cfg(test)]
 mod files;
@@ -11,6 +13,6 @@ mod interrupted;
 #[cfg(test)]
 mod journals;
 #[cfg(test)]
-mod streams;
+mod played;
 #[cfg(test)]
-mod tearing;
+mod streams;
