@@ -9,7 +9,6 @@ mod disks;
 #[cfg(test)]
 mod files;
 #[cfg(test)]
-mod interrupted;
 #[cfg(test)]
 mod journals;
 #[cfg(test)]
