@@ -1,11 +1,12 @@
 //! Operations on one vnode: StoreData, StoreACL, StoreStatus.
 
-ghost use Rattle.std.specs.Prelude.{◌≡◌, ◌≤◌, ◌∷◌, [], Some, length, IfOk};
+ghost use Rattle.std.specs.Prelude.{◌≡◌, ◌≤◌, ◌∷◌, [], Some, not, length, nat_lt, IfOk, OnOk};
 ghost use Rattle.afs_num.specs.declared.calls.FsCall.TheVariants as calls;
-ghost use Rattle.afs_ideal.specs.Operations.{is_acl, is_mask, is_whole_store, most_bytes, no_amend};
+ghost use Rattle.afs_ideal.specs.Operations.{first_failing, has_right, is_acl, is_kind, is_mask, is_read_write, is_whole_store, most_bytes, no_amend};
 ghost use Rattle.afs_ideal.specs.VnodeImage.{most_acl};
-ghost use Rattle.afs_ideal.specs.Volumes.{amends};
-ghost use Rattle.afs_volume.specs.Giving.{amend_seen, caller_seen, edits_seen, planned, volume_of, Plans};
+ghost use Rattle.afs_ideal.specs.Volumes.{a_directory, amends};
+ghost use Rattle.afs_volume.specs.Giving.{amend_seen, caller_seen, edits_seen, planned, volume_of, Passes, Plans};
+ghost use Rattle.afs_volume.specs.Seen.{seen};
 
 use crate::Volume;
 use crate::callers::Caller;
@@ -18,6 +19,7 @@ use afs_acl::faults::AclFault;
 use afs_num::calls::AfsStoreStatus;
 use afs_num::sequences::Octets;
 use afs_num::types::{Fid, Mem};
+use afs_num::vnodes::Vnode;
 use std::alloc::{AllocError, Global};
 
 /// The most bytes of a file.
@@ -76,6 +78,24 @@ pub fn is_acl(alloc: Global, text: &[u8]) -> Mem<bool>
 }
 
 impl Volume {
+    /// A caller may store these bytes in a vnode: 21, 30, 13, 22 where something else is bad, 27 where there are too many.
+    fn may_store(
+        &self,
+        caller: &Caller,
+        x: &Vnode,
+        is_good: bool,
+        contents: &Octets,
+    ) -> Result<(), OpFault>
+        ensures answer { Passes (first_failing ((not (is_kind (seen x.now).kind a_directory), 21) ∷ is_read_write (volume_of self.now) ∷ has_right (caller_seen caller.now) 2 (volume_of self.now) (Some (seen x.now)) ∷ (is_good, 22) ∷ (not (nat_lt most_bytes (length contents.now)), 27) ∷ [])) result }
+        ensures short { OnOk result (length contents.now ≤ most_bytes) }
+    {
+        check(!is_directory(x), 21)?;
+        check(self.is_writable(), 30)?;
+        check(self.may(caller, 2, x), 13)?;
+        check(is_good, 22)?;
+        check(contents.len() <= MOST_BYTES, 27)
+    }
+
     /// StoreData: a file's bytes, and the words of a status.
     pub(crate) fn store_data(
         &self,
@@ -90,12 +110,9 @@ impl Volume {
         ensures { Plans (planned (caller_seen caller.now) (calls.StoreData fid.now status.now position length file_length contents.now) (volume_of self.now)) result }
     {
         let x = self.found(fid)?;
-        check(!is_directory(x), 21)?;
-        check(self.is_writable(), 30)?;
-        check(self.may(caller, 2, x), 13)?;
         let is_whole = is_whole_store(contents, position, length, file_length);
-        check(is_file(x) && is_whole && is_mask(status), 22)?;
-        check(contents.len() <= MOST_BYTES, 27)?;
+        let is_good = is_file(x) && is_whole && is_mask(status);
+        self.may_store(caller, x, is_good, contents)?;
         Ok(plan_bytes(self.alloc, fid.vnode, contents, status)?)
     }
 
