@@ -459,6 +459,7 @@ both_failed n m b0 b1 b2 falls first second = (rose first.0 second.0, λ none. q
   rose (inl before) (inl more) = inl (omega (arith, before, more))
   rose (inl before) (inr full) = inr full
   rose (inr full) more = inr (omega (arith, full, falls))
+
   quiet : n ≡ 0 → m ≡ 0 → b2 ≡ b0
   quiet none_first none_second = second.1 none_second ∙ first.1 none_first
 
