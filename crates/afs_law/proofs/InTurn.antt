@@ -30,7 +30,7 @@ use Rattle.afs_num.specs.declared.types.Head.{Head}
 use Rattle.afs_num.specs.declared.types.Key.{Key}
 use Rattle.afs_num.specs.declared.types.Node.{Node}
 use Rattle.afs_num.specs.declared.types.Node.TheVariants.{Client, Server}
-use Rattle.afs_rows.specs.ClientRow.{admits_call, awaits, breaks, call_of, client_row, counts, gives_up, hears, is_awaited, opcode_of, runs_carried, timeout_row, tries_again, whole}
+use Rattle.afs_rows.specs.ClientRow.{admits_call, awaits, breaks, call_of, client_row, counts, hears, is_awaited, opcode_of, runs_carried, timeout_row, whole}
 use Rattle.afs_rows.specs.Going.{ClientState, Going}
 use Rattle.afs_rows.specs.Runs.{Cell, Entry, Moved, begun_by_disk, message_at, server_moves, server_rises}
 use Rattle.afs_rows.specs.ServerRow.{key_of}
@@ -176,7 +176,7 @@ either_last true c a b h k = h
 either_last false c a b h k = k
 
 waits_last : (n : ℕ) (c : ClientState) (act : Going) → (timeout_row (Client n) c act).state.last ≡ c.last
-waits_last n c act = either_last (nat_lt c.tries 2) c (tries_again (Client n) c act) (gives_up (Client n) c (call_of c act)) refl refl
+waits_last n c act = either_last (nat_lt c.tries 2) c _ _ refl refl
 
 -- ---- what it sends now
 
