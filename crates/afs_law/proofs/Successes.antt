@@ -155,7 +155,7 @@ besides_coded c past m h other same = record { coded = λ i. subst (λ (hosts : 
 
 own_coded : (c : Cell) (past : List Entry) (i : ℕ) (x : Host) (m : Moved) → CodedIn c past → m.entry.actor ≡ actors.Node (Server i) → m.cell.hosts ≡ put i x c.hosts → Coded x → SendsNow x m.entry.sent → Codes m
 own_coded c past i x m h actor hosts own sends = record {
-  coded = λ j. subst (λ (y : ℕ → Host). Coded (y j)) (sym hosts) (at_put i j Coded x c.hosts (λ same. own) (λ other. h j));
+  coded = λ j. subst (λ (y : ℕ → Host). Coded (y j)) (sym hosts) (at_put i j (λ (y : Host). Coded y) x c.hosts (λ same. own) (λ other. h j));
   sent = λ j is. subst (λ (y : ℕ → Host). SendsNow (y j) m.entry.sent) (sym hosts) (subst (λ (k : ℕ). SendsNow (put i x c.hosts k) m.entry.sent) (one_server i j (sym actor ∙ is)) (subst (λ (y : Host). SendsNow y m.entry.sent) (sym (put_same i x c.hosts)) sends));
 }
 
