@@ -3,26 +3,23 @@ use Rattle.afs_history.specs.declared.lines.Line.{Line}
 use Rattle.afs_history.specs.declared.lines.Line.TheVariants as lines
 use Rattle.afs_history.specs.declared.scripts.Script.{Script}
 use Rattle.afs_ideal.specs.Operations.{is_number, volume_changed}
-use Rattle.afs_law.proofs.Acting.{last_key}
-use Rattle.afs_law.proofs.Basics.{Each, UpTo, each_at, same_node-refl, some_of}
+use Rattle.afs_law.proofs.Basics.{each_at, same_node-refl, some_of}
 use Rattle.afs_law.proofs.Changing.{run_each}
-use Rattle.afs_law.proofs.Codes.{HasSent, since_call}
 use Rattle.afs_law.proofs.Delivered.{begun_ungiven, waited_ungiven}
 use Rattle.afs_law.proofs.Firm.{IsFirm}
 use Rattle.afs_law.proofs.Following.{firm_busy}
 use Rattle.afs_law.proofs.Hearing.{client_given}
-use Rattle.afs_law.proofs.Knowing.{Known}
+use Rattle.afs_law.proofs.InTurn.{IsTheLast, is_the_last}
 use Rattle.afs_law.proofs.Moving.{EachMove, each_moved}
-use Rattle.afs_law.proofs.Origins.{AskedIn}
+use Rattle.afs_law.proofs.Origins.{KnownAsked}
 use Rattle.afs_law.proofs.Timed.{dead_answer}
-use Rattle.afs_law.proofs.Unanswered.{UnansweredFacts, given_in, is_its, known_behind, known_of, known_reply, unanswered_first, unanswered_kept}
+use Rattle.afs_law.proofs.Unanswered.{UnansweredFacts, unanswered_first, unanswered_kept}
 use Rattle.afs_law.proofs.Using.{none_given}
 use Rattle.afs_law.proofs.Words.{is_passing}
-use Rattle.afs_law.specs.Ideal.{call_under, set_up}
-use Rattle.afs_law.specs.Legal.{HasAnswer, HearsAnswer, HearsOfAct, IsFileReply, IsLastCall, TakesReply}
+use Rattle.afs_law.specs.Ideal.{set_up}
+use Rattle.afs_law.specs.Legal.{HasAnswer, HearsAnswer, IsFileReply, TakesReply}
 use Rattle.afs_law.specs.Parts.{EachEntry}
-use Rattle.afs_law.specs.Past.{IsCall, IsUpTo, answered_key, code_told, given_message, has_given, lines_of, sent_of}
-use Rattle.afs_model.specs.FsRows.{call_number}
+use Rattle.afs_law.specs.Past.{code_told, has_given, sent_of}
 use Rattle.afs_num.specs.Nodes.{same_node}
 use Rattle.afs_num.specs.declared.calls.AfsCallBack.{AfsCallBack}
 use Rattle.afs_num.specs.declared.calls.AfsFetchStatus.{AfsFetchStatus}
@@ -40,14 +37,13 @@ use Rattle.afs_num.specs.declared.messages.Reply.TheVariants as tell
 use Rattle.afs_num.specs.declared.types.Code.{Code}
 use Rattle.afs_num.specs.declared.types.Fid.{Fid}
 use Rattle.afs_num.specs.declared.types.Head.{Head}
-use Rattle.afs_num.specs.declared.types.Key.{Key}
 use Rattle.afs_num.specs.declared.types.Node.{Node}
 use Rattle.afs_num.specs.declared.types.Node.TheVariants.{Client}
 use Rattle.afs_rows.specs.ClientRow.{answers_step, awaits, begin_row, call_of, calls_again, client_row, counts, dropped_after, find_cached, hears, ignores, is_awaited, is_below, is_busy_code, is_reading, most_busy, refuses, takes, takes_bulk, takes_data, takes_given, takes_list, takes_plain, takes_set, takes_shown, takes_status, timeout_row, zero_code}
 use Rattle.afs_rows.specs.Going.{ClientState, Going}
-use Rattle.afs_rows.specs.Runs.{Cell, Entry, Moved, RunsTo, message_at, start, user_at}
+use Rattle.afs_rows.specs.Runs.{Cell, Entry, Moved, RunsTo, message_at, start}
 use Rattle.afs_rows.specs.Steps.{Step}
-use Rattle.std.proofs.Common.{◌≡◌, ◌≤◌, ◌<◌, ℕ, ℤ, ◌⊎◌, inl, inr, arith, Bool, true, false, cond, List, [], ◌∷◌, not, Option, Some, None, pos, refl, sym, ap, subst, ◌∙◌}
+use Rattle.std.proofs.Common.{◌≡◌, ℕ, ℤ, inl, inr, Bool, true, false, cond, List, [], ◌∷◌, not, Option, Some, None, pos, refl, sym, ap, subst, ◌∙◌}
 use Rattle.std.specs.Prelude.{◌&&◌, nat_lt}
 
 -- ---- the step answers the act
@@ -149,47 +145,16 @@ row_answers n clock place c act m code is told firm to r w e =
 
 -- ---- the answer is the one that it awaits
 
--- the last call of all is the one that the client waits for
-abbrev IsUnder : Key → Message → Type 0
-IsUnder k m = IsCall m.carried → m.head.from ≡ k.node → IsUpTo m.head.epoch m.head.number k.epoch k.number
-
-last_each : (k : Key) (ms : List Message) → IsLastCall k ms → Each (IsUnder k) ms
-last_each k [] h = tt
-last_each k (m ∷ ms) h = (h.0, last_each k ms h.1)
-
-both_up : (a b c d : ℕ) → UpTo a b c d → IsUpTo c d a b → (a ≡ c) × (b ≡ d)
-both_up a b c d (inl l) (inl k) = let x : a < c = l in let y : c < a = k in absurd (omega arith)
-both_up a b c d (inl l) (inr k) = let x : a < c = l in let y : c ≡ a = k.0 in absurd (omega arith)
-both_up a b c d (inr l) (inl k) = let x : a ≡ c = l.0 in let y : c < a = k in absurd (omega arith)
-both_up a b c d (inr l) (inr k) = let x : b ≤ d = l.1 in let y : d ≤ b = k.1 in (l.0, omega arith)
-
-abbrev key_at : Node → ℕ → ℕ → Key
-key_at n epoch number = record { node = n; epoch = epoch; number = number }
-
-same_at : (n m : Node) (a b c d : ℕ) → n ≡ m → a ≡ c → b ≡ d → key_at n a b ≡ key_at m c d
-same_at n m a b c d x y z = ap (λ (q : Node). key_at q a b) x ∙ (ap (λ (e : ℕ). key_at m e b) y ∙ ap (λ (i : ℕ). key_at m c i) z)
-
 told_takes : (s : Script) (c : Cell) (past : List Entry) (n place : ℕ) (m : Message) → UnansweredFacts s c past → message_at c.sent place ≡ Some m → m.head.to ≡ Client n → TakesReply s (actors.Node (Client n)) past (client_row (Client n) (c.clients n) c.clock place (Whole m)).lines
 told_takes s c past n place m h at to g id ch =
     let x : ClientState = c.clients n in
-    let ls : List Line = (client_row (Client n) x c.clock place (Whole m)).lines in
-    let K : Known c past = known_of s c past h in
-    let A : AskedIn s c past = h.0.0.0.0.0.0.0.0.1 in
-    let a : HearsAnswer (Client n) past ls = g.heard in
-    let k : Key = answered_key a.message.head in
-    let r : x.running ≡ Some g.act = sym (A.acts n) ∙ g.runs in
-    let same : a.message ≡ m = some_of a.message m (sym a.given ∙ ((client_given c past n place m K.hears to at).given (sent_of past) ∙ (ap (λ (ms : List Message). message_at ms place) K.hears.told ∙ at))) in
-    let among = given_in ls (sent_of past) a.message a.given in
-    let up : UpTo k.epoch k.number x.epoch x.last = known_behind c past n K a.message among a.is a.to in
-    let y : HasSent (IsUnder k) (last_key n x) (user_at s n) (call_of x g.act) = since_call (IsUnder k) (last_key n x) (user_at s n) (call_of x g.act) past (A.asked n g.act r) (last_each k (sent_of past) a.last) in
-    let down : IsUpTo x.epoch x.last k.epoch k.number = subst (λ (q : Key). IsUpTo q.epoch q.number k.epoch k.number) y.key (y.holds (subst IsCall (sym y.carries) tt) (ap (λ (q : Key). q.node) y.key ∙ sym a.to)) in
-    let both = both_up k.epoch k.number x.epoch x.last up down in
-    let key : k ≡ last_key n x = same_at a.message.head.to (Client n) k.epoch k.number x.epoch x.last a.to both.0 both.1 in
-    let under : call_under k c.sent ≡ Some (a.user, a.call) = sym (ap (call_under k) K.hears.told) ∙ a.of in
-    let call : a.call ≡ call_of x g.act = ap (λ (p : List ℕ × FsCall). p.1) (some_of (a.user, a.call) (x.user, call_of x g.act) (sym under ∙ (ap (λ (q : Key). call_under q c.sent) key ∙ A.last n g.act r))) in
-    let from : a.message.head.from ≡ x.callee = (known_reply c past n K a.message among a.is a.to).called ∙ (ap K.keys.callees key ∙ K.keys.own n) in
-    let its : is_awaited x g.act a.message.head ≡ true = is_its x g.act a.message.head from both.0 both.1 (a.opcode ∙ ap call_number call) in
-    row_answers n c.clock place x g.act m a.code (subst (λ (q : Message). IsFileReply q.carried) same a.is) (subst (λ (q : Message). code_told q.carried ≡ Some a.code) same a.told) (each_at (λ q. IsFirm q.head q.carried) c.sent place m at h.0.0.0.0.0.0.1) to r (subst (λ (q : Message). is_awaited x g.act q.head ≡ true) same its) (id, ap volume_changed (sym call) ∙ ch)
+    let K : KnownAsked s c past = h.0.0.0.0.0.0.0.0 in
+    let a : HearsAnswer (Client n) past (client_row (Client n) x c.clock place (Whole m)).lines = g.heard in
+    let r : x.running ≡ Some g.act = sym (K.1.acts n) ∙ g.runs in
+    let same : a.message ≡ m = some_of a.message m (sym a.given ∙ ((client_given c past n place m K.0.hears to at).given (sent_of past) ∙ (ap (λ (ms : List Message). message_at ms place) K.0.hears.told ∙ at))) in
+    let its : IsTheLast n x g.act a.message.head a.its.call = is_the_last s c past n g.act a.message.head K r a.to a.its in
+    row_answers n c.clock place x g.act m a.code (subst (λ (q : Message). IsFileReply q.carried) same a.is) (subst (λ (q : Message). code_told q.carried ≡ Some a.code) same a.told) (each_at (λ q. IsFirm q.head q.carried) c.sent place m at h.0.0.0.0.0.0.1) to r
+    (subst (λ (q : Message). is_awaited x g.act q.head ≡ true) same its.awaited) (id, ap volume_changed (sym its.call') ∙ ch)
 
 -- ---- every step
 

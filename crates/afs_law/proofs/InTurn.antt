@@ -2,20 +2,22 @@
 use Rattle.afs_history.specs.declared.scripts.Script.{Script}
 use Rattle.afs_law.proofs.Acting.{Acts, IsTheCall, begins_acts, given_acts, last_key, waits_acts, who_at}
 use Rattle.afs_law.proofs.Asking.{its_last}
-use Rattle.afs_law.proofs.Basics.{ByClient, Each, IfCall, OfCall, a_key, both, by_client, each_map, if_call, same_key-true, same_node-true}
+use Rattle.afs_law.proofs.Basics.{ByClient, Each, IfCall, OfCall, a_key, both, by_client, each_map, if_call, same_key-true, same_node-true, some_of}
 use Rattle.afs_law.proofs.Calling.{IsUncalled, uncalled_any}
 use Rattle.afs_law.proofs.Following.{more_not, none_runs}
 use Rattle.afs_law.proofs.Hearing.{client_given}
 use Rattle.afs_law.proofs.KeysOnce.{IsKnown, any_told, by_key}
-use Rattle.afs_law.proofs.Knowing.{Known, served_uncalled, started_uncalled, timed_uncalled, woken_uncalled}
+use Rattle.afs_law.proofs.Knowing.{served_uncalled, started_uncalled, timed_uncalled, woken_uncalled}
 use Rattle.afs_law.proofs.Moving.{EachMove}
 use Rattle.afs_law.proofs.Numbered.{IsNumbered, Numbered}
 use Rattle.afs_law.proofs.Origins.{KnownAsked, of_client, same_key_at, the_calls}
 use Rattle.afs_law.proofs.Timing.{row_begun}
+use Rattle.afs_law.proofs.Unanswered.{is_its}
 use Rattle.afs_law.specs.Ideal.{call_in, call_under, callee_under}
-use Rattle.afs_law.specs.Legal.{HearsAnswer, IsFileReply, IsInTurn}
-use Rattle.afs_law.specs.Past.{answered_key, called_key, code_told, has_begun, has_sent, is_called, sent_of}
+use Rattle.afs_law.specs.Legal.{HearsAnswer, IsFileReply, IsInTurn, IsLastCall, IsOfLastCall}
+use Rattle.afs_law.specs.Past.{IsCall, IsUpTo, answered_key, called_key, code_told, has_begun, has_sent, is_called, sent_of}
 use Rattle.afs_model.specs.Calls as pairs
+use Rattle.afs_model.specs.FsRows.{call_number}
 use Rattle.afs_model.specs.Calls.{Admitted, admitted}
 use Rattle.afs_num.specs.Nodes.{same_node}
 use Rattle.afs_num.specs.declared.calls.FsCall.{FsCall}
@@ -36,7 +38,7 @@ use Rattle.afs_rows.specs.Runs.{Cell, Entry, Moved, begun_by_disk, message_at, s
 use Rattle.afs_rows.specs.ServerRow.{key_of}
 use Rattle.afs_rows.specs.ServerSteps.{back_timeout_row, server_row, wake_row}
 use Rattle.afs_rows.specs.Steps.{Step}
-use Rattle.std.proofs.Common.{◌≡◌, ◌⊎◌, ◌∙◌, ℕ, ℤ, inl, inr, Bool, true, false, cond, List, [], ◌∷◌, Option, Some, None, pos, ap, eqb-true, refl, subst, sym}
+use Rattle.std.proofs.Common.{◌≡◌, ◌≤◌, ◌<◌, ◌⊎◌, ◌∙◌, ℕ, ℤ, arith, inl, inr, Bool, true, false, cond, List, [], ◌∷◌, Option, Some, None, pos, ap, eqb-true, refl, subst, sym}
 use Rattle.std.specs.Prelude.{nat_eq, nat_lt}
 
 -- ---- the callee under a key
@@ -66,7 +68,32 @@ callee_is callees clients n k x (m ∷ sent) node e h =
     (λ t. sent_to callees clients n k m.head m.carried node t h.0)
     (λ y. callee_is callees clients n k x sent node y h.1)
 
--- ---- the answer to the call that waits
+-- ---- of two calls that were sent each the last one
+
+its_call : (k : Key) (head : Head) (x : Carried) → is_called k head x ≡ true → IsCall x × (called_key head ≡ k)
+its_call k head (carried.Call user (ask.File call)) e = (tt, same_key-true (called_key head) k e)
+its_call k head (carried.Call user (ask.Volume call)) e = absurd cc
+its_call k head (carried.Call user (ask.Location call)) e = absurd cc
+its_call k head (carried.Refusal code) e = absurd cc
+its_call k head (carried.Reply reply) e = absurd cc
+its_call k head carried.Notice e = absurd cc
+
+up_by : (t : Bool) (l k : Key) (m : Message) (p q : Option (List ℕ × FsCall)) (z : List ℕ × FsCall) → is_called l m.head m.carried ≡ t → cond t p q ≡ Some z → l.node ≡ k.node → (IsCall m.carried → m.head.from ≡ k.node → IsUpTo m.head.epoch m.head.number k.epoch k.number) → (q ≡ Some z → IsUpTo l.epoch l.number k.epoch k.number) → IsUpTo l.epoch l.number k.epoch k.number
+up_by true l k m p q z e h node now w = let its = its_call l m.head m.carried e in subst (λ (i : Key). IsUpTo i.epoch i.number k.epoch k.number) its.1 (now its.0 (ap (λ (i : Key). i.node) its.1 ∙ node))
+up_by false l k m p q z e h node now w = w h
+
+-- a call that was sent is none above the last one of its node
+called_up : (l k : Key) (z : List ℕ × FsCall) (ms : List Message) → l.node ≡ k.node → call_under l ms ≡ Some z → IsLastCall k ms → IsUpTo l.epoch l.number k.epoch k.number
+called_up l k z [] node e h = absurd cc
+called_up l k z (m ∷ ms) node e h = up_by (is_called l m.head m.carried) l k m (call_in m.carried) (call_under l ms) z refl e node h.0 (λ y. called_up l k z ms node y h.1)
+
+both_up : (a b c d : ℕ) → IsUpTo a b c d → IsUpTo c d a b → (a ≡ c) × (b ≡ d)
+both_up a b c d (inl l) (inl k) = let x : a < c = l in let y : c < a = k in absurd (omega arith)
+both_up a b c d (inl l) (inr k) = let x : a < c = l in let y : c ≡ a = k.0 in absurd (omega arith)
+both_up a b c d (inr l) (inl k) = let x : a ≡ c = l.0 in let y : c < a = k in absurd (omega arith)
+both_up a b c d (inr l) (inr k) = let x : b ≤ d = l.1 in let y : d ≤ b = k.1 in (l.0, omega arith)
+
+-- ---- what goes back under the call that waits
 
 pub its_key : (n : ℕ) (c : ClientState) (act : Going) (head : Head) → head.to ≡ Client n → is_awaited c act head ≡ true → last_key n c ≡ answered_key head
 its_key n c act head to e =
@@ -85,6 +112,53 @@ its_opcode c act head e =
     let u = both (nat_eq head.number c.last) _ q.1 in
     eqb-true head.opcode (opcode_of c act) u.1
 
+-- ---- that it awaits a header says the same as that this is one of its last call
+
+known_calls : (s : Script) (c : Cell) (past : List Entry) → (h : KnownAsked s c past) → Each (IfCall (KnownBy h.0.keys.callees c.clients)) (sent_of past)
+known_calls s c past h = subst (Each (IfCall (KnownBy h.0.keys.callees c.clients))) (sym h.0.hears.told) h.0.keys.calls
+
+last_under : (s : Script) (c : Cell) (past : List Entry) (n : ℕ) (act : Going) → KnownAsked s c past → (c.clients n).running ≡ Some act → call_under (last_key n (c.clients n)) (sent_of past) ≡ Some ((c.clients n).user, call_of (c.clients n) act)
+last_under s c past n act h r = ap (call_under (last_key n (c.clients n))) h.0.hears.told ∙ h.1.last n act r
+
+last_callee : (s : Script) (c : Cell) (past : List Entry) (n : ℕ) (act : Going) → KnownAsked s c past → (c.clients n).running ≡ Some act → callee_under (last_key n (c.clients n)) (sent_of past) ≡ Some (c.clients n).callee
+last_callee s c past n act h r = callee_is h.0.keys.callees c.clients n (last_key n (c.clients n)) _ (sent_of past) refl (last_under s c past n act h r) (known_calls s c past h) ∙ ap Some (h.0.keys.own n)
+
+pub of_last_call : (s : Script) (c : Cell) (past : List Entry) (n : ℕ) (act : Going) (head : Head) → KnownAsked s c past → (c.clients n).running ≡ Some act → head.to ≡ Client n → is_awaited (c.clients n) act head ≡ true → IsOfLastCall head past
+of_last_call s c past n act head h r to e =
+    let x : ClientState = c.clients n in
+    let key : last_key n x ≡ answered_key head = its_key n x act head to e in
+    record {
+      user = x.user;
+      call = call_of x act;
+      of = subst (λ (k : Key). call_under k (sent_of past) ≡ Some (x.user, call_of x act)) key (last_under s c past n act h r);
+      from = subst (λ (k : Key). callee_under k (sent_of past) ≡ Some head.from) key (last_callee s c past n act h r ∙ ap Some (sym (its_callee x act head e)));
+      opcode = its_opcode x act head e;
+      last = its_last h.0.keys.callees c.clients n (answered_key head) (sent_of past) (sym key) (known_calls s c past h);
+    }
+
+same_at : (n m : Node) (a b c d : ℕ) → n ≡ m → a ≡ c → b ≡ d → a_key n a b ≡ a_key m c d
+same_at n m a b c d x y z = ap (λ (q : Node). a_key q a b) x ∙ (ap (λ (e : ℕ). a_key m e b) y ∙ ap (λ (i : ℕ). a_key m c i) z)
+
+-- the call of an act that runs, and what goes back under it is awaited
+pub record IsTheLast (n : ℕ) (c : ClientState) (act : Going) (head : Head) (call : FsCall) : Type 0 where
+  pub call' : call ≡ call_of c act
+  pub awaited : is_awaited c act head ≡ true
+
+pub is_the_last : (s : Script) (c : Cell) (past : List Entry) (n : ℕ) (act : Going) (head : Head) → KnownAsked s c past → (c.clients n).running ≡ Some act → head.to ≡ Client n → (i : IsOfLastCall head past) → IsTheLast n (c.clients n) act head i.call
+is_the_last s c past n act head h r to i =
+    let x : ClientState = c.clients n in
+    let k : Key = answered_key head in
+    let under : call_under (last_key n x) (sent_of past) ≡ Some (x.user, call_of x act) = last_under s c past n act h r in
+    let up : IsUpTo k.epoch k.number x.epoch x.last = called_up k (last_key n x) (i.user, i.call) (sent_of past) to i.of (its_last h.0.keys.callees c.clients n (last_key n x) (sent_of past) refl (known_calls s c past h)) in
+    let down : IsUpTo x.epoch x.last k.epoch k.number = called_up (last_key n x) k (x.user, call_of x act) (sent_of past) (sym to) under i.last in
+    let same = both_up k.epoch k.number x.epoch x.last up down in
+    let key : k ≡ last_key n x = same_at head.to (Client n) k.epoch k.number x.epoch x.last to same.0 same.1 in
+    let call : i.call ≡ call_of x act = ap (λ (p : List ℕ × FsCall). p.1) (some_of (i.user, i.call) (x.user, call_of x act) (sym i.of ∙ (ap (λ (q : Key). call_under q (sent_of past)) key ∙ under))) in
+    let from : head.from ≡ x.callee = some_of head.from x.callee (sym i.from ∙ (ap (λ (q : Key). callee_under q (sent_of past)) key ∙ last_callee s c past n act h r)) in
+    record { call' = call; awaited = is_its x act head from same.0 same.1 (i.opcode ∙ ap call_number call) }
+
+-- ---- the answer to the call that waits
+
 record IsAnswered (n : ℕ) (c : ClientState) (m : Message) : Type 0 where
   act : Going
   runs : c.running ≡ Some act
@@ -100,29 +174,15 @@ coded (carried.Call user call) is = absurd is
 coded carried.Notice is = absurd is
 
 answer_heard : (s : Script) (c : Cell) (past : List Entry) (n place : ℕ) (m : Message) → KnownAsked s c past → message_at c.sent place ≡ Some m → IsAnswered n (c.clients n) m → HearsAnswer (Client n) past (client_row (Client n) (c.clients n) c.clock place (Whole m)).lines
-answer_heard s c past n place m h at a =
-    let x : ClientState = c.clients n in
-    let K : Known c past = h.0 in
-    let key : last_key n x ≡ answered_key m.head = its_key n x a.act m.head a.to a.its in
-    let known : Each (IfCall (KnownBy K.keys.callees c.clients)) (sent_of past) = subst (Each (IfCall (KnownBy K.keys.callees c.clients))) (sym K.hears.told) K.keys.calls in
-    let under : call_under (last_key n x) (sent_of past) ≡ Some (x.user, call_of x a.act) = ap (call_under (last_key n x)) K.hears.told ∙ h.1.last n a.act a.runs in
-    let callee : callee_under (last_key n x) (sent_of past) ≡ Some m.head.from =
-    callee_is K.keys.callees c.clients n (last_key n x) (x.user, call_of x a.act) (sent_of past) refl under known ∙ ap Some (K.keys.own n ∙ sym (its_callee x a.act m.head a.its)) in
-    let code = coded m.carried a.is in
-    record {
-      message = m;
-      given = (client_given c past n place m K.hears a.to at).given (sent_of past) ∙ (ap (λ (ms : List Message). message_at ms place) K.hears.told ∙ at);
-      to = a.to;
-      is = a.is;
-      code = code.0;
-      told = code.1;
-      user = x.user;
-      call = call_of x a.act;
-      of = subst (λ (k : Key). call_under k (sent_of past) ≡ Some (x.user, call_of x a.act)) key under;
-      from = subst (λ (k : Key). callee_under k (sent_of past) ≡ Some m.head.from) key callee;
-      opcode = its_opcode x a.act m.head a.its;
-      last = its_last K.keys.callees c.clients n (answered_key m.head) (sent_of past) (sym key) known;
-    }
+answer_heard s c past n place m h at a = record {
+  message = m;
+  given = (client_given c past n place m h.0.hears a.to at).given (sent_of past) ∙ (ap (λ (ms : List Message). message_at ms place) h.0.hears.told ∙ at);
+  to = a.to;
+  is = a.is;
+  code = (coded m.carried a.is).0;
+  told = (coded m.carried a.is).1;
+  its = of_last_call s c past n a.act m.head h a.runs a.to a.its;
+}
 
 -- ---- its number stays, unless it is given that
 

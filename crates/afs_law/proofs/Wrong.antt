@@ -1661,12 +1661,7 @@ took_no_reply h =
         is = tt;
         code = pos 0;
         told = refl;
-        user = codes "guest";
-        call = stored_whole file (codes "def");
-        of = refl;
-        from = refl;
-        opcode = refl;
-        last = ((λ is from. inr (refl, omega arith)), ((λ is from. absurd is), tt));
+        its = record { user = codes "guest"; call = stored_whole file (codes "def"); of = refl; from = refl; opcode = refl; last = ((λ is from. inr (refl, omega arith)), ((λ is from. absurd is), tt)) };
       };
       act = _;
       runs = refl;
@@ -1690,12 +1685,7 @@ took_no_refusal h =
         is = tt;
         code = pos 108;
         told = refl;
-        user = codes "guest";
-        call = stored_whole file (codes "def");
-        of = refl;
-        from = refl;
-        opcode = refl;
-        last = ((λ is from. inr (refl, omega arith)), ((λ is from. absurd is), tt));
+        its = record { user = codes "guest"; call = stored_whole file (codes "def"); of = refl; from = refl; opcode = refl; last = ((λ is from. inr (refl, omega arith)), ((λ is from. absurd is), tt)) };
       };
       act = _;
       runs = refl;

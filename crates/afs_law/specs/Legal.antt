@@ -730,8 +730,16 @@ IsFileReply (carried.Refusal code) = ⊤
 IsFileReply (carried.Reply (tell.File reply)) = ⊤
 IsFileReply c = ⊥
 
--- The entry was given the answer to the client's last call: a reply or a refusal, from the node that was called, under the key of the call, with its
--- opcode
+-- what has this header goes back under the last call of its receiver: it comes from the node that was called, with the call's key and opcode
+pub record IsOfLastCall (head : Head) (past : List Entry) : Type 0 where
+  pub user : List ℕ
+  pub call : FsCall
+  pub of : call_under (answered_key head) (sent_of past) ≡ Some (user, call)
+  pub from : callee_under (answered_key head) (sent_of past) ≡ Some head.from
+  pub opcode : head.opcode ≡ call_number call
+  pub last : IsLastCall (answered_key head) (sent_of past)
+
+-- the entry was given the answer to the client's last call, a reply or a refusal
 pub record HearsAnswer (c : Node) (past : List Entry) (ls : List Line) : Type 0 where
   pub message : Message
   pub given : given_message ls (sent_of past) ≡ Some message
@@ -739,12 +747,7 @@ pub record HearsAnswer (c : Node) (past : List Entry) (ls : List Line) : Type 0 
   pub is : IsFileReply message.carried
   pub code : ℤ
   pub told : code_told message.carried ≡ Some code
-  pub user : List ℕ
-  pub call : FsCall
-  pub of : call_under (answered_key message.head) (sent_of past) ≡ Some (user, call)
-  pub from : callee_under (answered_key message.head) (sent_of past) ≡ Some message.head.from
-  pub opcode : message.head.opcode ≡ call_number call
-  pub last : IsLastCall (answered_key message.head) (sent_of past)
+  pub its : IsOfLastCall message.head past
 
 -- A call under this key was sent before the entry with which `past` begins. Or its node begins an act in that entry, or is given the answer to its last
 -- call. So a client that waits for an answer makes no other call
@@ -843,11 +846,11 @@ pub record HearsOfAct (s : Script) (c : Node) (past : List Entry) (ls : List Lin
   pub heard : HearsAnswer c past ls
   pub act : Going
   pub runs : running s c (lines_of past) ≡ Some act
-  pub called : CalledSince (answered_key heard.message.head) heard.user heard.call past
+  pub called : CalledSince (answered_key heard.message.head) heard.its.user heard.its.call past
 
 -- a client that is so given the reply to a call which may change something, or its refusal, answers its act with that code in that entry
 abbrev pub TakesReply : Script → Actor → List Entry → List Line → Type 0
-TakesReply s (actors.Node (Client j)) past ls = (given : HearsOfAct s (Client j) past ls) (id : ℕ) → volume_changed given.heard.call ≡ Some id → HasAnswer (Client j) given.heard.code ls
+TakesReply s (actors.Node (Client j)) past ls = (given : HearsOfAct s (Client j) past ls) (id : ℕ) → volume_changed given.heard.its.call ≡ Some id → HasAnswer (Client j) given.heard.code ls
 TakesReply s who past ls = ⊤
 
 -- ---- what an entry of a restart tells
