@@ -318,7 +318,7 @@ kept_boot callee q [] other = refl
 kept_boot callee q (k ∷ boots) other = kept_boot_by (same_node k.server callee) (same_node k.server q) callee q k (filter (λ (x : KnownBoot). not (same_node x.server callee)) boots) (find (λ (x : KnownBoot). same_node x.server q) boots) refl refl other (kept_boot callee q boots other)
 
 -- the boot number of the callee is known then
-told_boot : (N : Node → ℕ → Type 0) (callee : Node) (boot : ℕ) (boots : List KnownBoot) (t : Bool) (q : Node) → same_node callee q ≡ t → N callee boot → N q (boot_of q boots) → N q (boot_of q (with_boot callee boot boots))
+pub told_boot : (N : Node → ℕ → Type 0) (callee : Node) (boot : ℕ) (boots : List KnownBoot) (t : Bool) (q : Node) → same_node callee q ≡ t → N callee boot → N q (boot_of q boots) → N q (boot_of q (with_boot callee boot boots))
 told_boot N callee boot boots true q e own h =
     subst (N q) (ap (λ (b : Bool). boot_or_first (cond b (Some (record { server = callee; boot = boot })) (find (λ (k : KnownBoot). same_node k.server q) (filter (λ (k : KnownBoot). not (same_node k.server callee)) boots)))) (sym e)) (subst (λ (n : Node). N n boot) (same_node-true callee q e) own)
 told_boot N callee boot boots false q e own h =

@@ -3,6 +3,7 @@ use Rattle.afs_history.specs.declared.scripts.Script.{Script}
 use Rattle.afs_law.proofs.Addressed.{IsHome}
 use Rattle.afs_law.proofs.Acting.{last_key}
 use Rattle.afs_law.proofs.Asking.{AsksNow, IsNow, asks_moves, is_at_home, its_last}
+use Rattle.afs_law.proofs.Booted.{AreBooted, KnowsIt, booted_first, booted_kept, booted_now}
 use Rattle.afs_law.proofs.Basics.{ByClient, Each, IfCall, OfCall, OfClient, by_client, client_number}
 use Rattle.afs_law.proofs.Following.{none_runs}
 use Rattle.afs_law.proofs.Homed.{GivesHome, HomedIn, IsAsked, homed_first, homed_kept, is_asked}
@@ -15,7 +16,7 @@ use Rattle.afs_law.proofs.Words.{IsOne}
 use Rattle.afs_law.proofs.Changing.{run_each}
 use Rattle.afs_law.proofs.Origins.{KnownAsked}
 use Rattle.afs_law.specs.Ideal.{call_under, set_up}
-use Rattle.afs_law.specs.Legal.{GivesSome, IsInOrder, OwnCall, OwnCallOf, as_asked}
+use Rattle.afs_law.specs.Legal.{GivesSome, IsInOrder, KnowsBoot, OwnCall, OwnCallOf, as_asked}
 use Rattle.afs_law.specs.Lives.{epoch_after}
 use Rattle.afs_law.specs.Parts.{CallsAreOwn, EachSent, IsOwnCall}
 use Rattle.afs_law.specs.Past.{called_key, lines_of, running, sent_of}
@@ -51,14 +52,15 @@ record AreSent (s : Script) (callees : Key → Node) (clients : ℕ → ClientSt
   boots : Each (IfCall (IsToBegun past)) ms
   now : Each (IfCall (IsNow clients)) ms
   turns : Each (IfCall (TakesTurn past)) ms
+  knows : Each (IfCall (KnowsIt s past)) ms
 
 in_order : (j : ℕ) (x : ClientState) (act : Going) (sent : List Message) → x.running ≡ Some act → IsNumbered j x sent → IsInOrder (last_key j x) sent
 in_order j x act sent run (inl e) = absurd (none_runs x.running act e.1 run)
 in_order j x act sent run (inr y) = y.1
 
 own_by : (s : Script) (callees : Key → Node) (clients : ℕ → ClientState) (past : List Entry) (head : Head) (user : List ℕ) (call : FsCall) (n : Node) → head.from ≡ n → Around s callees clients past
-    → OfClient head.from (IsOne (sent_of past) head user call) → OfClient head.from (KnownBy callees clients head user call) → OfClient head.from (IsHome s head user call) → OfClient head.from (IsToBegun past head user call) → OfClient head.from (IsNow clients head user call) → OfClient head.from (TakesTurn past head user call) → OwnCallOf s n head user call past
-own_by s callees clients past head user call (Client j) e A one q home b now turn =
+    → OfClient head.from (IsOne (sent_of past) head user call) → OfClient head.from (KnownBy callees clients head user call) → OfClient head.from (IsHome s head user call) → OfClient head.from (IsToBegun past head user call) → OfClient head.from (IsNow clients head user call) → OfClient head.from (TakesTurn past head user call) → OfClient head.from (KnowsIt s past head user call) → OwnCallOf s n head user call past
+own_by s callees clients past head user call (Client j) e A one q home b now turn known =
     let under : call_under (called_key head) (sent_of past) ≡ Some (user, call) = by_client j head.from (IsOne (sent_of past) head user call) e one in
     let x : IsNow clients head user call = by_client j head.from (IsNow clients head user call) e now in
     let same : x.client ≡ j = client_number x.client j (sym (ap (λ (k : Key). k.node) x.its.key) ∙ e) in
@@ -79,36 +81,37 @@ own_by s callees clients past head user call (Client j) e A one q home b now tur
       home = is_at_home s head user call (lines_of past) (by_client j head.from (IsHome s head user call) e home) (subst (λ (n : Node). GivesHome s n call) (sym x.its.to) (subst (GivesHome s (clients x.client).callee) (sym x.its.asks) asked.home));
       gives = subst GivesSome (sym x.its.asks) asked.gives;
       boot = by_client j head.from (IsToBegun past head user call) e b;
+      known = subst (λ (n : Node). KnowsBoot s n head.to head.boot past) e (by_client j head.from (KnowsIt s past head user call) e known);
     }
-own_by s callees clients past head user call (Server i) e A one q home b now turn = tt
-own_by s callees clients past head user call (Admin i) e A one q home b now turn = tt
-own_by s callees clients past head user call Loc e A one q home b now turn = tt
+own_by s callees clients past head user call (Server i) e A one q home b now turn known = tt
+own_by s callees clients past head user call (Admin i) e A one q home b now turn known = tt
+own_by s callees clients past head user call Loc e A one q home b now turn known = tt
 
 claim_of : (s : Script) (callees : Key → Node) (clients : ℕ → ClientState) (past : List Entry) (head : Head) (x : Carried) → Around s callees clients past
-    → OfCall (ByClient (IsOne (sent_of past))) head x → OfCall (ByClient (KnownBy callees clients)) head x → OfCall (ByClient (IsHome s)) head x → OfCall (ByClient (IsToBegun past)) head x → OfCall (ByClient (IsNow clients)) head x → OfCall (ByClient (TakesTurn past)) head x → OwnCall s head x past
-claim_of s callees clients past head (carried.Call user (ask.File call)) A h q o b w u = own_by s callees clients past head user call head.from refl A h q o b w u
-claim_of s callees clients past head (carried.Call user (ask.Volume call)) A h q o b w u = absurd h
-claim_of s callees clients past head (carried.Call user (ask.Location call)) A h q o b w u = absurd h
-claim_of s callees clients past head (carried.Refusal code) A h q o b w u = tt
-claim_of s callees clients past head (carried.Reply reply) A h q o b w u = tt
-claim_of s callees clients past head carried.Notice A h q o b w u = tt
+    → OfCall (ByClient (IsOne (sent_of past))) head x → OfCall (ByClient (KnownBy callees clients)) head x → OfCall (ByClient (IsHome s)) head x → OfCall (ByClient (IsToBegun past)) head x → OfCall (ByClient (IsNow clients)) head x → OfCall (ByClient (TakesTurn past)) head x → OfCall (ByClient (KnowsIt s past)) head x → OwnCall s head x past
+claim_of s callees clients past head (carried.Call user (ask.File call)) A h q o b w u k = own_by s callees clients past head user call head.from refl A h q o b w u k
+claim_of s callees clients past head (carried.Call user (ask.Volume call)) A h q o b w u k = absurd h
+claim_of s callees clients past head (carried.Call user (ask.Location call)) A h q o b w u k = absurd h
+claim_of s callees clients past head (carried.Refusal code) A h q o b w u k = tt
+claim_of s callees clients past head (carried.Reply reply) A h q o b w u k = tt
+claim_of s callees clients past head carried.Notice A h q o b w u k = tt
 
 claims : (s : Script) (callees : Key → Node) (clients : ℕ → ClientState) (past : List Entry) (ms : List Message) → Around s callees clients past → AreSent s callees clients past ms → EachSent (IsOwnCall s) past ms
 claims s callees clients past [] A h = tt
 claims s callees clients past (m ∷ ms) A h = (
-  claim_of s callees clients past m.head m.carried A h.ones.0 h.known.0 h.homes.0 h.boots.0 h.now.0 h.turns.0,
-  claims s callees clients past ms A (record { ones = h.ones.1; known = h.known.1; homes = h.homes.1; boots = h.boots.1; now = h.now.1; turns = h.turns.1 }),
+  claim_of s callees clients past m.head m.carried A h.ones.0 h.known.0 h.homes.0 h.boots.0 h.now.0 h.turns.0 h.knows.0,
+  claims s callees clients past ms A (record { ones = h.ones.1; known = h.known.1; homes = h.homes.1; boots = h.boots.1; now = h.now.1; turns = h.turns.1; knows = h.knows.1 }),
 )
 
 -- what is known of calls, of the boots to which they are sent, and of their numbers
 abbrev Claimed : Script → Cell → List Entry → Type 0
-Claimed s c past = HomedIn s c past × (KnownLearnt c past × Numbered s c past)
+Claimed s c past = HomedIn s c past × (KnownLearnt c past × (Numbered s c past × AreBooted s c past))
 
 claimed_kept : (s : Script) → IsKept (Claimed s)
-claimed_kept s c past x h = (homed_kept s c past x h.0, (learnt_kept c past x h.1.0, numbered_kept s c past x h.1.1))
+claimed_kept s c past x h = (homed_kept s c past x h.0, (learnt_kept c past x h.1.0, (numbered_kept s c past x h.1.1.0, booted_kept s c past x h.1.1.1)))
 
-claims_behind : (s : Script) (c : Cell) (e : Entry) (past : List Entry) → Claimed s c (e ∷ past) → Each (IfCall (IsNow c.clients)) e.sent → Each (IfCall (TakesTurn (e ∷ past))) e.sent → EachSent (IsOwnCall s) (e ∷ past) e.sent
-claims_behind s c e past h now turns =
+claims_behind : (s : Script) (c : Cell) (e : Entry) (past : List Entry) → Claimed s c (e ∷ past) → Each (IfCall (IsNow c.clients)) e.sent → Each (IfCall (TakesTurn (e ∷ past))) e.sent → Each (IfCall (KnowsIt s (e ∷ past))) e.sent → EachSent (IsOwnCall s) (e ∷ past) e.sent
+claims_behind s c e past h now turns knows =
     let K : KnownAsked s c (e ∷ past) = h.0.0.0.0.0.0 in
     let told : sent_of (e ∷ past) ≡ c.sent = K.0.hears.told in
     let each : (P : Message → Type 0) → Each P c.sent → Each P (sent_of (e ∷ past)) = λ P. subst (Each P) (sym told) in
@@ -117,8 +120,8 @@ claims_behind s c e past h now turns =
       all = each (IfCall (KnownBy K.0.keys.callees c.clients)) K.0.keys.calls;
       acts = K.1.acts;
       users = K.1.user;
-      epochs = h.1.1.0.1.1;
-      numbers = λ j. subst (IsNumbered j (c.clients j)) (sym told) (h.1.1.1 j);
+      epochs = h.1.1.0.0.1.1;
+      numbers = λ j. subst (IsNumbered j (c.clients j)) (sym told) (h.1.1.0.1 j);
       asked = λ j act r. is_asked s c (e ∷ past) j act h.0 r;
     }) (record {
       ones = new (IfCall (IsOne (sent_of (e ∷ past)))) (subst (λ (ms : List Message). Each (IfCall (IsOne ms)) c.sent) (sym told) K.1.ones);
@@ -127,9 +130,10 @@ claims_behind s c e past h now turns =
       boots = new (IfCall (IsToBegun (e ∷ past))) h.1.0.1.calls;
       now = now;
       turns = turns;
+      knows = knows;
     })
 
 pub run_claims : CallsAreOwn
 run_claims s h end r =
     run_each (Claimed s) (λ past e. EachSent (IsOwnCall s) (e ∷ past) e.sent) (claimed_kept s)
-    (λ c past x k. claims_behind s (moved c x).cell (moved c x).entry past (claimed_kept s c past x k) (each_moved (KnownAsked s) AsksNow (asks_moves s) c past x k.0.0.0.0.0.0) (each_moved (Numbered s) TurnsNow (turn_moves s) c past x k.1.1)) r.inputs (start s) (set_up s ∷ []) h end (homed_first s, (learnt_first s, numbered_first s)) r.leads
+    (λ c past x k. claims_behind s (moved c x).cell (moved c x).entry past (claimed_kept s c past x k) (each_moved (KnownAsked s) AsksNow (asks_moves s) c past x k.0.0.0.0.0.0) (each_moved (Numbered s) TurnsNow (turn_moves s) c past x k.1.1.0) (booted_now s c past x k.1.1.1)) r.inputs (start s) (set_up s ∷ []) h end (homed_first s, (learnt_first s, (numbered_first s, booted_first s))) r.leads

@@ -102,7 +102,7 @@ its_key n c act head to e =
     let u = both (nat_eq head.number c.last) _ q.1 in
     sym (ap (λ (m : Node). a_key m head.epoch head.number) to ∙ (ap (λ (i : ℕ). a_key (Client n) i head.number) (eqb-true head.epoch c.epoch q.0) ∙ ap (λ (i : ℕ). a_key (Client n) c.epoch i) (eqb-true head.number c.last u.0)))
 
-its_callee : (c : ClientState) (act : Going) (head : Head) → is_awaited c act head ≡ true → head.from ≡ c.callee
+pub its_callee : (c : ClientState) (act : Going) (head : Head) → is_awaited c act head ≡ true → head.from ≡ c.callee
 its_callee c act head e = same_node-true head.from c.callee (both (same_node head.from c.callee) _ e).0
 
 its_opcode : (c : ClientState) (act : Going) (head : Head) → is_awaited c act head ≡ true → head.opcode ≡ opcode_of c act

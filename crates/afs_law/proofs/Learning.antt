@@ -183,7 +183,7 @@ no_server : (n i : ℕ) → Client n ≡ Server i → ⊥
 no_server n i e = absurd cc
 
 -- whatever call it is
-any_call : (c : Cell) (past : List Entry) (boot : ℕ) (seats : List Seat) (place : ℕ) (m : Message) → HearsIn c past → message_at c.sent place ≡ Some m → IsCallOf any_told boot seats m.head m.carried
+pub any_call : (c : Cell) (past : List Entry) (boot : ℕ) (seats : List Seat) (place : ℕ) (m : Message) → HearsIn c past → message_at c.sent place ≡ Some m → IsCallOf any_told boot seats m.head m.carried
 any_call c past boot seats place m H at = call_is any_told (λ h. IsHad c.hosts h.to h.boot) boot seats m.head m.carried (λ is j from q runs. tt) (each_at (IfCall (λ y user call. IsHad c.hosts y.to y.boot)) c.sent place m at H.calls)
 
 given_learns : (c : Cell) (e : Entry) (past : List Entry) (n place : ℕ) (m : Message) → KnownLearnt c past → message_at c.sent place ≡ Some m → m.head.to ≡ Client n → Tame any_told (Tells (e ∷ past)) (IsOf (e ∷ past)) (Some place) n (caller_at (c.clients n)) (client_row (Client n) (c.clients n) c.clock place (Whole m))

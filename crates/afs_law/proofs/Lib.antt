@@ -115,6 +115,7 @@ pub mod Homed
 pub mod Asking
 pub mod Numbered
 pub mod InTurn
+pub mod Booted
 pub mod Claims
 pub mod Counting
 pub mod Unanswered

@@ -431,7 +431,7 @@ pub lived_kept : (s : Script) → IsKept (Lived s)
 lived_kept s c past x h = let k = step_lives s c past x h in (placed_kept s c past x h.0, (k.down, k.epochs))
 
 -- the set-up tells versions alone
-versions_alive : (ls : List Line) → AreVersions ls → Alive ls
+pub versions_alive : (ls : List Line) → AreVersions ls → Alive ls
 versions_alive [] h = refl
 versions_alive (lines.Version v ∷ ls) h = versions_alive ls h
 versions_alive (l ∷ ls) h = absurd h

@@ -172,10 +172,10 @@ not_to j e n callee opcode None w x = x
 not_to j e n callee opcode (Some m) w x = w m refl (ap (λ (k : Key). k.node) x.1.0)
 
 -- an entry of another node is given nothing that is to the client
-abbrev IsApart : ℕ → Entry → List Entry → Type 0
+abbrev pub IsApart : ℕ → Entry → List Entry → Type 0
 IsApart j e past = (m : Message) → given_message e.lines (sent_of past) ≡ Some m → m.head.to ≡ Client j → ⊥
 
-apart : (j : ℕ) (e : Entry) (past : List Entry) → IsDelivered e.actor past e.lines → (e.actor ≡ actors.Node (Client j) → ⊥) → IsApart j e past
+pub apart : (j : ℕ) (e : Entry) (past : List Entry) → IsDelivered e.actor past e.lines → (e.actor ≡ actors.Node (Client j) → ⊥) → IsApart j e past
 apart j e past d other m is to = other (subst (IsTo e.actor) is (d (given_has e.lines (sent_of past) m is)) ∙ ap actors.Node to)
 
 -- ---- no reply is to a call above the client's last
@@ -270,7 +270,7 @@ Then c past m = DeliveredStep c past m → UnansweredIn m.cell (m.entry ∷ past
 pub known_of : (s : Script) (c : Cell) (past : List Entry) → UnansweredFacts s c past → Known c past
 known_of s c past h = h.0.0.0.0.0.0.0.0.0
 
-one_client : (n j : ℕ) → actors.Node (Client n) ≡ actors.Node (Client j) → n ≡ j
+pub one_client : (n j : ℕ) → actors.Node (Client n) ≡ actors.Node (Client j) → n ≡ j
 one_client n j e = client_number n j (one_node (Client n) (Client j) e)
   where
     one_node : (p q : Node) → actors.Node p ≡ actors.Node q → p ≡ q

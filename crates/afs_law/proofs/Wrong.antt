@@ -31,7 +31,7 @@ use Rattle.afs_num.specs.declared.histories.Actor.{Actor}
 use Rattle.afs_num.specs.declared.types.Node.{Node}
 use Rattle.afs_law.proofs.Worked.{apart_numbers, home, by_lines, stores, alters, answer, begun, entries, file, root, script, six_front}
 use Rattle.afs_law.specs.Breaks.{HasStopped, IsCarried, IsNamedIn}
-use Rattle.afs_law.specs.Legal.{Answered, Brings, IsInTurn, IsKind, IsOpen, IsPromisedBy, Cause, EndsAct, IsGivenBack, IsNeededFrom, IsResult, Legal, answer_at, code_given}
+use Rattle.afs_law.specs.Legal.{Answered, Brings, IsInTurn, IsKind, IsOpen, KnowsBoot, IsPromisedBy, Cause, EndsAct, IsGivenBack, IsNeededFrom, IsResult, Legal, answer_at, code_given}
 use Rattle.afs_model.specs.Messages.{spelled}
 use Rattle.afs_num.specs.Names.{name_ok}
 use Rattle.afs_num.specs.declared.types.Fid.{Fid}
@@ -1437,6 +1437,23 @@ contents_that_were_dropped h =
         | inr b ↦ elim b [ inl x ↦ x.1.1.0 | inr d ↦ d ]
       ]
     ]
+
+-- its server stopped, and began the next boot; it calls it in that, which nobody told it
+abbrev AreUngiven : List Entry → Type 0
+AreUngiven [] = ⊤
+AreUngiven (e ∷ past) = (given_message e.lines (sent_of past) ≡ None) × AreUngiven past
+
+told_nothing : (s : Script) (c server : Node) (boot : ℕ) (past : List Entry) → AreUngiven past → KnowsBoot s c server boot past → boot ≡ 1
+told_nothing s c server boot [] u k = k
+told_nothing s c server boot (e ∷ past) u (inl i) = let no_ : None ≡ Some i.message = sym u.0 ∙ i.given in absurd cc
+told_nothing s c server boot (e ∷ past) u (inr x) = elim x.1 [ inl y ↦ y.1 | inr y ↦ told_nothing s c server boot past u.1 y.1 ]
+
+abbrev guessed_boot : List Entry
+guessed_boot = alters 2 to_boot_two (entries (start (script 1)) (stops 1 ∷ starts_again 1 false comes_up ∷ begins 1 (acts.Open (operands.Fid file)) ∷ []))
+
+called_untold : Legal guessed_boot (script 1) → ⊥
+unfolding moved begin_row client_row server_row back_timeout_row wake_row start_row record_bytes head_form volume_form spelled opaque pad word laid_at led name_ok directory_bytes name_bytes rights_of image acl_text digits entry_text directory_of names_at opaque_at word_at counted_at whole_at count_at name_at spelled_at bytes_below
+called_untold h = let no_ : 2 ≡ 1 = told_nothing (script 1) (Client 1) (Server 1) 2 (past_of (set_up (script 1) ∷ []) guessed_boot) (refl, (refl, (refl, (refl, tt)))) h.1.1.0.1.1.1.0.0.known in absurd (omega (arith, no_))
 
 -- It had read the file, and its own store was timed out three times, so it doesn't know whether that was made. Another client stores, and the first
 -- shows what was there before its own store

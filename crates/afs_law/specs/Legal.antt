@@ -764,11 +764,35 @@ GivesSome call = ⊤
 abbrev pub IsInOrder : Key → List Message → Type 0
 IsInOrder k ms = (k.number ≡ 1) ⊎ ((n : ℕ) × ((k.number ≡ n + 1) × (has_sent (record k { number = n }) ms ≡ true)))
 
+-- the client stops in these lines
+abbrev pub has_crashed : Node → List Line → Bool
+has_crashed c [] = false
+has_crashed c (lines.Crash n ∷ ls) = if same_node n c then true else has_crashed c ls
+has_crashed c (l ∷ ls) = has_crashed c ls
+
+-- while an act ran at the client, the entry was given a notice under its last call, which tells this boot of this server
+pub record IsNoted (s : Script) (c server : Node) (boot : ℕ) (past : List Entry) (ls : List Line) : Type 0 where
+  pub act : Going
+  pub runs : running s c (lines_of past) ≡ Some act
+  pub message : Message
+  pub given : given_message ls (sent_of past) ≡ Some message
+  pub to : message.head.to ≡ c
+  pub is : message.carried ≡ carried.Notice
+  pub its : IsOfLastCall message.head past
+  pub server' : message.head.from ≡ server
+  pub boot' : message.head.boot ≡ boot
+
+-- what the client knows of the server's boot: the last such notice of it since the client crashed told this one; and without one it is 1
+abbrev pub KnowsBoot : Script → Node → Node → ℕ → List Entry → Type 0
+KnowsBoot s c server boot [] = boot ≡ 1
+KnowsBoot s c server boot (e ∷ past) =
+    IsNoted s c server boot past e.lines ⊎ (((b : ℕ) → IsNoted s c server b past e.lines → ⊥) × (((has_crashed c e.lines ≡ true) × (boot ≡ 1)) ⊎ ((has_crashed c e.lines ≡ false) × KnowsBoot s c server boot past)))
+
 -- A client sends a file call for its user while an act runs there that isn't at its end, and asks for just this call, which the header names too.
 -- It sends it in its epoch. Of all calls that it sent so far none has a later pair, and its numbers go on one by one. It makes a call where it begins
 -- the act, or is given the answer to the one before; else it sends that again. It is the call under its key, to the one callee: what is sent again is
 -- the same call. That callee accepts stores of the volumes of which it asks, and of those whose promises it gives back, which are one at least; and it
--- is sent to a boot that its callee, where a server, has begun
+-- is sent to a boot that its callee, where a server, has begun, and that which the client knows
 pub record OwnFileCall (s : Script) (c : Node) (head : Head) (user : List ℕ) (call : FsCall) (past : List Entry) : Type 0 where
   pub own_user : user ≡ user_of s c
   pub act : Going
@@ -785,6 +809,7 @@ pub record OwnFileCall (s : Script) (c : Node) (head : Head) (user : List ℕ) (
   pub home : IsAtHome s head.to call (lines_of past)
   pub gives : GivesSome call
   pub boot : IsBootOf head.to head.boot (lines_of past)
+  pub known : KnowsBoot s c head.to head.boot past
 
 abbrev pub OwnCallOf : Script → Node → Head → List ℕ → FsCall → List Entry → Type 0
 OwnCallOf s (Client j) head user call past = OwnFileCall s (Client j) head user call past
