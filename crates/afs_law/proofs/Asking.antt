@@ -13,7 +13,7 @@ use Rattle.afs_law.proofs.Moving.{EachMove}
 use Rattle.afs_law.proofs.Origins.{KnownAsked, the_calls}
 use Rattle.afs_law.proofs.SettingUp.{any_home}
 use Rattle.afs_law.specs.Ideal.{is_at}
-use Rattle.afs_law.specs.Legal.{AcceptsEach, IsAtHome, IsItsLast}
+use Rattle.afs_law.specs.Legal.{AcceptsEach, IsAtHome, IsLastCall}
 use Rattle.afs_law.specs.Past.{IsCall}
 use Rattle.afs_num.specs.declared.calls.FsCall.{FsCall}
 use Rattle.afs_num.specs.declared.calls.FsCall.TheVariants as calls
@@ -89,11 +89,11 @@ up_to_last callees clients n head (carried.Refusal code) is from h = absurd is
 up_to_last callees clients n head (carried.Reply reply) is from h = absurd is
 up_to_last callees clients n head carried.Notice is from h = absurd is
 
-pub its_last : (callees : Key → Node) (clients : ℕ → ClientState) (n : ℕ) (head : Head) (ms : List Message) → key_of head ≡ last_key n (clients n) → Each (IfCall (KnownBy callees clients)) ms → IsItsLast head ms
-its_last callees clients n head [] key h = tt
-its_last callees clients n head (m ∷ ms) key h = (
-  λ is from. subst (λ (k : Key). UpTo m.head.epoch m.head.number k.epoch k.number) (sym key) (up_to_last callees clients n m.head m.carried is (subst (λ (k : Key). m.head.from ≡ k.node) key from) h.0),
-  its_last callees clients n head ms key h.1,
+pub its_last : (callees : Key → Node) (clients : ℕ → ClientState) (n : ℕ) (k : Key) (ms : List Message) → k ≡ last_key n (clients n) → Each (IfCall (KnownBy callees clients)) ms → IsLastCall k ms
+its_last callees clients n k [] key h = tt
+its_last callees clients n k (m ∷ ms) key h = (
+  λ is from. subst (λ (l : Key). UpTo m.head.epoch m.head.number l.epoch l.number) (sym key) (up_to_last callees clients n m.head m.carried is (subst (λ (l : Key). m.head.from ≡ l.node) key from) h.0),
+  its_last callees clients n k ms key h.1,
 )
 
 -- ---- the callee accepts stores of what the call names

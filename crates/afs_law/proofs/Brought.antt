@@ -20,13 +20,14 @@ use Rattle.afs_law.proofs.Storing.{status_in}
 use Rattle.afs_law.proofs.KeysOnce.{IsKnown, any_told, by_key}
 use Rattle.afs_law.proofs.Looking.{AreLooks, walked_looks}
 use Rattle.afs_law.proofs.Moving.{EachMove, IsKept, each_moved}
+use Rattle.afs_law.proofs.Nexts.{as_changed}
 use Rattle.afs_law.proofs.Origins.{any_cut, any_message, blow_idle, idle_works, is_idle, of_client, other_node, server_apart}
 use Rattle.afs_law.proofs.Sent.{call_is}
 use Rattle.afs_law.proofs.Walking.{looked_more, walked_found}
 use Rattle.afs_law.proofs.Words.{AreApart}
 use Rattle.afs_law.specs.Ideal.{Accepts, Unless, is_at, set_up}
 use Rattle.afs_law.specs.Grants.{is_promised}
-use Rattle.afs_law.specs.Legal.{HasBrought, HasLearned, HasMadeItself, IsBrought, Sets, SetsBy, Stores, StoresBy, StoresInto, StoresIntoBy, as_asked}
+use Rattle.afs_law.specs.Legal.{ChangesIn, HasBrought, HasLearned, HasMadeItself, IsBrought, Loses, Sets, SetsBy, Stores, StoresBy, StoresInto, StoresIntoBy, as_asked}
 use Rattle.afs_law.specs.Parts.{EachLine}
 use Rattle.afs_law.specs.Past.{HasCode, lines_of, onto, running}
 use Rattle.afs_law.specs.ServerParts.{CachedAreBrought, IsBroughtGood}
@@ -61,26 +62,28 @@ use Rattle.afs_num.specs.declared.types.Head.{Head}
 use Rattle.afs_num.specs.declared.types.Node.{Node}
 use Rattle.afs_num.specs.declared.types.Node.TheVariants.{Client, Server}
 use Rattle.afs_rows.specs.Callbacks.{put}
-use Rattle.afs_rows.specs.ClientRow.{Look, Walked, admits_call, awaits, begin_row, begins_by, behind_batch, body_kept, body_seen, body_told, breaks, call_of, client_row, counts, dead_code, drop_line, dropped, dropped_after, ended, entries_told, entry_told, find_cached, gift_of, given, given_up_in, gives_by, gives_up, goes_by, hears, ignores, in_order, is_awaited, is_below, is_busy_code, is_named, is_older, is_spent, is_trusted, left_after, left_in, look_at, looked, most_busy, most_reads, put_entries, put_entry, read_lines, refreshed, runs_carried, shown_by, status_look, status_told, takes, takes_bulk, takes_data, takes_entries, takes_entry, takes_given, takes_list, takes_set, takes_shown, takes_status, timeout_row, tries_again, trusted_in, untrusted_in, walked, walks_on, whole, with_statuses, zero_code}
+use Rattle.afs_rows.specs.ClientRow.{Look, Walked, admits_call, awaits, begin_row, begins_by, behind_batch, body_kept, body_seen, body_told, breaks, call_of, client_row, counts, dead_code, drop_line, dropped, dropped_after, ended, entries_told, entry_told, find_cached, gift_of, given, given_up_in, gives_by, gives_up, goes_by, hears, ignores, in_order, is_awaited, is_below, is_busy_code, is_named, is_older, is_spent, is_trusted, left_after, left_in, look_at, looked, most_busy, most_reads, put_entries, put_entry, read_lines, refreshed, runs_carried, shown_by, status_look, status_told, takes, takes_bulk, takes_data, takes_entries, takes_entry, takes_given, takes_list, takes_set, takes_shown, takes_status, timeout_line, timeout_row, tries_again, trusted_in, untrusted_in, walked, walks_on, whole, with_statuses, zero_code}
 use Rattle.afs_rows.specs.Going.{ClientState, Going, Need, answers, asked, asks_for, began, gives_back, next, reads, reads_rights, reads_status, reads_statuses, with_read}
 use Rattle.afs_rows.specs.Runs.{Cell, Entry, Moved, at_rest, begun_by_disk, blow_line, in_boot, in_step, message_at, server_falls, server_moves, server_rises, server_set, server_stays, start, ticked, voided}
 use Rattle.afs_rows.specs.Scopes.{is_in_scope}
 use Rattle.afs_rows.specs.ServerSteps.{back_timeout_row, server_row, wake_row}
 use Rattle.afs_rows.specs.States.{CacheEntry, Gift}
 use Rattle.afs_rows.specs.Steps.{Step}
-use Rattle.std.proofs.Common.{suc, ◌≡◌, ℕ, ◌+◌, eqb-true, ◌⊎◌, inl, inr, Bool, true, false, cond, List, [], ◌∷◌, ◌++◌, map, Option, Some, None, refl, sym, ap, subst, ◌∙◌, filter, not, pos, nat_eq, nat_lt}
+use Rattle.std.proofs.Common.{suc, ◌≡◌, ◌<◌, ℕ, ◌+◌, arith, eq-eqb, eqb-true, ltb-true, ◌⊎◌, inl, inr, Bool, true, false, cond, List, [], ◌∷◌, ◌++◌, map, Option, Some, None, refl, sym, ap, subst, ◌∙◌, filter, not, pos, nat_eq, nat_lt}
 use Rattle.std.specs.List.{list_any}
 use Rattle.std.specs.Prelude.{⊤, ◌&&◌}
 
 -- ---- lines
 
--- it is no crash
+-- it is no crash, and no third timeout
 abbrev is_steady : Line → Bool
+is_steady (lines.Timeout n q e k count) = not (nat_eq count 3)
 is_steady (lines.Crash n) = false
 is_steady l = true
 
 -- nor does it drop this object, or all of a server
 abbrev is_sparing : Fid → Line → Bool
+is_sparing f (lines.Timeout n q e k count) = not (nat_eq count 3)
 is_sparing f (lines.Crash n) = false
 is_sparing f (lines.Drop n g) = not (same_fid g f)
 is_sparing f (lines.DropAll n q) = false
@@ -88,27 +91,31 @@ is_sparing f l = true
 
 -- nor any
 abbrev is_mild : Line → Bool
+is_mild (lines.Timeout n q e k count) = not (nat_eq count 3)
 is_mild (lines.Crash n) = false
 is_mild (lines.Drop n g) = false
 is_mild (lines.DropAll n q) = false
 is_mild l = true
 
--- it is neither a crash nor a read
+-- it is neither a crash, nor a third timeout, nor a read
 abbrev is_bare : Line → Bool
+is_bare (lines.Timeout n q e k count) = not (nat_eq count 3)
 is_bare (lines.Crash n) = false
 is_bare (lines.Read n f index source body) = false
 is_bare l = true
 
--- it is neither a crash nor a read, and drops nothing
+-- and drops nothing
 abbrev is_tame : Line → Bool
 is_tame l = is_bare l && is_mild l
 
 bare_line : (l : Line) → is_bare l ≡ true → is_steady l ≡ true
+bare_line (lines.Timeout n q e k count) h = h
 bare_line (lines.Crash n) h = absurd cc
 bare_line (lines.Read n f index source body) h = refl
 bare_line l h = refl
 
 mild_line : (f : Fid) (l : Line) → is_mild l ≡ true → (is_steady l ≡ true) × (is_sparing f l ≡ true)
+mild_line f (lines.Timeout n q e k count) h = (h, h)
 mild_line f (lines.Crash n) h = absurd cc
 mild_line f (lines.Drop n g) h = absurd cc
 mild_line f (lines.DropAll n q) h = absurd cc
@@ -140,8 +147,12 @@ spared_by true false X h x = x
 spared_by false true X h x = x
 spared_by false false X h x = x
 
+third_not : (count : ℕ) → not (nat_eq count 3) ≡ true → count ≡ 3 → ⊥
+third_not count h e = let no_ : not true ≡ true = sym (ap not (eq-eqb count 3 e)) ∙ h in absurd cc
+
 brought_line : (s : Script) (c : Node) (f : Fid) (i : ℕ) (b : Body) (l : Line) (o : List Line) → is_sparing f l ≡ true → HasBrought s c f i b o → HasBrought s c f i b (l ∷ o)
 brought_line s c f i b (lines.Crash n) o h k = absurd cc
+brought_line s c f i b (lines.Timeout n q e number count) o h k = ((λ x. third_not count h x.1.0), k)
 brought_line s c f i b (lines.Drop n g) o h k = spared_by (same_node n c) (same_fid g f) (HasBrought s c f i b o) h k
 brought_line s c f i b (lines.DropAll n q) o h k = absurd cc
 brought_line s c f i b (lines.Read m g index source body) o h k = inr k
@@ -154,6 +165,7 @@ brought_onto s c f i b (l ∷ ls) o h k = let q = both (is_sparing f l) (all_lin
 
 learned_line : (s : Script) (c : Node) (f : Fid) (i : ℕ) (l : Line) (o : List Line) → is_steady l ≡ true → HasLearned s c f i o → HasLearned s c f i (l ∷ o)
 learned_line s c f i (lines.Crash n) o h k = absurd cc
+learned_line s c f i (lines.Timeout n q e number count) o h k = ((λ x. third_not count h x.1.0), k)
 learned_line s c f i (lines.Read m g index source body) o h k = inr k
 learned_line s c f i (lines.Answer m code) o h k = inr k
 learned_line s c f i l o h k = k
@@ -654,10 +666,48 @@ within_left : (o : Option ℕ) (cache : List CacheEntry) → AreApart cache → 
 within_left None cache apart f e x = x
 within_left (Some id) cache apart f e x = within_filter (λ u. not (nat_eq u.fid.volume id)) cache apart f e x
 
-waits_carry : (s : Script) (n : ℕ) (c : ClientState) (act : Going) (past : List Entry) → IsNow s n c past → Carries s n past (timeout_row (Client n) c act)
-waits_carry s n c act past N =
-    either_carries (nat_lt c.tries 2) s n past (tries_again (Client n) c act) (gives_up (Client n) c (call_of c act)) (tame_step s n c past _ N refl (λ f e z. z))
-    (bare_step s n c past _ N (dropped_bare (Client n) (given_up_in (volume_changed (call_of c act)) c.cache) (lines.Answer (Client n) dead_code ∷ []) refl) (spared_left (Client n) (volume_changed (call_of c act)) c.cache (lines.Answer (Client n) dead_code ∷ []) N.apart refl) (within_left (volume_changed (call_of c act)) c.cache N.apart))
+-- its first and its second timeout take nothing
+not_by : (t : Bool) → (t ≡ true → ⊥) → not t ≡ true
+not_by true w = absurd (w refl)
+not_by false w = refl
+
+few_tame : (n : ℕ) (c : ClientState) → nat_lt c.tries 2 ≡ true → all_lines is_tame (timeout_line (Client n) c (c.tries + 1) ∷ []) ≡ true
+few_tame n c few =
+    let below : c.tries < 2 = ltb-true c.tries 2 few in
+    let no_third : not (nat_eq (c.tries + 1) 3) ≡ true = not_by (nat_eq (c.tries + 1) 3) (λ e. (let third : c.tries + 1 ≡ 3 = eqb-true (c.tries + 1) 3 e in absurd (omega (arith, below, third)))) in
+    rw (no_third) refl
+
+-- by the third it gives up what it has of the volume that the call changes
+left_not : (o : Option ℕ) (f : Fid) (cache : List CacheEntry) (e : CacheEntry) → AreApart cache → find_cached f (left_in o cache) ≡ Some e → o ≡ Some f.volume → ⊥
+left_not None f cache e apart found is = absurd cc
+left_not (Some id) f cache e apart found is =
+    let a = found_filter (λ u. not (nat_eq u.fid.volume id)) f cache e apart found in
+    let same : e.fid.volume ≡ id = ap (λ (g : Fid). g.volume) (same_fid-true e.fid f (found-cached-fid f cache e a.0)) ∙ sym (some_of id f.volume is) in
+    let no_ : not true ≡ true = sym (ap not (eq-eqb e.fid.volume id same)) ∙ a.1 in absurd cc
+
+left_had : (s : Script) (n : ℕ) (c : ClientState) (act : Going) (past : List Entry) → IsNow s n c past → c.running ≡ Some act → Had s n (left_in (volume_changed (call_of c act)) c.cache) (timeout_line (Client n) c 3 ∷ lines_of past)
+left_had s n c act past N r f e found =
+    let had : IsHad s n f e (lines_of past) = N.had f e (within_left (volume_changed (call_of c act)) c.cache N.apart f e found) in
+    let spared : Loses s (Client n) f.volume (Client n) 3 (lines_of past) → ⊥ =
+    λ x. left_not (volume_changed (call_of c act)) f c.cache e N.apart found (sym (as_changed (call_of c act)) ∙ (ap volume_changed (call_is c act) ∙ subst (ChangesIn f.volume) (N.runs ∙ r) x.1.1)) in
+    ((spared, had.0), λ b y. (spared, had.1 b y))
+
+gives_up_carries : (s : Script) (n : ℕ) (c : ClientState) (act : Going) (past : List Entry) → IsNow s n c past → c.running ≡ Some act → Carries s n past (gives_up (Client n) c (call_of c act))
+gives_up_carries s n c act past N r =
+    let o : Option ℕ = volume_changed (call_of c act) in
+    let rest : List Line = dropped (Client n) (given_up_in o c.cache) (lines.Answer (Client n) dead_code ∷ []) in
+    let bare : all_lines is_bare rest ≡ true = dropped_bare (Client n) (given_up_in o c.cache) (lines.Answer (Client n) dead_code ∷ []) refl in
+    record {
+      told = (tt, bare_told s (actors.Node (Client n)) past (timeout_line (Client n) c 3 ∷ []) rest bare);
+      after = had_onto s n (left_in o c.cache) rest (timeout_line (Client n) c 3 ∷ lines_of past) (bare_steady rest bare) (spared_left (Client n) o c.cache (lines.Answer (Client n) dead_code ∷ []) N.apart refl) (left_had s n c act past N r);
+    }
+
+waits_by : (s : Script) (n : ℕ) (c : ClientState) (act : Going) (past : List Entry) (t : Bool) → nat_lt c.tries 2 ≡ t → IsNow s n c past → c.running ≡ Some act → Carries s n past (cond t (tries_again (Client n) c act) (gives_up (Client n) c (call_of c act)))
+waits_by s n c act past true few N r = tame_step s n c past _ N (few_tame n c few) (λ f e z. z)
+waits_by s n c act past false few N r = gives_up_carries s n c act past N r
+
+waits_carry : (s : Script) (n : ℕ) (c : ClientState) (act : Going) (past : List Entry) → IsNow s n c past → c.running ≡ Some act → Carries s n past (timeout_row (Client n) c act)
+waits_carry s n c act past N r = waits_by s n c act past (nat_lt c.tries 2) refl N r
 
 -- ---- every step
 
@@ -677,29 +727,36 @@ reply_code x r e = subst HasCode (sym e) tt
 any_made : (s : Script) (c : Cell) (past : List Entry) (n place : ℕ) (m : Message) → Based s c past → message_at c.sent place ≡ Some m → m.head.to ≡ Client n → AnyMade n (c.clients n) m.head m.carried past
 any_made s c past n place m B at to act run awaited r status file told f is = store_made s c past n act m r (call_of (c.clients n) act) f status B (arrives s c past n place act m B at (reply_code m.carried r file) to run awaited) file refl is told
 
--- a line by which this client loses something that it keeps
+-- a line by which this client may lose something that it keeps
 abbrev is_taking : ℕ → Line → Bool
+is_taking j (lines.Timeout n q e k count) = same_node n (Client j)
 is_taking j (lines.Crash n) = same_node n (Client j)
 is_taking j (lines.Drop n g) = same_node n (Client j)
 is_taking j (lines.DropAll n q) = same_node n (Client j)
 is_taking j l = false
 
+apart_not : (j : ℕ) (n : Node) → same_node n (Client j) ≡ false → n ≡ Client j → ⊥
+apart_not j n h same = let no_ : true ≡ false = sym (ap (λ (x : Node). same_node x (Client j)) same ∙ same_node-refl (Client j)) ∙ h in absurd cc
+
 else_line : (s : Script) (j : ℕ) (f : Fid) (i : ℕ) (b : Body) (l : Line) (o : List Line) → is_taking j l ≡ false → HasBrought s (Client j) f i b o → HasBrought s (Client j) f i b (l ∷ o)
 else_line s j f i b (lines.Crash n) o h k = subst (λ (t : Bool). Unless t (HasBrought s (Client j) f i b o)) (sym h) k
 else_line s j f i b (lines.Drop n g) o h k = subst (λ (t : Bool). Unless (t && same_fid g f) (HasBrought s (Client j) f i b o)) (sym h) k
-else_line s j f i b (lines.DropAll n q) o h k = (λ same at. (let no_ : true ≡ false = sym (ap (λ (x : Node). same_node x (Client j)) same ∙ same_node-refl (Client j)) ∙ h in absurd cc), k)
+else_line s j f i b (lines.DropAll n q) o h k = ((λ same at. apart_not j n h same), k)
+else_line s j f i b (lines.Timeout n q e number count) o h k = ((λ x. apart_not j n h x.0), k)
 else_line s j f i b (lines.Read m g index source body) o h k = inr k
 else_line s j f i b (lines.Answer m code) o h k = inr k
 else_line s j f i b l o h k = k
 
 else_learned : (s : Script) (j : ℕ) (f : Fid) (i : ℕ) (l : Line) (o : List Line) → is_taking j l ≡ false → HasLearned s (Client j) f i o → HasLearned s (Client j) f i (l ∷ o)
 else_learned s j f i (lines.Crash n) o h k = subst (λ (t : Bool). Unless t (HasLearned s (Client j) f i o)) (sym h) k
+else_learned s j f i (lines.Timeout n q e number count) o h k = ((λ x. apart_not j n h x.0), k)
 else_learned s j f i (lines.Read m g index source body) o h k = inr k
 else_learned s j f i (lines.Answer m code) o h k = inr k
 else_learned s j f i l o h k = k
 
 -- another node's lines take nothing from it
 other_taking : (i j : ℕ) (l : Line) → is_of i l ≡ true → (i ≡ j → ⊥) → is_taking j l ≡ false
+other_taking i j (lines.Timeout n q e k count) h ne = other_node n i j h ne
 other_taking i j (lines.Crash n) h ne = other_node n i j h ne
 other_taking i j (lines.Drop n g) h ne = other_node n i j h ne
 other_taking i j (lines.DropAll n q) h ne = other_node n i j h ne
@@ -713,6 +770,7 @@ other_onto s i j cache [] o h ne k = k
 other_onto s i j cache (l ∷ ls) o h ne k = let q = both (is_of i l) (all_lines (is_of i) ls) h in other_onto s i j cache ls (l ∷ o) q.1 ne (else_had s j cache l o (other_taking i j l q.0 ne) k)
 
 idle_taking : (j : ℕ) (l : Line) → is_idle l ≡ true → is_taking j l ≡ false
+idle_taking j (lines.Timeout n q e k count) h = server_apart n j h
 idle_taking j (lines.Crash n) h = server_apart n j h
 idle_taking j (lines.Drop n g) h = server_apart n j h
 idle_taking j (lines.DropAll n q) h = server_apart n j h
@@ -752,7 +810,7 @@ brought_moves s = record {
   ticked = λ c past n h. record { had = idle_had s c past (ticked c (suc n)).entry h refl; told = (tt, tt) };
   begun = λ c past n act h r. (let k = begun_carries s n c.clock (c.clients n) act past (now_at s c past n h) in record { had = client_done s c past n _ h (begins_acts n (c.clients n) c.clock act r) k; told = k.told });
   told = λ c past n place m h at to. (let k = told_carries s n c.clock place (c.clients n) m past (any_made s c past n place m h.0.0 at to) (now_at s c past n h) in record { had = client_done s c past n _ h (given_acts (by_key (IsKnown h.0.0.kept.0.0.0.0.0.keys.callees c.clients)) any_told n (c.clients n) c.clock place m (h.0.0.kept.0.0.0.0.0.keys.replies n) (h.0.0.kept.0.0.0.0.1.seats n)) k; told = k.told });
-  waited = λ c past n act h r. (let k = waits_carry s n (c.clients n) act past (now_at s c past n h) in record { had = client_done s c past n _ h (waits_acts n (c.clients n) act r) k; told = k.told });
+  waited = λ c past n act h r. (let k = waits_carry s n (c.clients n) act past (now_at s c past n h) r in record { had = client_done s c past n _ h (waits_acts n (c.clients n) act r) k; told = k.told });
   fallen = λ c past n h. record { had = own_had s c past n _ h (falls_acts n (c.clients n)) (λ f e x. absurd cc); told = (tt, tt) };
   risen = λ c past n h. record { had = own_had s c past n _ h (rises_acts n (c.clients n)) (h.1 n); told = (tt, tt) };
   served = λ c past i place m armed h up at to. (let z = idle_works any_message i (c.hosts i).state _ _ (serves_works any_message (Server i) (c.hosts i).state c.clock place m (λ rest. tt)) in record { had = idle_had s c past (server_moves c i armed (server_row (Server i) (c.hosts i).state c.clock place (Whole m))).entry h z; told = idle_told s (actors.Node (Server i)) past [] _ z });

@@ -8,7 +8,7 @@ use Rattle.afs_law.proofs.Acting.{last_key, read_all, walked_reads}
 use Rattle.afs_law.proofs.Sent.{call_is}
 use Rattle.afs_law.proofs.Backing.{all_lines}
 use Rattle.afs_law.proofs.Basics.{Each, IfCall, a_key, at_put, both, each_at, same_node-refl, same_node-true, some_of}
-use Rattle.afs_law.proofs.Claims.{KnownBy, callee_is}
+use Rattle.afs_law.proofs.InTurn.{KnownBy, callee_is, its_key}
 use Rattle.afs_law.proofs.Knowing.{Known}
 use Rattle.afs_law.proofs.Changing.{run_each}
 use Rattle.afs_law.proofs.Choosing.{disk_works, one_from, risen_from, risen_lines, serves_works, starts_works, times_works, wakes_works}
@@ -405,13 +405,6 @@ pub record IsWaiting (s : Script) (n place : ℕ) (c : ClientState) (head : Head
   pub to : head.to ≡ Client n
   pub firm : IsFirm head x
   pub open' : AreOpen c
-
-pub its_key : (n : ℕ) (c : ClientState) (act : Going) (head : Head) → head.to ≡ Client n → is_awaited c act head ≡ true → last_key n c ≡ answered_key head
-its_key n c act head to e =
-    let p = both (same_node head.from c.callee) _ e in
-    let q = both (nat_eq head.epoch c.epoch) _ p.1 in
-    let u = both (nat_eq head.number c.last) _ q.1 in
-    sym (ap (λ (m : Node). a_key m head.epoch head.number) to ∙ (ap (λ (i : ℕ). a_key (Client n) i head.number) (eqb-true head.epoch c.epoch q.0) ∙ ap (λ (i : ℕ). a_key (Client n) c.epoch i) (eqb-true head.number c.last u.0)))
 
 is_told : (s : Script) (n place : ℕ) (c : ClientState) (act : Going) (head : Head) (x : Carried) (past : List Entry) → IsWaiting s n place c head x past → c.running ≡ Some act → is_awaited c act head ≡ true → IsReply (record { head = head; carried = x }) → IsTold s n place c act (record { head = head; carried = x }) past
 is_told s n place c act head x past w r e reply = record { runs = w.acts ∙ r; at = w.at; reply = reply; to = w.to; called = subst (λ (k : Key). CalledSince k (user_at s n) (call_of c act) past) (its_key n c act head w.to e) (w.asked' act r); from = subst (λ (k : Key). callee_under k (sent_of past) ≡ Some c.callee) (its_key n c act head w.to e) (w.callee act r) ∙ ap Some (sym (same_node-true head.from c.callee (both (same_node head.from c.callee) _ e).0)) }

@@ -245,7 +245,7 @@ or_right true q e = refl
 or_right false q e = e
 
 -- a firm refusal ends the act
-firm_busy : (a b : Bool) → (a || b) ≡ false → b ≡ false
+pub firm_busy : (a b : Bool) → (a || b) ≡ false → b ≡ false
 firm_busy true b e = absurd cc
 firm_busy false b e = e
 

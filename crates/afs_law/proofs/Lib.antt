@@ -82,6 +82,7 @@ pub mod Using
 pub mod Handling
 pub mod Noticing
 pub mod Present
+pub mod Successes
 pub mod Unmade
 pub mod Entering
 pub mod Kept
@@ -113,6 +114,7 @@ pub mod Returning
 pub mod Homed
 pub mod Asking
 pub mod Numbered
+pub mod InTurn
 pub mod Claims
 pub mod Counting
 pub mod Unanswered

@@ -1,5 +1,5 @@
 -- A server answers in the boot in which it is, but for the replies to changes, which its disk keeps, and its notices tell that boot, however
--- many servers a cell has.
+-- many servers a cell has. (That those of an older boot tell that the change is done says Successes.)
 use Rattle.afs_breaks.specs.declared.types.OwedBreak.{OwedBreak}
 use Rattle.afs_history.specs.declared.lines.Line.{Line}
 use Rattle.afs_history.specs.declared.lines.Line.TheVariants as lines
@@ -19,7 +19,7 @@ use Rattle.afs_law.proofs.Sending.{run_own}
 use Rattle.afs_law.proofs.Words.{up_boot}
 use Rattle.afs_law.specs.Ideal.{set_up}
 use Rattle.afs_law.specs.Laws.{seat_key}
-use Rattle.afs_law.specs.Legal.{IsBy, IsInBoot, IsPresent, TellsItsBoot}
+use Rattle.afs_law.specs.Legal.{IsBy, IsInBoot, TellsItsBoot}
 use Rattle.afs_law.specs.Lives.{AreCalls, epoch_after}
 use Rattle.afs_law.specs.Parts.{EachEntry, EachSent, IsOwn}
 use Rattle.afs_law.specs.Past.{HasChangeBy, HasCode, IsCall, IsReply, answered_key, lines_of, onto, server_boot}
@@ -171,10 +171,10 @@ own_current c past i x ls h own j =
     at_put i j (λ (y : Host). y.down ≡ None → Current j y.state (onto (lines_of past) ls)) x c.hosts (λ same. subst (λ (k : ℕ). x.down ≡ None → Current k x.state (onto (lines_of past) ls)) same own)
     (λ other up. current_onto j (c.hosts j).state (lines_of past) ls (h.1 j up))
 
-put_same : (i : ℕ) (x : Host) (h : ℕ → Host) → put i x h i ≡ x
+pub put_same : (i : ℕ) (x : Host) (h : ℕ → Host) → put i x h i ≡ x
 put_same i x h = ap (λ (t : Bool). cond t x (h i)) (eq-eqb i i refl)
 
-one_server : (i j : ℕ) → actors.Node (Server i) ≡ actors.Node (Server j) → i ≡ j
+pub one_server : (i j : ℕ) → actors.Node (Server i) ≡ actors.Node (Server j) → i ≡ j
 one_server i j e = cc
 
 -- one that is silent
@@ -222,11 +222,11 @@ starts_held : (me : Node) (boot : ℕ) (os : List OwedBreak) (t : Started) → (
 starts_held me boot [] t = refl
 starts_held me boot (o ∷ os) t = starts_held me boot os (starts_by me boot t o (t.backs.calls o.client)) ∙ start_held me boot t o (t.backs.calls o.client)
 
-started_held : (i clock count : ℕ) (f : Begun) → (start_row (Server i) clock count f).state.backs.held ≡ []
+pub started_held : (i clock count : ℕ) (f : Begun) → (start_row (Server i) clock count f).state.backs.held ≡ []
 unfolding start_row
 started_held i clock count f = starts_held (Server i) (f.state.lasting.boot + 1) (risen_turn (Server i) clock count).backs.lists.owed _
 
-started_seats : (i clock count : ℕ) (f : Begun) → (start_row (Server i) clock count f).state.seats ≡ (start_row (Server i) clock count f).state.lasting.kept
+pub started_seats : (i clock count : ℕ) (f : Begun) → (start_row (Server i) clock count f).state.seats ≡ (start_row (Server i) clock count f).state.lasting.kept
 unfolding start_row
 started_seats i clock count f = refl
 
@@ -248,7 +248,7 @@ started_present c past i f h K =
 
 -- ---- every step
 
-no_fall : (fall : Fall) (X : Type 0) → Some fall ≡ None → X
+pub no_fall : (fall : Fall) (X : Type 0) → Some fall ≡ None → X
 no_fall fall X e = absurd cc
 
 present_moves : EachMove KnownCurrent PresentStep
@@ -289,8 +289,12 @@ OfServers past e = (i : ℕ) → e.actor ≡ actors.Node (Server i) → EachSent
 run_now : (s : Script) (h : List Entry) (end : Cell) → RunsTo h s end → EachEntry OfServers (set_up s ∷ []) h
 run_now s h end r = run_each KnownCurrent OfServers current_kept (λ c past x k. (each_moved KnownCurrent PresentStep present_moves c past x k (known_sits_kept c past x k.0)).sent) r.inputs (start s) (set_up s ∷ []) h end (current_first s) r.leads
 
+-- a server's reply to a client is of its boot, or to what it changed
+abbrev pub IsOfBoot : List Entry → Message → Type 0
+IsOfBoot past m = (i j : ℕ) → IsReply m → m.head.from ≡ Server i → m.head.to ≡ Client j → (server_boot m.head.from (lines_of past) ≡ Some m.head.boot) ⊎ HasChangeBy m.head.from (answered_key m.head) (lines_of past)
+
 abbrev pub TrueNow : List Entry → Message → Type 0
-TrueNow past m = IsPresent past m × TellsItsBoot past m
+TrueNow past m = IsOfBoot past m × TellsItsBoot past m
 
 -- by the nodes that send them
 in_boot_of : (n : Node) (boot : ℕ) (ls : List Line) → ((j : ℕ) → n ≡ Client j → epoch_after (Client j) ls ≡ boot) → ((i : ℕ) → n ≡ Server i → server_boot (Server i) ls ≡ Some boot) → IsInBoot n boot ls

@@ -47,14 +47,14 @@ Makes T x clock (saves head c) = T (change_reply_to x.lasting.boot head clock c)
 
 -- ---- one more is kept
 
-one_reply : (T : Message → Type 0) (head : Head) (r m : Message) → T r → (seat_for head r).reply ≡ Some m → T m
+pub one_reply : (T : Message → Type 0) (head : Head) (r m : Message) → T r → (seat_for head r).reply ≡ Some m → T m
 one_reply T head r m h e = subst T (some_of r m e) h
 
 seated_told : (T : Message → Type 0) (s : Seat) (seats : List Seat) → ((m : Message) → s.reply ≡ Some m → T m) → AreTold T seats → AreTold T (call_seated s seats)
 seated_told T s seats new old n = at_seat s n seats (λ (o : Option Seat). (seat : Seat) (m : Message) → o ≡ Some seat → seat.reply ≡ Some m → T m)
     (λ own seat m e r. new m (subst (λ (y : Seat). y.reply ≡ Some m) (sym (some_of s seat e)) r)) (λ other seat m e r. old n seat m e r)
 
-placed_told : (T : Message → Type 0) (s : Seat) (kept : List Seat) → ((m : Message) → s.reply ≡ Some m → T m) → AreTold T kept → AreTold T (seat_placed s kept)
+pub placed_told : (T : Message → Type 0) (s : Seat) (kept : List Seat) → ((m : Message) → s.reply ≡ Some m → T m) → AreTold T kept → AreTold T (seat_placed s kept)
 placed_told T s kept new old n = at_placed s n kept (λ (o : Option Seat). (seat : Seat) (m : Message) → o ≡ Some seat → seat.reply ≡ Some m → T m)
     (λ own seat m e r. new m (subst (λ (y : Seat). y.reply ≡ Some m) (sym (some_of s seat e)) r)) (λ other seat m e r. old n seat m e r)
 

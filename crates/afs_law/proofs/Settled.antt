@@ -15,7 +15,8 @@ use Rattle.afs_law.proofs.Basics.{Below, Each, IfCall, IfReply, UpTo, at_put, bo
 use Rattle.afs_law.proofs.Calling.{IsUncalled, begins_tame, uncalled_any, waits_tame}
 use Rattle.afs_law.proofs.Caused.{IsOfCallee}
 use Rattle.afs_law.proofs.Choosing.{disk_works, one_from, risen_from, risen_lines, serves_works, starts_works, times_works, wakes_works}
-use Rattle.afs_law.proofs.Due.{its_key, told_due, waiting_for}
+use Rattle.afs_law.proofs.Due.{told_due, waiting_for}
+use Rattle.afs_law.proofs.InTurn.{its_key}
 use Rattle.afs_law.proofs.Words.{AreApart, IsOne}
 use Rattle.afs_law.proofs.Firm.{IsFirm}
 use Rattle.afs_law.proofs.Gifts.{Given}

@@ -416,7 +416,7 @@ hears_head me x clock h carried.Notice f = tt
 decides_head : (me : Node) (x : ServerState) (clock : ℕ) (m : Message) → IsFile m → IsOfHead m.head (decides me x clock (Whole m))
 decides_head me x clock m f = hears_head me x clock m.head m.carried f
 
-kept_by : (T : Message → Type 0) (t : Bool) (boot : ℕ) (seats : List Seat) (head : Head) (m : Message) → AreTold T seats → cond t (paired head.epoch head.number (call_seat head.from seats)) (pairs.wrong_boot boot) ≡ pairs.kept m → T m
+pub kept_by : (T : Message → Type 0) (t : Bool) (boot : ℕ) (seats : List Seat) (head : Head) (m : Message) → AreTold T seats → cond t (paired head.epoch head.number (call_seat head.from seats)) (pairs.wrong_boot boot) ≡ pairs.kept m → T m
 kept_by T true boot seats head m h e = let l : LastSeat head.epoch head.number (call_seat head.from seats) m = kept_last head.epoch head.number (call_seat head.from seats) m e in h head.from l.seat m l.at l.reply
 kept_by T false boot seats head m h e = absurd cc
 

@@ -1,5 +1,5 @@
 -- Histories that are wrong for one reason each: a run, altered in one entry, of which just one condition isn't met. (Some of those of a server
--- that stops or is down, and of a timeout, more than one condition refuses.)
+-- that stops or is down, of a timeout, and of a client that makes two calls of one act, more than one condition refuses.)
 use Rattle.afs_law.proofs.Ideals.{at_home}
 use Rattle.afs_law.proofs.Backing.{all_lines}
 use Rattle.afs_num.specs.declared.types.Key.{Key}
@@ -31,7 +31,7 @@ use Rattle.afs_num.specs.declared.histories.Actor.{Actor}
 use Rattle.afs_num.specs.declared.types.Node.{Node}
 use Rattle.afs_law.proofs.Worked.{apart_numbers, home, by_lines, stores, alters, answer, begun, entries, file, root, script, six_front}
 use Rattle.afs_law.specs.Breaks.{HasStopped, IsCarried, IsNamedIn}
-use Rattle.afs_law.specs.Legal.{Answered, Brings, IsKind, IsOpen, IsPromisedBy, Cause, EndsAct, IsGivenBack, IsNeededFrom, IsResult, Legal, answer_at, code_given}
+use Rattle.afs_law.specs.Legal.{Answered, Brings, IsInTurn, IsKind, IsOpen, IsPromisedBy, Cause, EndsAct, IsGivenBack, IsNeededFrom, IsResult, Legal, answer_at, code_given}
 use Rattle.afs_model.specs.Messages.{spelled}
 use Rattle.afs_num.specs.Names.{name_ok}
 use Rattle.afs_num.specs.declared.types.Fid.{Fid}
@@ -1187,6 +1187,10 @@ settled_unsent h =
     let from : List Entry = past_of (set_up (script 2) ∷ []) (take 4 (entries (start (script 2)) two_breaks)) in
     not_carried (Server 1) (Client 1) 1 1 g.what 2 past from refl refl refl (subst (λ (m : Message). IsCarried (Server 1) (Client 1) m.head.epoch m.head.number g.what 2 past) (sym (some_of _ g.reply g.by)) g.back.carried)
 
+-- a timeout of the client's second call
+abbrev times_two_out : ℕ → Line
+times_two_out n = lines.Timeout (Client 1) (Server 1) 1 2 n
+
 -- ---- what is shown came to the client
 
 abbrev status : ReadStatus
@@ -1434,6 +1438,20 @@ contents_that_were_dropped h =
       ]
     ]
 
+-- It had read the file, and its own store was timed out three times, so it doesn't know whether that was made. Another client stores, and the first
+-- shows what was there before its own store
+abbrev given_up_store : List Input
+given_up_store =
+    begins 1 (acts.Open (operands.Fid file)) ∷ gives 1 steady ∷ gives 2 steady ∷ begins 1 (acts.Close (operands.Fid file) (Hex (codes "def"))) ∷ gives 3 steady ∷ waits 1 ∷ waits 1 ∷ waits 1
+    ∷ begins 2 (acts.Close (operands.Fid file) (Hex (codes "ghi"))) ∷ gives 7 steady ∷ []
+
+dead_not : negsuc 0 ≡ pos 0 → ⊥
+dead_not e = absurd cc
+
+shown_when_given_up : Legal (alters 7 (instead (times_two_out 3 ∷ lines.Answer (Client 1) (record { 0 = negsuc 0 }) ∷ [])) (entries (start (script 2)) given_up_store) ++ step_of (Client 1) (begun 1 ∷ shown Cached ∷ answer 1 ∷ []) [] ∷ []) (script 2) → ⊥
+unfolding moved begin_row client_row server_row back_timeout_row wake_row start_row record_bytes head_form volume_form spelled opaque pad word laid_at led name_ok directory_bytes name_bytes rights_of image acl_text digits entry_text directory_of names_at opaque_at word_at counted_at whole_at count_at name_at spelled_at bytes_below
+shown_when_given_up h = elim h.1.1.1.1.1.1.1.1.1.1.0.0.0.1.0.1.brought.0 [ inl x ↦ dead_not x.1.0 | inr y ↦ y.0 (refl, (refl, refl)) ]
+
 -- ---- a client's calls are numbered one by one, in its epoch
 
 -- its first call is its seventh
@@ -1630,27 +1648,100 @@ left_the_reply h =
     let all : AllHave 133 past = (tt, (((λ u k e. absurd (told_no_call _ u k e)), tt), (((λ u k e. ap call_number (one_call _ u _ k e)), tt), (tt, tt)))) in
     g.awaited.unanswered.0 ((tt, refl), (refl, one_number 133 (Server 1) (key_of_one 1) g.user g.call past all g.sent))
 
--- or it only leaves it, to ask again under another number, by which it is answered -1 in the end
+-- or it only leaves it, and is answered when it comes again
 took_no_reply : Legal (alters 2 (instead (lines.Given 2 ∷ [])) (entries (start (script 1)) (begins 1 (acts.Close (operands.Fid file) (Hex (codes "def"))) ∷ gives 1 steady ∷ gives 2 steady ∷ []))) (script 1) → ⊥
 unfolding moved begin_row client_row server_row back_timeout_row wake_row start_row record_bytes head_form volume_form spelled opaque pad word laid_at led name_ok directory_bytes name_bytes rights_of image acl_text digits entry_text directory_of names_at opaque_at word_at counted_at whole_at count_at name_at spelled_at bytes_below
 took_no_reply h =
     h.1.1.0.1.0.1.1.1.1.0.1
     (record {
+      heard = record {
+        message = _;
+        given = refl;
+        to = refl;
+        is = tt;
+        code = pos 0;
+        told = refl;
+        user = codes "guest";
+        call = stored_whole file (codes "def");
+        of = refl;
+        from = refl;
+        opcode = refl;
+        last = ((λ is from. inr (refl, omega arith)), ((λ is from. absurd is), tt));
+      };
       act = _;
       runs = refl;
-      message = _;
-      given = refl;
-      to = refl;
-      reply = _;
-      carries = refl;
-      user = codes "guest";
-      call = stored_whole file (codes "def");
       called = inr (refl, inl (refl, inl (refl, refl)));
-      from = refl;
-      opcode = refl;
-      last = ((λ is from. inr (refl, omega arith)), ((λ is from. absurd is), tt));
     })
     home refl
+
+-- its store is refused, and the client leaves that
+abbrev refused_history : List Entry
+refused_history = entries (start (script 1)) (begins 1 (acts.Close (operands.Fid file) (Hex (codes "def"))) ∷ []) ++ step_of (Server 1) (lines.Given 1 ∷ []) (roomless ∷ []) ∷ step_of (Client 1) (lines.Given 2 ∷ []) [] ∷ []
+
+took_no_refusal : Legal refused_history (script 1) → ⊥
+unfolding moved begin_row client_row server_row back_timeout_row wake_row start_row record_bytes head_form volume_form spelled opaque pad word laid_at led name_ok directory_bytes name_bytes rights_of image acl_text digits entry_text directory_of names_at opaque_at word_at counted_at whole_at count_at name_at spelled_at bytes_below
+took_no_refusal h =
+    h.1.1.0.1.0.1.1.1.1.0.1
+    (record {
+      heard = record {
+        message = roomless;
+        given = refl;
+        to = refl;
+        is = tt;
+        code = pos 108;
+        told = refl;
+        user = codes "guest";
+        call = stored_whole file (codes "def");
+        of = refl;
+        from = refl;
+        opcode = refl;
+        last = ((λ is from. inr (refl, omega arith)), ((λ is from. absurd is), tt));
+      };
+      act = _;
+      runs = refl;
+      called = inr (refl, inl (refl, inl (refl, refl)));
+    })
+    home refl
+
+-- ---- a client makes one call at a time
+
+-- its store, under the next number
+abbrev store_of_two : Message
+store_of_two = record {
+  head = record { half = halves.Call; from = Client 1; to = Server 1; epoch = 1; number = 2; boot = 1; stamp = 0; opcode = 133 };
+  carried = carried.Call (codes "guest") (ask.File (stored_whole file (codes "def")));
+}
+
+out_of_turn : (k : Key) (e : Entry) (past : List Entry) → has_sent k (sent_of past) ≡ false → has_begun k.node e.lines ≡ false → given_message e.lines (sent_of past) ≡ None → IsInTurn k (e ∷ past) → ⊥
+out_of_turn k e past unsent unbegun ungiven (inl x) = true_not (sym x ∙ unsent)
+out_of_turn k e past unsent unbegun ungiven (inr (inl x)) = true_not (sym x ∙ unbegun)
+out_of_turn k e past unsent unbegun ungiven (inr (inr x)) = let no_ : None ≡ Some x.message = sym ungiven ∙ x.given in absurd cc
+
+-- A client calls twice for its store, before it is answered. The server has no room when it is given the first call, and the act is over with that; and
+-- then the store is made by the second
+abbrev refused_and_stored : List Entry
+refused_and_stored =
+    entries (start (script 1)) (begins 1 (acts.Close (operands.Fid file) (Hex (codes "def"))) ∷ [])
+    ++ step_of (Client 1) [] (store_of_two ∷ [])
+    ∷ step_of (Server 1) (lines.Given 1 ∷ []) (roomless ∷ [])
+    ∷ step_of (Client 1) (lines.Given 3 ∷ lines.Answer (Client 1) (record { 0 = pos 108 }) ∷ []) []
+    ∷ changed_as 2 2 ∷ []
+
+called_before_its_answer : Legal refused_and_stored (script 1) → ⊥
+unfolding moved begin_row client_row server_row back_timeout_row wake_row start_row record_bytes head_form volume_form spelled opaque pad word laid_at led name_ok directory_bytes name_bytes rights_of image acl_text digits entry_text directory_of names_at opaque_at word_at counted_at whole_at count_at name_at spelled_at bytes_below
+called_before_its_answer h = out_of_turn (key_of_one 2) (step_of (Client 1) [] (store_of_two ∷ [])) (past_of (set_up (script 1) ∷ []) (take 1 refused_and_stored)) refl refl refl h.1.0.1.1.1.0.0.turn
+
+-- A client times its call out, and calls under another number in place of sending it again. By the first call it is told that its store is made, and it
+-- leaves that; by the second, which no server may answer, it is dead
+abbrev made_and_dead : List Entry
+made_and_dead =
+    alters 1 asked_anew_as_two (entries (start (script 1)) (begins 1 (acts.Close (operands.Fid file) (Hex (codes "def"))) ∷ waits 1 ∷ gives 1 steady ∷ []))
+    ++ step_of (Client 1) (lines.Given 3 ∷ []) []
+    ∷ step_of (Client 1) (times_two_out 1 ∷ []) [] ∷ step_of (Client 1) (times_two_out 2 ∷ []) [] ∷ step_of (Client 1) (times_two_out 3 ∷ lines.Answer (Client 1) (record { 0 = negsuc 0 }) ∷ []) [] ∷ []
+
+called_in_place_of_a_repeat : Legal made_and_dead (script 1) → ⊥
+unfolding moved begin_row client_row server_row back_timeout_row wake_row start_row record_bytes head_form volume_form spelled opaque pad word laid_at led name_ok directory_bytes name_bytes rights_of image acl_text digits entry_text directory_of names_at opaque_at word_at counted_at whole_at count_at name_at spelled_at bytes_below
+called_in_place_of_a_repeat h = out_of_turn (key_of_one 2) (step_of (Client 1) (times_out_as 1 ∷ []) (store_of_two ∷ [])) (past_of (set_up (script 1) ∷ []) (take 1 made_and_dead)) refl refl refl h.1.0.1.1.1.0.0.turn
 
 -- it tells a third timeout, and goes on waiting
 waited_on : Legal (alters 3 (instead (times_out_as 3 ∷ [])) (entries (start (script 1)) (begins 1 (acts.Open (operands.Fid file)) ∷ waits 1 ∷ waits 1 ∷ waits 1 ∷ []))) (script 1) → ⊥
@@ -1680,12 +1771,12 @@ broken_and_kept h =
 abbrev restarts : List Input
 restarts = stops 1 ∷ starts_again 1 false comes_up ∷ []
 
+two_boots : ◌≡◌ {A = Option ℕ} (Some 2) (Some 1) → ⊥
+two_boots e = absurd cc
+
 answered_from_before : Legal (entries (start (script 1)) (fetch_front ++ restarts) ++ step_of (Server 1) [] (sent_by (start (script 1)) fetch_front) ∷ []) (script 1) → ⊥
 unfolding moved begin_row client_row server_row back_timeout_row wake_row start_row record_bytes head_form volume_form spelled opaque pad word laid_at led name_ok directory_bytes name_bytes rights_of image acl_text digits entry_text directory_of names_at opaque_at word_at counted_at whole_at count_at name_at spelled_at bytes_below
-answered_from_before h = elim (h.1.1.1.1.0.1.0.1.1.1.1.1.0.0.0 1 1 (refl, tt) refl refl) [ inl e ↦ absurd (two_boots e) | inr x ↦ x ]
-  where
-    two_boots : ◌≡◌ {A = Option ℕ} (Some 2) (Some 1) → ⊥
-    two_boots e = absurd cc
+answered_from_before h = elim (h.1.1.1.1.0.1.0.1.1.1.1.1.0.0.0 1 1 (refl, tt) refl refl) [ inl e ↦ two_boots e | inr x ↦ x.0 ]
 
 -- ---- a notice tells the boot of its sender
 
@@ -1823,6 +1914,23 @@ refused_what_was_done h =
       (λ x. again_changed _ _ (inl (refl, refl)) x),
       ((λ x. again_none _ _ refl x), ((λ x. again_none _ _ refl x), ((λ x. again_none _ _ refl x), ((λ x. again_first _ _ _ refl refl x), ((λ x. again_none _ _ refl x), ((λ x. again_none _ _ refl x), tt)))))),
     ) (ran_again _ (h.1.1.1.1.1.0.1.1.0.0 1 1 (refl, tt) refl refl).ran)
+
+-- In one boot the server didn't answer a call, and in the next it makes the store; then it says that it had no room in the boot before
+abbrev refused_before : List Entry
+refused_before =
+    step_of (Client 1) (stores 1 ∷ []) (stores_in 1 ∷ [])
+    ∷ step_of (Server 1) (lines.Given 1 ∷ []) []
+    ∷ step_of (Server 1) (lines.Crash (Server 1) ∷ []) []
+    ∷ step_of (Server 1) (lines.Restart (Server 1) 2 ∷ lines.Owe (Server 1) (Client 1) None 1 ∷ []) []
+    ∷ step_of (Client 1) (times_out_as 1 ∷ []) (stores_in 1 ∷ [])
+    ∷ step_of (Server 1) (lines.Given 2 ∷ []) (record { head = record head_of_two { half = halves.Boot }; carried = carried.Notice } ∷ [])
+    ∷ step_of (Client 1) (lines.Given 3 ∷ []) (stores_in 2 ∷ [])
+    ∷ step_of (Server 1) (lines.Given 4 ∷ lines.Change (Server 1) (key_of_one 1) 1 ∷ lines.Version (record { fid = file; index = 2; data_version = 2; body = bodies.File (codes "def") }) ∷ []) []
+    ∷ step_of (Server 1) [] (roomless ∷ []) ∷ []
+
+refused_from_before : Legal refused_before (script 1) → ⊥
+unfolding moved begin_row client_row server_row back_timeout_row wake_row start_row record_bytes head_form volume_form spelled opaque pad word laid_at led name_ok directory_bytes name_bytes rights_of image acl_text digits entry_text directory_of names_at opaque_at word_at counted_at whole_at count_at name_at spelled_at bytes_below
+refused_from_before h = elim (h.1.1.1.1.1.1.1.1.0.1.0.1.1.1.1.1.0.0.0 1 1 (refl, tt) refl refl) [ inl e ↦ two_boots e | inr x ↦ no_room (sym (some_of _ _ x.1)) ]
 
 -- ---- no room for what the act has changed
 

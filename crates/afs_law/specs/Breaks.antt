@@ -85,8 +85,8 @@ live_grant s c f (lines.DropAll m q ∷ older) = cond (same_node m c && same_nod
 live_grant s c f (lines.Owe q d w n ∷ older) = cond (same_node q s && (same_node d c && is_on f w)) None (live_grant s c f older)
 live_grant s c f (l ∷ older) = live_grant s c f older
 
--- The same, and none too where since then the server stopped, or a break of it became owed to the client. Drops aren't looked at, for that the
--- client dropped it is nothing that a server has to know
+-- The last promise again, but none where since then the server stopped, or a break of it became owed to the client. Drops aren't looked at, for that
+-- the client dropped it is nothing that a server has to know
 abbrev pub unbroken_grant : Node → Node → Fid → List Line → Option ℕ
 unbroken_grant s c f [] = None
 unbroken_grant s c f (lines.Grant q d g index expiry ∷ older) = cond (same_node q s && (same_node d c && same_fid g f)) (Some expiry) (unbroken_grant s c f older)

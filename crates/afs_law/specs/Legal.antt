@@ -13,7 +13,6 @@ use Rattle.afs_num.specs.declared.types.Node.TheVariants.{Server, Client}
 use Rattle.afs_num.specs.declared.calls.AfsCallBack.{AfsCallBack}
 use Rattle.afs_num.specs.declared.calls.FsCall.{FsCall}
 use Rattle.afs_num.specs.declared.calls.FsCall.TheVariants as calls
-use Rattle.afs_num.specs.declared.calls.FsReply.{FsReply}
 use Rattle.afs_num.specs.declared.messages.Carried.{Carried}
 use Rattle.afs_num.specs.declared.messages.Message.{Message}
 use Rattle.afs_ideal.specs.Operations.{Caller, the_user, Result, refused, changes, no_operation, op, code_of, volume_called, volume_changed}
@@ -135,19 +134,30 @@ abbrev pub StoresIntoBy : Option Going → Fid → Type 0
 StoresIntoBy None f = ⊥
 StoresIntoBy (Some act) f = StoresInto (asked act) f
 
--- By these lines, the newest first, the version of this index came to the client since it last crashed: by a read of its contents or its
--- status that was fetched; or by an act that asks for a store into just this object, and was answered 0 after a call of the client's own had made
--- the version since the act began
+-- an act that asks for a change of this volume
+abbrev pub ChangesIn : ℕ → Option Going → Type 0
+ChangesIn id None = ⊥
+ChangesIn id (Some act) = volume_changed (asked act) ≡ Some id
+
+-- The client times a call out for the third time, by which its act asks for a change of the volume. Whether that was made it doesn't know
+abbrev pub Loses : Script → Node → ℕ → Node → ℕ → List Line → Type 0
+Loses s c id n count older = (n ≡ c) × ((count ≡ 3) × ChangesIn id (running s c older))
+
+-- By these lines, the newest first, the version of this index came to the client since it last crashed, or gave up a change in its volume: by a read of
+-- its contents or its status that was fetched; or by an act that asks for a store into just this object, and was answered 0 after a call of the client's
+-- own had made the version since the act began
 abbrev pub HasLearned : Script → Node → Fid → ℕ → List Line → Type 0
 HasLearned s c f index [] = ⊥
 HasLearned s c f index (lines.Read m g i source shown ∷ older) = ((m ≡ c) × ((g ≡ f) × ((i ≡ index) × ((source ≡ Fetched) × (is_promised shown ≡ true))))) ⊎ HasLearned s c f index older
 HasLearned s c f index (lines.Answer m code ∷ older) = ((m ≡ c) × ((code.0 ≡ pos 0) × (StoresIntoBy (running s c older) f × HasMadeItself c f index older))) ⊎ HasLearned s c f index older
+HasLearned s c f index (lines.Timeout n callee epoch number count ∷ older) = (Loses s c f.volume n count older → ⊥) × HasLearned s c f index older
 HasLearned s c f index (lines.Crash n ∷ older) = Unless (same_node n c) (HasLearned s c f index older)
 HasLearned s c f index (l ∷ older) = HasLearned s c f index older
 
--- By these lines, the newest first, this body came to the client as that of the version of this index, and since then it neither dropped the object
--- nor crashed. It came by a read that was fetched; or by an own act that made the version and was answered 0: a store of the whole, or a setting of
--- the status or the rights, over contents that had come as those of the index below. What drops all of a server drops the objects of its volumes
+-- By these lines, the newest first, this body came to the client as that of the version of this index, and since then it neither dropped the object,
+-- nor gave up a change in its volume, nor crashed. It came by a read that was fetched; or by an own act that made the version and was answered 0: a
+-- store of the whole, or a setting of the status or the rights, over contents that had come as those of the index below. What drops all of a server
+-- drops the objects of its volumes
 abbrev pub HasBrought : Script → Node → Fid → ℕ → Body → List Line → Type 0
 HasBrought s c f index body [] = ⊥
 HasBrought s c f index body (lines.Read m g i source shown ∷ older) = ((m ≡ c) × ((g ≡ f) × ((i ≡ index) × ((source ≡ Fetched) × (shown ≡ shows.Contents body))))) ⊎ HasBrought s c f index body older
@@ -155,6 +165,7 @@ HasBrought s c f index body (lines.Answer m code ∷ older) =
     ((m ≡ c) × ((code.0 ≡ pos 0) × (HasMadeItself c f index older × (StoresBy (running s c older) f body ⊎ ((below : ℕ) × ((index ≡ below + 1) × (SetsBy (running s c older) f × HasBrought s c f below body older))))))) ⊎ HasBrought s c f index body older
 HasBrought s c f index body (lines.Drop m g ∷ older) = Unless (same_node m c && same_fid g f) (HasBrought s c f index body older)
 HasBrought s c f index body (lines.DropAll m server ∷ older) = (m ≡ c → Accepts s f.volume server older → ⊥) × HasBrought s c f index body older
+HasBrought s c f index body (lines.Timeout n callee epoch number count ∷ older) = (Loses s c f.volume n count older → ⊥) × HasBrought s c f index body older
 HasBrought s c f index body (lines.Crash n ∷ older) = Unless (same_node n c) (HasBrought s c f index body older)
 HasBrought s c f index body (l ∷ older) = HasBrought s c f index body older
 
@@ -298,7 +309,7 @@ pub record IdealChange (s : Script) (server : Node) (k : Key) (count : ℕ) (pas
 
 -- A change is the ideal one, and the only one of its act. `once`: while any act runs at the key's node, this server changed nothing before under
 -- a key of that act. `alone`: no server changed anything before under another key of the act to which this key belongs, were that long over.
--- `owed`: behind the change stands a break for each other client whose last promise on one of the fids that change lasts
+-- `owed`: behind the change stands a break for each other client whose last promise on one of the fids that change lasts, and isn't broken already
 pub record GoodChange (s : Script) (server : Node) (k : Key) (count : ℕ) (past : List Entry) (own next : List Line) : Type 0 where
   pub ideal : IdealChange s server k count past own next
   pub once : (a : Going) → running s k.node (lines_of past) ≡ Some a → (l : Key) → HasChangeBy server l (lines_of past) → is_of_act k.node l past ≡ true → ⊥
@@ -395,8 +406,8 @@ IsChanging r = ⊥
 
 -- A reply's code, where `r` is what the ideal operation makes of its call, `ran` are the lines of the entry that ran the call, and `ls` all lines
 -- so far. It is the code of the ideal operation, and what that changes was told. Or it is 108, for a change: the server had no room. Then the
--- entry that ran the call tells none under its key, and wasn't interrupted, so that no restart told one either. Whether there was room no line
--- tells
+-- entry that ran the call tells none under its key, and wasn't interrupted, so that no restart told what that step left. Whether there was room no
+-- line tells
 abbrev pub IsResult : Node → ℤ → Option Result → Key → List Line → List Line → Type 0
 IsResult server code r k ran ls = ((code_given r ≡ code) × IsTold k r ls) ⊎ ((code ≡ pos 108) × (IsChanging r × ((HasChange k ran → ⊥) × (HasStopped server ran → ⊥))))
 
@@ -405,8 +416,8 @@ abbrev pub as_asked : FsCall → FsCall
 as_asked (calls.GiveUpCallBacks fids callbacks) = calls.GiveUpCallBacks [] []
 as_asked call = call
 
--- the reply has this code, and so has the ideal operation where the call ran; the call is the one that the act asks; and where
--- the operation makes versions, their change stands before
+-- the reply has this code, and so has the ideal operation where the call ran, or the code is 108 for a change; the call is the one that the act asks;
+-- and where the operation makes versions and the code is its own, their change stands before
 pub record Cause (reply : Message) (code : ℤ) (asks_for : FsCall) (past : List Entry) (own : List Line) : Type 0 where
   pub is_reply : IsReply reply
   pub told : code_told reply.carried ≡ Some code
@@ -592,7 +603,7 @@ abbrev pub GoodGift : Head → Carried → List Line → Type 0
 GoodGift head (carried.Call user (ask.File (calls.GiveUpCallBacks fids callbacks))) ls = AreDropped head.from fids ls
 GoodGift head c ls = ⊤
 
--- A reply with code 0 of a server: every break is ended that the server owes in an entry that ran its key; and where that key
+-- A reply with code 0 of a server: every break is ended that the server owes in an entry that was given a call of its key; and where that key
 -- changed something, every one on all; and the server is up. `past` begins with the entry that sends it
 abbrev pub GoodReply : List Entry → Message → Type 0
 GoodReply past m = IsReply m → code_told m.carried ≡ Some (pos 0) → (i : ℕ) → m.head.from ≡ Server i
@@ -616,9 +627,10 @@ GoodCall head c past = ⊤
 abbrev pub HasOwnHalf : Message → Type 0
 HasOwnHalf m = IsCall m.carried → m.head.half ≡ halves.Call
 
--- a server answers a client in the boot in which it is; or the call is one that changed something, the reply to which is kept over all boots
+-- a server answers a client in the boot in which it is; or it tells that a call is done which changed something, for such a reply is kept over all boots
 abbrev pub IsPresent : List Entry → Message → Type 0
-IsPresent past m = (i j : ℕ) → IsReply m → m.head.from ≡ Server i → m.head.to ≡ Client j → (server_boot m.head.from (lines_of past) ≡ Some m.head.boot) ⊎ HasChangeBy m.head.from (answered_key m.head) (lines_of past)
+IsPresent past m =
+    (i j : ℕ) → IsReply m → m.head.from ≡ Server i → m.head.to ≡ Client j → (server_boot m.head.from (lines_of past) ≡ Some m.head.boot) ⊎ (HasChangeBy m.head.from (answered_key m.head) (lines_of past) × (code_told m.carried ≡ Some (pos 0)))
 
 -- the node is in this boot; that of a client is its epoch
 abbrev pub IsInBoot : Node → ℕ → List Line → Type 0
@@ -707,10 +719,38 @@ IsAtHome s n (calls.BulkStatus fids) ls = AcceptsEach s n fids ls
 IsAtHome s n (calls.GiveUpCallBacks fids callbacks) ls = AcceptsEach s n fids ls
 IsAtHome s n call ls = (id : ℕ) → volume_called call ≡ Some id → Accepts s id n ls
 
--- none of these messages is a call of this call's sender under a later pair of epoch and number
-abbrev pub IsItsLast : Head → List Message → Type 0
-IsItsLast head [] = ⊤
-IsItsLast head (m ∷ ms) = (IsCall m.carried → m.head.from ≡ head.from → IsUpTo m.head.epoch m.head.number head.epoch head.number) × IsItsLast head ms
+-- none of these messages is a call of the key's node under a later key
+abbrev pub IsLastCall : Key → List Message → Type 0
+IsLastCall k [] = ⊤
+IsLastCall k (m ∷ ms) = (IsCall m.carried → m.head.from ≡ k.node → IsUpTo m.head.epoch m.head.number k.epoch k.number) × IsLastCall k ms
+
+-- what a file server answers a call with: a refusal, or what was asked for
+abbrev pub IsFileReply : Carried → Type 0
+IsFileReply (carried.Refusal code) = ⊤
+IsFileReply (carried.Reply (tell.File reply)) = ⊤
+IsFileReply c = ⊥
+
+-- The entry was given the answer to the client's last call: a reply or a refusal, from the node that was called, under the key of the call, with its
+-- opcode
+pub record HearsAnswer (c : Node) (past : List Entry) (ls : List Line) : Type 0 where
+  pub message : Message
+  pub given : given_message ls (sent_of past) ≡ Some message
+  pub to : message.head.to ≡ c
+  pub is : IsFileReply message.carried
+  pub code : ℤ
+  pub told : code_told message.carried ≡ Some code
+  pub user : List ℕ
+  pub call : FsCall
+  pub of : call_under (answered_key message.head) (sent_of past) ≡ Some (user, call)
+  pub from : callee_under (answered_key message.head) (sent_of past) ≡ Some message.head.from
+  pub opcode : message.head.opcode ≡ call_number call
+  pub last : IsLastCall (answered_key message.head) (sent_of past)
+
+-- A call under this key was sent before the entry with which `past` begins. Or its node begins an act in that entry, or is given the answer to its last
+-- call. So a client that waits for an answer makes no other call
+abbrev pub IsInTurn : Key → List Entry → Type 0
+IsInTurn k [] = ⊥
+IsInTurn k (e ∷ past) = (has_sent k (sent_of past) ≡ true) ⊎ ((has_begun k.node e.lines ≡ true) ⊎ HearsAnswer k.node past e.lines)
 
 -- a call that gives promises back names one
 abbrev pub GivesSome : FsCall → Type 0
@@ -722,9 +762,10 @@ abbrev pub IsInOrder : Key → List Message → Type 0
 IsInOrder k ms = (k.number ≡ 1) ⊎ ((n : ℕ) × ((k.number ≡ n + 1) × (has_sent (record k { number = n }) ms ≡ true)))
 
 -- A client sends a file call for its user while an act runs there that isn't at its end, and asks for just this call, which the header names too.
--- It sends it in its epoch. Of all calls that it sent so far none has a later pair, and its numbers go on one by one. It is the call under its key,
--- to the one callee: what is sent again is the same call. That callee accepts stores of the volumes of which it asks, and of those whose promises
--- it gives back, which are one at least; and it is sent to a boot that its callee, where a server, has begun
+-- It sends it in its epoch. Of all calls that it sent so far none has a later pair, and its numbers go on one by one. It makes a call where it begins
+-- the act, or is given the answer to the one before; else it sends that again. It is the call under its key, to the one callee: what is sent again is
+-- the same call. That callee accepts stores of the volumes of which it asks, and of those whose promises it gives back, which are one at least; and it
+-- is sent to a boot that its callee, where a server, has begun
 pub record OwnFileCall (s : Script) (c : Node) (head : Head) (user : List ℕ) (call : FsCall) (past : List Entry) : Type 0 where
   pub own_user : user ≡ user_of s c
   pub act : Going
@@ -734,7 +775,8 @@ pub record OwnFileCall (s : Script) (c : Node) (head : Head) (user : List ℕ) (
   pub opcode : head.opcode ≡ call_number call
   pub epoch : head.epoch ≡ epoch_after c (lines_of past)
   pub order : IsInOrder (called_key head) (sent_of past)
-  pub last : IsItsLast head (sent_of past)
+  pub last : IsLastCall (called_key head) (sent_of past)
+  pub turn : IsInTurn (called_key head) past
   pub one : call_under (called_key head) (sent_of past) ≡ Some (user, call)
   pub one_callee : callee_under (called_key head) (sent_of past) ≡ Some head.to
   pub home : IsAtHome s head.to call (lines_of past)
@@ -796,31 +838,16 @@ HasAnswer c code [] = ⊥
 HasAnswer c code (lines.Answer m given ∷ ls) = ((m ≡ c) × (given.0 ≡ code)) ⊎ HasAnswer c code ls
 HasAnswer c code (l ∷ ls) = HasAnswer c code ls
 
--- none of these messages is a call of the key's node under a later key
-abbrev pub IsLastCall : Key → List Message → Type 0
-IsLastCall k [] = ⊤
-IsLastCall k (m ∷ ms) = (IsCall m.carried → m.head.from ≡ k.node → IsUpTo m.head.epoch m.head.number k.epoch k.number) × IsLastCall k ms
-
--- The entry was given the reply to the client's last call, which brings what that asked for: the act that runs sent the call, the reply comes from
--- its callee and tells its opcode
-pub record IsReplied (s : Script) (c : Node) (past : List Entry) (ls : List Line) : Type 0 where
+-- the entry was given the answer to the client's last call, and that is one of the act which runs
+pub record HearsOfAct (s : Script) (c : Node) (past : List Entry) (ls : List Line) : Type 0 where
+  pub heard : HearsAnswer c past ls
   pub act : Going
   pub runs : running s c (lines_of past) ≡ Some act
-  pub message : Message
-  pub given : given_message ls (sent_of past) ≡ Some message
-  pub to : message.head.to ≡ c
-  pub reply : FsReply
-  pub carries : message.carried ≡ carried.Reply (tell.File reply)
-  pub user : List ℕ
-  pub call : FsCall
-  pub called : CalledSince (answered_key message.head) user call past
-  pub from : callee_under (answered_key message.head) (sent_of past) ≡ Some message.head.from
-  pub opcode : message.head.opcode ≡ call_number call
-  pub last : IsLastCall (answered_key message.head) (sent_of past)
+  pub called : CalledSince (answered_key heard.message.head) heard.user heard.call past
 
--- a client that is so given the reply to a call which may change something answers its act 0 in that entry
+-- a client that is so given the reply to a call which may change something, or its refusal, answers its act with that code in that entry
 abbrev pub TakesReply : Script → Actor → List Entry → List Line → Type 0
-TakesReply s (actors.Node (Client j)) past ls = (given : IsReplied s (Client j) past ls) (id : ℕ) → volume_changed given.call ≡ Some id → HasAnswer (Client j) (pos 0) ls
+TakesReply s (actors.Node (Client j)) past ls = (given : HearsOfAct s (Client j) past ls) (id : ℕ) → volume_changed given.heard.call ≡ Some id → HasAnswer (Client j) given.heard.code ls
 TakesReply s who past ls = ⊤
 
 -- ---- what an entry of a restart tells
@@ -857,12 +884,6 @@ IsLivedBy (actors.Node (Server i)) past ls sent = IsHostLived (server_boot (Serv
 IsLivedBy who past ls sent = ⊤
 
 -- ---- timeouts
-
--- what a file server answers a call with: a refusal, or what was asked for
-abbrev pub IsFileReply : Carried → Type 0
-IsFileReply (carried.Refusal code) = ⊤
-IsFileReply (carried.Reply (tell.File reply)) = ⊤
-IsFileReply c = ⊥
 
 -- this is the callee's reply to the call of this key and this opcode
 abbrev pub IsReplyTo : Node → Key → ℕ → Option Message → Type 0
@@ -941,11 +962,11 @@ abbrev pub IsBegun : Script → Node → List Entry → List Line → Type 0
 IsBegun s c past own = (own ≡ []) × (running s c (lines_of past) ≡ None)
 
 -- Each line stands in an entry of its own node: a begin, a read, an answer, a drop in one of its client, a change, a grant, a break in
--- one of its server, a tick, which isn't of 0 and is alone, in the clock's, and that nothing happened in nobody's. An act begins first in its
--- entry, while none runs. An entry is given one message at most; a version
--- stands under its change; an act runs where a client reads or answers; a timeout stands in an entry that is given no message and in
--- which its node begins no act; and a server that begins again owes each client of the script a break on all. A crash is of any node, a
--- fault of a server alone, for clients have no disk
+-- one of its server, a tick, which isn't of 0, in the clock's, and that nothing happened in nobody's. A tick, a stop and a fail are their entry's
+-- only line. An act begins first in its entry, while none runs. An entry is given one message at most, and that first; a version stands under its
+-- change; an act runs where a client reads or answers, and what is read from the cache it needs next; a timeout stands in an entry that is given no
+-- message and in which its node begins no act; and a server that begins again owes each client of the script a break on all. A crash is of any
+-- node, a fault of a server alone, for clients have no disk
 abbrev pub IsInPlace : Script → Actor → Line → List Entry → List Line → List Line → Type 0
 IsInPlace s who (lines.Begin c act) past own next = IsOfClient who c × IsBegun s c past own
 IsInPlace s who (lines.Given place) past own next = own ≡ []
@@ -995,10 +1016,9 @@ IsOfScript s actors.Nobody = ⊤
 
 -- An entry lays no volumes, for the set-up alone does; and it is of a node of the script. A server that begins again was down, and is then in
 -- a boot above the last one that it began. A node that is down does nothing but begin again, or fail to. What an entry is given was sent to its
--- node. A client that runs a call which breaks promises drops what these are on, and one that is given the reply to its change answers its act. A
--- server answers in the boot in which it is,
--- and to a changing call only where no other call of its act had changed something before that ran. A notice
--- tells the boot of its sender
+-- node. A client that runs a call which breaks promises drops what these are on, and one that is given the answer to its last call answers its act, where
+-- that call may change something. A server answers in the boot in which it is, and to a changing call only where no other call of its act had changed
+-- something before that ran. A notice tells the boot of its sender
 abbrev pub IsEntryOf : Script → List Entry → Entry → Type 0
 IsEntryOf s past e = ((e.volumes ≡ []) × IsOfScript s e.actor) × (AreRising (lines_of past) e.lines × (IsLivedBy e.actor past e.lines e.sent × (IsDelivered e.actor past e.lines × ((HandlesBreaks e.actor past e.lines × TakesReply s e.actor past e.lines) × ArePresent (e ∷ past) e.sent))))
 

@@ -71,9 +71,10 @@ AllLines G s history = EachEntry (λ past e. EachLine G e.actor past [] e.lines)
 -- ---- entries
 
 -- Each entry of a run is of a node of the script and lays no volume. A server that begins again in it was down, and is then in a boot above the last
--- one that it began. It tells what its node, up or down, can tell, is given what was sent to that, drops what is broken in it, and answers the act whose
--- change it is told of. What it sends as a server's reply to a client is of its present boot or to a change, and is that of the entry which ran its
--- call; to a changing call it is sent only where no other call of the act had changed something. A notice tells the boot of its sender
+-- one that it began. It tells what its node, up or down, can tell, is given what was sent to that, drops what is broken in it, and answers the act of
+-- whose last call it is told, where that may change something. What it sends as a server's reply to a client is of its present boot or the success of a
+-- change, and is that of the entry which ran its call; to a changing call it is sent only where no other call of the act had changed something before
+-- that ran. A notice tells the boot of its sender
 abbrev pub EntriesAreSound : Type 0
 EntriesAreSound = (s : Script) (history : List Entry) (end : Cell) → RunsTo history s end → EachEntry (λ past e. IsEntryOf s past e × WereRun (e ∷ past) e.sent) (set_up s ∷ []) history
 
@@ -100,7 +101,8 @@ IsOwn past m = IsBy m.head.from past × GoodCall m.head m.carried past
 abbrev pub MessagesAreOwn : Type 0
 MessagesAreOwn = (s : Script) (history : List Entry) (end : Cell) → RunsTo history s end → EachEntry (λ past e. EachSent IsOwn (e ∷ past) e.sent) (set_up s ∷ []) history
 
--- a client's call is one of its running act, numbered in order, the one under its key, and to the server of what it asks or gives back
+-- a client's call is one of its running act, numbered in order, made when the one before was answered, the one under its key, and to the server of
+-- what it asks or gives back
 abbrev pub IsOwnCall : Script → List Entry → Message → Type 0
 IsOwnCall s past m = OwnCall s m.head m.carried past
 

@@ -32,7 +32,7 @@ GrantsAreGood = (s : Script) (history : List Entry) (end : Cell) → RunsTo hist
 
 -- ---- breaks
 
--- behind a change stands a break for each other client whose last promise on one of the fids that change lasts; and what is owed, settled or
+-- behind a change stands a break for each other client whose last promise on one of the fids that change lasts, unbroken; and what is owed, settled or
 -- given up is good
 abbrev pub IsBreakGood : Script → LineRule
 IsBreakGood s who (lines.Change server k count) past own next =

@@ -1,0 +1,248 @@
+-- A client makes a call where it begins an act, or is given the answer to the call before; else it sends that again. However many servers a cell has.
+use Rattle.afs_history.specs.declared.scripts.Script.{Script}
+use Rattle.afs_law.proofs.Acting.{Acts, IsTheCall, begins_acts, given_acts, last_key, waits_acts, who_at}
+use Rattle.afs_law.proofs.Asking.{its_last}
+use Rattle.afs_law.proofs.Basics.{ByClient, Each, IfCall, OfCall, a_key, both, by_client, each_map, if_call, same_key-true, same_node-true}
+use Rattle.afs_law.proofs.Calling.{IsUncalled, uncalled_any}
+use Rattle.afs_law.proofs.Following.{more_not, none_runs}
+use Rattle.afs_law.proofs.Hearing.{client_given}
+use Rattle.afs_law.proofs.KeysOnce.{IsKnown, any_told, by_key}
+use Rattle.afs_law.proofs.Knowing.{Known, served_uncalled, started_uncalled, timed_uncalled, woken_uncalled}
+use Rattle.afs_law.proofs.Moving.{EachMove}
+use Rattle.afs_law.proofs.Numbered.{IsNumbered, Numbered}
+use Rattle.afs_law.proofs.Origins.{KnownAsked, of_client, same_key_at, the_calls}
+use Rattle.afs_law.proofs.Timing.{row_begun}
+use Rattle.afs_law.specs.Ideal.{call_in, call_under, callee_under}
+use Rattle.afs_law.specs.Legal.{HearsAnswer, IsFileReply, IsInTurn}
+use Rattle.afs_law.specs.Past.{answered_key, called_key, code_told, has_begun, has_sent, is_called, sent_of}
+use Rattle.afs_model.specs.Calls as pairs
+use Rattle.afs_model.specs.Calls.{Admitted, admitted}
+use Rattle.afs_num.specs.Nodes.{same_node}
+use Rattle.afs_num.specs.declared.calls.FsCall.{FsCall}
+use Rattle.afs_num.specs.declared.calls.FsCall.TheVariants as calls
+use Rattle.afs_num.specs.declared.messages.Call.TheVariants as ask
+use Rattle.afs_num.specs.declared.messages.Carried.{Carried}
+use Rattle.afs_num.specs.declared.messages.Carried.TheVariants as carried
+use Rattle.afs_num.specs.declared.messages.Message.{Message}
+use Rattle.afs_num.specs.declared.messages.Received.TheVariants.{Whole}
+use Rattle.afs_num.specs.declared.messages.Reply.TheVariants as tell
+use Rattle.afs_num.specs.declared.types.Head.{Head}
+use Rattle.afs_num.specs.declared.types.Key.{Key}
+use Rattle.afs_num.specs.declared.types.Node.{Node}
+use Rattle.afs_num.specs.declared.types.Node.TheVariants.{Client, Server}
+use Rattle.afs_rows.specs.ClientRow.{admits_call, awaits, breaks, call_of, client_row, counts, hears, is_awaited, opcode_of, runs_carried, timeout_row, whole}
+use Rattle.afs_rows.specs.Going.{ClientState, Going}
+use Rattle.afs_rows.specs.Runs.{Cell, Entry, Moved, begun_by_disk, message_at, server_moves, server_rises}
+use Rattle.afs_rows.specs.ServerRow.{key_of}
+use Rattle.afs_rows.specs.ServerSteps.{back_timeout_row, server_row, wake_row}
+use Rattle.afs_rows.specs.Steps.{Step}
+use Rattle.std.proofs.Common.{◌≡◌, ◌⊎◌, ◌∙◌, ℕ, ℤ, inl, inr, Bool, true, false, cond, List, [], ◌∷◌, Option, Some, None, pos, ap, eqb-true, refl, subst, sym}
+use Rattle.std.specs.Prelude.{nat_eq, nat_lt}
+
+-- ---- the callee under a key
+
+abbrev pub KnownBy : (Key → Node) → (ℕ → ClientState) → Head → List ℕ → FsCall → Type 0
+KnownBy callees clients head user call = IsKnown callees clients head.to (key_of head)
+
+-- the node to which this was sent is that of its key
+sent_to : (callees : Key → Node) (clients : ℕ → ClientState) (n : ℕ) (k : Key) (head : Head) (c : Carried) → k.node ≡ Client n → is_called k head c ≡ true → OfCall (ByClient (KnownBy callees clients)) head c → head.to ≡ callees k
+sent_to callees clients n k head (carried.Call user (ask.File call)) node is h =
+    let same : called_key head ≡ k = same_key-true (called_key head) k is in
+    (by_client n head.from (KnownBy callees clients head user call) (ap (λ (l : Key). l.node) same ∙ node) h).called ∙ ap callees same
+sent_to callees clients n k head (carried.Call user (ask.Volume call)) node is h = absurd cc
+sent_to callees clients n k head (carried.Call user (ask.Location call)) node is h = absurd cc
+sent_to callees clients n k head (carried.Refusal code) node is h = absurd cc
+sent_to callees clients n k head (carried.Reply reply) node is h = absurd cc
+sent_to callees clients n k head carried.Notice node is h = absurd cc
+
+to_by : (t : Bool) (to q : Node) (o : Option Node) (p x : Option (List ℕ × FsCall)) (y : List ℕ × FsCall) → cond t x p ≡ Some y → (t ≡ true → to ≡ q) → (p ≡ Some y → o ≡ Some q) → cond t (Some to) o ≡ Some q
+to_by true to q o p x y e h k = ap Some (h refl)
+to_by false to q o p x y e h k = k e
+
+pub callee_is : (callees : Key → Node) (clients : ℕ → ClientState) (n : ℕ) (k : Key) (x : List ℕ × FsCall) (sent : List Message) → k.node ≡ Client n → call_under k sent ≡ Some x → Each (IfCall (KnownBy callees clients)) sent → callee_under k sent ≡ Some (callees k)
+callee_is callees clients n k x [] node e h = absurd cc
+callee_is callees clients n k x (m ∷ sent) node e h =
+    to_by (is_called k m.head m.carried) m.head.to (callees k) (callee_under k sent) (call_under k sent) (call_in m.carried) x e
+    (λ t. sent_to callees clients n k m.head m.carried node t h.0)
+    (λ y. callee_is callees clients n k x sent node y h.1)
+
+-- ---- the answer to the call that waits
+
+pub its_key : (n : ℕ) (c : ClientState) (act : Going) (head : Head) → head.to ≡ Client n → is_awaited c act head ≡ true → last_key n c ≡ answered_key head
+its_key n c act head to e =
+    let p = both (same_node head.from c.callee) _ e in
+    let q = both (nat_eq head.epoch c.epoch) _ p.1 in
+    let u = both (nat_eq head.number c.last) _ q.1 in
+    sym (ap (λ (m : Node). a_key m head.epoch head.number) to ∙ (ap (λ (i : ℕ). a_key (Client n) i head.number) (eqb-true head.epoch c.epoch q.0) ∙ ap (λ (i : ℕ). a_key (Client n) c.epoch i) (eqb-true head.number c.last u.0)))
+
+its_callee : (c : ClientState) (act : Going) (head : Head) → is_awaited c act head ≡ true → head.from ≡ c.callee
+its_callee c act head e = same_node-true head.from c.callee (both (same_node head.from c.callee) _ e).0
+
+its_opcode : (c : ClientState) (act : Going) (head : Head) → is_awaited c act head ≡ true → head.opcode ≡ opcode_of c act
+its_opcode c act head e =
+    let p = both (same_node head.from c.callee) _ e in
+    let q = both (nat_eq head.epoch c.epoch) _ p.1 in
+    let u = both (nat_eq head.number c.last) _ q.1 in
+    eqb-true head.opcode (opcode_of c act) u.1
+
+record IsAnswered (n : ℕ) (c : ClientState) (m : Message) : Type 0 where
+  act : Going
+  runs : c.running ≡ Some act
+  to : m.head.to ≡ Client n
+  its : is_awaited c act m.head ≡ true
+  is : IsFileReply m.carried
+
+coded : (x : Carried) → IsFileReply x → (code : ℤ) × (code_told x ≡ Some code)
+coded (carried.Refusal code) is = (code.0, refl)
+coded (carried.Reply (tell.File reply)) is = (pos 0, refl)
+coded (carried.Reply reply) is = absurd is
+coded (carried.Call user call) is = absurd is
+coded carried.Notice is = absurd is
+
+answer_heard : (s : Script) (c : Cell) (past : List Entry) (n place : ℕ) (m : Message) → KnownAsked s c past → message_at c.sent place ≡ Some m → IsAnswered n (c.clients n) m → HearsAnswer (Client n) past (client_row (Client n) (c.clients n) c.clock place (Whole m)).lines
+answer_heard s c past n place m h at a =
+    let x : ClientState = c.clients n in
+    let K : Known c past = h.0 in
+    let key : last_key n x ≡ answered_key m.head = its_key n x a.act m.head a.to a.its in
+    let known : Each (IfCall (KnownBy K.keys.callees c.clients)) (sent_of past) = subst (Each (IfCall (KnownBy K.keys.callees c.clients))) (sym K.hears.told) K.keys.calls in
+    let under : call_under (last_key n x) (sent_of past) ≡ Some (x.user, call_of x a.act) = ap (call_under (last_key n x)) K.hears.told ∙ h.1.last n a.act a.runs in
+    let callee : callee_under (last_key n x) (sent_of past) ≡ Some m.head.from =
+    callee_is K.keys.callees c.clients n (last_key n x) (x.user, call_of x a.act) (sent_of past) refl under known ∙ ap Some (K.keys.own n ∙ sym (its_callee x a.act m.head a.its)) in
+    let code = coded m.carried a.is in
+    record {
+      message = m;
+      given = (client_given c past n place m K.hears a.to at).given (sent_of past) ∙ (ap (λ (ms : List Message). message_at ms place) K.hears.told ∙ at);
+      to = a.to;
+      is = a.is;
+      code = code.0;
+      told = code.1;
+      user = x.user;
+      call = call_of x a.act;
+      of = subst (λ (k : Key). call_under k (sent_of past) ≡ Some (x.user, call_of x a.act)) key under;
+      from = subst (λ (k : Key). callee_under k (sent_of past) ≡ Some m.head.from) key callee;
+      opcode = its_opcode x a.act m.head a.its;
+      last = its_last K.keys.callees c.clients n (answered_key m.head) (sent_of past) (sym key) known;
+    }
+
+-- ---- its number stays, unless it is given that
+
+abbrev Stays : Type 0 → ClientState → Step ClientState → Type 0
+Stays A c st = (st.state.last ≡ c.last) ⊎ A
+
+if_stays : (A : Type 0) (t : Bool) (c : ClientState) (a b : Step ClientState) → (t ≡ true → Stays A c a) → Stays A c b → Stays A c (cond t a b)
+if_stays A true c a b h k = h refl
+if_stays A false c a b h k = k
+
+counts_stays : (A : Type 0) (n clock place : ℕ) (c : ClientState) (act : Going) (head : Head) (x : Carried) → (IsFileReply x → A) → Stays A c (counts (Client n) c clock place act head x)
+counts_stays A n clock place c act head (carried.Call user call) w = inl refl
+counts_stays A n clock place c act head (carried.Refusal code) w = inr (w tt)
+counts_stays A n clock place c act head (carried.Reply (tell.File reply)) w = inr (w tt)
+counts_stays A n clock place c act head (carried.Reply reply) w = inl refl
+counts_stays A n clock place c act head carried.Notice w = inl refl
+
+awaits_stays : (A : Type 0) (n clock place : ℕ) (c : ClientState) (head : Head) (x : Carried) (o : Option Going) → ((act : Going) → o ≡ Some act → is_awaited c act head ≡ true → IsFileReply x → A) → Stays A c (awaits (Client n) c clock place head x o)
+awaits_stays A n clock place c head x None w = inl refl
+awaits_stays A n clock place c head x (Some act) w = if_stays A (is_awaited c act head) c _ _ (λ t. counts_stays A n clock place c act head x (w act refl t)) (inl refl)
+
+breaks_last : (n place : ℕ) (c : ClientState) (head : Head) (call : FsCall) → (breaks (Client n) c place head call).state.last ≡ c.last
+breaks_last n place c head (calls.CallBack fs callbacks) = refl
+breaks_last n place c head calls.InitCallBackState = refl
+breaks_last n place c head calls.Probe = refl
+breaks_last n place c head call = refl
+
+carried_last : (n place : ℕ) (c : ClientState) (head : Head) (x : Carried) → (runs_carried (Client n) c place head x).state.last ≡ c.last
+carried_last n place c head (carried.Call user (ask.File call)) = breaks_last n place c head call
+carried_last n place c head (carried.Call user call) = refl
+carried_last n place c head x = refl
+
+admits_last : (n place : ℕ) (c : ClientState) (head : Head) (x : Carried) (o : Admitted Message) → (admits_call (Client n) c place head (whole head x) o).state.last ≡ c.last
+admits_last n place c head x pairs.runs = carried_last n place c head x
+admits_last n place c head x (pairs.kept reply) = refl
+admits_last n place c head x pairs.in_progress = refl
+admits_last n place c head x pairs.older = refl
+admits_last n place c head x (pairs.wrong_boot boot) = refl
+
+hears_stays : (A : Type 0) (n clock place : ℕ) (c : ClientState) (head : Head) (x : Carried) → ((act : Going) → c.running ≡ Some act → is_awaited c act head ≡ true → IsFileReply x → A) → Stays A c (hears (Client n) c clock place head x)
+hears_stays A n clock place c head (carried.Call user call) w = inl (admits_last n place c head (carried.Call user call) (admitted c.epoch c.seats head))
+hears_stays A n clock place c head x w = awaits_stays A n clock place c head x c.running w
+
+row_stays : (n clock place : ℕ) (c : ClientState) (m : Message) → m.head.to ≡ Client n → Stays (IsAnswered n c m) c (client_row (Client n) c clock place (Whole m))
+unfolding client_row
+row_stays n clock place c m to =
+    if_stays (IsAnswered n c m) (same_node m.head.to (Client n)) c _ _ (λ t. hears_stays (IsAnswered n c m) n clock place c m.head m.carried (λ act r its is. record { act = act; runs = r; to = to; its = its; is = is })) (inl refl)
+
+either_last : (t : Bool) (c : ClientState) (a b : Step ClientState) → a.state.last ≡ c.last → b.state.last ≡ c.last → (cond t a b).state.last ≡ c.last
+either_last true c a b h k = h
+either_last false c a b h k = k
+
+waits_last : (n : ℕ) (c : ClientState) (act : Going) → (timeout_row (Client n) c act).state.last ≡ c.last
+waits_last n c act = either_last (nat_lt c.tries 2) c _ _ refl refl
+
+-- ---- what it sends now
+
+-- where it makes another call it begins an act, or is given that answer
+abbrev HasTurn : ℕ → ClientState → Step ClientState → List Entry → Type 0
+HasTurn n c st past = (st.state.last ≡ c.last → ⊥) → (has_begun (Client n) st.lines ≡ true) ⊎ HearsAnswer (Client n) past st.lines
+
+was_sent : (n : ℕ) (x : ClientState) (act : Going) (sent : List Message) → x.running ≡ Some act → IsNumbered n x sent → has_sent (last_key n x) sent ≡ true
+was_sent n x act sent run (inl e) = absurd (none_runs x.running act e.1 run)
+was_sent n x act sent run (inr y) = y.0
+
+last_turn : (n : ℕ) (c : ClientState) (st : Step ClientState) (act : Going) (past : List Entry) → IsNumbered n c (sent_of past) → Acts n (who_at c) c.gifts st → HasTurn n c st past → st.state.running ≡ Some act → IsInTurn (last_key n st.state) (of_client n st ∷ past)
+last_turn n c st act past numbered a turn run = elim a.goes [
+  | inl r ↦ elim r.act [
+    | inl none ↦ absurd (none_runs st.state.running act none run)
+    | inr same ↦ inl (subst (λ (k : Key). has_sent k (sent_of past) ≡ true) (sym (same_key_at n c st.state r.epoch r.last)) (was_sent n c act (sent_of past) (sym same.0 ∙ run) numbered))
+  ]
+  | inr y ↦ elim y [
+    | inl z ↦ inr (turn (more_not st.state.last c.last z.last))
+    | inr z ↦ absurd (none_runs st.state.running act z.act run)
+  ]
+]
+
+abbrev pub TakesTurn : List Entry → Head → List ℕ → FsCall → Type 0
+TakesTurn past head user call = IsInTurn (called_key head) past
+
+client_turns : (s : Script) (c : Cell) (past : List Entry) (n : ℕ) (st : Step ClientState) → Numbered s c past → Acts n (who_at (c.clients n)) (c.clients n).gifts st → HasTurn n (c.clients n) st past → Each (IfCall (TakesTurn (of_client n st ∷ past))) st.sent
+client_turns s c past n st h a turn =
+    let x : ClientState = c.clients n in
+    let numbered : IsNumbered n x (sent_of past) = subst (IsNumbered n x) (sym h.0.0.0.0.hears.told) (h.1 n) in
+    let now : (head : Head) (user : List ℕ) (call : FsCall) → IsTheCall n st.state head user call → TakesTurn (of_client n st ∷ past) head user call =
+    λ head user call i. subst (λ (k : Key). IsInTurn k (of_client n st ∷ past)) (sym i.key) (last_turn n x st i.act past numbered a turn i.runs) in
+    each_map (IfCall (IsTheCall n st.state)) (IfCall (TakesTurn (of_client n st ∷ past))) (if_call (IsTheCall n st.state) (TakesTurn (of_client n st ∷ past)) now) st.sent (the_calls n x st a.goes)
+
+told_turn : (s : Script) (c : Cell) (past : List Entry) (n place : ℕ) (m : Message) → Numbered s c past → message_at c.sent place ≡ Some m → m.head.to ≡ Client n → HasTurn n (c.clients n) (client_row (Client n) (c.clients n) c.clock place (Whole m)) past
+told_turn s c past n place m h at to other = elim (row_stays n c.clock place (c.clients n) m to) [
+  | inl same ↦ absurd (other same)
+  | inr a ↦ inr (answer_heard s c past n place m h.0.0.0 at a)
+]
+
+-- ---- every step
+
+abbrev pub TurnsNow : Cell → List Entry → Moved → Type 0
+TurnsNow c past m = Each (IfCall (TakesTurn (m.entry ∷ past))) m.entry.sent
+
+none_turn : (past : List Entry) (m : Moved) → Each IsUncalled m.entry.sent → Each (IfCall (TakesTurn (m.entry ∷ past))) m.entry.sent
+none_turn past m h = each_map IsUncalled (IfCall (TakesTurn (m.entry ∷ past))) (uncalled_any (TakesTurn (m.entry ∷ past))) m.entry.sent h
+
+pub turn_moves : (s : Script) → EachMove (Numbered s) TurnsNow
+turn_moves s = record {
+  void = λ c past h. tt;
+  ticked = λ c past n h. tt;
+  begun = λ c past n act h r. client_turns s c past n _ h (begins_acts n (c.clients n) c.clock act r) (λ other. inl (row_begun (c.clients n) n c.clock act));
+  told = λ c past n place m h at to. client_turns s c past n _ h (given_acts (by_key (IsKnown h.0.0.0.0.keys.callees c.clients)) any_told n (c.clients n) c.clock place m (h.0.0.0.0.keys.replies n) (h.0.0.0.1.seats n)) (told_turn s c past n place m h at to);
+  waited = λ c past n act h r. client_turns s c past n _ h (waits_acts n (c.clients n) act r) (λ other. absurd (other (waits_last n (c.clients n) act)));
+  fallen = λ c past n h. tt;
+  risen = λ c past n h. tt;
+  served = λ c past i place m armed h up at to. none_turn past (server_moves c i armed (server_row (Server i) (c.hosts i).state c.clock place (Whole m))) (served_uncalled c past i place m h.0.0.0.0 at);
+  cut = λ c past i place m t h up at to. tt;
+  stopped = λ c past i h up. tt;
+  stop_set = λ c past i calls pick armed h up. tt;
+  fail_set = λ c past i call armed h up. tt;
+  timed = λ c past i n b armed h up at. none_turn past (server_moves c i armed (back_timeout_row (Server i) (c.hosts i).state c.clock n b)) (timed_uncalled c past i n b h.0.0.0.0);
+  woken = λ c past i armed h up. none_turn past (server_moves c i armed (wake_row (Server i) (c.hosts i).state c.clock)) (woken_uncalled c past i h.0.0.0.0);
+  started = λ c past i after fall h down. none_turn past (server_rises c i (begun_by_disk (Server i) (c.hosts i).state after fall)) (started_uncalled c past i after fall h.0.0.0.0 down);
+  early = λ c past i fall h down. tt;
+  midway = λ c past i after fall h down. tt;
+  full = λ c past i after fall h down. tt;
+}
