@@ -9,6 +9,7 @@ mod disks;
 #[cfg(test)]
 mod files;
 #[cfg(test)]
+mod interrupted;
 #[cfg(test)]
 mod journals;
 #[cfg(test)]

@@ -43,7 +43,7 @@ use Rattle.afs_rows.specs.ClientRow.{answers_step, awaits, begin_row, call_of, c
 use Rattle.afs_rows.specs.Going.{ClientState, Going}
 use Rattle.afs_rows.specs.Runs.{Cell, Entry, Moved, RunsTo, message_at, start}
 use Rattle.afs_rows.specs.Steps.{Step}
-use Rattle.std.proofs.Common.{◌≡◌, ℕ, ℤ, inl, inr, Bool, true, false, cond, List, [], ◌∷◌, not, Option, Some, None, pos, refl, sym, ap, subst, ◌∙◌}
+use Rattle.std.proofs.Common.{◌+◌, ◌≡◌, ℕ, ℤ, inl, inr, Bool, true, false, cond, List, [], ◌∷◌, not, Option, Some, None, pos, refl, sym, ap, subst, ◌∙◌}
 use Rattle.std.specs.Prelude.{◌&&◌, nat_lt}
 
 -- ---- the step answers the act
