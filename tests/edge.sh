@@ -253,13 +253,13 @@ if (ulimit -v 1000000) 2> /dev/null; then
     # what the run has to be: each act reads 100 directories, by a call and a reply each
     walks '' > "$work/walks.afs"
     status=0
-    (ulimit -v 30000 && exec "$program" replay < "$work/walks.afs") > "$work/out" 2> "$work/err" || status=$?
+    (ulimit -v 12000 && exec "$program" replay < "$work/walks.afs") > "$work/out" 2> "$work/err" || status=$?
     holds "a long run in little memory: status $status, wanted 0" [ "$status" = 0 ]
     holds 'a long run in little memory: its messages' [ "$(grep -c '^sent ' "$work/out")" = 100000 ]
     holds 'a long run in little memory: its answers' [ "$(grep -c '^answer c1 0$' "$work/out")" = 500 ]
     walks 'deliver 1' > "$work/kept.afs"
     status=0
-    (ulimit -v 30000 && exec "$program" replay < "$work/kept.afs") > "$work/kept" 2> "$work/err" || status=$?
+    (ulimit -v 12000 && exec "$program" replay < "$work/kept.afs") > "$work/kept" 2> "$work/err" || status=$?
     holds "a run that keeps its messages: status $status, wanted 7" [ "$status" = 7 ]
     head -c "$(wc -c < "$work/kept")" "$work/out" > "$work/beginning"
     holds 'a run that keeps its messages: a beginning' cmp -s "$work/beginning" "$work/kept"
