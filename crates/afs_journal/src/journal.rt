@@ -1,4 +1,4 @@
-ghost use Rattle.std.specs.Prelude.{◌≡◌, ◌≤◌, ◌<◌, ◌+◌, ◌++◌, ◌∷◌, [], ◌↔◌, ◌*◌, ◌^◌, List, ℕ, Some, true, false, length, MatchResult, IfOk, IfErr, OnErr, OnOk, IsOk, IsErrOf, IsTrue, IsSome};
+ghost use Rattle.std.specs.Prelude.{◌≡◌, ◌≤◌, ◌<◌, ◌+◌, ◌++◌, ◌∷◌, [], ◌↔◌, ◌*◌, ◌^◌, List, ℕ, Some, true, false, length, MatchResult, IfOk, IfErr, OnOk, IsOk, IsErrOf, IsTrue, IsSome};
 ghost use Rattle.afs_disk.specs.Disk.{LeavesOnly, PassesAll};
 ghost use Rattle.afs_journal.specs.Left.{LeavesByPick, ReachesCall};
 ghost use Rattle.afs_journal.specs.Records.{whole_records, IsBeforeOrAfter};
@@ -56,7 +56,7 @@ fn take_up<D: Disk>(alloc: Global, disk: &mut D) -> Result<(Records, u64), Journ
     ensures done { OnOk result ((bytes : List ℕ) → D.seen disk.old ≡ Some bytes → IsJournal (whole_records bytes) (D.seen disk.new) (D.may_leave disk.new)) }
     ensures any_moment { (bytes : List ℕ) → D.seen disk.old ≡ Some bytes → LeavesOnly D.moment D.left_since disk.old disk.new (StandsAsBefore (D.may_leave disk.old)) }
     ensures begins { D.calls disk.old + 2 ≤ D.calls disk.new → (bytes : List ℕ) → D.seen disk.old ≡ Some bytes → AlwaysStandsFor (whole_records bytes) (D.may_leave disk.new) }
-    ensures reads { OnErr result ((bytes now : List ℕ) → D.seen disk.old ≡ Some bytes → D.seen disk.new ≡ Some now → whole_records now ≡ whole_records bytes) }
+    ensures reads { (bytes now : List ℕ) → D.seen disk.old ≡ Some bytes → D.seen disk.new ≡ Some now → whole_records now ≡ whole_records bytes }
     ensures rests { OnOk result ((bytes : List ℕ) → D.seen disk.old ≡ Some bytes → Rests bytes → D.calls disk.new ≡ D.calls disk.old + 2) }
     ensures calls { (D.calls disk.old ≤ D.calls disk.new) × (D.calls disk.new ≤ D.calls disk.old + 6) }
     ensures setting { D.setting disk.new ≡ D.setting disk.old }

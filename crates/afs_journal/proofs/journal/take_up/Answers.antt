@@ -42,3 +42,10 @@ returns-in_err-found-clause-reads g c = λ bytes now told held.
     let run = c.settle.ensures.any_moment (c.open.ensures.seen ∙ told ∙ ap (λ (l : List ℕ). Some l) (sym read)) (λ b left. c.in_ok-bytes.ensures.durable bytes told b left ∙ sym read) in
     let left = g.met.D.Disk.leaves c.settle.new.disk 1 now (g.met.D.Disk.shows c.settle.new.disk ∙ held) in
     stands_now g.D.Disk.may_leave g.D.Disk.moment g.D.Disk.left_since g.met.D.Disk.counts_now c.open.new.disk c.settle.new.disk (λ (l : List ℕ). whole_records l ≡ whole_records c.deref.result.now) run now left ∙ ap whole_records read
+
+pub returns-clause-reads : goal.returns-clause-reads
+returns-clause-reads g c = λ bytes now told held.
+    let read : c.deref.result.now ≡ bytes = c.deref.ensures.value ∙ c.in_ok-bytes.ensures.bytes bytes told in
+    let run = c.settle.ensures.any_moment (c.open.ensures.seen ∙ told ∙ ap (λ (l : List ℕ). Some l) (sym read)) (λ b left. c.in_ok-bytes.ensures.durable bytes told b left ∙ sym read) in
+    let left = g.met.D.Disk.leaves c.settle.new.disk 1 now (g.met.D.Disk.shows c.settle.new.disk ∙ held) in
+    stands_now g.D.Disk.may_leave g.D.Disk.moment g.D.Disk.left_since g.met.D.Disk.counts_now c.open.new.disk c.settle.new.disk (λ (l : List ℕ). whole_records l ≡ whole_records c.deref.result.now) run now left ∙ ap whole_records read

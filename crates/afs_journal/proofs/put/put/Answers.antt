@@ -72,3 +72,17 @@ returns-in_err-sync-2-clause-left g c = λ count body bytes spells told settled.
     left_picked g.D.Disk.left_by g.D.Disk.calls g.D.Disk.setting (whole_records bytes) body c.args.disk.now c.sync-2.new.self (omega (arith, c.write_at.ensures.calls, c.sync.ensures.calls, c.write_at-2.ensures.calls, c.sync-2.ensures.calls))
     (λ trips pick b left. let untouched = c.sync-2.ensures.stopped (subst (λ (s : Setting). Trips s (g.D.Disk.calls c.sync-2.new.self)) (sym set) trips) in
         picked g.D.Disk.seen g.D.Disk.may_leave g.D.Disk.moment g.D.Disk.left_since g.met.D.Disk.just_now count c.args.gate body bytes c.args.place.now spells c.args.disk.now told settled c.write_at.new.self c.write_at.ensures.time c.write_at.ensures.crash c.sync.new.self c.sync.ensures.time c.sync.ensures.crash c.in_ok-write_at.ensures.written c.sync.ensures.seen c.in_ok-sync.ensures.durable c.write_at-2.new.self c.write_at-2.ensures.time c.write_at-2.ensures.crash g.D.Disk.left_by c.in_ok-sync.ensures.picks c.in_ok-write_at-2.ensures.picks pick b (sym (untouched.same.same_picks pick) ∙ left))
+
+pub returns-clause-reached : goal.returns-clause-reached
+returns-clause-reached g c =
+    let two = passed_on _ _ _ _ _ c.write_at.ensures.setting c.in_ok-write_at.ensures.cause.passed c.in_ok-sync.ensures.cause.passed in
+    let three = passed_on _ _ _ _ _ (c.sync.ensures.setting ∙ c.write_at.ensures.setting) two c.in_ok-write_at-2.ensures.cause.passed in
+    reached_so _ _ _ _ (omega (arith, c.write_at.ensures.calls, c.sync.ensures.calls, c.write_at-2.ensures.calls)) three c.sync-2.ensures.calls
+
+-- none was
+pub returns-clause-left : goal.returns-clause-left
+returns-clause-left g c = λ count body bytes spells told settled trips.
+    let two = passed_on _ _ _ _ _ c.write_at.ensures.setting c.in_ok-write_at.ensures.cause.passed c.in_ok-sync.ensures.cause.passed in
+    let three = passed_on _ _ _ _ _ (c.sync.ensures.setting ∙ c.write_at.ensures.setting) two c.in_ok-write_at-2.ensures.cause.passed in
+    let four = passed_on _ _ _ _ _ (c.write_at-2.ensures.setting ∙ (c.sync.ensures.setting ∙ c.write_at.ensures.setting)) three c.in_ok-sync-2.ensures.cause.passed in
+    absurd (four (g.D.Disk.calls c.sync-2.new.self) (omega (arith, c.write_at.ensures.calls, c.sync.ensures.calls, c.write_at-2.ensures.calls, c.sync-2.ensures.calls)) (omega (arith)) trips)
