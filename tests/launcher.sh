@@ -42,7 +42,11 @@ for crate in low middle afs_top; do
     mkdir -p "$home/crates/$crate/src"
     echo '// a source' > "$home/crates/$crate/src/lib.rt"
 done
+mkdir -p "$home/crates/middle/must-fail" "$home/crates/middle/proofs" "$home/crates/low/out"
+for file in must-fail/an.edit proofs/Lib.antt; do : > "$home/crates/middle/$file"; done
+: > "$home/crates/low/out/made"
 printf 'afs_top: middle low bytes\nmiddle: low # a comment: low\nlow: bytes\nother: low\n' > "$home/crates.txt"
+echo 'Handles allowed: none.' > "$home/HANDLES"
 
 # The stand-in of the program prints its words and its input. What it tells on standard error and its status are in files.
 cat > "$work/stand_in" << END
@@ -67,33 +71,37 @@ uninstall() {
     rm -rf "${program%/*}"
 }
 
-# The stand-in of the kit writes down how it was called. It proves all crates but one that has a file refuse, with those that stand
-# on it, and builds the stand-in of the program. A case that it tries has its status, and what is told of it, in its comments.
+# The stand-in of the kit writes down how it was called. As the gate it writes down what it finds, and proves all crates but one
+# that has a file refuse, with those that come after it; low was proved by an earlier run. Then it builds the stand-in of the
+# program. A case that it tries has its status, and what is told of it, in its comments.
 cat > "$work/kit/rt" << END
 #!/bin/sh
 echo "\${PWD##*/}: \$*" >> '$work/called'
 case \$1 in
-all)
-    echo 'rt: chose 2 at a time'
+ci)
+    find . -type f | LC_ALL=C sort > '$work/copied'
+    cat crates.txt >> '$work/copied'
     for crate in low middle afs_top; do
+        if [ "\$crate" = low ]; then
+            echo 'rt: low is kept: an earlier run proved the same files'
+            continue
+        fi
         echo "== \$crate"
         echo 'so far: 3 of 7 functions checked, 12 s'
-        if [ -e "../\$crate/refuse" ]; then
+        if [ -e "crates/\$crate/refuse" ]; then
             echo "error: \$crate::first is not proved"
-            echo '== summary'
-            echo "\$crate: failed (1)"
+            echo "rt: \$crate NOT PROVED"
+            echo '1 passed, 1 failed'
             exit 1
         fi
         echo "fn \$crate::first: proved"
+        echo "rt: \$crate proved"
     done
-    echo '== summary'
-    echo '3 of 3 crates ok'
-    ;;
-run)
-    if [ -e no_program ]; then echo 'the program cannot be linked'; exit 1; fi
-    mkdir -p out
-    cp '$work/stand_in' out/afs_top
-    exec out/afs_top replay
+    if [ -e crates/afs_top/no_program ]; then printf '%s\\n' 'rt: FAILED: afs_top (run)' '2 passed, 1 failed'; exit 1; fi
+    mkdir -p crates/afs_top/out
+    cp '$work/stand_in' crates/afs_top/out/afs_top
+    echo 'rt: ok'
+    echo '3 passed, 0 failed'
     ;;
 try)
     if [ -e refuse ]; then echo 'error: no program' >&2; exit 1; fi
@@ -591,15 +599,25 @@ rm -f "$work/clock" "$work/called"
 wanted 0
 prints 'words: <replay>' first second
 began
-tells 'afscell: checked low, 1 of 3; 2 left; 1 minute so far' 'afscell: checked middle, 2 of 3; 1 left; 2 minutes so far' \
-    'afscell: checked afs_top, 3 of 3; 0 left; 3 minutes so far' 'afscell: proved and built in 4 minutes'
+tells 'afscell: proved low, 1 of 3; 2 left; 1 minute so far' 'afscell: proved middle, 2 of 3; 1 left; 2 minutes so far' \
+    'afscell: proved afs_top, 3 of 3; 0 left; 3 minutes so far' 'afscell: proved and built in 4 minutes'
 launch 'proving and building' replay < "$work/script"
-printf 'afs_top: all check --jobs JOBS\nafs_top: run -- replay\n' > "$work/calls"
-if sed 's/ --jobs [1-9][0-9]*$/ --jobs JOBS/' "$work/called" | cmp -s - "$work/calls"; then
-    pass
-else
-    fail "the kit is called by $(cat "$work/called")"
-fi
+printf 'copy: ci\n' > "$work/calls"
+if cmp -s "$work/called" "$work/calls"; then pass; else fail "the kit is called by $(cat "$work/called")"; fi
+# it finds what the program is made from alone, and nothing is left of the copy
+cat > "$work/wants" << END
+./HANDLES
+./crates.txt
+./crates/afs_top/src/lib.rt
+./crates/low/src/lib.rt
+./crates/middle/proofs/Lib.antt
+./crates/middle/src/lib.rt
+./needed
+afs_top: middle low bytes
+middle: low # a comment: low
+low: bytes
+END
+if cmp -s "$work/copied" "$work/wants" && [ ! -e "${program%/*}/copy" ]; then pass; else fail "the kit finds $(cat "$work/copied")"; fi
 wanted 0
 prints 'words: <replay>' first second
 launch_at_once 'what was built is run at once' replay < "$work/script"
@@ -610,8 +628,8 @@ touch -d '1 minute' "$home/crates/low/src/lib.rt"
 rm -f "$work/clock"
 wanted 125
 began
-tells 'afscell: checked low, 1 of 3; 2 left; 1 minute so far' 'afscell: checked middle, 2 of 3; 1 left; 2 minutes so far' \
-    'error: middle::first is not proved' 'middle: failed (1)' \
+tells 'afscell: proved low, 1 of 3; 2 left; 1 minute so far' \
+    'error: middle::first is not proved' 'rt: middle NOT PROVED' \
     "afscell: the program was not proved or not built; all that the kit said is in ${program%/*}/afscell.built.log"
 launch 'a proof that is refused' replay < "$work/script"
 rm -f "$home/crates/middle/refuse"
@@ -619,8 +637,8 @@ rm -f "$home/crates/middle/refuse"
 rm -f "$work/clock"
 wanted 125
 began
-tells 'afscell: checked low, 1 of 3; 2 left; 1 minute so far' 'afscell: checked middle, 2 of 3; 1 left; 2 minutes so far' \
-    'afscell: checked afs_top, 3 of 3; 0 left; 3 minutes so far' 'the program cannot be linked' \
+tells 'afscell: proved low, 1 of 3; 2 left; 1 minute so far' 'afscell: proved middle, 2 of 3; 1 left; 2 minutes so far' \
+    'afscell: proved afs_top, 3 of 3; 0 left; 3 minutes so far' 'rt: FAILED: afs_top (run)' \
     "afscell: the program was not proved or not built; all that the kit said is in ${program%/*}/afscell.built.log"
 launch 'a program that is not built' replay < "$work/script"
 rm -f "$home/crates/afs_top/no_program"

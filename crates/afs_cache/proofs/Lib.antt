@@ -8,3 +8,4 @@ pub mod Breaking
 pub mod Dropping
 pub mod Replying
 pub mod Idle
+pub mod Interfaces

@@ -222,10 +222,9 @@ impl CacheManager {
         requires asking { IsSoundAsking head.now.opcode (Asking.Call call) }
         ensures { Takes (λ place. runs_asking self.old.node self.old.state place head.now (Asking.Call call)) self.old self.new result }
     {
-        match call {
-            Call::File(call) => self.serve(head, call),
-            Call::Volume(_) => self.refuse_call(head, NOT_SERVED),
-            Call::Location(_) => self.refuse_call(head, NOT_SERVED),
+        match call.into_file() {
+            Some(call) => self.serve(head, call),
+            None => self.refuse_call(head, NOT_SERVED),
         }
     }
 

@@ -630,10 +630,9 @@ impl CacheManager {
         requires last { self.old.state.last < number_limit }
         ensures { Takes (λ place. by_act self.old.state place (λ act. counts_reply self.old.node self.old.state now place act reply) self.old.state.running) self.old self.new result }
     {
-        match reply {
-            Reply::File(reply) => self.hear_reply(reply, now),
-            Reply::Volume(_) => self.ignore(),
-            Reply::Location(_) => self.ignore(),
+        match reply.into_file() {
+            Some(reply) => self.hear_reply(reply, now),
+            None => self.ignore(),
         }
     }
 

@@ -9,7 +9,7 @@ use Rattle.afs_rows.specs.Runs.{begun_by_disk, moved, start, Cell, Fall, Input}
 use Rattle.afs_rows.specs.States.{ServerState}
 use Rattle.afs_server.specs.Seen.{lasting_of}
 use Rattle.afs_records.specs.Durable.{Durable}
-use Rattle.afs_records.specs.Stands.{Stands}
+use Rattle.afs_volstore.specs.Stands.{Stands}
 use Rattle.afs_schedule.specs.Schedules.{events_of, first_turn, left_by, acts_of, AreFirst, AreInputs, Turn}
 use Rattle.afs_cell.specs.Places.{Each}
 use Rattle.afs_text.specs.Telling.{told}

@@ -9,7 +9,7 @@ use Rattle.afs_journal.specs.Records.{whole_records}
 use Rattle.afs_shape.specs.Taking.{◌>>=◌}
 use Rattle.afs_records.specs.Durable.{bad_by, bad_from, first_bad, first_folded, fold_all, fold_from, folded, nothing_on, Durable}
 use Rattle.afs_records.specs.Records.{record_at}
-use Rattle.afs_records.specs.Stands.{Stands}
+use Rattle.afs_volstore.specs.Stands.{Stands}
 use Rattle.afs_records.proofs.Forms.{bound}
 use Rattle.afs_volstore.specs.Opening.{IsAttachFault}
 use Rattle.afs_volstore.specs.Stores.{IsCaused}

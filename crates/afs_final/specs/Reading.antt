@@ -7,7 +7,7 @@ use Rattle.afs_disk.specs.declared.bank.LendFault.{LendFault}
 use Rattle.afs_disk.specs.declared.bank.LendFault.TheVariants as faults
 use Rattle.afs_disk.specs.declared.disks.Lent.{Lent}
 use Rattle.afs_records.specs.Durable.{nothing_on, Durable}
-use Rattle.afs_records.specs.Stands.{Stands}
+use Rattle.afs_volstore.specs.Stands.{Stands}
 use Rattle.afs_volstore.specs.Stores.{Store}
 use Rattle.afs_final.specs.declared.reading.Left.{Left}
 use Rattle.afs_final.specs.declared.reading.Left.TheVariants as left

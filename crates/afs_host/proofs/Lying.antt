@@ -10,7 +10,7 @@ use Rattle.afs_disk.specs.Disk.{LeavesJust}
 use Rattle.afs_journal.specs.Records.{whole_records}
 use Rattle.afs_records.specs.Durable.{effect_of, first_folded, fold_all, fold_from, folded, mark_of, nothing_on, Durable, StandFor}
 use Rattle.afs_records.specs.Records.{record_at, record_bytes}
-use Rattle.afs_records.specs.Stands.{Stands}
+use Rattle.afs_volstore.specs.Stands.{Stands}
 use Rattle.afs_records.proofs.Forms.{bound, some_is}
 use Rattle.afs_rows.specs.Runs.{begun_by_disk, Fall, MayFind}
 use Rattle.afs_rows.specs.States.{Lasting, ServerState}

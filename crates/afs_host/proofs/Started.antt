@@ -14,7 +14,7 @@ use Rattle.afs_disk.specs.Fuses.{Fused}
 use Rattle.afs_journal.specs.Log.{IsJournal, StandsAsBefore}
 use Rattle.afs_journal.specs.Records.{journal_bytes, whole_records}
 use Rattle.afs_records.specs.Durable.{first_bad, StandFor}
-use Rattle.afs_records.specs.Stands.{Stands}
+use Rattle.afs_volstore.specs.Stands.{Stands}
 use Rattle.afs_rows.specs.Runs.{at_rest, begun_by_disk, comes_up, fails_early, fails_midway, in_boot, is_full, settled, Fall, Host, MayFind, Outcome}
 use Rattle.afs_rows.specs.ServerRow.{Begun}
 use Rattle.afs_volstore.specs.Opening.{lines_begun, IsAttachFault}

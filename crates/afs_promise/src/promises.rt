@@ -198,9 +198,16 @@ impl Promises {
     #[tactic(auto, using(crate::proofs::Since::lasting_hits))]
     pub fn hits(&self, fid: Fid, except: Node, now: u32, out: &mut Vec<Promise>) -> Mem<()>
         ensures ok { OnOk result (out.new.items ≡ out.old.items ++ hits except fid (lasting now self.now.promises)) }
-        ensures err { OnErr result ((some : List Promise) × (out.new.items ≡ out.old.items ++ some)) }
+        ensures err { OnErr result (out.new.items ≡ out.old.items) }
     {
-        self.grants.hits(fid, except, now, out)
+        let before = out.len();
+        match self.grants.hits(fid, except, now, out) {
+            Ok(()) => Ok(()),
+            Err(error) => {
+                out.truncate(before);
+                Err(error)
+            }
+        }
     }
 
     /// Withdraws the promises on the fid but that of `except`: their breaks become owed, in the order of granting. It

@@ -3,5 +3,4 @@ pub mod Records
 pub mod Sound
 pub mod Durable
 pub mod Changes
-pub mod Stands
 pub mod Laws

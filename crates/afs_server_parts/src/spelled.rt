@@ -44,8 +44,7 @@ impl SpelledMessage {
         })
     }
 
-    /// This message, which ends here: it is the one place where messages that are sent end, since each such place takes long to
-    /// prove.
+    /// This message, which ends here.
     pub fn from_message(alloc: Global, message: Message) -> Mem<SpelledMessage>
         requires { HasSpelling message }
         ensures { IfOk result (λ m. m ≡ message) }

@@ -12,7 +12,7 @@ use Rattle.afs_disk.specs.declared.bank.LendFault.{LendFault}
 use Rattle.afs_disk.specs.declared.disks.Lent.{Lent}
 use Rattle.afs_journal.specs.Records.{whole_records}
 use Rattle.afs_records.specs.Durable.{fold_all, Durable}
-use Rattle.afs_records.specs.Stands.{Stands}
+use Rattle.afs_volstore.specs.Stands.{Stands}
 use Rattle.afs_records.proofs.Forms.{some_is}
 use Rattle.afs_rows.specs.Runs.{Cell, Input}
 use Rattle.afs_law.specs.Cells.{IsOfCell}

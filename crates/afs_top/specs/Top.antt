@@ -15,7 +15,7 @@ use Rattle.afs_law.specs.Laws.{EndsWell}
 use Rattle.afs_law.specs.Legal.{Legal}
 use Rattle.afs_outside.specs.Outside.{AppendsFront, HadAll, TakesTooMuch}
 use Rattle.afs_records.specs.Durable.{Durable}
-use Rattle.afs_records.specs.Stands.{Stands}
+use Rattle.afs_volstore.specs.Stands.{Stands}
 use Rattle.afs_rows.specs.Runs.{start, Cell, Entry, Input, Leads}
 use Rattle.afs_text.specs.FinalText.{final_text}
 use Rattle.afs_text.specs.HistoryText.{history_text, text}

@@ -10,7 +10,7 @@ use Rattle.afs_disk.specs.Disk.{Setting}
 use Rattle.afs_journal.specs.Log.{IsJournal}
 use Rattle.afs_journal.specs.Records.{journal_bytes, whole_records}
 use Rattle.afs_records.specs.Durable.{Durable, Effect, fold_all, StandFor}
-use Rattle.afs_records.specs.Stands.{Stands}
+use Rattle.afs_volstore.specs.Stands.{Stands}
 use Rattle.afs_volstore.specs.Folds.{places_length, wanted_lines, TellsLast}
 use Rattle.afs_volstore.specs.Opening.{last_effect, lines_begun, same_mark, IsAttachFault, IsFoldFault}
 use Rattle.afs_volstore.specs.States.{placed}

@@ -14,7 +14,7 @@ use Rattle.afs_records.specs.Changes.{first_record, record_of_volumes, set_up, v
 use Rattle.afs_records.specs.Durable.{Durable, Stored, body_taken, first_folded, fold_all, fold_from, folded, has_room, is_first, noted, nothing_on, place_length, StandFor}
 use Rattle.afs_records.specs.Laws.{RecordsAreReadAgain}
 use Rattle.afs_records.specs.Records.{record_at, record_bytes, FitsRecord}
-use Rattle.afs_records.specs.Stands.{Stands}
+use Rattle.afs_volstore.specs.Stands.{Stands}
 use Rattle.afs_volstore.specs.Folds.{places_length}
 use Rattle.afs_volstore.specs.Opening.{IsSetUpSoFar}
 use Rattle.afs_volstore.specs.Redos.{body_of, record_of}

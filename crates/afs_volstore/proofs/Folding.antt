@@ -14,7 +14,7 @@ use Rattle.afs_journal.specs.Records.{whole_records, IsBeforeOrAfter}
 use Rattle.afs_records.specs.Durable.{Durable, Stored, body_taken, changed_stored, folded, has_room, longer, most_volumes, noted, place_length, replaced, stored_of, with_reply, with_stamp, with_stored, with_volumes, StandFor}
 use Rattle.afs_records.specs.Laws.{OneMoreStands}
 use Rattle.afs_records.specs.Records.{record_bytes, FitsRecord}
-use Rattle.afs_records.specs.Stands.{Stands}
+use Rattle.afs_volstore.specs.Stands.{Stands}
 use Rattle.afs_volstore.specs.Preparing.{prepared_seen}
 use Rattle.afs_volstore.specs.Redos.{body_of, record_of}
 use Rattle.afs_volstore.specs.States.{placed}

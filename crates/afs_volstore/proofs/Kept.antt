@@ -8,7 +8,7 @@ use Rattle.afs_records.specs.Records.{record_bytes, FitsRecord}
 use Rattle.std.specs.Option.{option_map_or}
 use Rattle.afs_ideal.specs.Tables.{get, Table}
 use Rattle.afs_records.specs.Durable.{Durable, Stored, folded, StandFor}
-use Rattle.afs_records.specs.Stands.{Stands}
+use Rattle.afs_volstore.specs.Stands.{Stands}
 use Rattle.afs_volume.specs.declared.volume.Volume.{Volume}
 use Rattle.afs_seats.specs.Seated.{seen_as}
 use Rattle.afs_volume.specs.Taking.{stored_of}

@@ -11,5 +11,6 @@ pub mod Redoing
 pub mod Rereading
 pub mod Redos
 pub mod States
+pub mod Stands
 pub mod Stores
 pub mod Telling

@@ -12,7 +12,7 @@ use Rattle.afs_records.specs.Records.{record_at}
 use Rattle.afs_disk.specs.Disk.{Setting}
 use Rattle.afs_journal.specs.Records.{whole_records}
 use Rattle.afs_records.specs.Changes.{set_up, volumes_laid}
-use Rattle.afs_records.specs.Stands.{Stands}
+use Rattle.afs_volstore.specs.Stands.{Stands}
 use Rattle.afs_records.specs.Durable.{Durable, Effect, effect_of, first_folded, folded, mark_of, most_volumes, nothing_on}
 use Rattle.afs_volstore.specs.Laying.{HaveShortNames}
 use Rattle.afs_volstore.specs.Telling.{in_words}

@@ -7,7 +7,7 @@ use Rattle.afs_disk.specs.Disk.{LeavesOnly, PassesAll, Setting}
 use Rattle.afs_journal.specs.Log.{IsJournal, Log, Rests, StandsAsBefore, Taken}
 use Rattle.afs_journal.specs.Records.{whole_records}
 use Rattle.afs_records.specs.Durable.{first_bad}
-use Rattle.afs_records.specs.Stands.{Stands}
+use Rattle.afs_volstore.specs.Stands.{Stands}
 use Rattle.afs_volstore.specs.Opening.{IsAttachFault, IsFoldFault}
 use Rattle.afs_volstore.specs.Stores.{IsCaused, IsKept, Store}
 

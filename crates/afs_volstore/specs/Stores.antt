@@ -8,7 +8,7 @@ use Rattle.afs_disk.specs.Disk.{LeavesJust, Rose, Setting, Trips, PassesAll}
 use Rattle.afs_journal.specs.Records.{whole_records, IsBeforeOrAfter}
 use Rattle.afs_records.specs.Durable.{Durable, folded, has_room}
 use Rattle.afs_records.specs.Records.{record_bytes}
-use Rattle.afs_records.specs.Stands.{Stands}
+use Rattle.afs_volstore.specs.Stands.{Stands}
 
 -- A server's store: what it keeps on its disk, the disk, the server, the record that the next commit puts there, whether a
 -- device call failed since the disk was attached, how many records stand on the disk, and the last number of the server's own

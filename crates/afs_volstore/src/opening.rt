@@ -6,7 +6,7 @@ ghost use Rattle.afs_disk.specs.Disk.{LeavesOnly, PassesAll};
 ghost use Rattle.afs_journal.specs.Log.{IsJournal, Rests, StandsAsBefore, Taken};
 ghost use Rattle.afs_journal.specs.Records.{whole_records};
 ghost use Rattle.afs_records.specs.Durable.{first_bad};
-ghost use Rattle.afs_records.specs.Stands.{Stands};
+ghost use Rattle.afs_volstore.specs.Stands.{Stands};
 ghost use Rattle.afs_volstore.specs.Opening.{lines_begun, same_mark, IsAttachFault};
 ghost use Rattle.afs_volstore.specs.Stores.{IsCaused, IsKept};
 

@@ -1,25 +1,21 @@
 use Rattle.afs_cache.proofs.Replying.{ignored_taken}
-use Rattle.std.proofs.Common.{◌≡◌, ℕ, List, [], ◌∷◌, ◌++◌, Some, None, true, false, ap, map, filter, sym, ◌∙◌}
-use Rattle.afs_rows.specs.Going.{ClientState, Going}
-use Rattle.afs_rows.specs.ClientRow.{ignores}
+use Rattle.std.proofs.Common.{◌≡◌, ℕ, ap, sym, ◌∙◌}
+use Rattle.afs_rows.specs.Going.{Going}
 use Rattle.afs_cache.specs.Wanted.{counts_reply}
 use Rattle.afs_num.specs.declared.messages.Reply.{Reply}
 use Rattle.afs_cache.specs.Managing.{by_act}
 use Rattle.afs_cache.proofs.Answering.{takes_same}
+use Rattle.afs_cache.proofs.Interfaces.{ignored_else, reply_is}
 use Rattle.afs_cache.proofs.node.CacheManager.count_reply.Goals as goal
 
-pub returns-in-File : goal.returns-in-File
-returns-in-File c =
+pub returns-in-Some : goal.returns-in-Some
+returns-in-Some c =
     let old = c.args.self.now in
     takes_same _ (λ (place : ℕ). by_act old.state place (λ (act : Going). counts_reply old.node old.state c.args.now place act c.args.reply) old.state.running) old c.hear_reply.new.self c.hear_reply.result
-    (λ place. ap (λ (x : Reply). by_act old.state place (λ (act : Going). counts_reply old.node old.state c.args.now place act x) old.state.running) (sym c.in-File.is)) c.hear_reply.ensures
-
-pub returns-in-Volume : goal.returns-in-Volume
-returns-in-Volume c =
-    let old = c.args.self.now in
-    ignored_taken old.state (λ (place : ℕ) (act : Going). counts_reply old.node old.state c.args.now place act c.args.reply) old old c.ignore.result (λ place act. ap (counts_reply old.node old.state c.args.now place act) (sym c.in-Volume.is)) c.ignore.ensures.takes
+    (λ place. ap (λ (x : Reply). by_act old.state place (λ (act : Going). counts_reply old.node old.state c.args.now place act x) old.state.running) (sym (reply_is c.args.reply _ (sym c.into_file.ensures ∙ c.in-Some.is)))) c.hear_reply.ensures
 
 pub returns : goal.returns
 returns c =
     let old = c.args.self.now in
-    ignored_taken old.state (λ (place : ℕ) (act : Going). counts_reply old.node old.state c.args.now place act c.args.reply) old old c.ignore-in-Location.result (λ place act. ap (counts_reply old.node old.state c.args.now place act) (sym c.in-Location.is)) c.ignore-in-Location.ensures.takes
+    ignored_taken old.state (λ (place : ℕ) (act : Going). counts_reply old.node old.state c.args.now place act c.args.reply) old old c.ignore.result
+    (λ place act. ignored_else old.node old.state c.args.now place act c.args.reply (sym c.into_file.ensures ∙ c.in-None.is)) c.ignore.ensures.takes
