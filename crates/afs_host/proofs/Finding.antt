@@ -19,7 +19,7 @@ use Rattle.afs_num.specs.declared.messages.Received.TheVariants.{Whole}
 use Rattle.afs_volstore.specs.Opening.{last_effect, last_from, lines_begun, lines_unless_told, same_mark}
 use Rattle.afs_volstore.specs.Telling.{in_words}
 use Rattle.afs_server.specs.Seen.{lasting_of}
-use Rattle.afs_host.specs.Standing.{Lies, LiesAfter, LiesBefore, LiesFound, LiesIn, StandsFor}
+use Rattle.afs_host.specs.Standing.{Lies, LiesAfter, LiesAs, LiesBefore, LiesFound, LiesIn, StandsFor}
 use Rattle.afs_host.proofs.Lying.{bind_is, one_taken}
 
 -- on a disk of one capacity records stand for one durable part
@@ -145,11 +145,15 @@ finds_after me s fall mark records durable front capacity dc sc stands lines a =
       before = λ ls. a.told ls ∙ ap (λ (f : List Line). f ++ ls) (sym told);
     }
 
+finds_by : (me : Node) (s : ServerState) (fall : Fall) (mark : Mark) (records : List (List ℕ)) (durable : Durable) (front : List Line) (capacity : ℕ) → durable.capacity ≡ capacity → s.lasting.capacity ≡ capacity →
+    StandFor records durable → lines_begun me mark capacity records ≡ Some front → (after : Bool) → MayFind fall after → LiesAs me s fall mark after records → (f : Finds me s fall durable front) × MayFind fall f.after
+finds_by me s fall mark records durable front capacity dc sc stands lines false may b = (finds_before me s fall mark records durable front capacity dc sc stands lines b, may)
+finds_by me s fall mark records durable front capacity dc sc stands lines true may a = (finds_after me s fall mark records durable front capacity dc sc stands lines a, may)
+
 -- it is one that a restart may find
 pub finds_found : (me : Node) (s : ServerState) (fall : Fall) (mark : Mark) (records : List (List ℕ)) (durable : Durable) (front : List Line) (capacity : ℕ) → durable.capacity ≡ capacity → s.lasting.capacity ≡ capacity →
     StandFor records durable → lines_begun me mark capacity records ≡ Some front → LiesFound me s fall mark records → (f : Finds me s fall durable front) × MayFind fall f.after
-finds_found me s fall mark records durable front capacity dc sc stands lines (false, (may, b)) = (finds_before me s fall mark records durable front capacity dc sc stands lines b, may)
-finds_found me s fall mark records durable front capacity dc sc stands lines (true, (may, a)) = (finds_after me s fall mark records durable front capacity dc sc stands lines a, may)
+finds_found me s fall mark records durable front capacity dc sc stands lines found = finds_by me s fall mark records durable front capacity dc sc stands lines found.0 found.1.0 found.1.1
 
 -- both stand for something
 lies_stand : (me : Node) (s : ServerState) (fall : Fall) (mark : Mark) (records : List (List ℕ)) (capacity : ℕ) → s.lasting.capacity ≡ capacity → LiesIn me s fall mark records → (d : Durable) × (fold_all capacity records ≡ Some d)

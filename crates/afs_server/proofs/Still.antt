@@ -139,8 +139,8 @@ module _ {D : Type 0} (seen : D → Option (List ℕ)) (left_by : D → ℕ → 
     told = subst (λ (o : Option (List ℕ)). IsSome (seen new) ↔ IsSome o) same.same_seen then.told;
     quiet = λ is. let q = then.quiet is in (both_same old mid new same q.0, both_count old mid new counts q.1);
     any_moment = λ r is bytes told. moved old mid new (LeftAround (whole_records bytes) r d) same (then.any_moment r is bytes (same.same_seen ∙ told));
-    reached = λ down. reached_from (setting old) (setting mid) (calls old) (calls mid) (calls new) (sym counts.same_setting) (sym counts.same_calls) (then.reached down);
-    left = λ down r has bytes told. left_from left_by calls setting (whole_records bytes) (record_bytes r) old mid new (sym counts.same_setting) (sym counts.same_calls) (then.left down r has bytes (same.same_seen ∙ told));
+    reached = λ down. reached_from (setting old) (setting mid) (calls old) (calls mid) (calls new) counts.same_setting counts.same_calls (then.reached down);
+    left = λ down r has bytes told. left_from left_by calls setting (whole_records bytes) (record_bytes r) old mid new counts.same_setting counts.same_calls (then.left down r has bytes (same.same_seen ∙ told));
     fits = then.fits;
     most = subst (λ (n : ℕ). (n ≤ calls new) × (calls new ≤ n + 4)) counts.same_calls then.most;
     limited = then.limited ∙ counts.same_limit;
