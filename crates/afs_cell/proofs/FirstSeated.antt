@@ -1,11 +1,13 @@
 -- The servers at set-up, one after the other, and the disks that are handed back.
 use Rattle.std.proofs.Common.{refl, append_assoc, arith, ap, sym, subst, ◌∙◌, ◌≡◌, ◌+◌, inl, inr, ℕ, suc, List, [], ◌∷◌, ◌++◌, length, Option}
 use Rattle.afs_num.specs.declared.types.Node.{Node}
+use Rattle.afs_num.specs.declared.types.Node.TheVariants.{Server}
 use Rattle.afs_history.specs.declared.scripts.Script.{Script}
+use Rattle.afs_disk.specs.Disk.{Rose}
 use Rattle.afs_disk.specs.declared.disks.Lent.{Lent}
 use Rattle.afs_host.specs.Seats.{Running}
 use Rattle.afs_host.specs.declared.seats.Seat.TheVariants.{Down, Up}
-use Rattle.afs_cell.specs.Ends.{AreLeft, IsRefused, IsRefusedBy, NoneFell, OneRose}
+use Rattle.afs_cell.specs.Ends.{AreLeft, IsRefused, IsRefusedBy, NoneFell, RoseAt}
 use Rattle.afs_cell.specs.FirstSeats.{AreBack, AreFirstSeats, IsBack, IsFirstSeat, IsFirstServer, IsRefusedAt}
 use Rattle.afs_cell.specs.Steps.{lent_from, AreLent}
 use Rattle.afs_cell.specs.Worlds.{seat_disk, ServerSeat}
@@ -91,23 +93,24 @@ module _ {D : Type 0} (seen : D → Option (List ℕ)) (may_leave : D → List �
   seats_back capacity i j [] (seat ∷ seats) l rest d lent h at back = absurd h
   seats_back capacity i j (k ∷ ls) (seat ∷ seats) l rest d lent h at back = (sym lent.0, (seat_back i k.disk seat h.0, seats_back capacity (i + 1) j ls seats l rest d lent.1.1 h.1 (omega (arith, at)) back))
 
-  one_rose : (i : ℕ) (ls : List (Lent D)) (seats : List (ServerSeat D)) (l : Lent D) (rest : List (Lent D)) (n : Node) (d : D) → AreFirstSeats seen may_leave faults limit s i ls seats (l ∷ rest) → IsRefusedBy faults (l ∷ []) (setup.Disk n) (handed l d ∷ [])
-      → OneRose faults ls (lent_from i seats ++ (handed l d ∷ rest))
-  one_rose i ls [] l rest n d e (inl rose) = subst (λ (xs : List (Lent D)). OneRose faults xs (handed l d ∷ rest)) (sym e) (inl rose)
-  one_rose i ls [] l rest n d e (inr none) = absurd none
-  one_rose i [] (seat ∷ seats) l rest n d h rose = absurd h
-  one_rose i (k ∷ ls) (seat ∷ seats) l rest n d h rose = inr (one_rose (i + 1) ls seats l rest n d h.1 rose)
+  rose_at : (i j : ℕ) (ls : List (Lent D)) (seats : List (ServerSeat D)) (l : Lent D) (rest : List (Lent D)) (n : Node) (d : D) → AreFirstSeats seen may_leave faults limit s i ls seats (l ∷ rest) → j ≡ i + length seats → n ≡ Server j → Rose (faults l.disk) (faults d)
+      → RoseAt faults n i ls (lent_from i seats ++ (handed l d ∷ rest))
+  rose_at i j ls [] l rest n d e at named rose =
+      let here : j ≡ i = omega (arith, at) in
+      subst (λ (xs : List (Lent D)). RoseAt faults n i xs (handed l d ∷ rest)) (sym e) (inl (subst (λ (k : ℕ). n ≡ Server k) here named, rose))
+  rose_at i j [] (seat ∷ seats) l rest n d h at named rose = absurd h
+  rose_at i j (k ∷ ls) (seat ∷ seats) l rest n d h at named rose = inr (rose_at (i + 1) j ls seats l rest n d h.1 (omega (arith, at)) named rose)
 
-  cause_by : (fault : SetupFault) (j i : ℕ) (ls : List (Lent D)) (seats : List (ServerSeat D)) (l : Lent D) (rest : List (Lent D)) (d : D) → AreFirstSeats seen may_leave faults limit s i ls seats (l ∷ rest) → IsRefusedAt seen may_leave faults limit s j l.disk (fault, d)
-      → IsRefusedBy faults ls fault (lent_from i seats ++ (handed l d ∷ rest))
-  cause_by (setup.Disk n) j i ls seats l rest d h refused = one_rose i ls seats l rest n d h (inl refused.cause)
-  cause_by setup.OutOfMemory j i ls seats l rest d h refused = tt
+  cause_by : (fault : SetupFault) (j : ℕ) (ls : List (Lent D)) (seats : List (ServerSeat D)) (l : Lent D) (rest : List (Lent D)) (d : D) → AreFirstSeats seen may_leave faults limit s 1 ls seats (l ∷ rest) → j ≡ 1 + length seats → IsRefusedAt seen may_leave faults limit s j l.disk (fault, d)
+      → IsRefusedBy faults ls fault (lent_from 1 seats ++ (handed l d ∷ rest))
+  cause_by (setup.Disk n) j ls seats l rest d h at refused = rose_at 1 j ls seats l rest n d h at refused.cause.0 refused.cause.1
+  cause_by setup.OutOfMemory j ls seats l rest d h at refused = tt
 
   pub refused_set_up : (capacity j : ℕ) (ls : List (Lent D)) (seats : List (ServerSeat D)) (l : Lent D) (rest : List (Lent D)) (fault : SetupFault) (d : D) → AreLent limit capacity 1 ls → AreFirstSeats seen may_leave faults limit s 1 ls seats (l ∷ rest) → j ≡ 1 + length seats
       → IsRefusedAt seen may_leave faults limit s j l.disk (fault, d) → IsRefusedSetUp seen may_leave faults limit s ls (fault, lent_from 1 seats ++ (handed l d ∷ rest))
   refused_set_up capacity j ls seats l rest fault d lent first at refused = record {
     back = seats_back capacity 1 j ls seats l rest d lent first at refused.back;
-    cause = cause_by fault j 1 ls seats l rest d first refused;
+    cause = cause_by fault j ls seats l rest d first at refused;
   }
 
   -- ---- what a refusal tells

@@ -4,7 +4,6 @@ use Rattle.std.specs.Prelude.{IsSome, ◌↔◌}
 use Rattle.std.proofs.lemmas.List.Elements.{All-nil}
 use Rattle.afs_num.specs.declared.faults.StoreFault.{StoreFault}
 use Rattle.afs_num.specs.declared.faults.StoreFault.TheVariants as store
-use Rattle.afs_num.specs.declared.types.Node.{Node}
 use Rattle.afs_num.specs.declared.types.Node.TheVariants.{Server}
 use Rattle.afs_history.specs.declared.scripts.Script.{Script}
 use Rattle.afs_history.specs.declared.scripts.VolumeLine.{VolumeLine}
@@ -65,22 +64,22 @@ module _ {D : Type 0} (seen : D → Option (List ℕ)) (may_leave : D → List �
       }
 
   -- why a disk is refused
-  caused : SetUpsAreAccepted → (node : Node) (fault : StoreFault) (new : D) (last before now : ℕ) → ls ≡ volumes_at i s.volumes → limit old ≡ s.capacity → IsSetUpFault fault → ((used capacity : ℕ) → fault ≡ store.Full used capacity → set_up (limit old) ls ≡ None)
-      → IsCaused unset last before now (faults old) (faults new) fault → IsCausedAt faults (refused_as fault node) old new
-  caused accepted node (store.Full used capacity) new last before now lines same setup full cause =
+  caused : SetUpsAreAccepted → (fault : StoreFault) (new : D) (last before now : ℕ) → ls ≡ volumes_at i s.volumes → limit old ≡ s.capacity → IsSetUpFault fault → ((used capacity : ℕ) → fault ≡ store.Full used capacity → set_up (limit old) ls ≡ None)
+      → IsCaused unset last before now (faults old) (faults new) fault → IsCausedAt faults i (refused_as fault (Server i)) old new
+  caused accepted (store.Full used capacity) new last before now lines same setup full cause =
       let made = (accepted s h i).1 in
       absurd (no_set_up (set_up s.capacity (volumes_at i s.volumes)) made.0 made.1 (sym (ap₂ (λ (n : ℕ) (vs : List VolumeLine). set_up n vs) same lines) ∙ full used capacity refl))
-  caused accepted node store.Failed new last before now lines same setup full cause = own_rose last before now (faults old) (faults new) cause
-  caused accepted node store.Closed new last before now lines same setup full cause = absurd setup
-  caused accepted node (store.BadRecord n) new last before now lines same setup full cause = absurd setup
-  caused accepted node store.OutOfMemory new last before now lines same setup full cause = tt
+  caused accepted store.Failed new last before now lines same setup full cause = (refl, own_rose last before now (faults old) (faults new) cause)
+  caused accepted store.Closed new last before now lines same setup full cause = absurd setup
+  caused accepted (store.BadRecord n) new last before now lines same setup full cause = absurd setup
+  caused accepted store.OutOfMemory new last before now lines same setup full cause = tt
 
-  pub refused_store : SetUpsAreAccepted → (node : Node) (fault : StoreFault) (new : D) (last before now : ℕ) → ls ≡ volumes_at i s.volumes → limit old ≡ s.capacity → IsSetUpFault fault → ((used capacity : ℕ) → fault ≡ store.Full used capacity → set_up (limit old) ls ≡ None)
+  pub refused_store : SetUpsAreAccepted → (fault : StoreFault) (new : D) (last before now : ℕ) → ls ≡ volumes_at i s.volumes → limit old ≡ s.capacity → IsSetUpFault fault → ((used capacity : ℕ) → fault ≡ store.Full used capacity → set_up (limit old) ls ≡ None)
       → IsCaused unset last before now (faults old) (faults new) fault → limit new ≡ limit old → faults old ≤ faults new → (IsSome (seen new) ↔ IsSome (seen old))
       → (seen old ≡ Some [] → LeavesJust [] (may_leave old) → (bytes : List ℕ) → seen new ≡ Some bytes → IsSetUpSoFar (limit old) ls bytes)
-      → IsRefusedAt seen may_leave faults limit s i old (refused_as fault node, new)
-  refused_store accepted node fault new last before now lines same setup full cause limit_is no_fewer told holds = record {
-    cause = caused accepted node fault new last before now lines same setup full cause;
+      → IsRefusedAt seen may_leave faults limit s i old (refused_as fault (Server i), new)
+  refused_store accepted fault new last before now lines same setup full cause limit_is no_fewer told holds = record {
+    cause = caused accepted fault new last before now lines same setup full cause;
     back = record {
       same_limit = limit_is;
       no_fewer = no_fewer;

@@ -1,5 +1,7 @@
 -- How a cell is set up.
 use Rattle.std.specs.Prelude.{◌≡◌, ◌≤◌, ◌⊎◌, ◌+◌, ◌↔◌, ℕ, List, [], ◌∷◌, false, Option, Some, IsSome}
+use Rattle.afs_num.specs.declared.types.Node.{Node}
+use Rattle.afs_num.specs.declared.types.Node.TheVariants.{Server}
 use Rattle.afs_history.specs.declared.scripts.Script.{Script}
 use Rattle.afs_disk.specs.Disk.{LeavesJust, Rose}
 use Rattle.afs_disk.specs.declared.disks.Lent.{Lent}
@@ -16,13 +18,14 @@ NoneFell {D} faults [] news = Unit {0}
 NoneFell {D} faults (a ∷ olds) [] = ⊥
 NoneFell {D} faults (a ∷ olds) (b ∷ news) = (faults a.disk ≤ faults b.disk) × NoneFell faults olds news
 
--- that of one rose
-abbrev pub OneRose : {D : Type 0} → (D → ℕ) → List (Lent D) → List (Lent D) → Type 0
-OneRose {D} faults (a ∷ olds) (b ∷ news) = Rose (faults a.disk) (faults b.disk) ⊎ OneRose faults olds news
-OneRose {D} faults olds news = ⊥
+-- of these disks, those of the servers from this number on, that of this node failed
+abbrev pub RoseAt : {D : Type 0} → (D → ℕ) → Node → ℕ → List (Lent D) → List (Lent D) → Type 0
+RoseAt {D} faults n i (a ∷ olds) (b ∷ news) = ((n ≡ Server i) × Rose (faults a.disk) (faults b.disk)) ⊎ RoseAt faults n (i + 1) olds news
+RoseAt {D} faults n i olds news = ⊥
 
+-- the disk that a refusal names is one that failed
 abbrev pub IsRefusedBy : {D : Type 0} → (D → ℕ) → List (Lent D) → SetupFault → List (Lent D) → Type 0
-IsRefusedBy {D} faults disks (setup.Disk n) back = OneRose faults disks back
+IsRefusedBy {D} faults disks (setup.Disk n) back = RoseAt faults n 1 disks back
 IsRefusedBy {D} faults disks setup.OutOfMemory back = Unit {0}
 
 abbrev pub IsRefused : {D : Type 0} → (D → ℕ) → List (Lent D) → SetupFault × List (Lent D) → Type 0

@@ -35,10 +35,10 @@ pub record IsFirstServer {D : Type 0} (seen : D → Option (List ℕ)) (may_leav
   pub no_fewer : faults old ≤ faults (disk_of r)
   pub left : IsLeftAt seen may_leave s i old (disk_of r)
 
--- why a disk couldn't be set up: it failed, or memory was wanting
-abbrev pub IsCausedAt : {D : Type 0} → (D → ℕ) → SetupFault → D → D → Type 0
-IsCausedAt {D} faults (setup.Disk n) old new = Rose (faults old) (faults new)
-IsCausedAt {D} faults setup.OutOfMemory old new = Unit {0}
+-- why a server's disk couldn't be set up: it failed, or memory ran out
+abbrev pub IsCausedAt : {D : Type 0} → (D → ℕ) → ℕ → SetupFault → D → D → Type 0
+IsCausedAt {D} faults i (setup.Disk n) old new = (n ≡ Server i) × Rose (faults old) (faults new)
+IsCausedAt {D} faults i setup.OutOfMemory old new = Unit {0}
 
 -- a disk that is handed back
 pub record IsBack {D : Type 0} (seen : D → Option (List ℕ)) (may_leave : D → List ℕ → Type 0) (faults limit : D → ℕ) (s : Script) (i : ℕ) (old new : D) : Type 0 where
@@ -47,7 +47,7 @@ pub record IsBack {D : Type 0} (seen : D → Option (List ℕ)) (may_leave : D �
   pub left : IsLeftAt seen may_leave s i old new
 
 pub record IsRefusedAt {D : Type 0} (seen : D → Option (List ℕ)) (may_leave : D → List ℕ → Type 0) (faults limit : D → ℕ) (s : Script) (i : ℕ) (old : D) (e : SetupFault × D) : Type 0 where
-  pub cause : IsCausedAt faults e.0 old e.1
+  pub cause : IsCausedAt faults i e.0 old e.1
   pub back : IsBack seen may_leave faults limit s i old e.1
 
 -- ---- all servers

@@ -6,16 +6,17 @@ use Rattle.afs_history.specs.declared.lines.Line.TheVariants as lines
 use Rattle.afs_history.specs.declared.scripts.Script.{Script}
 use Rattle.afs_ideal.specs.Operations.{volume_changed}
 use Rattle.afs_law.proofs.Backing.{all_lines}
-use Rattle.afs_law.proofs.Basics.{Each, IfCall, same_node-refl, same_node-true}
+use Rattle.afs_law.proofs.Basics.{Each, IfCall, found-cached-fid, same_fid-true, same_node-refl, same_node-true, some_of}
 use Rattle.afs_law.proofs.Calling.{AreReplies, IsAnswer, kept_answer, uncalled_any}
 use Rattle.afs_law.proofs.Firm.{IsFirm, IsSentBy}
 use Rattle.afs_law.proofs.Seating.{AreSeated, code_half, kept_from, seated}
-use Rattle.afs_law.specs.Legal.{IsInPlace}
+use Rattle.afs_law.specs.Legal.{IsInPlace, IsNeeded, IsNeededFrom}
 use Rattle.afs_law.specs.Parts.{EachLine}
 use Rattle.afs_law.specs.Past.{HasCode, has_begun, has_given, lines_of, onto, running}
 use Rattle.afs_model.specs.Calls as pairs
 use Rattle.afs_model.specs.FsRows.{call_number}
 use Rattle.afs_model.specs.Calls.{Admitted, admitted}
+use Rattle.afs_num.specs.Fids.{same_fid}
 use Rattle.afs_num.specs.Nodes.{same_node}
 use Rattle.afs_num.specs.declared.calls.AfsCallBack.{AfsCallBack}
 use Rattle.afs_num.specs.declared.calls.AfsFetchStatus.{AfsFetchStatus}
@@ -25,6 +26,7 @@ use Rattle.afs_num.specs.declared.calls.FsCall.TheVariants as calls
 use Rattle.afs_num.specs.declared.calls.FsReply.{FsReply}
 use Rattle.afs_num.specs.declared.calls.FsReply.TheVariants as replies
 use Rattle.afs_num.specs.declared.histories.Actor.TheVariants as actors
+use Rattle.afs_num.specs.declared.histories.Body.{Body}
 use Rattle.afs_num.specs.declared.histories.Body.{Body}
 use Rattle.afs_num.specs.declared.histories.ReadBody.{ReadBody}
 use Rattle.afs_num.specs.declared.histories.ReadBody.TheVariants as seen
@@ -42,7 +44,7 @@ use Rattle.afs_num.specs.declared.types.Head.{Head}
 use Rattle.afs_num.specs.declared.types.Key.{Key}
 use Rattle.afs_num.specs.declared.types.Node.{Node}
 use Rattle.afs_num.specs.declared.types.Node.TheVariants.{Client}
-use Rattle.afs_rows.specs.ClientRow.{Look, Walked, admits_call, asking, awaits, begin_row, begins_by, behind_batch, body_told, breaks, call_message, call_of, callee_by, calls_again, calls_step, client_row, counts, dead_code, drop_line, dropped, dropped_after, ends_step, entries_told, entry_told, find_cached, gift_of, given, given_up_in, gives_by, goes_by, hears, ignores, in_order, is_awaited, is_busy_code, is_older, is_spent, is_trusted, look_at, looked, most_busy, most_reads, put_entries, put_entry, read_lines, reborn, refuses, replies_step, runs_carried, shown_by, status_look, status_told, stays, takes, takes_bulk, takes_bytes, takes_data, takes_entries, takes_entry, takes_given, takes_list, takes_plain, takes_rights, takes_set, takes_shown, takes_status, takes_stored, timeout_line, timeout_row, told_step, trusted_in, untrusted_in, used_first, walked, walked_at, walked_by, walked_with, walks_on, whole, with_statuses}
+use Rattle.afs_rows.specs.ClientRow.{Look, Walked, admits_call, asking, awaits, begin_row, begins_by, behind_batch, body_seen, body_told, breaks, call_message, call_of, callee_by, calls_again, calls_step, client_row, counts, dead_code, drop_line, dropped, dropped_after, ends_step, entries_told, entry_told, find_cached, gift_of, given, given_up_in, gives_by, goes_by, hears, ignores, in_order, is_awaited, is_busy_code, is_older, is_spent, is_trusted, look_at, looked, most_busy, most_reads, put_entries, put_entry, read_lines, reborn, refuses, replies_step, runs_carried, shown_by, status_look, status_told, stays, takes, takes_bulk, takes_bytes, takes_data, takes_entries, takes_entry, takes_given, takes_list, takes_plain, takes_rights, takes_set, takes_shown, takes_status, takes_stored, timeout_line, timeout_row, told_step, trusted_in, untrusted_in, used_first, walked, walked_at, walked_by, walked_with, walks_on, whole, with_statuses}
 use Rattle.afs_rows.specs.Going.{ClientState, Going, Need, answers, began, gives_back, next, reads, reads_status, with_read}
 use Rattle.afs_rows.specs.Runs.{Entry, locations}
 use Rattle.afs_rows.specs.ServerRow.{boot_told, key_of, replied, reply_head}
@@ -50,7 +52,7 @@ use Rattle.afs_rows.specs.States.{CacheEntry, Gift, Location, Seat}
 use Rattle.afs_rows.specs.Steps.{Step}
 use Rattle.std.proofs.Common.{zero, suc, ◌+◌, ◌≡◌, ℕ, ◌⊎◌, inl, inr, Bool, true, false, cond, List, [], ◌∷◌, ◌++◌, map, Option, Some, None, refl, sym, subst, filter, not, ap, ◌∙◌}
 use Rattle.std.specs.List.{list_any}
-use Rattle.std.specs.Prelude.{◌&&◌, nat_lt}
+use Rattle.std.specs.Prelude.{⊤, ◌&&◌, nat_lt}
 
 -- ---- its lines
 
@@ -114,6 +116,7 @@ pub record Asks (j : ℕ) (x : Who) (s : Step ClientState) : Type 0 where
 
 pub record Stops (j : ℕ) (x : Who) (s : Step ClientState) : Type 0 where
   pub epoch : s.state.epoch ≡ x.epoch + 1
+  pub last : s.state.last ≡ 0
   pub act : s.state.running ≡ None
   pub sent : s.sent ≡ []
   pub lines : s.lines ≡ lines.Crash (Client j) ∷ []
@@ -203,17 +206,22 @@ abbrev pub read_all : List Look → Going → Going
 read_all [] act = act
 read_all (l ∷ looks) act = read_all looks (with_read l.fid l.body act)
 
-look_more : (j : ℕ) (g : Going) (l : Look) → More j g (with_read l.fid l.body g) (λ ls. lines.Read (Client j) l.fid l.index l.source l.body ∷ ls)
-look_more j g l = record {
+look_more : (j : ℕ) (g : Going) (l : Look) → IsNeededFrom l.source l.fid l.body (next g) → More j g (with_read l.fid l.body g) (λ ls. lines.Read (Client j) l.fid l.index l.source l.body ∷ ls)
+look_more j g l need = record {
   of = λ ls q. one_of j (all_lines (is_of j) ls) q;
   comes = λ S o r. record { to = lines.Read (Client j) l.fid l.index l.source l.body ∷ o; runs = rw (same_node-refl (Client j), r) refl; on = λ ls. refl };
   tail = λ ls q. q;
-  each = λ S past own ls r k. ((refl, record { act = g; runs = r }), k (lines.Read (Client j) l.fid l.index l.source l.body ∷ own) (rw (same_node-refl (Client j), r) refl));
+  each = λ S past own ls r k. ((refl, record { act = g; runs = r; needs = need }), k (lines.Read (Client j) l.fid l.index l.source l.body ∷ own) (rw (same_node-refl (Client j), r) refl));
 }
 
-looked_more : (j : ℕ) (g : Going) (looks : List Look) → More j g (read_all looks g) (looked (Client j) looks)
-looked_more j g [] = none_more j g
-looked_more j g (l ∷ looks) = then_more j g (with_read l.fid l.body g) (read_all looks (with_read l.fid l.body g)) (λ ls. lines.Read (Client j) l.fid l.index l.source l.body ∷ ls) (looked (Client j) looks) (look_more j g l) (looked_more j (with_read l.fid l.body g) looks)
+-- each is what the act needs, as far as it has come by those before
+abbrev AreNeeded : Going → List Look → Type 0
+AreNeeded g [] = ⊤
+AreNeeded g (l ∷ looks) = IsNeededFrom l.source l.fid l.body (next g) × AreNeeded (with_read l.fid l.body g) looks
+
+looked_more : (j : ℕ) (g : Going) (looks : List Look) → AreNeeded g looks → More j g (read_all looks g) (looked (Client j) looks)
+looked_more j g [] need = none_more j g
+looked_more j g (l ∷ looks) need = then_more j g (with_read l.fid l.body g) (read_all looks (with_read l.fid l.body g)) (λ ls. lines.Read (Client j) l.fid l.index l.source l.body ∷ ls) (looked (Client j) looks) (look_more j g l need.0) (looked_more j (with_read l.fid l.body g) looks need.1)
 
 -- ---- what an act reads from the cache
 
@@ -240,6 +248,44 @@ by_reads more clock act cache need w = refl
 pub walked_reads : (n clock : ℕ) (act : Going) (cache : List CacheEntry) → read_all (walked n clock act cache).looks act ≡ (walked n clock act cache).act
 walked_reads zero clock act cache = refl
 walked_reads (suc n) clock act cache = by_reads (walked n clock) clock act cache (next act) (walked_reads n clock)
+
+-- what it reads from the cache it needs
+abbrev NeedsOn : (Going → List CacheEntry → Walked) → Type 0
+NeedsOn more = (act : Going) (cache : List CacheEntry) → AreNeeded act (more act cache).looks
+
+with_needed : (more : Going → List CacheEntry → Walked) (act : Going) (cache : List CacheEntry) (e : CacheEntry) (o : Option ReadBody) → ((body : ReadBody) → o ≡ Some body → IsNeeded e.fid body (next act)) → NeedsOn more → AreNeeded act (walked_with more act cache e o).looks
+with_needed more act cache e None h w = tt
+with_needed more act cache e (Some body) h w = (h body refl, w (with_read e.fid body act) (used_first e cache))
+
+trusted_needed : (t : Bool) (more : Going → List CacheEntry → Walked) (act : Going) (cache : List CacheEntry) (e : CacheEntry) (o : Option ReadBody) → ((body : ReadBody) → o ≡ Some body → IsNeeded e.fid body (next act)) → NeedsOn more → AreNeeded act (cond t (walked_with more act cache e o) (stays act cache)).looks
+trusted_needed true more act cache e o h w = with_needed more act cache e o h w
+trusted_needed false more act cache e o h w = tt
+
+at_needed : (more : Going → List CacheEntry → Walked) (clock : ℕ) (act : Going) (cache : List CacheEntry) (need : Need) (o : Option CacheEntry) → ((e : CacheEntry) → o ≡ Some e → (body : ReadBody) → shown_by need e ≡ Some body → IsNeeded e.fid body (next act)) → NeedsOn more → AreNeeded act (walked_at more clock act cache need o).looks
+at_needed more clock act cache need None h w = tt
+at_needed more clock act cache need (Some e) h w = trusted_needed (is_trusted clock e) more act cache e (shown_by need e) (h e refl) w
+
+body_needed : (f : Fid) (e : CacheEntry) (o : Option Body) (body : ReadBody) → same_fid e.fid f ≡ true → body_seen o ≡ Some body → IsNeeded e.fid body (reads f)
+body_needed f e None body same h = absurd cc
+body_needed f e (Some b) body same h = subst (λ (x : ReadBody). IsNeeded e.fid x (reads f)) (some_of (seen.Contents b) body h) (sym (same_fid-true e.fid f same))
+
+status_needed : (f : Fid) (e : CacheEntry) (body : ReadBody) → same_fid e.fid f ≡ true → Some (seen.Status e.status) ≡ Some body → IsNeeded e.fid body (reads_status f)
+status_needed f e body same h = subst (λ (x : ReadBody). IsNeeded e.fid x (reads_status f)) (some_of (seen.Status e.status) body h) (sym (same_fid-true e.fid f same))
+
+by_needed : (more : Going → List CacheEntry → Walked) (clock : ℕ) (act : Going) (cache : List CacheEntry) (need : Need) → next act ≡ need → NeedsOn more → AreNeeded act (walked_by more clock act cache need).looks
+by_needed more clock act cache (reads f) is w =
+    at_needed more clock act cache (reads f) (find_cached f cache) (λ e found body h. subst (IsNeeded e.fid body) (sym is) (body_needed f e e.body body (found-cached-fid f cache e found) h)) w
+by_needed more clock act cache (reads_status f) is w =
+    at_needed more clock act cache (reads_status f) (find_cached f cache) (λ e found body h. subst (IsNeeded e.fid body) (sym is) (status_needed f e body (found-cached-fid f cache e found) h)) w
+by_needed more clock act cache need is w = tt
+
+walked_needed : (n clock : ℕ) (act : Going) (cache : List CacheEntry) → AreNeeded act (walked n clock act cache).looks
+walked_needed zero clock act cache = tt
+walked_needed (suc n) clock act cache = by_needed (walked n clock) clock act cache (next act) refl (walked_needed n clock)
+
+statuses_needed : (es : List CacheEntry) (act : Going) → AreNeeded act (map status_look es)
+statuses_needed [] act = tt
+statuses_needed (e ∷ es) act = (tt, statuses_needed es (with_read e.fid (seen.Status e.status) act))
 
 status_reads : (es : List CacheEntry) (act : Going) → read_all (map status_look es) act ≡ with_statuses es act
 status_reads [] act = refl
@@ -291,7 +337,7 @@ goes_acts j gs c front w need f = calls_acts j gs (record c { cache = w.cache })
 walks_acts : (j : ℕ) (gs : List Gift) (c : ClientState) (clock : ℕ) (front : List Line → List Line) (act : Going) (cache : List CacheEntry) → Front j c.table c.running act front → Acts j (who_at c) gs (walks_on (Client j) c clock front act cache)
 walks_acts j gs c clock front act cache f =
     let w : Walked = walked (most_reads act) clock act cache in
-    goes_acts j gs c front w (next w.act) (subst (λ (g : Going). Front j c.table c.running g (λ ls. front (looked (Client j) w.looks ls))) (walked_reads (most_reads act) clock act cache) (then_front j c.table c.running act (read_all w.looks act) front (looked (Client j) w.looks) f (looked_more j act w.looks)))
+    goes_acts j gs c front w (next w.act) (subst (λ (g : Going). Front j c.table c.running g (λ ls. front (looked (Client j) w.looks ls))) (walked_reads (most_reads act) clock act cache) (then_front j c.table c.running act (read_all w.looks act) front (looked (Client j) w.looks) f (looked_more j act w.looks (walked_needed (most_reads act) clock act cache))))
 
 gives_acts : (j : ℕ) (gs : List Gift) (c : ClientState) (front : List Line → List Line) (act : Going) (more : List Gift) → Front j c.table c.running act front → Acts j (who_at c) gs (gives_by (Client j) c front act more)
 gives_acts j gs c front act [] f = ends_acts j gs c c.cache front _ act f
@@ -336,26 +382,26 @@ plain_acts : (j : ℕ) (gs : List Gift) (c : ClientState) (place : ℕ) (act : G
 plain_acts j gs c place act call r = ends_acts j gs c _ (λ ls. given place (dropped (Client j) (dropped_after call c.cache) ls)) _ act (then_front j c.table c.running act act (given place) (dropped (Client j) (dropped_after call c.cache)) (on_given j c place act r) (dropped_more j act (dropped_after call c.cache)))
 
 -- a read behind the message
-on_read : (j : ℕ) (c : ClientState) (place : ℕ) (act : Going) (l : Look) → c.running ≡ Some act → Front j c.table c.running (with_read l.fid l.body act) (read_lines (Client j) place l)
-on_read j c place act l r = then_front j c.table c.running act (with_read l.fid l.body act) (given place) (λ ls. lines.Read (Client j) l.fid l.index l.source l.body ∷ ls) (on_given j c place act r) (look_more j act l)
+on_read : (j : ℕ) (c : ClientState) (place : ℕ) (act : Going) (l : Look) → IsNeededFrom l.source l.fid l.body (next act) → c.running ≡ Some act → Front j c.table c.running (with_read l.fid l.body act) (read_lines (Client j) place l)
+on_read j c place act l need r = then_front j c.table c.running act (with_read l.fid l.body act) (given place) (λ ls. lines.Read (Client j) l.fid l.index l.source l.body ∷ ls) (on_given j c place act r) (look_more j act l need)
 
 entry_acts : (j : ℕ) (gs : List Gift) (c : ClientState) (clock place : ℕ) (act : Going) (e : CacheEntry) (body : ReadBody) → c.running ≡ Some act → Acts j (who_at c) gs (takes_entry (Client j) c clock place act e body)
 entry_acts j gs c clock place act e body r =
     either_acts (is_trusted clock e) j (who_at c) gs _ _
-    (walks_acts j gs c clock (read_lines (Client j) place (look_at Fetched e body)) (with_read e.fid body act) (put_entry c.capacity e c.cache) (on_read j c place act (look_at Fetched e body) r)) (again_acts j gs c place act r)
+    (walks_acts j gs c clock (read_lines (Client j) place (look_at Fetched e body)) (with_read e.fid body act) (put_entry c.capacity e c.cache) (on_read j c place act (look_at Fetched e body) tt r)) (again_acts j gs c place act r)
 
 entries_acts : (j : ℕ) (gs : List Gift) (c : ClientState) (clock place : ℕ) (act : Going) (es : List CacheEntry) → c.running ≡ Some act → Acts j (who_at c) gs (takes_entries (Client j) c clock place act es)
 entries_acts j gs c clock place act es r =
     either_acts (list_any (λ e. not (is_trusted clock e)) es) j (who_at c) gs _ _ (again_acts j gs c place act r)
     (walks_acts j gs c clock (λ ls. given place (looked (Client j) (map status_look es) ls)) (with_statuses es act) (put_entries c.capacity es c.cache)
-    (subst (λ (g : Going). Front j c.table c.running g (λ ls. given place (looked (Client j) (map status_look es) ls))) (status_reads es act) (then_front j c.table c.running act (read_all (map status_look es) act) (given place) (looked (Client j) (map status_look es)) (on_given j c place act r) (looked_more j act (map status_look es)))))
+    (subst (λ (g : Going). Front j c.table c.running g (λ ls. given place (looked (Client j) (map status_look es) ls))) (status_reads es act) (then_front j c.table c.running act (read_all (map status_look es) act) (given place) (looked (Client j) (map status_look es)) (on_given j c place act r) (looked_more j act (map status_look es) (statuses_needed es act)))))
 
 rights_acts : (j : ℕ) (gs : List Gift) (c : ClientState) (clock place : ℕ) (act : Going) (f : Fid) (index release : ℕ) (text : List ℕ) → c.running ≡ Some act → Acts j (who_at c) gs (takes_rights (Client j) c clock place act f index release text)
 rights_acts j gs c clock place act f index release text r =
     let look : Look = record { fid = f; index = index; source = Fetched; body = seen.AccessList text } in
     let g : Going = with_read f (seen.AccessList text) act in
     walks_acts j gs c clock (λ ls. read_lines (Client j) place look (dropped (Client j) (filter (is_older f index release) c.cache) ls)) g (filter (λ e. not (is_older f index release e)) c.cache)
-    (then_front j c.table c.running g g (read_lines (Client j) place look) (dropped (Client j) (filter (is_older f index release) c.cache)) (on_read j c place act look r) (dropped_more j g (filter (is_older f index release) c.cache)))
+    (then_front j c.table c.running g g (read_lines (Client j) place look) (dropped (Client j) (filter (is_older f index release) c.cache)) (on_read j c place act look tt r) (dropped_more j g (filter (is_older f index release) c.cache)))
 
 stored_acts : (j : ℕ) (gs : List Gift) (c : ClientState) (clock place : ℕ) (act : Going) (f : Fid) (index : ℕ) (status : ReadStatus) (made : Option Body → Option Body) → c.running ≡ Some act → Acts j (who_at c) gs (takes_stored (Client j) c clock place f index status made)
 stored_acts j gs c clock place act f index status made r = ends_acts j gs c _ (given place) _ act (on_given j c place act r)
@@ -484,7 +530,7 @@ waits_acts j c act r = either_acts (nat_lt c.tries 2) j (who_at c) c.gifts _ _
     (then_front j c.table (Some act) act act (λ ls. timeout_line (Client j) c 3 ∷ ls) (dropped (Client j) (given_up_in (volume_changed (call_of c act)) c.cache)) (timeout_front j c c.table act 3) (dropped_more j act (given_up_in (volume_changed (call_of c act)) c.cache)))))
 
 pub falls_acts : (j : ℕ) (c : ClientState) → Acts j (who_at c) c.gifts (record { state = reborn c; lines = lines.Crash (Client j) ∷ []; sent = [] })
-falls_acts j c = record { user = refl; table = refl; of = one_of j true refl; runs = λ S t o r. rw (same_node-refl (Client j)) refl; goes = inr (inr (record { epoch = refl; act = refl; sent = refl; lines = refl })); each = λ S past t r. (refl, tt); seats = λ k n seat m e. absurd cc; from = tt }
+falls_acts j c = record { user = refl; table = refl; of = one_of j true refl; runs = λ S t o r. rw (same_node-refl (Client j)) refl; goes = inr (inr (record { epoch = refl; last = refl; act = refl; sent = refl; lines = refl })); each = λ S past t r. (refl, tt); seats = λ k n seat m e. absurd cc; from = tt }
 
 pub rises_acts : (j : ℕ) (c : ClientState) → Acts j (who_at c) c.gifts (record { state = c; lines = lines.Restart (Client j) c.epoch ∷ []; sent = [] })
 rises_acts j c = record { user = refl; table = refl; of = one_of j true refl; runs = λ S t o r. r; goes = inl (record { epoch = refl; last = refl; act = inr (refl, (refl, refl)); sent = tt }); each = λ S past t r. ((refl, tt), tt); seats = λ k. k; from = tt }

@@ -16,9 +16,9 @@ use Rattle.afs_law.proofs.KeysOnce.{IsKnown, any_told, by_key}
 use Rattle.afs_law.proofs.Knowing.{served_uncalled, started_uncalled, timed_uncalled, woken_uncalled}
 use Rattle.afs_law.proofs.Moving.{Behind, EachMove, IsKept, each_moved}
 use Rattle.afs_law.proofs.Nexts.{asks_change}
-use Rattle.afs_law.proofs.Located.{AreHomesOf, IsHomeOf, IsLaid, homes_laid, running_homes}
+use Rattle.afs_law.proofs.Located.{AreHomesOf, IsHomeOf, IsLaid, homes_laid, laid_at, running_homes}
 use Rattle.afs_law.proofs.Origins.{of_client, the_calls}
-use Rattle.afs_law.specs.Ideal.{set_up}
+use Rattle.afs_law.specs.Ideal.{is_at, set_up}
 use Rattle.afs_law.specs.Past.{lines_of, running}
 use Rattle.afs_num.specs.declared.calls.FsCall.{FsCall}
 use Rattle.afs_num.specs.declared.calls.FsCall.TheVariants as calls
@@ -58,124 +58,125 @@ abbrev AreIn : ℕ → List Fid → Type 0
 AreIn v [] = ⊤
 AreIn v (f ∷ fs) = (f.volume ≡ v) × AreIn v fs
 
-abbrev IsOf : (ℕ → Type 0) → Need → Type 0
-IsOf K (reads f) = K f.volume
-IsOf K (reads_status f) = K f.volume
-IsOf K (reads_statuses fids) = (v : ℕ) × (K v × AreIn v fids)
-IsOf K (reads_rights f) = K f.volume
-IsOf K (asks_for call) = (id : ℕ) → volume_called call ≡ Some id → K id
-IsOf K need = ⊤
+abbrev IsOf : (ℕ → Type 0) → Type 0 → Need → Type 0
+IsOf K G (reads f) = K f.volume
+IsOf K G (reads_status f) = K f.volume
+IsOf K G (reads_statuses fids) = (v : ℕ) × (K v × AreIn v fids)
+IsOf K G (reads_rights f) = K f.volume
+IsOf K G (asks_for call) = (id : ℕ) → volume_called call ≡ Some id → K id
+IsOf K G gives_back = G
+IsOf K G need = ⊤
 
 all_named : (v : ℕ) (ns : List Name) → AreIn v (map (fid_of v) ns)
 all_named v [] = tt
 all_named v (n ∷ ns) = (refl, all_named v ns)
 
-if_of : (K : ℕ → Type 0) (t : Bool) (a b : Need) → IsOf K a → IsOf K b → IsOf K (cond t a b)
-if_of K true a b h k = h
-if_of K false a b h k = k
+if_of : (K : ℕ → Type 0) (G : Type 0) (t : Bool) (a b : Need) → IsOf K G a → IsOf K G b → IsOf K G (cond t a b)
+if_of K G true a b h k = h
+if_of K G false a b h k = k
 
-body_of : (K : ℕ → Type 0) (f : Fid) (more : Body → List Shown → Need) (o : Option (Taken Body)) → K f.volume → ((b : Body) (rest : List Shown) → IsOf K (more b rest)) → IsOf K (by_body f more o)
-body_of K f more None k w = k
-body_of K f more (Some t) k w = w t.found t.rest
+body_of : (K : ℕ → Type 0) (G : Type 0) (f : Fid) (more : Body → List Shown → Need) (o : Option (Taken Body)) → K f.volume → ((b : Body) (rest : List Shown) → IsOf K G (more b rest)) → IsOf K G (by_body f more o)
+body_of K G f more None k w = k
+body_of K G f more (Some t) k w = w t.found t.rest
 
-reading_of : (K : ℕ → Type 0) (f : Fid) (rs : List Shown) (more : Body → List Shown → Need) → K f.volume → ((b : Body) (rest : List Shown) → IsOf K (more b rest)) → IsOf K (reading f rs more)
-reading_of K f rs more k w = body_of K f more (first_body f rs) k w
+reading_of : (K : ℕ → Type 0) (G : Type 0) (f : Fid) (rs : List Shown) (more : Body → List Shown → Need) → K f.volume → ((b : Body) (rest : List Shown) → IsOf K G (more b rest)) → IsOf K G (reading f rs more)
+reading_of K G f rs more k w = body_of K G f more (first_body f rs) k w
 
-step_of : (K : ℕ → Type 0) (inner : Bool) (more : Fid → Need) (volume : ℕ) (o : Option (Option Name)) → K volume → ((f : Fid) → K f.volume → IsOf K (more f)) → IsOf K (step_to inner more volume o)
-step_of K inner more volume None k w = tt
-step_of K inner more volume (Some None) k w = tt
-step_of K inner more volume (Some (Some n)) k w = if_of K (inner && is_even n.vnode) (answers 20) (more (fid_of volume n)) tt (w (fid_of volume n) k)
+step_of : (K : ℕ → Type 0) (G : Type 0) (inner : Bool) (more : Fid → Need) (volume : ℕ) (o : Option (Option Name)) → K volume → ((f : Fid) → K f.volume → IsOf K G (more f)) → IsOf K G (step_to inner more volume o)
+step_of K G inner more volume None k w = tt
+step_of K G inner more volume (Some None) k w = tt
+step_of K G inner more volume (Some (Some n)) k w = if_of K G (inner && is_even n.vnode) (answers 20) (more (fid_of volume n)) tt (w (fid_of volume n) k)
 
-abbrev Objects : (ℕ → Type 0) → (Fid → List Shown → Need) → Type 0
-Objects K more = (f : Fid) (rest : List Shown) → K f.volume → IsOf K (more f rest)
+abbrev Objects : (ℕ → Type 0) → Type 0 → (Fid → List Shown → Need) → Type 0
+Objects K G more = (f : Fid) (rest : List Shown) → K f.volume → IsOf K G (more f rest)
 
-walk_of : (K : ℕ → Type 0) (all : Bool) (more : Fid → List Shown → Need) (names : List (List ℕ)) (rs : List Shown) (d : Fid) → K d.volume → Objects K more → IsOf K (walk all more names rs d)
-walk_of K all more [] rs d k w = w d rs k
-walk_of K all more (name ∷ names) rs d k w =
-    reading_of K d rs (λ b rest. step_to (all || not (is_last_name names)) (walk all more names rest) d.volume (looked_up name b)) k
-    (λ b rest. step_of K (all || not (is_last_name names)) (walk all more names rest) d.volume (looked_up name b) k (λ f h. walk_of K all more names rest f h w))
+walk_of : (K : ℕ → Type 0) (G : Type 0) (all : Bool) (more : Fid → List Shown → Need) (names : List (List ℕ)) (rs : List Shown) (d : Fid) → K d.volume → Objects K G more → IsOf K G (walk all more names rs d)
+walk_of K G all more [] rs d k w = w d rs k
+walk_of K G all more (name ∷ names) rs d k w =
+    reading_of K G d rs (λ b rest. step_to (all || not (is_last_name names)) (walk all more names rest) d.volume (looked_up name b)) k
+    (λ b rest. step_of K G (all || not (is_last_name names)) (walk all more names rest) d.volume (looked_up name b) k (λ f h. walk_of K G all more names rest f h w))
 
-home_of : (K : ℕ → Type 0) (home : Option ℕ) (more : ℕ → Need) → ((id : ℕ) → home ≡ Some id → IsOf K (more id)) → IsOf K (in_home home more)
-home_of K None more w = tt
-home_of K (Some id) more w = w id refl
+home_of : (K : ℕ → Type 0) (G : Type 0) (home : Option ℕ) (more : ℕ → Need) → ((id : ℕ) → home ≡ Some id → IsOf K G (more id)) → IsOf K G (in_home home more)
+home_of K G None more w = tt
+home_of K G (Some id) more w = w id refl
 
-object_of : (K : ℕ → Type 0) (home : Option ℕ) (o : Operand) (rs : List Shown) (more : Fid → List Shown → Need) → IsHomeOf K home o → Objects K more → IsOf K (to_object home o rs more)
-object_of K home (operands.Fid f) rs more h w = home_of K home (λ id. more f rs) (λ id e. w f rs (h id e))
-object_of K home (operands.Path p) rs more h w = home_of K home (λ id. walk false more p.names rs (root_of id)) (λ id e. walk_of K false more p.names rs (root_of id) (h id e) w)
+object_of : (K : ℕ → Type 0) (G : Type 0) (home : Option ℕ) (o : Operand) (rs : List Shown) (more : Fid → List Shown → Need) → IsHomeOf K home o → Objects K G more → IsOf K G (to_object home o rs more)
+object_of K G home (operands.Fid f) rs more h w = home_of K G home (λ id. more f rs) (λ id e. w f rs (h id e))
+object_of K G home (operands.Path p) rs more h w = home_of K G home (λ id. walk false more p.names rs (root_of id)) (λ id e. walk_of K G false more p.names rs (root_of id) (h id e) w)
 
-directory_of : (K : ℕ → Type 0) (need : Need) (b : Body) → IsOf K need → IsOf K (in_directory need b)
-directory_of K need (bodies.Dir names) h = h
-directory_of K need b h = tt
+directory_of : (K : ℕ → Type 0) (G : Type 0) (need : Need) (b : Body) → IsOf K G need → IsOf K G (in_directory need b)
+directory_of K G need (bodies.Dir names) h = h
+directory_of K G need b h = tt
 
-abbrev Parents : (ℕ → Type 0) → (Fid → List ℕ → List Shown → Need) → Type 0
-Parents K more = (d : Fid) (name : List ℕ) (rest : List Shown) → K d.volume → IsOf K (more d name rest)
+abbrev Parents : (ℕ → Type 0) → Type 0 → (Fid → List ℕ → List Shown → Need) → Type 0
+Parents K G more = (d : Fid) (name : List ℕ) (rest : List Shown) → K d.volume → IsOf K G (more d name rest)
 
-parent_of : (K : ℕ → Type 0) (home : Option ℕ) (rs : List Shown) (more : Fid → List ℕ → List Shown → Need) (o : Option Parted) → ((id : ℕ) → home ≡ Some id → K id) → Parents K more → IsOf K (at_parent home rs more o)
-parent_of K home rs more None h w = tt
-parent_of K home rs more (Some p) h w =
-    home_of K home (λ id. walk true (λ d rest. reading d rest (λ b later. in_directory (more d p.last later) b)) p.front rs (root_of id))
-    (λ id e. walk_of K true (λ d rest. reading d rest (λ b later. in_directory (more d p.last later) b)) p.front rs (root_of id) (h id e)
-    (λ d rest k. reading_of K d rest (λ b later. in_directory (more d p.last later) b) k (λ b later. directory_of K (more d p.last later) b (w d p.last later k))))
+parent_of : (K : ℕ → Type 0) (G : Type 0) (home : Option ℕ) (rs : List Shown) (more : Fid → List ℕ → List Shown → Need) (o : Option Parted) → ((id : ℕ) → home ≡ Some id → K id) → Parents K G more → IsOf K G (at_parent home rs more o)
+parent_of K G home rs more None h w = tt
+parent_of K G home rs more (Some p) h w =
+    home_of K G home (λ id. walk true (λ d rest. reading d rest (λ b later. in_directory (more d p.last later) b)) p.front rs (root_of id))
+    (λ id e. walk_of K G true (λ d rest. reading d rest (λ b later. in_directory (more d p.last later) b)) p.front rs (root_of id) (h id e)
+    (λ d rest k. reading_of K G d rest (λ b later. in_directory (more d p.last later) b) k (λ b later. directory_of K G (more d p.last later) b (w d p.last later k))))
 
-to_of : (K : ℕ → Type 0) (home : Option ℕ) (p : Path) (rs : List Shown) (more : Fid → List ℕ → List Shown → Need) → IsHomeOf K home (operands.Path p) → Parents K more → IsOf K (to_parent home p rs more)
-to_of K home p rs more h w = parent_of K home rs more (parted p.names) h w
+to_of : (K : ℕ → Type 0) (G : Type 0) (home : Option ℕ) (p : Path) (rs : List Shown) (more : Fid → List ℕ → List Shown → Need) → IsHomeOf K home (operands.Path p) → Parents K G more → IsOf K G (to_parent home p rs more)
+to_of K G home p rs more h w = parent_of K G home rs more (parted p.names) h w
 
-kind_of : (K : ℕ → Type 0) (file directory link : ℕ) (b : Body) → IsOf K (by_kind file directory link b)
-kind_of K file directory link (bodies.File bytes) = tt
-kind_of K file directory link (bodies.Dir names) = tt
-kind_of K file directory link b = tt
+kind_of : (K : ℕ → Type 0) (G : Type 0) (file directory link : ℕ) (b : Body) → IsOf K G (by_kind file directory link b)
+kind_of K G file directory link (bodies.File bytes) = tt
+kind_of K G file directory link (bodies.Dir names) = tt
+kind_of K G file directory link b = tt
 
-shows_of : (K : ℕ → Type 0) (file directory link : ℕ) (home : Option ℕ) (o : Operand) (rs : List Shown) → IsHomeOf K home o → IsOf K (shows file directory link home o rs)
-shows_of K file directory link home o rs h =
-    object_of K home o rs (λ f rest. reading f rest (λ b later. by_kind file directory link b)) h (λ f rest k. reading_of K f rest (λ b later. by_kind file directory link b) k (λ b later. kind_of K file directory link b))
+shows_of : (K : ℕ → Type 0) (G : Type 0) (file directory link : ℕ) (home : Option ℕ) (o : Operand) (rs : List Shown) → IsHomeOf K home o → IsOf K G (shows file directory link home o rs)
+shows_of K G file directory link home o rs h =
+    object_of K G home o rs (λ f rest. reading f rest (λ b later. by_kind file directory link b)) h (λ f rest k. reading_of K G f rest (λ b later. by_kind file directory link b) k (λ b later. kind_of K G file directory link b))
 
-statuses_by_of : (K : ℕ → Type 0) (all : List Fid) (more : List Shown → Need) (o : Option (Taken ReadStatus)) → (v : ℕ) → K v → AreIn v all → ((rest : List Shown) → IsOf K (more rest)) → IsOf K (by_statuses all more o)
-statuses_by_of K all more None v k h w = (v, (k, h))
-statuses_by_of K all more (Some t) v k h w = w t.rest
+statuses_by_of : (K : ℕ → Type 0) (G : Type 0) (all : List Fid) (more : List Shown → Need) (o : Option (Taken ReadStatus)) → (v : ℕ) → K v → AreIn v all → ((rest : List Shown) → IsOf K G (more rest)) → IsOf K G (by_statuses all more o)
+statuses_by_of K G all more None v k h w = (v, (k, h))
+statuses_by_of K G all more (Some t) v k h w = w t.rest
 
-statuses_of : (K : ℕ → Type 0) (v : ℕ) (all fs : List Fid) (rs : List Shown) → K v → AreIn v all → IsOf K (reading_statuses all fs rs)
-statuses_of K v all [] rs k h = tt
-statuses_of K v all (f ∷ fs) rs k h = statuses_by_of K all (reading_statuses all fs) (first_status f rs) v k h (λ rest. statuses_of K v all fs rest k h)
+statuses_of : (K : ℕ → Type 0) (G : Type 0) (v : ℕ) (all fs : List Fid) (rs : List Shown) → K v → AreIn v all → IsOf K G (reading_statuses all fs rs)
+statuses_of K G v all [] rs k h = tt
+statuses_of K G v all (f ∷ fs) rs k h = statuses_by_of K G all (reading_statuses all fs) (first_status f rs) v k h (λ rest. statuses_of K G v all fs rest k h)
 
-shown_of : (K : ℕ → Type 0) (volume : ℕ) (rs : List Shown) (b : Body) → K volume → IsOf K (statuses_in volume rs b)
-shown_of K volume rs (bodies.Dir names) k = statuses_of K volume (named_first volume names) (named_first volume names) rs k (all_named volume _)
-shown_of K volume rs b k = tt
+shown_of : (K : ℕ → Type 0) (G : Type 0) (volume : ℕ) (rs : List Shown) (b : Body) → K volume → IsOf K G (statuses_in volume rs b)
+shown_of K G volume rs (bodies.Dir names) k = statuses_of K G volume (named_first volume names) (named_first volume names) rs k (all_named volume _)
+shown_of K G volume rs b k = tt
 
-status_of : (K : ℕ → Type 0) (f : Fid) (o : Option (Taken ReadStatus)) → K f.volume → IsOf K (by_status f o)
-status_of K f None k = k
-status_of K f (Some t) k = tt
+status_of : (K : ℕ → Type 0) (G : Type 0) (f : Fid) (o : Option (Taken ReadStatus)) → K f.volume → IsOf K G (by_status f o)
+status_of K G f None k = k
+status_of K G f (Some t) k = tt
 
-volume_of : (K : ℕ → Type 0) (f g : Fid) (need : Need) → IsOf K need → IsOf K (of_one f g need)
-volume_of K f g need h = if_of K (nat_eq f.volume g.volume) need (answers 22) h tt
+volume_of : (K : ℕ → Type 0) (G : Type 0) (f g : Fid) (need : Need) → IsOf K G need → IsOf K G (of_one f g need)
+volume_of K G f g need h = if_of K G (nat_eq f.volume g.volume) need (answers 22) h tt
 
 -- a call is of the volume of its fid
 call_of : (K : ℕ → Type 0) (v : ℕ) → K v → (id : ℕ) → Some v ≡ Some id → K id
 call_of K v k id e = subst K (some_of v id e) k
 
-needs_of : (K : ℕ → Type 0) (h : Homes) (act : Act) (rs : List Shown) → AreHomesOf K h act → IsOf K (act_needs h act rs)
-needs_of K h (acts.Open o) rs k = shows_of K 0 21 22 h.first o rs k
-needs_of K h (acts.ListNames o) rs k = shows_of K 20 0 20 h.first o rs k
-needs_of K h (acts.ReadLink o) rs k = shows_of K 22 21 0 h.first o rs k
-needs_of K h (acts.Close o contents) rs k = object_of K h.first o rs _ k (λ f rest x. call_of K f.volume x)
-needs_of K h (acts.SetMode o mode) rs k = object_of K h.first o rs _ k (λ f rest x. call_of K f.volume x)
-needs_of K h (acts.SetAccessList o text) rs k = object_of K h.first o rs _ k (λ f rest x. call_of K f.volume x)
-needs_of K h (acts.Make p) rs k = to_of K h.first p rs _ k (λ d name rest x. call_of K d.volume x)
-needs_of K h (acts.MakeDirectory p) rs k = to_of K h.first p rs _ k (λ d name rest x. call_of K d.volume x)
-needs_of K h (acts.Symlink p target) rs k = to_of K h.first p rs _ k (λ d name rest x. call_of K d.volume x)
-needs_of K h (acts.Remove p) rs k = to_of K h.first p rs _ k (λ d name rest x. call_of K d.volume x)
-needs_of K h (acts.RemoveDirectory p) rs k = to_of K h.first p rs _ k (λ d name rest x. call_of K d.volume x)
+needs_of : (K : ℕ → Type 0) (h : Homes) (act : Act) (rs : List Shown) → AreHomesOf K h act → IsOf K (act ≡ acts.GiveUp) (act_needs h act rs)
+needs_of K h (acts.Open o) rs k = shows_of K (acts.Open o ≡ acts.GiveUp) 0 21 22 h.first o rs k
+needs_of K h (acts.ListNames o) rs k = shows_of K (acts.ListNames o ≡ acts.GiveUp) 20 0 20 h.first o rs k
+needs_of K h (acts.ReadLink o) rs k = shows_of K (acts.ReadLink o ≡ acts.GiveUp) 22 21 0 h.first o rs k
+needs_of K h (acts.Close o contents) rs k = object_of K (acts.Close o contents ≡ acts.GiveUp) h.first o rs _ k (λ f rest x. call_of K f.volume x)
+needs_of K h (acts.SetMode o mode) rs k = object_of K (acts.SetMode o mode ≡ acts.GiveUp) h.first o rs _ k (λ f rest x. call_of K f.volume x)
+needs_of K h (acts.SetAccessList o text) rs k = object_of K (acts.SetAccessList o text ≡ acts.GiveUp) h.first o rs _ k (λ f rest x. call_of K f.volume x)
+needs_of K h (acts.Make p) rs k = to_of K (acts.Make p ≡ acts.GiveUp) h.first p rs _ k (λ d name rest x. call_of K d.volume x)
+needs_of K h (acts.MakeDirectory p) rs k = to_of K (acts.MakeDirectory p ≡ acts.GiveUp) h.first p rs _ k (λ d name rest x. call_of K d.volume x)
+needs_of K h (acts.Symlink p target) rs k = to_of K (acts.Symlink p target ≡ acts.GiveUp) h.first p rs _ k (λ d name rest x. call_of K d.volume x)
+needs_of K h (acts.Remove p) rs k = to_of K (acts.Remove p ≡ acts.GiveUp) h.first p rs _ k (λ d name rest x. call_of K d.volume x)
+needs_of K h (acts.RemoveDirectory p) rs k = to_of K (acts.RemoveDirectory p ≡ acts.GiveUp) h.first p rs _ k (λ d name rest x. call_of K d.volume x)
 needs_of K h (acts.Move p q) rs k =
-    if_of K (is_root p || is_root q) (answers 22) (to_parent h.first p rs (λ d old rest. to_parent h.second q rest (λ e new later. of_one d e (asks_for (calls.Rename d old e new))))) tt
-    (to_of K h.first p rs (λ d old rest. to_parent h.second q rest (λ e new later. of_one d e (asks_for (calls.Rename d old e new)))) k.0
-    (λ d old rest x. to_of K h.second q rest (λ e new later. of_one d e (asks_for (calls.Rename d old e new))) k.1 (λ e new later y. volume_of K d e (asks_for (calls.Rename d old e new)) (call_of K d.volume x))))
+    if_of K (acts.Move p q ≡ acts.GiveUp) (is_root p || is_root q) (answers 22) (to_parent h.first p rs (λ d old rest. to_parent h.second q rest (λ e new later. of_one d e (asks_for (calls.Rename d old e new))))) tt
+    (to_of K (acts.Move p q ≡ acts.GiveUp) h.first p rs (λ d old rest. to_parent h.second q rest (λ e new later. of_one d e (asks_for (calls.Rename d old e new)))) k.0
+    (λ d old rest x. to_of K (acts.Move p q ≡ acts.GiveUp) h.second q rest (λ e new later. of_one d e (asks_for (calls.Rename d old e new))) k.1 (λ e new later y. volume_of K (acts.Move p q ≡ acts.GiveUp) d e (asks_for (calls.Rename d old e new)) (call_of K d.volume x))))
 needs_of K h (acts.Link p q) rs k =
-    if_of K (is_root q) (answers 22) (to_object h.first (operands.Path p) rs (λ f rest. to_parent h.second q rest (λ d name later. of_one f d (asks_for (calls.Link d name f))))) tt
-    (object_of K h.first (operands.Path p) rs (λ f rest. to_parent h.second q rest (λ d name later. of_one f d (asks_for (calls.Link d name f)))) k.0
-    (λ f rest x. to_of K h.second q rest (λ d name later. of_one f d (asks_for (calls.Link d name f))) k.1 (λ d name later y. volume_of K f d (asks_for (calls.Link d name f)) (call_of K d.volume y))))
-needs_of K h (acts.Stat o) rs k = object_of K h.first o rs (λ f rest. reading_status f rest) k (λ f rest x. status_of K f (first_status f rest) x)
-needs_of K h (acts.StatAll o) rs k = object_of K h.first o rs (λ f rest. reading f rest (λ b later. statuses_in f.volume later b)) k (λ f rest x. reading_of K f rest (λ b later. statuses_in f.volume later b) x (λ b later. shown_of K f.volume later b x))
-needs_of K h (acts.GetAccessList o) rs k = object_of K h.first o rs (λ f rest. reading_rights f rest) k (λ f rest x. if_of K (has_rights f rest) (answers 0) (reads_rights f) tt x)
-needs_of K h acts.GiveUp rs k = tt
+    if_of K (acts.Link p q ≡ acts.GiveUp) (is_root q) (answers 22) (to_object h.first (operands.Path p) rs (λ f rest. to_parent h.second q rest (λ d name later. of_one f d (asks_for (calls.Link d name f))))) tt
+    (object_of K (acts.Link p q ≡ acts.GiveUp) h.first (operands.Path p) rs (λ f rest. to_parent h.second q rest (λ d name later. of_one f d (asks_for (calls.Link d name f)))) k.0
+    (λ f rest x. to_of K (acts.Link p q ≡ acts.GiveUp) h.second q rest (λ d name later. of_one f d (asks_for (calls.Link d name f))) k.1 (λ d name later y. volume_of K (acts.Link p q ≡ acts.GiveUp) f d (asks_for (calls.Link d name f)) (call_of K d.volume y))))
+needs_of K h (acts.Stat o) rs k = object_of K (acts.Stat o ≡ acts.GiveUp) h.first o rs (λ f rest. reading_status f rest) k (λ f rest x. status_of K (acts.Stat o ≡ acts.GiveUp) f (first_status f rest) x)
+needs_of K h (acts.StatAll o) rs k = object_of K (acts.StatAll o ≡ acts.GiveUp) h.first o rs (λ f rest. reading f rest (λ b later. statuses_in f.volume later b)) k (λ f rest x. reading_of K (acts.StatAll o ≡ acts.GiveUp) f rest (λ b later. statuses_in f.volume later b) x (λ b later. shown_of K (acts.StatAll o ≡ acts.GiveUp) f.volume later b x))
+needs_of K h (acts.GetAccessList o) rs k = object_of K (acts.GetAccessList o ≡ acts.GiveUp) h.first o rs (λ f rest. reading_rights f rest) k (λ f rest x. if_of K (acts.GetAccessList o ≡ acts.GiveUp) (has_rights f rest) (answers 0) (reads_rights f) tt x)
+needs_of K h acts.GiveUp rs k = refl
 
 -- ---- the callee
 
@@ -196,25 +197,41 @@ plain_volume calls.GetTime id w h = absurd h
 plain_volume (calls.BulkStatus fids) id w h = absurd (w refl)
 plain_volume call id w h = ap number_or_none h
 
-to_volume : (K : ℕ → Type 0) (c : ClientState) (need : Need) (id : ℕ) → IsOf K need → ((call : FsCall) → need ≡ asks_for call → volume_changed call ≡ None → ⊥) → AsksOf (call_by c.gifts need) id → callee_by c need ≡ Server (server_at c.table id)
-to_volume K c (reads f) id h w x = ap (λ (v : ℕ). Server (server_at c.table v)) (some_of f.volume id x)
-to_volume K c (reads_status f) id h w x = ap (λ (v : ℕ). Server (server_at c.table v)) (some_of f.volume id x)
-to_volume K c (reads_statuses []) id h w x = absurd x
-to_volume K c (reads_statuses (f ∷ fs)) id h w x = ap (λ (v : ℕ). Server (server_at c.table v)) (h.1.1.0 ∙ one_in h.0 id (f ∷ fs) h.1.1 x)
-to_volume K c (reads_rights f) id h w x = ap (λ (v : ℕ). Server (server_at c.table v)) (some_of f.volume id x)
-to_volume K c (asks_for call) id h w x = ap (λ (v : ℕ). Server (server_at c.table v)) (plain_volume call id (w call refl) x)
-to_volume K c gives_back id h w x = absurd x
-to_volume K c (answers k) id h w x = absurd x
+to_volume : (K : ℕ → Type 0) (G : Type 0) (c : ClientState) (need : Need) (id : ℕ) → IsOf K G need → ((call : FsCall) → need ≡ asks_for call → volume_changed call ≡ None → ⊥) → AsksOf (call_by c.gifts need) id → callee_by c need ≡ Server (server_at c.table id)
+to_volume K G c (reads f) id h w x = ap (λ (v : ℕ). Server (server_at c.table v)) (some_of f.volume id x)
+to_volume K G c (reads_status f) id h w x = ap (λ (v : ℕ). Server (server_at c.table v)) (some_of f.volume id x)
+to_volume K G c (reads_statuses []) id h w x = absurd x
+to_volume K G c (reads_statuses (f ∷ fs)) id h w x = ap (λ (v : ℕ). Server (server_at c.table v)) (h.1.1.0 ∙ one_in h.0 id (f ∷ fs) h.1.1 x)
+to_volume K G c (reads_rights f) id h w x = ap (λ (v : ℕ). Server (server_at c.table v)) (some_of f.volume id x)
+to_volume K G c (asks_for call) id h w x = ap (λ (v : ℕ). Server (server_at c.table v)) (plain_volume call id (w call refl) x)
+to_volume K G c gives_back id h w x = absurd x
+to_volume K G c (answers k) id h w x = absurd x
 
 -- a volume of which the call asks is one that the act names
-asked_of : (K : ℕ → Type 0) (gs : List Gift) (need : Need) (id : ℕ) → IsOf K need → ((call : FsCall) → need ≡ asks_for call → volume_changed call ≡ None → ⊥) → AsksOf (call_by gs need) id → K id
-asked_of K gs (reads f) id h w x = call_of K f.volume h id x
-asked_of K gs (reads_status f) id h w x = call_of K f.volume h id x
-asked_of K gs (reads_statuses fids) id h w x = subst K (one_in h.0 id fids h.1.1 x) h.1.0
-asked_of K gs (reads_rights f) id h w x = call_of K f.volume h id x
-asked_of K gs (asks_for call) id h w x = h id (plain_call call id (w call refl) x)
-asked_of K gs gives_back id h w x = absurd x
-asked_of K gs (answers k) id h w x = absurd x
+asked_of : (K : ℕ → Type 0) (G : Type 0) (gs : List Gift) (need : Need) (id : ℕ) → IsOf K G need → ((call : FsCall) → need ≡ asks_for call → volume_changed call ≡ None → ⊥) → AsksOf (call_by gs need) id → K id
+asked_of K G gs (reads f) id h w x = call_of K f.volume h id x
+asked_of K G gs (reads_status f) id h w x = call_of K f.volume h id x
+asked_of K G gs (reads_statuses fids) id h w x = subst K (one_in h.0 id fids h.1.1 x) h.1.0
+asked_of K G gs (reads_rights f) id h w x = call_of K f.volume h id x
+asked_of K G gs (asks_for call) id h w x = h id (plain_call call id (w call refl) x)
+asked_of K G gs gives_back id h w x = absurd x
+asked_of K G gs (answers k) id h w x = absurd x
+
+needed : (s : Script) (act : Going) → act.homes ≡ homes_of (locations s) act.act → IsOf (IsLaid s.volumes) (act.act ≡ acts.GiveUp) (next act)
+needed s act at = needs_of (IsLaid s.volumes) act.homes act.act act.reads (subst (λ (z : Homes). AreHomesOf (IsLaid s.volumes) z act.act) (sym at) (homes_laid s.volumes act.act))
+
+-- the volume of which the call asks is at the callee
+pub asked_at : (s : Script) (y : ClientState) (act : Going) → y.table ≡ locations s → y.callee ≡ callee_by y (next act) → act.homes ≡ homes_of (locations s) act.act → (id : ℕ) → AsksOf (call_by y.gifts (next act)) id → is_at id y.callee s.volumes
+asked_at s y act t callee at id w =
+    let K : ℕ → Type 0 = IsLaid s.volumes in
+    let G : Type 0 = act.act ≡ acts.GiveUp in
+    let of : IsOf K G (next act) = needed s act at in
+    let to : y.callee ≡ Server (server_at (locations s) id) = callee ∙ (to_volume K G y (next act) id of (asks_change act) w ∙ ap (λ (ls : List Location). Server (server_at ls id)) t) in
+    subst (λ (q : Node). is_at id q s.volumes) (sym to) (laid_at s id (asked_of K G y.gifts (next act) id of (asks_change act) w))
+
+-- only an act that gives promises back needs that
+pub gives_is : (s : Script) (act : Going) → act.homes ≡ homes_of (locations s) act.act → next act ≡ gives_back → act.act ≡ acts.GiveUp
+gives_is s act at e = subst (IsOf (IsLaid s.volumes) (act.act ≡ acts.GiveUp)) e (needed s act at)
 
 callee_same : (x y : ClientState) (need : Need) → y.table ≡ x.table → y.gifts ≡ x.gifts → callee_by x need ≡ callee_by y need
 callee_same x y gives_back t g = ap first_server_of (sym g)
@@ -264,11 +281,12 @@ pub record IsHome (s : Script) (head : Head) (user : List ℕ) (call : FsCall) :
 new_home : (s : Script) (n : ℕ) (y : ClientState) → y.table ≡ locations s → AreOfServers y.gifts → ((act : Going) → y.running ≡ Some act → y.callee ≡ callee_by y (next act)) → ((act : Going) → y.running ≡ Some act → act.homes ≡ homes_of (locations s) act.act) → (head : Head) (user : List ℕ) (call : FsCall) → IsTheCall n y head user call → IsHome s head user call
 new_home s n y t g h at head user call x =
     let K : ℕ → Type 0 = IsLaid s.volumes in
-    let of : IsOf K (next x.act) = needs_of K x.act.homes x.act.act x.act.reads (subst (λ (z : Homes). AreHomesOf K z x.act.act) (sym (at x.act x.runs)) (homes_laid s.volumes x.act.act)) in
+    let G : Type 0 = x.act.act ≡ acts.GiveUp in
+    let of : IsOf K G (next x.act) = needed s x.act (at x.act x.runs) in
     record {
       server = subst IsServer (sym (x.to ∙ h x.act x.runs)) (asked_server y (next x.act) g);
-      to = λ id w. x.to ∙ (h x.act x.runs ∙ (to_volume K y (next x.act) id of (asks_change x.act) (subst (λ (f : FsCall). AsksOf f id) x.asks w) ∙ ap (λ (ls : List Location). Server (server_at ls id)) t));
-      laid = λ id w. asked_of K y.gifts (next x.act) id of (asks_change x.act) (subst (λ (f : FsCall). AsksOf f id) x.asks w);
+      to = λ id w. x.to ∙ (h x.act x.runs ∙ (to_volume K G y (next x.act) id of (asks_change x.act) (subst (λ (f : FsCall). AsksOf f id) x.asks w) ∙ ap (λ (ls : List Location). Server (server_at ls id)) t));
+      laid = λ id w. asked_of K G y.gifts (next x.act) id of (asks_change x.act) (subst (λ (f : FsCall). AsksOf f id) x.asks w);
     }
 
 abbrev pub HomesIn : Script → Cell → List Entry → Type 0

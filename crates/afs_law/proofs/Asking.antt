@@ -1,11 +1,11 @@
 -- What a client sends is the call of its running act, under its last pair, to the server of what it names, however many servers a cell has.
 use Rattle.afs_history.specs.declared.lines.Line.{Line}
 use Rattle.afs_history.specs.declared.scripts.Script.{Script}
-use Rattle.afs_ideal.specs.Operations.{volume_called}
 use Rattle.afs_law.proofs.Acting.{Acts, IsTheCall, begins_acts, falls_acts, given_acts, last_key, rises_acts, waits_acts, who_at}
 use Rattle.afs_law.proofs.Addressed.{AsksOf, IsHome, IsOneIn}
 use Rattle.afs_law.proofs.Basics.{ByClient, Each, IfCall, OfCall, UpTo, at_put, by_client, each_map, if_call}
 use Rattle.afs_law.proofs.Calling.{IsUncalled, uncalled_any}
+use Rattle.afs_law.proofs.Homed.{GivesHome}
 use Rattle.afs_law.proofs.KeysOnce.{IsKnown, any_told, by_key, known_pair}
 use Rattle.afs_law.proofs.Knowing.{served_uncalled, started_uncalled, timed_uncalled, woken_uncalled}
 use Rattle.afs_law.proofs.Located.{laid_at}
@@ -24,15 +24,14 @@ use Rattle.afs_num.specs.declared.messages.Message.{Message}
 use Rattle.afs_num.specs.declared.types.Fid.{Fid}
 use Rattle.afs_num.specs.declared.types.Head.{Head}
 use Rattle.afs_num.specs.declared.types.Key.{Key}
-use Rattle.afs_num.specs.declared.types.Node.TheVariants.{Client, Server}
+use Rattle.afs_num.specs.declared.types.Node.TheVariants.{Client}
 use Rattle.afs_num.specs.declared.types.Node.{Node}
 use Rattle.afs_rows.specs.Callbacks.{put}
-use Rattle.afs_rows.specs.ClientRow.{server_at}
 use Rattle.afs_rows.specs.Going.{ClientState}
-use Rattle.afs_rows.specs.Runs.{Cell, Entry, Moved, locations}
+use Rattle.afs_rows.specs.Runs.{Cell, Entry, Moved}
 use Rattle.afs_rows.specs.ServerRow.{key_of}
 use Rattle.afs_rows.specs.Steps.{Step}
-use Rattle.std.proofs.Common.{◌≡◌, ℕ, inl, inr, List, [], ◌∷◌, Some, refl, sym, subst}
+use Rattle.std.proofs.Common.{◌≡◌, ℕ, inl, inr, List, [], ◌∷◌, refl, sym, subst}
 
 -- ---- what is sent now
 
@@ -103,11 +102,11 @@ accepts_each : (s : Script) (n : Node) (fids : List Fid) (ls : List Line) → ((
 accepts_each s n [] ls w = tt
 accepts_each s n (f ∷ fs) ls w = (any_home s f.volume n ls (w f.volume (inl refl)), accepts_each s n fs ls (λ id x. w id (inr x)))
 
-at_home_by : (s : Script) (n : Node) (call : FsCall) (ls : List Line) → ((id : ℕ) → AsksOf call id → is_at id n s.volumes) → IsAtHome s n call ls
-at_home_by s n (calls.BulkStatus fids) ls w = accepts_each s n fids ls w
-at_home_by s n (calls.GiveUpCallBacks fids callbacks) ls w = λ id e. absurd cc
-at_home_by s n calls.GetTime ls w = λ id e. absurd cc
-at_home_by s n call ls w = λ id e. any_home s id n ls (w id e)
+at_home_by : (s : Script) (n : Node) (call : FsCall) (ls : List Line) → ((id : ℕ) → AsksOf call id → is_at id n s.volumes) → GivesHome s n call → IsAtHome s n call ls
+at_home_by s n (calls.BulkStatus fids) ls w g = accepts_each s n fids ls w
+at_home_by s n (calls.GiveUpCallBacks fids callbacks) ls w g = accepts_each s n fids ls g
+at_home_by s n calls.GetTime ls w g = λ id e. absurd cc
+at_home_by s n call ls w g = λ id e. any_home s id n ls (w id e)
 
-pub is_at_home : (s : Script) (head : Head) (user : List ℕ) (call : FsCall) (ls : List Line) → IsHome s head user call → IsAtHome s head.to call ls
-is_at_home s head user call ls h = at_home_by s head.to call ls (λ id x. subst (λ (q : Node). is_at id q s.volumes) (sym (h.to id x)) (laid_at s id (h.laid id x)))
+pub is_at_home : (s : Script) (head : Head) (user : List ℕ) (call : FsCall) (ls : List Line) → IsHome s head user call → GivesHome s head.to call → IsAtHome s head.to call ls
+is_at_home s head user call ls h g = at_home_by s head.to call ls (λ id x. subst (λ (q : Node). is_at id q s.volumes) (sym (h.to id x)) (laid_at s id (h.laid id x))) g

@@ -1,4 +1,4 @@
--- What a client shows of a file from its cache came to it since it last crashed, however many servers a cell has.
+-- What a client shows of a file from its cache came to it since it last crashed, as that of this version, however many servers a cell has.
 use Rattle.afs_history.specs.declared.acts.Act.{Act}
 use Rattle.afs_history.specs.declared.lines.Line.{Line}
 use Rattle.afs_history.specs.declared.lines.Line.TheVariants as lines
@@ -7,10 +7,12 @@ use Rattle.afs_ideal.specs.Operations.{volume_changed}
 use Rattle.afs_law.proofs.Acting.{Acts, begins_acts, falls_acts, given_acts, is_of, rises_acts, waits_acts, who_at}
 use Rattle.afs_law.proofs.Apart.{found_filter, put_found}
 use Rattle.afs_law.proofs.Backing.{all_lines}
-use Rattle.afs_law.proofs.Basics.{at_put, both, found-cached-fid, found-refreshed, same_fid-true, some_of}
+use Rattle.afs_law.proofs.Basics.{at_put, both, found-cached-fid, found-refreshed, same_fid-true, same_node-refl, some_of}
 use Rattle.afs_law.proofs.Changing.{run_each}
 use Rattle.afs_law.proofs.Choosing.{disk_works, one_from, risen_from, risen_lines, serves_works, starts_works, times_works, wakes_works}
 use Rattle.afs_law.proofs.Arriving.{Based, arrives, based_first, based_kept}
+use Rattle.afs_law.proofs.Homed.{AreKept, HomedIn, IsAt, homed_first, homed_kept, kept_found}
+use Rattle.afs_law.proofs.Ideals.{at_home, one_place}
 use Rattle.afs_law.proofs.Kept.{mapped}
 use Rattle.afs_law.proofs.Learned.{store_made}
 use Rattle.afs_law.proofs.Ops.{stored_fid}
@@ -18,13 +20,13 @@ use Rattle.afs_law.proofs.Storing.{status_in}
 use Rattle.afs_law.proofs.KeysOnce.{IsKnown, any_told, by_key}
 use Rattle.afs_law.proofs.Looking.{AreLooks, walked_looks}
 use Rattle.afs_law.proofs.Moving.{EachMove, IsKept, each_moved}
-use Rattle.afs_law.proofs.Origins.{any_cut, any_message, blow_idle, idle_works, is_idle, of_client, other_node}
+use Rattle.afs_law.proofs.Origins.{any_cut, any_message, blow_idle, idle_works, is_idle, of_client, other_node, server_apart}
 use Rattle.afs_law.proofs.Sent.{call_is}
 use Rattle.afs_law.proofs.Walking.{looked_more, walked_found}
 use Rattle.afs_law.proofs.Words.{AreApart}
-use Rattle.afs_law.specs.Ideal.{Unless, set_up}
+use Rattle.afs_law.specs.Ideal.{Accepts, Unless, is_at, set_up}
 use Rattle.afs_law.specs.Grants.{is_promised}
-use Rattle.afs_law.specs.Legal.{HasBrought, HasLearned, HasMadeItself, IsBrought, Stores, StoresBy, as_asked}
+use Rattle.afs_law.specs.Legal.{HasBrought, HasLearned, HasMadeItself, IsBrought, Sets, SetsBy, Stores, StoresBy, StoresInto, StoresIntoBy, as_asked}
 use Rattle.afs_law.specs.Parts.{EachLine}
 use Rattle.afs_law.specs.Past.{HasCode, lines_of, onto, running}
 use Rattle.afs_law.specs.ServerParts.{CachedAreBrought, IsBroughtGood}
@@ -66,67 +68,123 @@ use Rattle.afs_rows.specs.Scopes.{is_in_scope}
 use Rattle.afs_rows.specs.ServerSteps.{back_timeout_row, server_row, wake_row}
 use Rattle.afs_rows.specs.States.{CacheEntry, Gift}
 use Rattle.afs_rows.specs.Steps.{Step}
-use Rattle.std.proofs.Common.{suc, ◌≡◌, ℕ, ◌⊎◌, inl, inr, Bool, true, false, cond, List, [], ◌∷◌, ◌++◌, map, Option, Some, None, refl, sym, ap, subst, ◌∙◌, filter, not, pos, nat_eq, nat_lt}
+use Rattle.std.proofs.Common.{suc, ◌≡◌, ℕ, ◌+◌, eqb-true, ◌⊎◌, inl, inr, Bool, true, false, cond, List, [], ◌∷◌, ◌++◌, map, Option, Some, None, refl, sym, ap, subst, ◌∙◌, filter, not, pos, nat_eq, nat_lt}
 use Rattle.std.specs.List.{list_any}
 use Rattle.std.specs.Prelude.{⊤, ◌&&◌}
 
 -- ---- lines
 
--- none of them is a crash, or a read
+-- it is no crash
 abbrev is_steady : Line → Bool
 is_steady (lines.Crash n) = false
 is_steady l = true
 
+-- nor does it drop this object, or all of a server
+abbrev is_sparing : Fid → Line → Bool
+is_sparing f (lines.Crash n) = false
+is_sparing f (lines.Drop n g) = not (same_fid g f)
+is_sparing f (lines.DropAll n q) = false
+is_sparing f l = true
+
+-- nor any
+abbrev is_mild : Line → Bool
+is_mild (lines.Crash n) = false
+is_mild (lines.Drop n g) = false
+is_mild (lines.DropAll n q) = false
+is_mild l = true
+
+-- it is neither a crash nor a read
 abbrev is_bare : Line → Bool
 is_bare (lines.Crash n) = false
 is_bare (lines.Read n f index source body) = false
 is_bare l = true
+
+-- it is neither a crash nor a read, and drops nothing
+abbrev is_tame : Line → Bool
+is_tame l = is_bare l && is_mild l
 
 bare_line : (l : Line) → is_bare l ≡ true → is_steady l ≡ true
 bare_line (lines.Crash n) h = absurd cc
 bare_line (lines.Read n f index source body) h = refl
 bare_line l h = refl
 
+mild_line : (f : Fid) (l : Line) → is_mild l ≡ true → (is_steady l ≡ true) × (is_sparing f l ≡ true)
+mild_line f (lines.Crash n) h = absurd cc
+mild_line f (lines.Drop n g) h = absurd cc
+mild_line f (lines.DropAll n q) h = absurd cc
+mild_line f l h = (refl, refl)
+
 bare_steady : (ls : List Line) → all_lines is_bare ls ≡ true → all_lines is_steady ls ≡ true
 bare_steady [] h = refl
 bare_steady (l ∷ ls) h = let q = both (is_bare l) (all_lines is_bare ls) h in rw (bare_line l q.0, bare_steady ls q.1) refl
 
-brought_line : (s : Script) (c : Node) (f : Fid) (b : Body) (l : Line) (o : List Line) → is_steady l ≡ true → HasBrought s c f b o → HasBrought s c f b (l ∷ o)
-brought_line s c f b (lines.Crash n) o h k = absurd cc
-brought_line s c f b (lines.Read m g index source body) o h k = inr k
-brought_line s c f b (lines.Answer m code) o h k = inr k
-brought_line s c f b l o h k = k
+mild_lines : (f : Fid) (ls : List Line) → all_lines is_mild ls ≡ true → (all_lines is_steady ls ≡ true) × (all_lines (is_sparing f) ls ≡ true)
+mild_lines f [] h = (refl, refl)
+mild_lines f (l ∷ ls) h =
+    let q = both (is_mild l) (all_lines is_mild ls) h in
+    let a = mild_line f l q.0 in
+    let b = mild_lines f ls q.1 in
+    (rw (a.0, b.0) refl, rw (a.1, b.1) refl)
 
-brought_onto : (s : Script) (c : Node) (f : Fid) (b : Body) (ls o : List Line) → all_lines is_steady ls ≡ true → HasBrought s c f b o → HasBrought s c f b (onto o ls)
-brought_onto s c f b [] o h k = k
-brought_onto s c f b (l ∷ ls) o h k = let q = both (is_steady l) (all_lines is_steady ls) h in brought_onto s c f b ls (l ∷ o) q.1 (brought_line s c f b l o q.0 k)
+tame_lines : (ls : List Line) → all_lines is_tame ls ≡ true → (all_lines is_bare ls ≡ true) × (all_lines is_mild ls ≡ true)
+tame_lines [] h = (refl, refl)
+tame_lines (l ∷ ls) h =
+    let q = both (is_tame l) (all_lines is_tame ls) h in
+    let a = both (is_bare l) (is_mild l) q.0 in
+    let b = tame_lines ls q.1 in
+    (rw (a.0, b.0) refl, rw (a.1, b.1) refl)
 
-learned_line : (c : Node) (f : Fid) (i : ℕ) (l : Line) (o : List Line) → is_steady l ≡ true → HasLearned c f i o → HasLearned c f i (l ∷ o)
-learned_line c f i (lines.Crash n) o h k = absurd cc
-learned_line c f i (lines.Read m g index source body) o h k = inr k
-learned_line c f i (lines.Answer m code) o h k = inr k
-learned_line c f i l o h k = k
+spared_by : (own same : Bool) (X : Type 0) → not same ≡ true → X → Unless (own && same) X
+spared_by true true X h x = absurd cc
+spared_by true false X h x = x
+spared_by false true X h x = x
+spared_by false false X h x = x
 
-learned_onto : (c : Node) (f : Fid) (i : ℕ) (ls o : List Line) → all_lines is_steady ls ≡ true → HasLearned c f i o → HasLearned c f i (onto o ls)
-learned_onto c f i [] o h k = k
-learned_onto c f i (l ∷ ls) o h k = let q = both (is_steady l) (all_lines is_steady ls) h in learned_onto c f i ls (l ∷ o) q.1 (learned_line c f i l o q.0 k)
+brought_line : (s : Script) (c : Node) (f : Fid) (i : ℕ) (b : Body) (l : Line) (o : List Line) → is_sparing f l ≡ true → HasBrought s c f i b o → HasBrought s c f i b (l ∷ o)
+brought_line s c f i b (lines.Crash n) o h k = absurd cc
+brought_line s c f i b (lines.Drop n g) o h k = spared_by (same_node n c) (same_fid g f) (HasBrought s c f i b o) h k
+brought_line s c f i b (lines.DropAll n q) o h k = absurd cc
+brought_line s c f i b (lines.Read m g index source body) o h k = inr k
+brought_line s c f i b (lines.Answer m code) o h k = inr k
+brought_line s c f i b l o h k = k
+
+brought_onto : (s : Script) (c : Node) (f : Fid) (i : ℕ) (b : Body) (ls o : List Line) → all_lines (is_sparing f) ls ≡ true → HasBrought s c f i b o → HasBrought s c f i b (onto o ls)
+brought_onto s c f i b [] o h k = k
+brought_onto s c f i b (l ∷ ls) o h k = let q = both (is_sparing f l) (all_lines (is_sparing f) ls) h in brought_onto s c f i b ls (l ∷ o) q.1 (brought_line s c f i b l o q.0 k)
+
+learned_line : (s : Script) (c : Node) (f : Fid) (i : ℕ) (l : Line) (o : List Line) → is_steady l ≡ true → HasLearned s c f i o → HasLearned s c f i (l ∷ o)
+learned_line s c f i (lines.Crash n) o h k = absurd cc
+learned_line s c f i (lines.Read m g index source body) o h k = inr k
+learned_line s c f i (lines.Answer m code) o h k = inr k
+learned_line s c f i l o h k = k
+
+learned_onto : (s : Script) (c : Node) (f : Fid) (i : ℕ) (ls o : List Line) → all_lines is_steady ls ≡ true → HasLearned s c f i o → HasLearned s c f i (onto o ls)
+learned_onto s c f i [] o h k = k
+learned_onto s c f i (l ∷ ls) o h k = let q = both (is_steady l) (all_lines is_steady ls) h in learned_onto s c f i ls (l ∷ o) q.1 (learned_line s c f i l o q.0 k)
 
 -- what stands in the cache came to the client: its version, and its body
 abbrev pub IsHad : Script → ℕ → Fid → CacheEntry → List Line → Type 0
-IsHad s n f e o = HasLearned (Client n) f e.index o × ((b : Body) → e.body ≡ Some b → HasBrought s (Client n) f b o)
+IsHad s n f e o = HasLearned s (Client n) f e.index o × ((b : Body) → e.body ≡ Some b → HasBrought s (Client n) f e.index b o)
 
 abbrev pub Had : Script → ℕ → List CacheEntry → List Line → Type 0
 Had s n cache o = (f : Fid) (e : CacheEntry) → find_cached f cache ≡ Some e → IsHad s n f e o
 
--- behind a line that brings nothing
-had_behind : (s : Script) (n : ℕ) (cache : List CacheEntry) (l : Line) (o : List Line) → is_steady l ≡ true → Had s n cache o → Had s n cache (l ∷ o)
-had_behind s n cache l o h k f e x = (learned_line (Client n) f e.index l o h (k f e x).0, λ b y. brought_line s (Client n) f b l o h ((k f e x).1 b y))
+-- behind a line that takes nothing
+had_behind : (s : Script) (n : ℕ) (cache : List CacheEntry) (l : Line) (o : List Line) → is_mild l ≡ true → Had s n cache o → Had s n cache (l ∷ o)
+had_behind s n cache l o h k f e x = let q = mild_line f l h in (learned_line s (Client n) f e.index l o q.0 (k f e x).0, λ b y. brought_line s (Client n) f e.index b l o q.1 ((k f e x).1 b y))
 
 abbrev Within : List CacheEntry → List CacheEntry → Type 0
 Within a b = (f : Fid) (e : CacheEntry) → find_cached f a ≡ Some e → find_cached f b ≡ Some e
 
-had_onto : (s : Script) (n : ℕ) (cache : List CacheEntry) (ls o : List Line) → all_lines is_steady ls ≡ true → Had s n cache o → Had s n cache (onto o ls)
-had_onto s n cache ls o h k f e x = (learned_onto (Client n) f e.index ls o h (k f e x).0, λ b y. brought_onto s (Client n) f b ls o h ((k f e x).1 b y))
+-- these lines drop nothing that is in the cache
+abbrev Spared : List CacheEntry → List Line → Type 0
+Spared cache ls = (f : Fid) (e : CacheEntry) → find_cached f cache ≡ Some e → all_lines (is_sparing f) ls ≡ true
+
+had_onto : (s : Script) (n : ℕ) (cache : List CacheEntry) (ls o : List Line) → all_lines is_steady ls ≡ true → Spared cache ls → Had s n cache o → Had s n cache (onto o ls)
+had_onto s n cache ls o h spared k f e x = (learned_onto s (Client n) f e.index ls o h (k f e x).0, λ b y. brought_onto s (Client n) f e.index b ls o (spared f e x) ((k f e x).1 b y))
+
+mild_onto : (s : Script) (n : ℕ) (cache : List CacheEntry) (ls o : List Line) → all_lines is_mild ls ≡ true → Had s n cache o → Had s n cache (onto o ls)
+mild_onto s n cache ls o h k f e x = let q = mild_lines f ls h in (learned_onto s (Client n) f e.index ls o q.0 (k f e x).0, λ b y. brought_onto s (Client n) f e.index b ls o q.1 ((k f e x).1 b y))
 
 abbrev Told : Script → ℕ → List Entry → List Line → List Line → Type 0
 Told s n past own ls = EachLine (IsBroughtGood s) (actors.Node (Client n)) past own ls
@@ -147,11 +205,15 @@ record Carries (s : Script) (n : ℕ) (past : List Entry) (st : Step ClientState
 
 record IsNow (s : Script) (n : ℕ) (c : ClientState) (past : List Entry) : Type 0 where
   apart : AreApart c.cache
+  home : AreKept (IsAt s) c.cache
   had : Had s n c.cache (lines_of past)
   runs : running s (Client n) (lines_of past) ≡ c.running
 
-bare_step : (s : Script) (n : ℕ) (c : ClientState) (past : List Entry) (st : Step ClientState) → IsNow s n c past → all_lines is_bare st.lines ≡ true → Within st.state.cache c.cache → Carries s n past st
-bare_step s n c past st N h w = record { told = bare_told s (actors.Node (Client n)) past [] st.lines h; after = had_onto s n st.state.cache st.lines (lines_of past) (bare_steady st.lines h) (λ f e x. N.had f e (w f e x)) }
+bare_step : (s : Script) (n : ℕ) (c : ClientState) (past : List Entry) (st : Step ClientState) → IsNow s n c past → all_lines is_bare st.lines ≡ true → Spared st.state.cache st.lines → Within st.state.cache c.cache → Carries s n past st
+bare_step s n c past st N h spared w = record { told = bare_told s (actors.Node (Client n)) past [] st.lines h; after = had_onto s n st.state.cache st.lines (lines_of past) (bare_steady st.lines h) spared (λ f e x. N.had f e (w f e x)) }
+
+tame_step : (s : Script) (n : ℕ) (c : ClientState) (past : List Entry) (st : Step ClientState) → IsNow s n c past → all_lines is_tame st.lines ≡ true → Within st.state.cache c.cache → Carries s n past st
+tame_step s n c past st N h w = let q = tame_lines st.lines h in bare_step s n c past st N q.0 (λ f e x. (mild_lines f st.lines q.1).1) w
 
 either_carries : (t : Bool) (s : Script) (n : ℕ) (past : List Entry) (a b : Step ClientState) → Carries s n past a → Carries s n past b → Carries s n past (cond t a b)
 either_carries true s n past a b h k = h
@@ -168,9 +230,42 @@ dropped_steady : (m : Node) (es : List CacheEntry) (ls : List Line) → all_line
 dropped_steady m [] ls h = h
 dropped_steady m (e ∷ es) ls h = dropped_steady m es ls h
 
+-- what is found where some were left out isn't dropped with those
+none_by : (p : CacheEntry → Bool) (f : Fid) (cache : List CacheEntry) (e : CacheEntry) (o : Option CacheEntry) → AreApart cache → find_cached f (filter (λ x. not (p x)) cache) ≡ Some e → find_cached f (filter p cache) ≡ o → o ≡ None
+none_by p f cache e None apart found is = refl
+none_by p f cache e (Some u) apart found is =
+    let a = found_filter (λ x. not (p x)) f cache e apart found in
+    let b = found_filter p f cache u apart is in
+    let same : u ≡ e = some_of u e (sym b.0 ∙ a.0) in
+    let no_ : not true ≡ true = sym (ap not (ap p (sym same) ∙ b.1)) ∙ a.1 in absurd cc
+
+none_more : (t : Bool) (u : CacheEntry) (o : Option CacheEntry) → cond t (Some u) o ≡ None → (t ≡ false) × (o ≡ None)
+none_more true u o h = absurd cc
+none_more false u o h = (refl, h)
+
+dropped_sparing : (m : Node) (f : Fid) (es : List CacheEntry) (ls : List Line) → find_cached f es ≡ None → all_lines (is_sparing f) ls ≡ true → all_lines (is_sparing f) (dropped m es ls) ≡ true
+dropped_sparing m f [] ls none h = h
+dropped_sparing m f (u ∷ es) ls none h = let q = none_more (same_fid u.fid f) u (find_cached f es) none in rw (q.0, dropped_sparing m f es ls q.1 h) refl
+
+-- where these went, and are dropped before such lines
+spared_filter : (m : Node) (p : CacheEntry → Bool) (cache : List CacheEntry) (ls : List Line) → AreApart cache → all_lines is_mild ls ≡ true → Spared (filter (λ e. not (p e)) cache) (dropped m (filter p cache) ls)
+spared_filter m p cache ls apart h f e found = dropped_sparing m f (filter p cache) ls (none_by p f cache e (find_cached f (filter p cache)) apart found refl) (mild_lines f ls h).1
+
+named_sparing : (m : Node) (f : Fid) (fs : List Fid) → is_named f fs ≡ false → all_lines (is_sparing f) (map (drop_line m) fs) ≡ true
+named_sparing m f [] h = refl
+named_sparing m f (g ∷ fs) h = let q = none_named (same_fid g f) (is_named f fs) h in rw (q.0, named_sparing m f fs q.1) refl
+  where
+    none_named : (t u : Bool) → cond t true u ≡ false → (t ≡ false) × (u ≡ false)
+    none_named true u h = absurd cc
+    none_named false u h = (refl, h)
+
 drops_bare : (m : Node) (fs : List Fid) → all_lines is_bare (map (drop_line m) fs) ≡ true
 drops_bare m [] = refl
 drops_bare m (f ∷ fs) = drops_bare m fs
+
+looked_mild : (m : Node) (looks : List Look) (ls : List Line) → all_lines is_mild ls ≡ true → all_lines is_mild (looked m looks ls) ≡ true
+looked_mild m [] ls h = h
+looked_mild m (l ∷ looks) ls h = looked_mild m looks ls h
 
 looked_steady : (m : Node) (looks : List Look) (ls : List Line) → all_lines is_steady ls ≡ true → all_lines is_steady (looked m looks ls) ≡ true
 looked_steady m [] ls h = h
@@ -209,10 +304,10 @@ record Opens (s : Script) (n : ℕ) (past : List Entry) (front : List Line → L
   comes : (tail : List Line) → onto (lines_of past) (front tail) ≡ onto (own ++ lines_of past) tail
   had : Had s n first (own ++ lines_of past)
 
-reads_on : (s : Script) (n clock : ℕ) (past : List Entry) (front : List Line → List Line) (own : List Line) (first : List CacheEntry) (looks : List Look) (tail : List Line) (st : Step ClientState) → st.lines ≡ front (looked (Client n) looks tail) → all_lines is_bare tail ≡ true → Within st.state.cache first → AreLooks clock first looks → Opens s n past front own first → Carries s n past st
-reads_on s n clock past front own first looks tail st is bare w h o = record {
-  told = subst (Told s n past []) (sym is) (o.rule (looked (Client n) looks tail) (looks_told s n clock past first looks own tail h o.had (λ p. bare_told s (actors.Node (Client n)) past p tail bare)));
-  after = subst (Had s n st.state.cache) (sym (ap (onto (lines_of past)) is ∙ o.comes (looked (Client n) looks tail))) (had_onto s n st.state.cache (looked (Client n) looks tail) (own ++ lines_of past) (looked_steady (Client n) looks tail (bare_steady tail bare)) (λ f e x. o.had f e (w f e x)));
+reads_on : (s : Script) (n clock : ℕ) (past : List Entry) (front : List Line → List Line) (own : List Line) (first : List CacheEntry) (looks : List Look) (tail : List Line) (st : Step ClientState) → st.lines ≡ front (looked (Client n) looks tail) → all_lines is_tame tail ≡ true → Within st.state.cache first → AreLooks clock first looks → Opens s n past front own first → Carries s n past st
+reads_on s n clock past front own first looks tail st is tame w h o = let q = tame_lines tail tame in record {
+  told = subst (Told s n past []) (sym is) (o.rule (looked (Client n) looks tail) (looks_told s n clock past first looks own tail h o.had (λ p. bare_told s (actors.Node (Client n)) past p tail q.0)));
+  after = subst (Had s n st.state.cache) (sym (ap (onto (lines_of past)) is ∙ o.comes (looked (Client n) looks tail))) (mild_onto s n st.state.cache (looked (Client n) looks tail) (own ++ lines_of past) (looked_mild (Client n) looks tail q.1) (λ f e x. o.had f e (w f e x)));
 }
 
 goes_carries : (s : Script) (n clock : ℕ) (y : ClientState) (past : List Entry) (front : List Line → List Line) (own : List Line) (first : List CacheEntry) (w : Walked) (need : Need) → AreLooks clock first w.looks → Within w.cache first → Opens s n past front own first → Carries s n past (goes_by (Client n) y front w need)
@@ -226,24 +321,26 @@ walks_carry s n clock y past front own act first o =
 
 -- ---- what a reply brings
 
-kept_by : (o : Option Body) (index : ℕ) (old : Option CacheEntry) (b : Body) → body_kept o index old ≡ Some b → (o ≡ Some b) ⊎ ((u : CacheEntry) × ((old ≡ Some u) × (u.body ≡ Some b)))
+kept_by : (o : Option Body) (index : ℕ) (old : Option CacheEntry) (b : Body) → body_kept o index old ≡ Some b → (o ≡ Some b) ⊎ ((u : CacheEntry) × ((old ≡ Some u) × ((u.body ≡ Some b) × (u.index ≡ index))))
 kept_by (Some body) index old b e = inl e
 kept_by None index None b e = absurd cc
-kept_by None index (Some u) b e = inr (u, (refl, same_by (nat_eq u.index index) u.body b e))
+kept_by None index (Some u) b e = let q = same_by (nat_eq u.index index) u.body b e in inr (u, (refl, (q.0, eqb-true u.index index q.1)))
   where
-    same_by : (t : Bool) (o : Option Body) (b : Body) → cond t o None ≡ Some b → o ≡ Some b
-    same_by true o b e = e
+    same_by : (t : Bool) (o : Option Body) (b : Body) → cond t o None ≡ Some b → (o ≡ Some b) × (t ≡ true)
+    same_by true o b e = (e, refl)
     same_by false o b e = absurd cc
 
 -- of an entry that is put beside what the cache has
-put_had : (s : Script) (n capacity : ℕ) (u : CacheEntry) (cache : List CacheEntry) (o : List Line) → Had s n cache o → HasLearned (Client n) u.fid u.index o → ((b : Body) → u.body ≡ Some b → HasBrought s (Client n) u.fid b o) → Had s n (put_entry capacity u cache) o
+put_had : (s : Script) (n capacity : ℕ) (u : CacheEntry) (cache : List CacheEntry) (o : List Line) → Had s n cache o → HasLearned s (Client n) u.fid u.index o → ((b : Body) → u.body ≡ Some b → HasBrought s (Client n) u.fid u.index b o) → Had s n (put_entry capacity u cache) o
 put_had s n capacity u cache o h learned new f e found = elim (put_found capacity f u cache e found) [
   | inl x ↦ (
-    subst (λ (g : Fid). HasLearned (Client n) g e.index o) x.0 (subst (λ (i : ℕ). HasLearned (Client n) u.fid i o) (ap (λ (v : CacheEntry). v.index) x.1) learned),
-    λ b body. subst (λ (g : Fid). HasBrought s (Client n) g b o) x.0 (elim (kept_by u.body u.index (find_cached u.fid cache) b (ap (λ (v : CacheEntry). v.body) x.1 ∙ body)) [
-      | inl y ↦ new b y
-      | inr y ↦ (h u.fid y.0 y.1.0).1 b y.1.1
-    ]),
+    subst (λ (g : Fid). HasLearned s (Client n) g e.index o) x.0 (subst (λ (i : ℕ). HasLearned s (Client n) u.fid i o) (ap (λ (v : CacheEntry). v.index) x.1) learned),
+    λ b body. subst (λ (g : Fid). HasBrought s (Client n) g e.index b o) x.0
+        (subst (λ (i : ℕ). HasBrought s (Client n) u.fid i b o) (ap (λ (v : CacheEntry). v.index) x.1)
+        (elim (kept_by u.body u.index (find_cached u.fid cache) b (ap (λ (v : CacheEntry). v.body) x.1 ∙ body)) [
+          | inl y ↦ new b y
+          | inr y ↦ subst (λ (i : ℕ). HasBrought s (Client n) u.fid i b o) y.1.1.1 ((h u.fid y.0 y.1.0).1 b y.1.1.0)
+        ])),
   )
   | inr x ↦ h f e x.1
 ]
@@ -255,9 +352,9 @@ entry_carries s n clock place c past act u body p is N =
     (walks_carry s n clock c past (read_lines (Client n) place (look_at Fetched u body)) own (with_read u.fid body act) (put_entry c.capacity u c.cache) (record {
       rule = λ tail h. (tt, (tt, h));
       comes = λ tail. refl;
-      had = put_had s n c.capacity u c.cache (own ++ lines_of past) (had_onto s n c.cache (lines.Given place ∷ lines.Read (Client n) u.fid u.index Fetched body ∷ []) (lines_of past) refl N.had) (inl (refl, (refl, (refl, (refl, p))))) (λ b e. inl (refl, (refl, (refl, is b e))));
+      had = put_had s n c.capacity u c.cache (own ++ lines_of past) (mild_onto s n c.cache (lines.Given place ∷ lines.Read (Client n) u.fid u.index Fetched body ∷ []) (lines_of past) refl N.had) (inl (refl, (refl, (refl, (refl, p))))) (λ b e. inl (refl, (refl, (refl, (refl, is b e)))));
     }))
-    (bare_step s n c past _ N refl (λ f e x. x))
+    (tame_step s n c past _ N refl (λ f e x. x))
 
 -- several statuses
 abbrev AreBodiless : List CacheEntry → Type 0
@@ -265,17 +362,17 @@ AreBodiless [] = ⊤
 AreBodiless (e ∷ es) = (e.body ≡ None) × AreBodiless es
 
 -- their versions came
-abbrev AreLearned : ℕ → List CacheEntry → List Line → Type 0
-AreLearned n [] o = ⊤
-AreLearned n (e ∷ es) o = HasLearned (Client n) e.fid e.index o × AreLearned n es o
+abbrev AreLearned : Script → ℕ → List CacheEntry → List Line → Type 0
+AreLearned s n [] o = ⊤
+AreLearned s n (e ∷ es) o = HasLearned s (Client n) e.fid e.index o × AreLearned s n es o
 
-reads_learned : (n : ℕ) (es : List CacheEntry) (o : List Line) → AreLearned n es (onto o (looked (Client n) (map status_look es) []))
-reads_learned n [] o = tt
-reads_learned n (e ∷ es) o =
+reads_learned : (s : Script) (n : ℕ) (es : List CacheEntry) (o : List Line) → AreLearned s n es (onto o (looked (Client n) (map status_look es) []))
+reads_learned s n [] o = tt
+reads_learned s n (e ∷ es) o =
     let x : Line = lines.Read (Client n) e.fid e.index Fetched (seen.Status e.status) in
-    (learned_onto (Client n) e.fid e.index (looked (Client n) (map status_look es) []) (x ∷ o) (looked_steady (Client n) (map status_look es) [] refl) (inl (refl, (refl, (refl, (refl, refl))))), reads_learned n es (x ∷ o))
+    (learned_onto s (Client n) e.fid e.index (looked (Client n) (map status_look es) []) (x ∷ o) (looked_steady (Client n) (map status_look es) [] refl) (inl (refl, (refl, (refl, (refl, refl))))), reads_learned s n es (x ∷ o))
 
-puts_had : (s : Script) (n capacity : ℕ) (es cache : List CacheEntry) (o : List Line) → AreBodiless es → AreLearned n es o → Had s n cache o → Had s n (put_entries capacity es cache) o
+puts_had : (s : Script) (n capacity : ℕ) (es cache : List CacheEntry) (o : List Line) → AreBodiless es → AreLearned s n es o → Had s n cache o → Had s n (put_entries capacity es cache) o
 puts_had s n capacity [] cache o h l k = k
 puts_had s n capacity (u ∷ es) cache o h l k = puts_had s n capacity es (put_entry capacity u cache) o h.1 l.1 (put_had s n capacity u cache o k l.0 (λ b e. (let no_ : None ≡ Some b = sym h.0 ∙ e in absurd cc)))
 
@@ -303,31 +400,31 @@ entries_carry s n clock place c past act es none N =
     let own : List Line = onto (lines.Given place ∷ []) seen_ in
     let on : onto (lines.Given place ∷ lines_of past) seen_ ≡ own ++ lines_of past = onto_append seen_ (lines.Given place ∷ []) (lines_of past) in
     either_carries (list_any (λ e. not (is_trusted clock e)) es) s n past _ _
-    (bare_step s n c past _ N refl (λ f e x. x))
+    (tame_step s n c past _ N refl (λ f e x. x))
     (walks_carry s n clock c past (λ ls. given place (looked (Client n) (map status_look es) ls)) own (with_statuses es act) (put_entries c.capacity es c.cache) (record {
       rule = λ tail h. (tt, statuses_told s n past es (lines.Given place ∷ []) tail h);
       comes = λ tail. ap (onto (lines.Given place ∷ lines_of past)) (looked_more (Client n) (map status_look es) tail) ∙ (onto_more (lines.Given place ∷ lines_of past) seen_ tail ∙ ap (λ (o : List Line). onto o tail) on);
-      had = subst (Had s n (put_entries c.capacity es c.cache)) on (puts_had s n c.capacity es c.cache (onto (lines.Given place ∷ lines_of past) seen_) none (reads_learned n es (lines.Given place ∷ lines_of past))
-          (had_onto s n c.cache seen_ (lines.Given place ∷ lines_of past) (looked_steady (Client n) (map status_look es) [] refl) (had_behind s n c.cache (lines.Given place) (lines_of past) refl N.had)));
+      had = subst (Had s n (put_entries c.capacity es c.cache)) on (puts_had s n c.capacity es c.cache (onto (lines.Given place ∷ lines_of past) seen_) none (reads_learned s n es (lines.Given place ∷ lines_of past))
+          (mild_onto s n c.cache seen_ (lines.Given place ∷ lines_of past) (looked_mild (Client n) (map status_look es) [] refl) (had_behind s n c.cache (lines.Given place) (lines_of past) refl N.had)));
     }))
 
 -- ---- changes
 
 plain_carries : (s : Script) (n place : ℕ) (c : ClientState) (past : List Entry) (call : FsCall) (code : Code) → IsNow s n c past → Carries s n past (record { state = ended c (left_after call c.cache); lines = given place (dropped (Client n) (dropped_after call c.cache) (lines.Answer (Client n) code ∷ [])); sent = [] })
-plain_carries s n place c past call code N = bare_step s n c past _ N (dropped_bare (Client n) (dropped_after call c.cache) (lines.Answer (Client n) code ∷ []) refl) (within_filter (λ e. not (is_in_scope call e.fid)) c.cache N.apart)
+plain_carries s n place c past call code N = bare_step s n c past _ N (dropped_bare (Client n) (dropped_after call c.cache) (lines.Answer (Client n) code ∷ []) refl) (spared_filter (Client n) (λ e. is_in_scope call e.fid) c.cache (lines.Answer (Client n) code ∷ []) N.apart refl) (within_filter (λ e. not (is_in_scope call e.fid)) c.cache N.apart)
 
-made_by : (t : Bool) (u x e : CacheEntry) (b : Body) → cond t x u ≡ e → e.body ≡ Some b → ((t ≡ true) × (x.body ≡ Some b)) ⊎ (u.body ≡ Some b)
-made_by true u x e b is h = inl (refl, ap (λ (v : CacheEntry). v.body) is ∙ h)
-made_by false u x e b is h = inr (ap (λ (v : CacheEntry). v.body) is ∙ h)
+made_at : (t : Bool) (u x e : CacheEntry) (b : Body) → cond t x u ≡ e → e.body ≡ Some b → ((t ≡ true) × ((x.body ≡ Some b) × (x.index ≡ e.index))) ⊎ ((u.body ≡ Some b) × (u.index ≡ e.index))
+made_at true u x e b is h = inl (refl, (ap (λ (v : CacheEntry). v.body) is ∙ h, ap (λ (v : CacheEntry). v.index) is))
+made_at false u x e b is h = inr (ap (λ (v : CacheEntry). v.body) is ∙ h, ap (λ (v : CacheEntry). v.index) is)
 
 index_by : (t : Bool) (u x e : CacheEntry) → cond t x u ≡ e → ((t ≡ true) × (x.index ≡ e.index)) ⊎ (u.index ≡ e.index)
 index_by true u x e is = inl (refl, ap (λ (v : CacheEntry). v.index) is)
 index_by false u x e is = inr (ap (λ (v : CacheEntry). v.index) is)
 
 -- the client's own store made this version
-stored_carries : (s : Script) (n place clock : ℕ) (c : ClientState) (past : List Entry) (g : Fid) (index : ℕ) (status : ReadStatus) (made : Option Body → Option Body) → HasMadeItself (Client n) g index (lines_of past) → ((f : Fid) (u : CacheEntry) (b : Body) → g ≡ f → find_cached f c.cache ≡ Some u → made u.body ≡ Some b → HasBrought s (Client n) f b (lines.Answer (Client n) zero_code ∷ lines.Given place ∷ lines_of past)) → IsNow s n c past
+stored_carries : (s : Script) (n place clock : ℕ) (c : ClientState) (past : List Entry) (g : Fid) (index : ℕ) (status : ReadStatus) (made : Option Body → Option Body) → ((f : Fid) → g ≡ f → StoresIntoBy (running s (Client n) (lines_of past)) f) → HasMadeItself (Client n) g index (lines_of past) → ((f : Fid) (u : CacheEntry) (b : Body) → g ≡ f → find_cached f c.cache ≡ Some u → is_trusted clock u ≡ true → made u.body ≡ Some b → HasBrought s (Client n) f index b (lines.Answer (Client n) zero_code ∷ lines.Given place ∷ lines_of past)) → IsNow s n c past
     → Carries s n past (record { state = ended c (map (refreshed clock g index status made) c.cache); lines = given place (lines.Answer (Client n) zero_code ∷ []); sent = [] })
-stored_carries s n place clock c past g index status made itself new N = record {
+stored_carries s n place clock c past g index status made into itself new N = record {
   told = (tt, (tt, tt));
   after = λ f e found.
       let u = mapped (find_cached f c.cache) (refreshed clock g index status made) e (sym (found-refreshed clock g f index status made c.cache) ∙ found) in
@@ -335,26 +432,58 @@ stored_carries s n place clock c past g index status made itself new N = record 
       let x : CacheEntry = record u.0 { index = index; status = status; body = made u.0.body } in
       let fid : t ≡ true → g ≡ f = λ z. sym (same_fid-true u.0.fid g (both (same_fid u.0.fid g) (is_trusted clock u.0) z).0) ∙ same_fid-true u.0.fid f (found-cached-fid f c.cache u.0 u.1.0) in (
         elim (index_by t u.0 x e u.1.1) [
-          | inl y ↦ inl (refl, (refl, subst (λ (i : ℕ). HasMadeItself (Client n) f i (lines.Given place ∷ lines_of past)) y.1 (subst (λ (h : Fid). HasMadeItself (Client n) h index (lines_of past)) (fid y.0) itself)))
-          | inr y ↦ inr (subst (λ (i : ℕ). HasLearned (Client n) f i (lines_of past)) y (N.had f u.0 u.1.0).0)
+          | inl y ↦ inl (refl, (refl, (into f (fid y.0), subst (λ (i : ℕ). HasMadeItself (Client n) f i (lines.Given place ∷ lines_of past)) y.1 (subst (λ (h : Fid). HasMadeItself (Client n) h index (lines_of past)) (fid y.0) itself))))
+          | inr y ↦ inr (subst (λ (i : ℕ). HasLearned s (Client n) f i (lines_of past)) y (N.had f u.0 u.1.0).0)
         ],
-        λ b body. elim (made_by t u.0 x e b u.1.1 body) [
-          | inl y ↦ new f u.0 b (fid y.0) u.1.0 y.1
-          | inr y ↦ inr ((N.had f u.0 u.1.0).1 b y)
+        λ b body. elim (made_at t u.0 x e b u.1.1 body) [
+          | inl y ↦ subst (λ (i : ℕ). HasBrought s (Client n) f i b (lines.Answer (Client n) zero_code ∷ lines.Given place ∷ lines_of past)) y.1.1 (new f u.0 b (fid y.0) u.1.0 (both (same_fid u.0.fid g) (is_trusted clock u.0) y.0).1 y.1.0)
+          | inr y ↦ inr (subst (λ (i : ℕ). HasBrought s (Client n) f i b (lines_of past)) y.1 ((N.had f u.0 u.1.0).1 b y.0))
         ],
       );
 }
 
--- the store of an act
-stores_by : (s : Script) (n place : ℕ) (c : ClientState) (past : List Entry) (act : Going) (call : FsCall) (f : Fid) (b : Body) → running s (Client n) (lines_of past) ≡ c.running → c.running ≡ Some act → call_of c act ≡ call → as_asked call ≡ call → Stores call f b → HasBrought s (Client n) f b (lines.Answer (Client n) zero_code ∷ lines.Given place ∷ lines_of past)
-stores_by s n place c past act call f b runs run same plain h =
-    let asks : asked act ≡ call = sym (call_is c act) ∙ (ap as_asked same ∙ plain) in
-    inl (refl, (refl, subst (λ (o : Option Going). StoresBy o f b) (sym (runs ∙ run)) (subst (λ (k : FsCall). Stores k f b) (sym asks) h)))
+-- the act that runs asks for this call
+asks_call : (s : Script) (n : ℕ) (c : ClientState) (past : List Entry) (act : Going) (call : FsCall) (P : Option Going → Type 0) → running s (Client n) (lines_of past) ≡ c.running → c.running ≡ Some act → P (Some act) → P (running s (Client n) (lines_of past))
+asks_call s n c past act call P runs run h = subst P (sym (runs ∙ run)) h
 
-status_carries : (s : Script) (n clock place : ℕ) (c : ClientState) (past : List Entry) (f : Fid) (status : AfsFetchStatus) (call : FsCall) → HasMadeItself (Client n) f status.sync_counter (lines_of past) → IsNow s n c past → Carries s n past (takes_status (Client n) c clock place f status call)
-status_carries s n clock place c past f status call itself N =
-    either_carries (not c.spoiled && is_below clock status.sync_counter (find_cached f c.cache)) s n past _ _
-    (stored_carries s n place clock c past f status.sync_counter (status_told status) (λ body. body) itself (λ g u b e found body. inr ((N.had g u found).1 b body)) N)
+asked_is : (c : ClientState) (act : Going) (call : FsCall) → call_of c act ≡ call → as_asked call ≡ call → asked act ≡ call
+asked_is c act call same plain = sym (call_is c act) ∙ (ap as_asked same ∙ plain)
+
+-- and it is of just this object
+into_by : (s : Script) (n : ℕ) (c : ClientState) (past : List Entry) (act : Going) (call : FsCall) (f : Fid) → running s (Client n) (lines_of past) ≡ c.running → c.running ≡ Some act → call_of c act ≡ call → as_asked call ≡ call → StoresInto call f → StoresIntoBy (running s (Client n) (lines_of past)) f
+into_by s n c past act call f runs run same plain h = asks_call s n c past act call (λ o. StoresIntoBy o f) runs run (subst (λ (k : FsCall). StoresInto k f) (sym (asked_is c act call same plain)) h)
+
+-- a store of the whole
+stores_by : (s : Script) (n place : ℕ) (c : ClientState) (past : List Entry) (act : Going) (call : FsCall) (f : Fid) (index : ℕ) (b : Body) → HasMadeItself (Client n) f index (lines_of past) → running s (Client n) (lines_of past) ≡ c.running → c.running ≡ Some act → call_of c act ≡ call → as_asked call ≡ call → Stores call f b → HasBrought s (Client n) f index b (lines.Answer (Client n) zero_code ∷ lines.Given place ∷ lines_of past)
+stores_by s n place c past act call f index b itself runs run same plain h =
+    inl (refl, (refl, (itself, inl (asks_call s n c past act call (λ o. StoresBy o f b) runs run (subst (λ (k : FsCall). Stores k f b) (sym (asked_is c act call same plain)) h)))))
+
+-- and a setting of what isn't in the object, over contents of the index below
+sets_by : (s : Script) (n place : ℕ) (c : ClientState) (past : List Entry) (act : Going) (call : FsCall) (f : Fid) (index below : ℕ) (b : Body) → HasMadeItself (Client n) f index (lines_of past) → index ≡ below + 1 → running s (Client n) (lines_of past) ≡ c.running → c.running ≡ Some act → call_of c act ≡ call → as_asked call ≡ call → Sets call f → HasBrought s (Client n) f below b (lines_of past) → HasBrought s (Client n) f index b (lines.Answer (Client n) zero_code ∷ lines.Given place ∷ lines_of past)
+sets_by s n place c past act call f index below b itself above runs run same plain h had =
+    inl (refl, (refl, (itself, inr (below, (above, (asks_call s n c past act call (λ o. SetsBy o f) runs run (subst (λ (k : FsCall). Sets k f) (sym (asked_is c act call same plain)) h), had))))))
+
+if_carries : (t : Bool) (s : Script) (n : ℕ) (past : List Entry) (a b : Step ClientState) → (t ≡ true → Carries s n past a) → Carries s n past b → Carries s n past (cond t a b)
+if_carries true s n past a b h k = h refl
+if_carries false s n past a b h k = k
+
+-- a trusted entry that stands below the index is of the one below
+below_by : (clock index : ℕ) (u : CacheEntry) → is_trusted clock u ≡ true → is_below clock index (Some u) ≡ true → index ≡ u.index + 1
+below_by clock index u trusted low =
+    let one : nat_eq (u.index + 1) index ≡ true = sym (ap (λ (t : Bool). cond t (nat_eq (u.index + 1) index) true) trusted) ∙ low in
+    sym (eqb-true (u.index + 1) index one)
+
+status_carries : (s : Script) (n clock place : ℕ) (c : ClientState) (past : List Entry) (act : Going) (f : Fid) (status : AfsFetchStatus) (call : FsCall) → ((g : Fid) → f ≡ g → StoresIntoBy (running s (Client n) (lines_of past)) g) → HasMadeItself (Client n) f status.sync_counter (lines_of past) → c.running ≡ Some act → call_of c act ≡ call → as_asked call ≡ call → Sets call f → IsNow s n c past → Carries s n past (takes_status (Client n) c clock place f status call)
+status_carries s n clock place c past act f status call into itself run same plain sets N =
+    let index : ℕ = status.sync_counter in
+    if_carries (not c.spoiled && is_below clock index (find_cached f c.cache)) s n past _ _
+    (λ t. stored_carries s n place clock c past f index (status_told status) (λ body. body) into itself
+    (λ g u b e found trusted body.
+    let low : is_below clock index (find_cached f c.cache) ≡ true = (both (not c.spoiled) (is_below clock index (find_cached f c.cache)) t).1 in
+    let at : find_cached f c.cache ≡ Some u = ap (λ (h : Fid). find_cached h c.cache) e ∙ found in
+    let above : index ≡ u.index + 1 = below_by clock index u trusted (subst (λ (o : Option CacheEntry). is_below clock index o ≡ true) at low) in
+    subst (λ (h : Fid). HasBrought s (Client n) h index b (lines.Answer (Client n) zero_code ∷ lines.Given place ∷ lines_of past)) e (sets_by s n place c past act call f index u.index b itself above N.runs run same plain sets ((N.had f u at).1 b body)))
+    N)
     (plain_carries s n place c past call zero_code N)
 
 -- what the act's store made, by the status in its reply
@@ -364,9 +493,9 @@ Made n past call status = (f : Fid) → stored_fid call ≡ Some f → HasMadeIt
 set_carries : (s : Script) (n clock place : ℕ) (c : ClientState) (past : List Entry) (act : Going) (status : AfsFetchStatus) (call : FsCall) → Made n past call status → c.running ≡ Some act → call_of c act ≡ call → IsNow s n c past → Carries s n past (takes_set (Client n) c clock place status call)
 set_carries s n clock place c past act status (calls.StoreData f set position wanted file_length contents) M run same N =
     either_carries c.spoiled s n past _ _ (plain_carries s n place c past (calls.StoreData f set position wanted file_length contents) zero_code N)
-    (stored_carries s n place clock c past f status.sync_counter (status_told status) (λ body. Some (bodies.File contents)) (M f refl) (λ g u b e found body. stores_by s n place c past act (calls.StoreData f set position wanted file_length contents) g b N.runs run same refl (e, sym (some_of (bodies.File contents) b body))) N)
-set_carries s n clock place c past act status (calls.StoreAcl f acl) M run same N = status_carries s n clock place c past f status (calls.StoreAcl f acl) (M f refl) N
-set_carries s n clock place c past act status (calls.StoreStatus f set) M run same N = status_carries s n clock place c past f status (calls.StoreStatus f set) (M f refl) N
+    (stored_carries s n place clock c past f status.sync_counter (status_told status) (λ body. Some (bodies.File contents)) (λ g e. into_by s n c past act (calls.StoreData f set position wanted file_length contents) g N.runs run same refl e) (M f refl) (λ g u b e found trusted body. stores_by s n place c past act (calls.StoreData f set position wanted file_length contents) g status.sync_counter b (subst (λ (h : Fid). HasMadeItself (Client n) h status.sync_counter (lines_of past)) e (M f refl)) N.runs run same refl (e, sym (some_of (bodies.File contents) b body))) N)
+set_carries s n clock place c past act status (calls.StoreAcl f acl) M run same N = status_carries s n clock place c past act f status (calls.StoreAcl f acl) (λ g e. into_by s n c past act (calls.StoreAcl f acl) g N.runs run same refl e) (M f refl) run same refl refl N
+set_carries s n clock place c past act status (calls.StoreStatus f set) M run same N = status_carries s n clock place c past act f status (calls.StoreStatus f set) (λ g e. into_by s n c past act (calls.StoreStatus f set) g N.runs run same refl e) (M f refl) run same refl refl N
 set_carries s n clock place c past act status call M run same N = plain_carries s n place c past call zero_code N
 
 -- ---- replies, by their calls
@@ -399,7 +528,7 @@ list_carries s n clock place c past act text status sync (calls.FetchAcl g) N =
     walks_carry s n clock c past (λ ls. read_lines (Client n) place (record { fid = g; index = status.sync_counter; source = Fetched; body = seen.AccessList text }) (dropped (Client n) es ls)) own (with_read g (seen.AccessList text) act) kept_ (record {
       rule = λ tail h. (tt, (tt, drops_told s n past es (r ∷ lines.Given place ∷ []) tail h));
       comes = λ tail. ap (onto (r ∷ lines.Given place ∷ lines_of past)) (drops_more (Client n) es tail) ∙ (onto_more (r ∷ lines.Given place ∷ lines_of past) gone tail ∙ ap (λ (o : List Line). onto o tail) on);
-      had = subst (Had s n kept_) on (had_onto s n kept_ gone (r ∷ lines.Given place ∷ lines_of past) (dropped_steady (Client n) es [] refl) (had_onto s n kept_ (lines.Given place ∷ r ∷ []) (lines_of past) refl (λ f e x. N.had f e (within_filter (λ e. not (is_older g status.sync_counter sync.release e)) c.cache N.apart f e x))));
+      had = subst (Had s n kept_) on (had_onto s n kept_ gone (r ∷ lines.Given place ∷ lines_of past) (dropped_steady (Client n) es [] refl) (spared_filter (Client n) (is_older g status.sync_counter sync.release) c.cache [] N.apart refl) (mild_onto s n kept_ (lines.Given place ∷ r ∷ []) (lines_of past) refl (λ f e x. N.had f e (within_filter (λ e. not (is_older g status.sync_counter sync.release e)) c.cache N.apart f e x))));
     })
 list_carries s n clock place c past act text status sync call N = plain_carries s n place c past call zero_code N
 
@@ -408,8 +537,8 @@ bulk_carries s n clock place c past act statuses callbacks sync (calls.BulkStatu
 bulk_carries s n clock place c past act statuses callbacks sync call N = plain_carries s n place c past call zero_code N
 
 gives_carry : (s : Script) (n place : ℕ) (c : ClientState) (past : List Entry) (act : Going) (gs : List Gift) → IsNow s n c past → Carries s n past (gives_by (Client n) c (given place) act gs)
-gives_carry s n place c past act [] N = bare_step s n c past _ N refl (λ f e x. x)
-gives_carry s n place c past act (g ∷ gs) N = bare_step s n c past _ N refl (λ f e x. x)
+gives_carry s n place c past act [] N = tame_step s n c past _ N refl (λ f e x. x)
+gives_carry s n place c past act (g ∷ gs) N = tame_step s n c past _ N refl (λ f e x. x)
 
 given_carries : (s : Script) (n place : ℕ) (c : ClientState) (past : List Entry) (act : Going) (call : FsCall) → IsNow s n c past → Carries s n past (takes_given (Client n) c place act call)
 given_carries s n place c past act (calls.GiveUpCallBacks fids callbacks) N = gives_carry s n place c past act (behind_batch c.gifts) N
@@ -431,46 +560,66 @@ abbrev AllMade : ℕ → ClientState → Going → Carried → List Entry → Ty
 AllMade n c act x past = (r : FsReply) (status : AfsFetchStatus) → x ≡ carried.Reply (tell.File r) → status_in x ≡ Some status → Made n past (call_of c act) status
 
 counts_carry : (s : Script) (n clock place : ℕ) (c : ClientState) (act : Going) (head : Head) (x : Carried) (past : List Entry) → AllMade n c act x past → c.running ≡ Some act → IsNow s n c past → Carries s n past (counts (Client n) c clock place act head x)
-counts_carry s n clock place c act head (carried.Call user call) past M run N = bare_step s n c past _ N refl (λ f e z. z)
+counts_carry s n clock place c act head (carried.Call user call) past M run N = tame_step s n c past _ N refl (λ f e z. z)
 counts_carry s n clock place c act head (carried.Refusal code) past M run N =
-    either_carries (is_spent c act) s n past _ _ (bare_step s n c past _ N refl (λ f e z. z))
-    (either_carries (is_busy_code code && nat_lt c.busy most_busy) s n past _ _ (bare_step s n c past _ N refl (λ f e z. z)) (bare_step s n c past _ N refl (λ f e z. z)))
+    either_carries (is_spent c act) s n past _ _ (tame_step s n c past _ N refl (λ f e z. z))
+    (either_carries (is_busy_code code && nat_lt c.busy most_busy) s n past _ _ (tame_step s n c past _ N refl (λ f e z. z)) (tame_step s n c past _ N refl (λ f e z. z)))
 counts_carry s n clock place c act head (carried.Reply (tell.File reply)) past M run N =
-    either_carries (is_spent c act) s n past _ _ (bare_step s n c past _ N refl (λ f e z. z)) (takes_carry s n clock place c past act (call_of c act) reply (λ status e. M reply status refl e) run refl N)
-counts_carry s n clock place c act head (carried.Reply reply) past M run N = bare_step s n c past _ N refl (λ f e z. z)
-counts_carry s n clock place c act head carried.Notice past M run N = bare_step s n c past _ N refl (λ f e z. z)
+    either_carries (is_spent c act) s n past _ _ (tame_step s n c past _ N refl (λ f e z. z)) (takes_carry s n clock place c past act (call_of c act) reply (λ status e. M reply status refl e) run refl N)
+counts_carry s n clock place c act head (carried.Reply reply) past M run N = tame_step s n c past _ N refl (λ f e z. z)
+counts_carry s n clock place c act head carried.Notice past M run N = tame_step s n c past _ N refl (λ f e z. z)
 
 awaited_carry : (s : Script) (n clock place : ℕ) (c : ClientState) (act : Going) (head : Head) (x : Carried) (past : List Entry) (t : Bool) → is_awaited c act head ≡ t → (is_awaited c act head ≡ true → AllMade n c act x past) → c.running ≡ Some act → IsNow s n c past → Carries s n past (cond t (counts (Client n) c clock place act head x) (ignores c place))
 awaited_carry s n clock place c act head x past true e M run N = counts_carry s n clock place c act head x past (M e) run N
-awaited_carry s n clock place c act head x past false e M run N = bare_step s n c past _ N refl (λ f e z. z)
+awaited_carry s n clock place c act head x past false e M run N = tame_step s n c past _ N refl (λ f e z. z)
 
 -- of whichever act runs
 abbrev AnyMade : ℕ → ClientState → Head → Carried → List Entry → Type 0
 AnyMade n c head x past = (act : Going) → c.running ≡ Some act → is_awaited c act head ≡ true → AllMade n c act x past
 
 awaits_carry : (s : Script) (n clock place : ℕ) (c : ClientState) (head : Head) (x : Carried) (past : List Entry) (o : Option Going) → AnyMade n c head x past → c.running ≡ o → IsNow s n c past → Carries s n past (awaits (Client n) c clock place head x o)
-awaits_carry s n clock place c head x past None M run N = bare_step s n c past _ N refl (λ f e z. z)
+awaits_carry s n clock place c head x past None M run N = tame_step s n c past _ N refl (λ f e z. z)
 awaits_carry s n clock place c head x past (Some act) M run N = awaited_carry s n clock place c act head x past (is_awaited c act head) refl (M act run) run N
 
 -- ---- calls to it
 
+not_false : (t : Bool) → not t ≡ true → t ≡ false
+not_false true h = absurd cc
+not_false false h = refl
+
+-- what stays where all of one server goes is of another's volume
+of_other : (s : Script) (f : Fid) (cache : List CacheEntry) (e : CacheEntry) (server : Node) → find_cached f cache ≡ Some e → not (same_node e.server server) ≡ true → AreKept (IsAt s) cache → is_at f.volume server s.volumes → ⊥
+of_other s f cache e server found away home at =
+    let mine : is_at f.volume e.server s.volumes = subst (λ (g : Fid). is_at g.volume e.server s.volumes) (same_fid-true e.fid f (found-cached-fid f cache e found)) (kept_found (IsAt s) f cache e home found) in
+    let same : e.server ≡ server = one_place f.volume e.server server s.volumes mine at in
+    let no_ : not true ≡ true = sym (ap not (ap (λ (q : Node). same_node q server) same ∙ same_node-refl server)) ∙ away in absurd cc
+
 breaks_carry : (s : Script) (n place : ℕ) (c : ClientState) (head : Head) (call : FsCall) (past : List Entry) → IsNow s n c past → Carries s n past (breaks (Client n) c place head call)
-breaks_carry s n place c head (calls.CallBack fs callbacks) past N = bare_step s n c past _ N (drops_bare (Client n) fs) (within_filter (λ e. not (is_named e.fid fs)) c.cache N.apart)
-breaks_carry s n place c head calls.InitCallBackState past N = bare_step s n c past _ N refl (within_filter (λ e. not (same_node e.server head.from)) c.cache N.apart)
-breaks_carry s n place c head calls.Probe past N = bare_step s n c past _ N refl (λ f e z. z)
-breaks_carry s n place c head call past N = bare_step s n c past _ N refl (λ f e z. z)
+breaks_carry s n place c head (calls.CallBack fs callbacks) past N =
+    bare_step s n c past _ N (drops_bare (Client n) fs)
+    (λ f e found. named_sparing (Client n) f fs (subst (λ (g : Fid). is_named g fs ≡ false) (same_fid-true e.fid f (found-cached-fid f (filter (λ u. not (is_named u.fid fs)) c.cache) e found)) (not_false (is_named e.fid fs) (found_filter (λ u. not (is_named u.fid fs)) f c.cache e N.apart found).1)))
+    (within_filter (λ e. not (is_named e.fid fs)) c.cache N.apart)
+breaks_carry s n place c head calls.InitCallBackState past N = record {
+  told = bare_told s (actors.Node (Client n)) past [] (lines.Given place ∷ lines.DropAll (Client n) head.from ∷ []) refl;
+  after = λ f e found.
+      let was = found_filter (λ u. not (same_node u.server head.from)) f c.cache e N.apart found in
+      let old : IsHad s n f e (lines_of past) = N.had f e was.0 in
+      (learned_onto s (Client n) f e.index (lines.Given place ∷ lines.DropAll (Client n) head.from ∷ []) (lines_of past) refl old.0, λ b y. (λ same at. of_other s f c.cache e head.from was.0 was.1 N.home (at_home s f.volume head.from (lines.Given place ∷ lines_of past) at), old.1 b y));
+}
+breaks_carry s n place c head calls.Probe past N = tame_step s n c past _ N refl (λ f e z. z)
+breaks_carry s n place c head call past N = tame_step s n c past _ N refl (λ f e z. z)
 
 runs_carry : (s : Script) (n place : ℕ) (c : ClientState) (head : Head) (x : Carried) (past : List Entry) → IsNow s n c past → Carries s n past (runs_carried (Client n) c place head x)
 runs_carry s n place c head (carried.Call user (ask.File call)) past N = breaks_carry s n place c head call past N
-runs_carry s n place c head (carried.Call user call) past N = bare_step s n c past _ N refl (λ f e z. z)
-runs_carry s n place c head x past N = bare_step s n c past _ N refl (λ f e z. z)
+runs_carry s n place c head (carried.Call user call) past N = tame_step s n c past _ N refl (λ f e z. z)
+runs_carry s n place c head x past N = tame_step s n c past _ N refl (λ f e z. z)
 
 admits_carry : (s : Script) (n place : ℕ) (c : ClientState) (head : Head) (x : Carried) (o : Admitted Message) (past : List Entry) → IsNow s n c past → Carries s n past (admits_call (Client n) c place head (whole head x) o)
 admits_carry s n place c head x pairs.runs past N = runs_carry s n place c head x past N
-admits_carry s n place c head x (pairs.kept reply) past N = bare_step s n c past _ N refl (λ f e z. z)
-admits_carry s n place c head x pairs.in_progress past N = bare_step s n c past _ N refl (λ f e z. z)
-admits_carry s n place c head x pairs.older past N = bare_step s n c past _ N refl (λ f e z. z)
-admits_carry s n place c head x (pairs.wrong_boot boot) past N = bare_step s n c past _ N refl (λ f e z. z)
+admits_carry s n place c head x (pairs.kept reply) past N = tame_step s n c past _ N refl (λ f e z. z)
+admits_carry s n place c head x pairs.in_progress past N = tame_step s n c past _ N refl (λ f e z. z)
+admits_carry s n place c head x pairs.older past N = tame_step s n c past _ N refl (λ f e z. z)
+admits_carry s n place c head x (pairs.wrong_boot boot) past N = tame_step s n c past _ N refl (λ f e z. z)
 
 hears_carry : (s : Script) (n clock place : ℕ) (c : ClientState) (head : Head) (x : Carried) (past : List Entry) → AnyMade n c head x past → IsNow s n c past → Carries s n past (hears (Client n) c clock place head x)
 hears_carry s n clock place c head (carried.Call user call) past M N = admits_carry s n place c head (carried.Call user call) (admitted c.epoch c.seats head) past N
@@ -480,13 +629,13 @@ hears_carry s n clock place c head x past M N = awaits_carry s n clock place c h
 
 told_carries : (s : Script) (n clock place : ℕ) (c : ClientState) (m : Message) (past : List Entry) → AnyMade n c m.head m.carried past → IsNow s n c past → Carries s n past (client_row (Client n) c clock place (Whole m))
 unfolding client_row
-told_carries s n clock place c m past M N = either_carries (same_node m.head.to (Client n)) s n past _ _ (hears_carry s n clock place c m.head m.carried past M N) (bare_step s n c past _ N refl (λ f e z. z))
+told_carries s n clock place c m past M N = either_carries (same_node m.head.to (Client n)) s n past _ _ (hears_carry s n clock place c m.head m.carried past M N) (tame_step s n c past _ N refl (λ f e z. z))
 
 first_gives : (s : Script) (n clock : ℕ) (c y : ClientState) (act : Act) (g : Going) (past : List Entry) (gs : List Gift) → y.cache ≡ c.cache → IsNow s n c past → Carries s n past (gives_by (Client n) (record y { cache = untrusted_in clock y.cache }) (λ ls. lines.Begin (Client n) act ∷ dropped (Client n) (trusted_in clock y.cache) ls) g gs)
 first_gives s n clock c y act g past [] same N =
-    bare_step s n c past _ N (dropped_bare (Client n) (trusted_in clock y.cache) (lines.Answer (Client n) zero_code ∷ []) refl) (λ f e x. subst (Within (filter (λ u. not (is_trusted clock u)) y.cache)) same (within_filter (λ u. not (is_trusted clock u)) y.cache (subst AreApart (sym same) N.apart)) f e x)
+    bare_step s n c past _ N (dropped_bare (Client n) (trusted_in clock y.cache) (lines.Answer (Client n) zero_code ∷ []) refl) (spared_filter (Client n) (is_trusted clock) y.cache (lines.Answer (Client n) zero_code ∷ []) (subst AreApart (sym same) N.apart) refl) (λ f e x. subst (Within (filter (λ u. not (is_trusted clock u)) y.cache)) same (within_filter (λ u. not (is_trusted clock u)) y.cache (subst AreApart (sym same) N.apart)) f e x)
 first_gives s n clock c y act g past (x ∷ gs) same N =
-    bare_step s n c past _ N (dropped_bare (Client n) (trusted_in clock y.cache) [] refl) (λ f e x. subst (Within (filter (λ u. not (is_trusted clock u)) y.cache)) same (within_filter (λ u. not (is_trusted clock u)) y.cache (subst AreApart (sym same) N.apart)) f e x)
+    bare_step s n c past _ N (dropped_bare (Client n) (trusted_in clock y.cache) [] refl) (spared_filter (Client n) (is_trusted clock) y.cache [] (subst AreApart (sym same) N.apart) refl) (λ f e x. subst (Within (filter (λ u. not (is_trusted clock u)) y.cache)) same (within_filter (λ u. not (is_trusted clock u)) y.cache (subst AreApart (sym same) N.apart)) f e x)
 
 first_carries : (s : Script) (n clock : ℕ) (c : ClientState) (act : Act) (g : Going) (need : Need) (past : List Entry) → IsNow s n c past → Carries s n past (begins_by (Client n) (record c { busy = 0 }) clock (λ ls. lines.Begin (Client n) act ∷ ls) g need)
 first_carries s n clock c act g gives_back past N = first_gives s n clock c (record c { busy = 0 }) act g past (in_order (map gift_of (trusted_in clock c.cache))) refl N
@@ -497,14 +646,18 @@ begun_carries : (s : Script) (n clock : ℕ) (c : ClientState) (act : Act) (past
 unfolding begin_row
 begun_carries s n clock c act past N = first_carries s n clock c act (began c.table act) (next (began c.table act)) past N
 
+spared_left : (m : Node) (o : Option ℕ) (cache : List CacheEntry) (ls : List Line) → AreApart cache → all_lines is_mild ls ≡ true → Spared (left_in o cache) (dropped m (given_up_in o cache) ls)
+spared_left m None cache ls apart h f e found = (mild_lines f ls h).1
+spared_left m (Some id) cache ls apart h f e found = spared_filter m (λ u. nat_eq u.fid.volume id) cache ls apart h f e found
+
 within_left : (o : Option ℕ) (cache : List CacheEntry) → AreApart cache → Within (left_in o cache) cache
 within_left None cache apart f e x = x
 within_left (Some id) cache apart f e x = within_filter (λ u. not (nat_eq u.fid.volume id)) cache apart f e x
 
 waits_carry : (s : Script) (n : ℕ) (c : ClientState) (act : Going) (past : List Entry) → IsNow s n c past → Carries s n past (timeout_row (Client n) c act)
 waits_carry s n c act past N =
-    either_carries (nat_lt c.tries 2) s n past (tries_again (Client n) c act) (gives_up (Client n) c (call_of c act)) (bare_step s n c past _ N refl (λ f e z. z))
-    (bare_step s n c past _ N (dropped_bare (Client n) (given_up_in (volume_changed (call_of c act)) c.cache) (lines.Answer (Client n) dead_code ∷ []) refl) (within_left (volume_changed (call_of c act)) c.cache N.apart))
+    either_carries (nat_lt c.tries 2) s n past (tries_again (Client n) c act) (gives_up (Client n) c (call_of c act)) (tame_step s n c past _ N refl (λ f e z. z))
+    (bare_step s n c past _ N (dropped_bare (Client n) (given_up_in (volume_changed (call_of c act)) c.cache) (lines.Answer (Client n) dead_code ∷ []) refl) (spared_left (Client n) (volume_changed (call_of c act)) c.cache (lines.Answer (Client n) dead_code ∷ []) N.apart refl) (within_left (volume_changed (call_of c act)) c.cache N.apart))
 
 -- ---- every step
 
@@ -512,10 +665,10 @@ abbrev pub BroughtIn : Script → Cell → List Entry → Type 0
 BroughtIn s c past = (j : ℕ) → Had s j (c.clients j).cache (lines_of past)
 
 abbrev pub GivenBrought : Script → Cell → List Entry → Type 0
-GivenBrought s c past = Based s c past × BroughtIn s c past
+GivenBrought s c past = (Based s c past × HomedIn s c past) × BroughtIn s c past
 
 now_at : (s : Script) (c : Cell) (past : List Entry) (n : ℕ) → GivenBrought s c past → IsNow s n (c.clients n) past
-now_at s c past n h = record { apart = (h.0.kept.1 n).0; had = h.1 n; runs = h.0.kept.0.0.0.0.1.acts n }
+now_at s c past n h = record { apart = (h.0.0.kept.1 n).0; home = (h.0.1.1 n).homed.cache; had = h.1 n; runs = h.0.0.kept.0.0.0.0.1.acts n }
 
 -- the reply for which the client waits
 reply_code : (x : Carried) (r : FsReply) → x ≡ carried.Reply (tell.File r) → HasCode x
@@ -524,37 +677,50 @@ reply_code x r e = subst HasCode (sym e) tt
 any_made : (s : Script) (c : Cell) (past : List Entry) (n place : ℕ) (m : Message) → Based s c past → message_at c.sent place ≡ Some m → m.head.to ≡ Client n → AnyMade n (c.clients n) m.head m.carried past
 any_made s c past n place m B at to act run awaited r status file told f is = store_made s c past n act m r (call_of (c.clients n) act) f status B (arrives s c past n place act m B at (reply_code m.carried r file) to run awaited) file refl is told
 
--- another node's lines crash another
-else_line : (s : Script) (j : ℕ) (f : Fid) (b : Body) (l : Line) (o : List Line) → ((n : Node) → l ≡ lines.Crash n → same_node n (Client j) ≡ false) → HasBrought s (Client j) f b o → HasBrought s (Client j) f b (l ∷ o)
-else_line s j f b (lines.Crash n) o h k = subst (λ (t : Bool). Unless t (HasBrought s (Client j) f b o)) (sym (h n refl)) k
-else_line s j f b (lines.Read m g index source body) o h k = inr k
-else_line s j f b (lines.Answer m code) o h k = inr k
-else_line s j f b l o h k = k
+-- a line by which this client loses something that it keeps
+abbrev is_taking : ℕ → Line → Bool
+is_taking j (lines.Crash n) = same_node n (Client j)
+is_taking j (lines.Drop n g) = same_node n (Client j)
+is_taking j (lines.DropAll n q) = same_node n (Client j)
+is_taking j l = false
 
-else_learned : (j : ℕ) (f : Fid) (i : ℕ) (l : Line) (o : List Line) → ((n : Node) → l ≡ lines.Crash n → same_node n (Client j) ≡ false) → HasLearned (Client j) f i o → HasLearned (Client j) f i (l ∷ o)
-else_learned j f i (lines.Crash n) o h k = subst (λ (t : Bool). Unless t (HasLearned (Client j) f i o)) (sym (h n refl)) k
-else_learned j f i (lines.Read m g index source body) o h k = inr k
-else_learned j f i (lines.Answer m code) o h k = inr k
-else_learned j f i l o h k = k
+else_line : (s : Script) (j : ℕ) (f : Fid) (i : ℕ) (b : Body) (l : Line) (o : List Line) → is_taking j l ≡ false → HasBrought s (Client j) f i b o → HasBrought s (Client j) f i b (l ∷ o)
+else_line s j f i b (lines.Crash n) o h k = subst (λ (t : Bool). Unless t (HasBrought s (Client j) f i b o)) (sym h) k
+else_line s j f i b (lines.Drop n g) o h k = subst (λ (t : Bool). Unless (t && same_fid g f) (HasBrought s (Client j) f i b o)) (sym h) k
+else_line s j f i b (lines.DropAll n q) o h k = (λ same at. (let no_ : true ≡ false = sym (ap (λ (x : Node). same_node x (Client j)) same ∙ same_node-refl (Client j)) ∙ h in absurd cc), k)
+else_line s j f i b (lines.Read m g index source body) o h k = inr k
+else_line s j f i b (lines.Answer m code) o h k = inr k
+else_line s j f i b l o h k = k
 
-other_crash : (i j : ℕ) (l : Line) → is_of i l ≡ true → (i ≡ j → ⊥) → (n : Node) → l ≡ lines.Crash n → same_node n (Client j) ≡ false
-other_crash i j l h ne n e = other_node n i j (ap (is_of i) (sym e) ∙ h) ne
+else_learned : (s : Script) (j : ℕ) (f : Fid) (i : ℕ) (l : Line) (o : List Line) → is_taking j l ≡ false → HasLearned s (Client j) f i o → HasLearned s (Client j) f i (l ∷ o)
+else_learned s j f i (lines.Crash n) o h k = subst (λ (t : Bool). Unless t (HasLearned s (Client j) f i o)) (sym h) k
+else_learned s j f i (lines.Read m g index source body) o h k = inr k
+else_learned s j f i (lines.Answer m code) o h k = inr k
+else_learned s j f i l o h k = k
 
-else_had : (s : Script) (j : ℕ) (cache : List CacheEntry) (l : Line) (o : List Line) → ((n : Node) → l ≡ lines.Crash n → same_node n (Client j) ≡ false) → Had s j cache o → Had s j cache (l ∷ o)
-else_had s j cache l o h k f e x = (else_learned j f e.index l o h (k f e x).0, λ b y. else_line s j f b l o h ((k f e x).1 b y))
+-- another node's lines take nothing from it
+other_taking : (i j : ℕ) (l : Line) → is_of i l ≡ true → (i ≡ j → ⊥) → is_taking j l ≡ false
+other_taking i j (lines.Crash n) h ne = other_node n i j h ne
+other_taking i j (lines.Drop n g) h ne = other_node n i j h ne
+other_taking i j (lines.DropAll n q) h ne = other_node n i j h ne
+other_taking i j l h ne = refl
+
+else_had : (s : Script) (j : ℕ) (cache : List CacheEntry) (l : Line) (o : List Line) → is_taking j l ≡ false → Had s j cache o → Had s j cache (l ∷ o)
+else_had s j cache l o h k f e x = (else_learned s j f e.index l o h (k f e x).0, λ b y. else_line s j f e.index b l o h ((k f e x).1 b y))
 
 other_onto : (s : Script) (i j : ℕ) (cache : List CacheEntry) (ls o : List Line) → all_lines (is_of i) ls ≡ true → (i ≡ j → ⊥) → Had s j cache o → Had s j cache (onto o ls)
 other_onto s i j cache [] o h ne k = k
-other_onto s i j cache (l ∷ ls) o h ne k = let q = both (is_of i l) (all_lines (is_of i) ls) h in other_onto s i j cache ls (l ∷ o) q.1 ne (else_had s j cache l o (other_crash i j l q.0 ne) k)
+other_onto s i j cache (l ∷ ls) o h ne k = let q = both (is_of i l) (all_lines (is_of i) ls) h in other_onto s i j cache ls (l ∷ o) q.1 ne (else_had s j cache l o (other_taking i j l q.0 ne) k)
 
-no_client : (n : Node) (j : ℕ) → is_idle (lines.Crash n) ≡ true → same_node n (Client j) ≡ false
-no_client (Server i) j h = refl
-no_client (Client i) j h = absurd cc
-no_client n j h = absurd cc
+idle_taking : (j : ℕ) (l : Line) → is_idle l ≡ true → is_taking j l ≡ false
+idle_taking j (lines.Crash n) h = server_apart n j h
+idle_taking j (lines.Drop n g) h = server_apart n j h
+idle_taking j (lines.DropAll n q) h = server_apart n j h
+idle_taking j l h = refl
 
 idle_onto : (s : Script) (j : ℕ) (cache : List CacheEntry) (ls o : List Line) → all_lines is_idle ls ≡ true → Had s j cache o → Had s j cache (onto o ls)
 idle_onto s j cache [] o h k = k
-idle_onto s j cache (l ∷ ls) o h k = let q = both (is_idle l) (all_lines is_idle ls) h in idle_onto s j cache ls (l ∷ o) q.1 (else_had s j cache l o (λ n e. no_client n j (ap is_idle (sym e) ∙ q.0)) k)
+idle_onto s j cache (l ∷ ls) o h k = let q = both (is_idle l) (all_lines is_idle ls) h in idle_onto s j cache ls (l ∷ o) q.1 (else_had s j cache l o (idle_taking j l q.0) k)
 
 idle_told : (s : Script) (who : Actor) (past : List Entry) (own ls : List Line) → all_lines is_idle ls ≡ true → EachLine (IsBroughtGood s) who past own ls
 idle_told s who past own [] h = tt
@@ -585,7 +751,7 @@ brought_moves s = record {
   void = λ c past h. record { had = idle_had s c past (voided c).entry h refl; told = (tt, tt) };
   ticked = λ c past n h. record { had = idle_had s c past (ticked c (suc n)).entry h refl; told = (tt, tt) };
   begun = λ c past n act h r. (let k = begun_carries s n c.clock (c.clients n) act past (now_at s c past n h) in record { had = client_done s c past n _ h (begins_acts n (c.clients n) c.clock act r) k; told = k.told });
-  told = λ c past n place m h at to. (let k = told_carries s n c.clock place (c.clients n) m past (any_made s c past n place m h.0 at to) (now_at s c past n h) in record { had = client_done s c past n _ h (given_acts (by_key (IsKnown h.0.kept.0.0.0.0.0.keys.callees c.clients)) any_told n (c.clients n) c.clock place m (h.0.kept.0.0.0.0.0.keys.replies n) (h.0.kept.0.0.0.0.1.seats n)) k; told = k.told });
+  told = λ c past n place m h at to. (let k = told_carries s n c.clock place (c.clients n) m past (any_made s c past n place m h.0.0 at to) (now_at s c past n h) in record { had = client_done s c past n _ h (given_acts (by_key (IsKnown h.0.0.kept.0.0.0.0.0.keys.callees c.clients)) any_told n (c.clients n) c.clock place m (h.0.0.kept.0.0.0.0.0.keys.replies n) (h.0.0.kept.0.0.0.0.1.seats n)) k; told = k.told });
   waited = λ c past n act h r. (let k = waits_carry s n (c.clients n) act past (now_at s c past n h) in record { had = client_done s c past n _ h (waits_acts n (c.clients n) act r) k; told = k.told });
   fallen = λ c past n h. record { had = own_had s c past n _ h (falls_acts n (c.clients n)) (λ f e x. absurd cc); told = (tt, tt) };
   risen = λ c past n h. record { had = own_had s c past n _ h (rises_acts n (c.clients n)) (h.1 n); told = (tt, tt) };
@@ -605,10 +771,10 @@ brought_moves s = record {
 }
 
 pub brought_kept : (s : Script) → IsKept (GivenBrought s)
-brought_kept s c past x h = (based_kept s c past x h.0, (each_moved (GivenBrought s) (BroughtStep s) (brought_moves s) c past x h).had)
+brought_kept s c past x h = ((based_kept s c past x h.0.0, homed_kept s c past x h.0.1), (each_moved (GivenBrought s) (BroughtStep s) (brought_moves s) c past x h).had)
 
 pub brought_first : (s : Script) → GivenBrought s (start s) (set_up s ∷ [])
-brought_first s = (based_first s, λ j f e x. absurd cc)
+brought_first s = ((based_first s, homed_first s), λ j f e x. absurd cc)
 
 pub run_brought : CachedAreBrought
 run_brought s h end r =

@@ -115,13 +115,13 @@ given_delivered n past ls m is to has = subst (IsTo (actors.Node n)) (sym is) (a
 
 -- ---- every step
 
-abbrev DeliveredStep : Cell → List Entry → Moved → Type 0
+abbrev pub DeliveredStep : Cell → List Entry → Moved → Type 0
 DeliveredStep c past m = IsDelivered m.entry.actor past m.entry.lines
 
 ungiven_step : (past : List Entry) (m : Moved) → Ungiven m.entry.lines → IsDelivered m.entry.actor past m.entry.lines
 ungiven_step past m none = ungiven_delivered m.entry.actor past m.entry.lines none
 
-delivered_moves : EachMove Known DeliveredStep
+pub delivered_moves : EachMove Known DeliveredStep
 delivered_moves = record {
   void = λ c past h. ungiven_step past (voided c) refl;
   ticked = λ c past n h. ungiven_step past (ticked c (suc n)) refl;

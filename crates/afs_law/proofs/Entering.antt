@@ -11,8 +11,9 @@ use Rattle.afs_law.proofs.Members.{run_entries}
 use Rattle.afs_law.proofs.Moving.{EachMove, each_moved}
 use Rattle.afs_law.specs.Ideal.{set_up}
 use Rattle.afs_law.proofs.Truthful.{run_true}
-use Rattle.afs_law.proofs.Present.{run_present}
-use Rattle.afs_law.specs.Legal.{ArePresent, HandlesBreaks, IsEntryOf, IsLivedBy, IsPresent, WereRun}
+use Rattle.afs_law.proofs.Present.{TrueNow, run_present}
+use Rattle.afs_law.proofs.Unmade.{run_firsts}
+use Rattle.afs_law.specs.Legal.{ArePresent, HandlesBreaks, IsEntryOf, IsLivedBy, RunsFirstOfAct, WereRun}
 use Rattle.afs_law.specs.Lives.{IsDelivered}
 use Rattle.afs_law.specs.Parts.{EachEntry, EachSent, EntriesAreSound}
 use Rattle.afs_law.specs.ServerParts.{IsTruthful}
@@ -69,16 +70,16 @@ lived_by (actors.Node Loc) past ls sent c h = tt
 lived_by actors.Clock past ls sent c h = tt
 lived_by actors.Nobody past ls sent c h = tt
 
-each_present : (past : List Entry) (ms : List Message) → EachSent IsPresent past ms → ArePresent past ms
-each_present past [] h = tt
-each_present past (m ∷ ms) h = (h.0, each_present past ms h.1)
+each_present : (past : List Entry) (ms : List Message) → EachSent TrueNow past ms → EachSent RunsFirstOfAct past ms → ArePresent past ms
+each_present past [] h r = tt
+each_present past (m ∷ ms) h r = ((h.0, r.0), each_present past ms h.1 r.1)
 
 join : (s : Script) (past es : List Entry) → AreEntries s past es → EachEntry (λ past e. e.volumes ≡ []) past es → EachEntry (λ past e. IsClientLived e.actor past e.lines e.sent) past es → EachEntry (λ past e. IsServerLived e.actor past e.lines e.sent) past es → EachEntry (λ past e. IsDelivered e.actor past e.lines) past es → EachEntry (λ past e. HandlesBreaks e.actor past e.lines) past es
-    → EachEntry (λ past e. EachSent IsPresent (e ∷ past) e.sent) past es → EachEntry (λ past e. EachSent IsTruthful (e ∷ past) e.sent) past es → EachEntry (λ past e. IsEntryOf s past e × WereRun (e ∷ past) e.sent) past es
-join s past [] a b l h d k v t = tt
-join s past (e ∷ es) a b l h d k v t = ((((b.0, a.0.0), (a.0.1, (lived_by e.actor past e.lines e.sent l.0 h.0, (d.0, (k.0, each_present (e ∷ past) e.sent v.0))))), each_ran (e ∷ past) e.sent t.0), join s (e ∷ past) es a.1 b.1 l.1 h.1 d.1 k.1 v.1 t.1)
+    → EachEntry (λ past e. EachSent TrueNow (e ∷ past) e.sent) past es → EachEntry (λ past e. EachSent RunsFirstOfAct (e ∷ past) e.sent) past es → EachEntry (λ past e. EachSent IsTruthful (e ∷ past) e.sent) past es → EachEntry (λ past e. IsEntryOf s past e × WereRun (e ∷ past) e.sent) past es
+join s past [] a b l h d k v w t = tt
+join s past (e ∷ es) a b l h d k v w t = ((((b.0, a.0.0), (a.0.1, (lived_by e.actor past e.lines e.sent l.0 h.0, (d.0, (k.0, each_present (e ∷ past) e.sent v.0 w.0))))), each_ran (e ∷ past) e.sent t.0), join s (e ∷ past) es a.1 b.1 l.1 h.1 d.1 k.1 v.1 w.1 t.1)
 
 pub run_entered : EntriesAreSound
 run_entered s h end r =
-    join s (set_up s ∷ []) h (run_entries s h end r) (run_each Known (λ past e. e.volumes ≡ []) known_kept (λ c past x k. each_moved Known LaysNone none_laid c past x k) r.inputs (start s) (set_up s ∷ []) h end (known_first s) r.leads) (run_lived s h end r) (run_hosted s h end r) (run_delivered s h end r) (run_handled s h end r) (run_present s h end r)
+    join s (set_up s ∷ []) h (run_entries s h end r) (run_each Known (λ past e. e.volumes ≡ []) known_kept (λ c past x k. each_moved Known LaysNone none_laid c past x k) r.inputs (start s) (set_up s ∷ []) h end (known_first s) r.leads) (run_lived s h end r) (run_hosted s h end r) (run_delivered s h end r) (run_handled s h end r) (run_present s h end r) (run_firsts s h end r)
     (run_true s h end r)

@@ -41,7 +41,7 @@ any_held c past i K = each_map _ _ (answer_over (by_key (IsKnown K.keys.callees 
 uncalled : (ms : List Message) → Each (IsAnswer any_told any_told) ms → Each IsUncalled ms
 uncalled ms h = each_map (IsAnswer any_told any_told) IsUncalled (λ m a. a.0) ms h
 
-any_given : (c : Cell) (past : List Entry) (place : ℕ) (m : Message) → Known c past → message_at c.sent place ≡ Some m → IfCall (λ h user call. any_told h) m
+pub any_given : (c : Cell) (past : List Entry) (place : ℕ) (m : Message) → Known c past → message_at c.sent place ≡ Some m → IfCall (λ h user call. any_told h) m
 any_given c past place m K at = if_call (λ h user call. IsKnown K.keys.callees c.clients h.to (key_of h)) (λ h user call. any_told h) (λ h user call x. tt) m (each_at _ c.sent place m at K.keys.calls)
 
 pub served_uncalled : (c : Cell) (past : List Entry) (i place : ℕ) (m : Message) → Known c past → message_at c.sent place ≡ Some m → Each IsUncalled (server_row (Server i) (c.hosts i).state c.clock place (Whole m)).sent

@@ -80,7 +80,9 @@ pub mod Due
 pub mod Codes
 pub mod Using
 pub mod Handling
+pub mod Noticing
 pub mod Present
+pub mod Unmade
 pub mod Entering
 pub mod Kept
 pub mod Later
@@ -107,10 +109,13 @@ pub mod Learned
 pub mod Brought
 pub mod OneRun
 pub mod Readings
-pub mod Asking
 pub mod Returning
+pub mod Homed
+pub mod Asking
+pub mod Numbered
 pub mod Claims
 pub mod Counting
+pub mod Unanswered
 pub mod Timed
 pub mod Singly
 pub mod Assembled

@@ -225,7 +225,7 @@ DownIn c past = DownOf c.away past
 
 -- ---- which epochs they are in
 
-alive_epoch : (c : Node) (ls o : List Line) → Alive ls → epoch_after c (onto o ls) ≡ epoch_after c o
+pub alive_epoch : (c : Node) (ls o : List Line) → Alive ls → epoch_after c (onto o ls) ≡ epoch_after c o
 alive_epoch c [] o h = refl
 alive_epoch c (lines.Crash n ∷ ls) o h = absurd cc
 alive_epoch c (lines.Restart n boot ∷ ls) o h = absurd cc
@@ -427,7 +427,7 @@ moved_lives s c past nothing h p = void_lives s c past h
 step_lives : (s : Script) (c : Cell) (past : List Entry) (x : Input) → Lived s c past → Lives past (moved c x)
 step_lives s c past x h = moved_lives s c past x h (each_moved (Placed s) (PlacedStep s) (placed_moves s) c past x h.0)
 
-lived_kept : (s : Script) → IsKept (Lived s)
+pub lived_kept : (s : Script) → IsKept (Lived s)
 lived_kept s c past x h = let k = step_lives s c past x h in (placed_kept s c past x h.0, (k.down, k.epochs))
 
 -- the set-up tells versions alone
@@ -442,7 +442,7 @@ first_down j ls h = alive_down (Client j) ls [] (versions_alive ls h)
 first_epoch : (j : ℕ) (ls : List Line) → AreVersions ls → epoch_after (Client j) (onto [] ls) ≡ 1
 first_epoch j ls h = alive_epoch (Client j) ls [] (versions_alive ls h)
 
-lived_first : (s : Script) → Lived s (start s) (set_up s ∷ [])
+pub lived_first : (s : Script) → Lived s (start s) (set_up s ∷ [])
 lived_first s = (placed_first s, (λ j. first_down j (first_lines s.volumes) (all_versions s.volumes), λ j. first_epoch j (first_lines s.volumes) (all_versions s.volumes)))
 
 pub run_lived : (s : Script) (h : List Entry) (end : Cell) → RunsTo h s end → EachEntry (λ past e. IsClientLived e.actor past e.lines e.sent) (set_up s ∷ []) h

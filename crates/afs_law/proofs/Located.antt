@@ -8,7 +8,7 @@ use Rattle.afs_history.specs.declared.lines.Line.TheVariants as lines
 use Rattle.afs_history.specs.declared.scripts.Script.{Script}
 use Rattle.afs_history.specs.declared.scripts.VolumeLine.{VolumeLine}
 use Rattle.afs_law.proofs.Basics.{some_of}
-use Rattle.afs_law.proofs.Housed.{IsPlaced, placed}
+use Rattle.afs_law.proofs.Housed.{placed}
 use Rattle.afs_law.specs.Ideal.{is_at}
 use Rattle.afs_law.specs.Past.{running}
 use Rattle.afs_num.specs.Nodes.{same_node}
@@ -20,7 +20,7 @@ use Rattle.afs_rows.specs.ClientRow.{server_at}
 use Rattle.afs_rows.specs.Going.{Going, Homes, began, homes_of, id_of, read_on, volume_at}
 use Rattle.afs_rows.specs.Runs.{counts_later, location_by, locations, locations_in}
 use Rattle.afs_rows.specs.States.{Location}
-use Rattle.std.proofs.Common.{◌≡◌, ℕ, inl, inr, Bool, true, false, cond, eqb-true, find, nat_eq, List, [], ◌∷◌, Option, Some, None, refl, sym, ap, subst, ◌∙◌}
+use Rattle.std.proofs.Common.{◌≡◌, ℕ, inl, inr, Bool, true, false, cond, eqb-true, find, nat_eq, List, [], ◌∷◌, Option, Some, None, refl, subst}
 use Rattle.std.specs.Prelude.{⊤}
 use Rattle.std.specs.Str.{bytes_eq}
 

@@ -66,7 +66,7 @@ is_idle (lines.Drop n f) = is_server n
 is_idle (lines.DropAll n q) = is_server n
 is_idle l = true
 
-server_apart : (n : Node) (j : ℕ) → is_server n ≡ true → same_node n (Client j) ≡ false
+pub server_apart : (n : Node) (j : ℕ) → is_server n ≡ true → same_node n (Client j) ≡ false
 server_apart (Server i) j h = refl
 server_apart (Client i) j h = absurd cc
 server_apart (Admin i) j h = absurd cc

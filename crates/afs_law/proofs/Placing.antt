@@ -44,8 +44,6 @@ use Rattle.afs_law.proofs.Ideals.{own_from}
 
 abbrev is_calm : Node → Line → Bool
 is_calm me (lines.Grant n c f index expiry) = same_node n me
-is_calm me (lines.Stop n calls pick) = same_node n me
-is_calm me (lines.Fail n call) = same_node n me
 is_calm me (lines.Crash n) = same_node n me
 is_calm me (lines.Fault n) = same_node n me
 is_calm me (lines.Full n) = same_node n me
@@ -65,8 +63,6 @@ of_server i n e = subst (IsOfServer (actors.Node (Server i))) (sym (same_node-tr
 
 calm_line : (S : Script) (i : ℕ) (l : Line) (past : List Entry) (own next : List Line) → is_calm (Server i) l ≡ true → IsInPlace S (actors.Node (Server i)) l past own next
 calm_line S i (lines.Grant n c f index expiry) past own next h = of_server i n h
-calm_line S i (lines.Stop n calls pick) past own next h = of_server i n h
-calm_line S i (lines.Fail n call) past own next h = of_server i n h
 calm_line S i (lines.Crash n) past own next h = ap actors.Node (sym (same_node-true n (Server i) h))
 calm_line S i (lines.Fault n) past own next h = of_server i n h
 calm_line S i (lines.Full n) past own next h = of_server i n h
@@ -259,8 +255,8 @@ placed_moves s = record {
   served = λ c past i place m armed h up at to. serves_each s i past (c.hosts i).state c.clock place m;
   cut = λ c past i place m t h up at to. blow_each s i place past t.stops;
   stopped = λ c past i h up. (refl, tt);
-  stop_set = λ c past i calls pick armed h up. (refl, tt);
-  fail_set = λ c past i call armed h up. (refl, tt);
+  stop_set = λ c past i calls pick armed h up. ((refl, (refl, refl)), tt);
+  fail_set = λ c past i call armed h up. ((refl, (refl, refl)), tt);
   timed = λ c past i n b armed h up at. times_each s i past (c.hosts i).state c.clock n b;
   woken = λ c past i armed h up. wakes_each s i past (c.hosts i).state c.clock;
   started = λ c past i after fall h down. starts_each s i past (c.hosts i).state c.clock c.count after fall h.1;

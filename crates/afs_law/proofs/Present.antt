@@ -1,4 +1,5 @@
--- A server answers in the boot in which it is, but for the replies to changes, which its disk keeps, however many servers a cell has.
+-- A server answers in the boot in which it is, but for the replies to changes, which its disk keeps, and its notices tell that boot, however
+-- many servers a cell has.
 use Rattle.afs_breaks.specs.declared.types.OwedBreak.{OwedBreak}
 use Rattle.afs_history.specs.declared.lines.Line.{Line}
 use Rattle.afs_history.specs.declared.lines.Line.TheVariants as lines
@@ -9,15 +10,17 @@ use Rattle.afs_law.proofs.Changing.{run_each}
 use Rattle.afs_law.proofs.Hearing.{IsHad, replies_to, served_boot, timed_state, woken_state}
 use Rattle.afs_law.proofs.Hosted.{start_sends}
 use Rattle.afs_law.proofs.Hosting.{HostStep, IsSound, decides_due, memory_of, serves_step, times_step, wakes_step}
-use Rattle.afs_law.proofs.KeysOnce.{any_told, by_onto}
+use Rattle.afs_law.proofs.KeysOnce.{by_onto}
 use Rattle.afs_law.proofs.Knowing.{Known, known_first, known_kept}
 use Rattle.afs_law.proofs.Moving.{Behind, EachMove, IsKept, each_moved}
+use Rattle.afs_law.proofs.Noticing.{OfClients, TellsEpoch, coded_notice, run_noticed}
+use Rattle.afs_law.proofs.Seating.{SitsIn, sits_moves}
 use Rattle.afs_law.proofs.Sending.{run_own}
 use Rattle.afs_law.proofs.Words.{up_boot}
 use Rattle.afs_law.specs.Ideal.{set_up}
 use Rattle.afs_law.specs.Laws.{seat_key}
-use Rattle.afs_law.specs.Legal.{IsBy, IsPresent}
-use Rattle.afs_law.specs.Lives.{AreCalls}
+use Rattle.afs_law.specs.Legal.{IsBy, IsInBoot, IsPresent, TellsItsBoot}
+use Rattle.afs_law.specs.Lives.{AreCalls, epoch_after}
 use Rattle.afs_law.specs.Parts.{EachEntry, EachSent, IsOwn}
 use Rattle.afs_law.specs.Past.{HasChangeBy, HasCode, IsCall, IsReply, answered_key, lines_of, onto, server_boot}
 use Rattle.afs_model.specs.Calls.{call_seat}
@@ -49,15 +52,19 @@ now_onto : (i : ℕ) (o ls : List Line) (boot : ℕ) (head : Head) → IsNow i o
 now_onto i o ls boot head (inl e) = inl e
 now_onto i o ls boot head (inr x) = inr (by_onto (Server i) (answered_key head) ls o x)
 
+-- a notice tells this boot
+abbrev OfBoot : ℕ → Head → Type 0
+OfBoot boot head = head.boot ≡ boot
+
 -- of what a server that is up keeps, and of what waits
 record Current (i : ℕ) (x : ServerState) (ls : List Line) : Type 0 where
-  seats : AreReplies (IsNow i ls x.lasting.boot) any_told x.seats
-  held : Each (IsAnswer (IsNow i ls x.lasting.boot) any_told) (replies_of x.backs.held)
+  seats : AreReplies (IsNow i ls x.lasting.boot) (OfBoot x.lasting.boot) x.seats
+  held : Each (IsAnswer (IsNow i ls x.lasting.boot) (OfBoot x.lasting.boot)) (replies_of x.backs.held)
 
 current_onto : (i : ℕ) (x : ServerState) (o ls : List Line) → Current i x o → Current i x (onto o ls)
 current_onto i x o ls h = record {
-  seats = replies_to (IsNow i o x.lasting.boot) (IsNow i (onto o ls) x.lasting.boot) any_told any_told (now_onto i o ls x.lasting.boot) (λ y z. z) x.seats h.seats;
-  held = each_map (IsAnswer (IsNow i o x.lasting.boot) any_told) (IsAnswer (IsNow i (onto o ls) x.lasting.boot) any_told) (answer_over (IsNow i o x.lasting.boot) (IsNow i (onto o ls) x.lasting.boot) any_told any_told (now_onto i o ls x.lasting.boot) (λ y z. z)) (replies_of x.backs.held) h.held;
+  seats = replies_to (IsNow i o x.lasting.boot) (IsNow i (onto o ls) x.lasting.boot) (OfBoot x.lasting.boot) (OfBoot x.lasting.boot) (now_onto i o ls x.lasting.boot) (λ y z. z) x.seats h.seats;
+  held = each_map (IsAnswer (IsNow i o x.lasting.boot) (OfBoot x.lasting.boot)) (IsAnswer (IsNow i (onto o ls) x.lasting.boot) (OfBoot x.lasting.boot)) (answer_over (IsNow i o x.lasting.boot) (IsNow i (onto o ls) x.lasting.boot) (OfBoot x.lasting.boot) (OfBoot x.lasting.boot) (now_onto i o ls x.lasting.boot) (λ y z. z)) (replies_of x.backs.held) h.held;
 }
 
 abbrev CurrentBy : (ℕ → Host) → List Line → Type 0
@@ -66,8 +73,14 @@ CurrentBy hosts ls = (i : ℕ) → (hosts i).down ≡ None → Current i (hosts 
 abbrev CurrentIn : Cell → List Entry → Type 0
 CurrentIn c past = CurrentBy c.hosts (lines_of past)
 
+abbrev KnownSits : Cell → List Entry → Type 0
+KnownSits c past = Known c past × SitsIn c past
+
+known_sits_kept : IsKept KnownSits
+known_sits_kept c past x h = (known_kept c past x h.0, each_moved SitsIn (Behind SitsIn) sits_moves c past x h.1)
+
 abbrev KnownCurrent : Cell → List Entry → Type 0
-KnownCurrent c past = Known c past × CurrentIn c past
+KnownCurrent c past = KnownSits c past × CurrentIn c past
 
 -- ---- what a disk keeps
 
@@ -83,33 +96,29 @@ of_reply_all X (carried.Reply reply) x = x
 of_reply_all X (carried.Call user call) x = tt
 of_reply_all X carried.Notice x = tt
 
-of_notice_any : (c : Carried) → OfNotice ⊤ c
-of_notice_any (carried.Refusal code) = tt
-of_notice_any (carried.Reply reply) = tt
-of_notice_any (carried.Call user call) = tt
-of_notice_any carried.Notice = tt
-
-kept_now : (c : Cell) (past : List Entry) (i boot : ℕ) → Known c past → AreReplies (IsNow i (lines_of past) boot) any_told (c.hosts i).state.lasting.kept
-kept_now c past i boot K n seat m at is =
+kept_now : (c : Cell) (past : List Entry) (i boot : ℕ) → KnownSits c past → AreReplies (IsNow i (lines_of past) boot) (OfBoot boot) (c.hosts i).state.lasting.kept
+kept_now c past i boot Q n seat m at is =
+    let K : Known c past = Q.0 in
     let told = K.keys.stored i n seat at in
     let same : told.1.0 ≡ m = some_of told.1.0 m (sym told.1.1.0 ∙ is) in
     let key : seat_key n seat ≡ answered_key m.head = sym told.1.1.1 ∙ ap (λ (r : Message). answered_key r.head) same in
     let now : IsNow i (lines_of past) boot m.head = inr (subst (λ (k : Key). HasChangeBy (Server i) k (lines_of past)) key told.0) in
-    (((K.hears.sound i).kept n seat m at is).0, (of_reply_all (OfClient m.head.to (IsNow i (lines_of past) boot m.head)) m.carried (if_client_all m.head.to (IsNow i (lines_of past) boot m.head) now), of_notice_any m.carried))
+    (((K.hears.sound i).kept n seat m at is).0, (of_reply_all (OfClient m.head.to (IsNow i (lines_of past) boot m.head)) m.carried (if_client_all m.head.to (IsNow i (lines_of past) boot m.head) now), coded_notice (OfBoot boot m.head) m.carried ((Q.1 i).kept n seat m at is).reply.1))
 
 -- ---- a step of a server that is up
 
 -- what it keeps, by the lines after the step
-sound_now : (c : Cell) (past : List Entry) (i : ℕ) (ls : List Line) → Known c past → Current i (c.hosts i).state (lines_of past) → IsSound (IsNow i (onto (lines_of past) ls) (c.hosts i).state.lasting.boot) any_told (memory_of (c.hosts i).state)
+sound_now : (c : Cell) (past : List Entry) (i : ℕ) (ls : List Line) → KnownSits c past → Current i (c.hosts i).state (lines_of past) → IsSound (IsNow i (onto (lines_of past) ls) (c.hosts i).state.lasting.boot) (OfBoot (c.hosts i).state.lasting.boot) (memory_of (c.hosts i).state)
 sound_now c past i ls K h = record {
   seats = (current_onto i (c.hosts i).state (lines_of past) ls h).seats;
-  kept = replies_to (IsNow i (lines_of past) (c.hosts i).state.lasting.boot) (IsNow i (onto (lines_of past) ls) (c.hosts i).state.lasting.boot) any_told any_told (now_onto i (lines_of past) ls (c.hosts i).state.lasting.boot) (λ y z. z) (c.hosts i).state.lasting.kept (kept_now c past i (c.hosts i).state.lasting.boot K);
-  lower = (K.hears.sound i).lower;
+  kept = replies_to (IsNow i (lines_of past) (c.hosts i).state.lasting.boot) (IsNow i (onto (lines_of past) ls) (c.hosts i).state.lasting.boot) (OfBoot (c.hosts i).state.lasting.boot) (OfBoot (c.hosts i).state.lasting.boot) (now_onto i (lines_of past) ls (c.hosts i).state.lasting.boot) (λ y z. z) (c.hosts i).state.lasting.kept (kept_now c past i (c.hosts i).state.lasting.boot K);
+  lower = (K.0.hears.sound i).lower;
 }
 
 -- a message of it
-abbrev IsOfNow : ℕ → List Entry → Message → Type 0
-IsOfNow i past m = (j : ℕ) → HasCode m.carried → m.head.to ≡ Client j → (server_boot (Server i) (lines_of past) ≡ Some m.head.boot) ⊎ HasChangeBy (Server i) (answered_key m.head) (lines_of past)
+record IsOfNow (i : ℕ) (past : List Entry) (m : Message) : Type 0 where
+  reply : (j : ℕ) → HasCode m.carried → m.head.to ≡ Client j → (server_boot (Server i) (lines_of past) ≡ Some m.head.boot) ⊎ HasChangeBy (Server i) (answered_key m.head) (lines_of past)
+  notice : m.carried ≡ carried.Notice → server_boot (Server i) (lines_of past) ≡ Some m.head.boot
 
 of_now : (j : ℕ) (n : Node) (X : Type 0) (c : Carried) → n ≡ Client j → HasCode c → OfReply (OfClient n X) c → X
 of_now j n X (carried.Refusal code) to is x = by_client j n X to x
@@ -117,17 +126,20 @@ of_now j n X (carried.Reply reply) to is x = by_client j n X to x
 of_now j n X (carried.Call user call) to is x = absurd is
 of_now j n X carried.Notice to is x = absurd is
 
-told_now : (i boot : ℕ) (past : List Entry) (m : Message) → server_boot (Server i) (lines_of past) ≡ Some boot → IsAnswer (IsNow i (lines_of past) boot) any_told m → IsOfNow i past m
-told_now i boot past m up a j is to = elim (of_now j m.head.to (IsNow i (lines_of past) boot m.head) m.carried to is a.1.0) [ inl e ↦ inl (up ∙ ap Some (sym e)) | inr x ↦ inr x ]
+told_now : (i boot : ℕ) (past : List Entry) (m : Message) → server_boot (Server i) (lines_of past) ≡ Some boot → IsAnswer (IsNow i (lines_of past) boot) (OfBoot boot) m → IsOfNow i past m
+told_now i boot past m up a = record {
+  reply = λ j is to. elim (of_now j m.head.to (IsNow i (lines_of past) boot m.head) m.carried to is a.1.0) [ inl e ↦ inl (up ∙ ap Some (sym e)) | inr x ↦ inr x ];
+  notice = λ is. (let e : m.head.boot ≡ boot = subst (OfNotice (OfBoot boot m.head)) is a.1.1 in up ∙ ap Some (sym e));
+}
 
-each_now : (i boot : ℕ) (past : List Entry) (ms : List Message) → server_boot (Server i) (lines_of past) ≡ Some boot → Each (IsAnswer (IsNow i (lines_of past) boot) any_told) ms → EachSent (IsOfNow i) past ms
+each_now : (i boot : ℕ) (past : List Entry) (ms : List Message) → server_boot (Server i) (lines_of past) ≡ Some boot → Each (IsAnswer (IsNow i (lines_of past) boot) (OfBoot boot)) ms → EachSent (IsOfNow i) past ms
 each_now i boot past [] up a = tt
 each_now i boot past (m ∷ ms) up a = (told_now i boot past m up a.0, each_now i boot past ms up a.1)
 
--- no reply is among calls
+-- neither a reply nor a notice is among calls
 calls_now : (i : ℕ) (past : List Entry) (ms : List Message) → AreCalls ms → EachSent (IsOfNow i) past ms
 calls_now i past [] h = tt
-calls_now i past (m ∷ ms) h = (λ j is to. absurd (no_reply m.carried h.0 is), calls_now i past ms h.1)
+calls_now i past (m ∷ ms) h = (record { reply = λ j is to. absurd (no_reply m.carried h.0 is); notice = λ is. absurd (subst IsCall is h.0) }, calls_now i past ms h.1)
   where
     no_reply : (c : Carried) → IsCall c → HasCode c → ⊥
     no_reply (carried.Call user call) a b = b
@@ -146,7 +158,7 @@ record Presents (past : List Entry) (m : Moved) : Type 0 where
 
 -- where what is known holds after it too
 abbrev PresentStep : Cell → List Entry → Moved → Type 0
-PresentStep c past m = Known m.cell (m.entry ∷ past) → Presents past m
+PresentStep c past m = KnownSits m.cell (m.entry ∷ past) → Presents past m
 
 besides_present : (c : Cell) (past : List Entry) (m : Moved) → KnownCurrent c past → ((i : ℕ) → m.entry.actor ≡ actors.Node (Server i) → ⊥) → m.cell.hosts ≡ c.hosts → Presents past m
 besides_present c past m h other same = record {
@@ -173,31 +185,32 @@ quiet_present c past i x m h none hosts own = record {
 }
 
 -- one that is up, and stays in its boot
-up_present : (c : Cell) (past : List Entry) (i : ℕ) (D : Option ℕ) (armed : Armed) (st : Step ServerState) → KnownCurrent c past → st.state.lasting.boot ≡ (c.hosts i).state.lasting.boot → HostStep (IsNow i (onto (lines_of past) st.lines) (c.hosts i).state.lasting.boot) any_told D (Server i) (c.hosts i).state st
-    → Known (server_moves c i armed st).cell ((server_moves c i armed st).entry ∷ past) → Presents past (server_moves c i armed st)
+up_present : (c : Cell) (past : List Entry) (i : ℕ) (D : Option ℕ) (armed : Armed) (st : Step ServerState) → KnownCurrent c past → st.state.lasting.boot ≡ (c.hosts i).state.lasting.boot → HostStep (IsNow i (onto (lines_of past) st.lines) (c.hosts i).state.lasting.boot) (OfBoot (c.hosts i).state.lasting.boot) D (Server i) (c.hosts i).state st
+    → KnownSits (server_moves c i armed st).cell ((server_moves c i armed st).entry ∷ past) → Presents past (server_moves c i armed st)
 up_present c past i D armed st h boot q K =
     let x : Host = record { state = st.state; down = None; armed = armed } in
     let ls : List Line = onto (lines_of past) st.lines in
-    let up : server_boot (Server i) ls ≡ Some st.state.lasting.boot = K.hears.boots.now i ∙ ap (λ (y : Host). up_boot y.down y.state.lasting.boot) (put_same i x c.hosts) in
+    let up : server_boot (Server i) ls ≡ Some st.state.lasting.boot = K.0.hears.boots.now i ∙ ap (λ (y : Host). up_boot y.down y.state.lasting.boot) (put_same i x c.hosts) in
     record {
       sent = λ k is. subst (λ (n : ℕ). EachSent (IsOfNow n) ((server_moves c i armed st).entry ∷ past) st.sent) (one_server i k is) (each_now i (c.hosts i).state.lasting.boot ((server_moves c i armed st).entry ∷ past) st.sent (up ∙ ap Some boot) q.sent);
       current = own_current c past i x st.lines h (λ none. record {
-        seats = subst (λ (b : ℕ). AreReplies (IsNow i ls b) any_told st.state.seats) (sym boot) q.hosts.sound.seats;
-        held = subst (λ (b : ℕ). Each (IsAnswer (IsNow i ls b) any_told) (replies_of st.state.backs.held)) (sym boot) q.held;
+        seats = subst (λ (b : ℕ). AreReplies (IsNow i ls b) (OfBoot b) st.state.seats) (sym boot) q.hosts.sound.seats;
+        held = subst (λ (b : ℕ). Each (IsAnswer (IsNow i ls b) (OfBoot b)) (replies_of st.state.backs.held)) (sym boot) q.held;
       });
     }
 
-held_now : (c : Cell) (past : List Entry) (i : ℕ) (ls : List Line) → Current i (c.hosts i).state (lines_of past) → Each (IsAnswer (IsNow i (onto (lines_of past) ls) (c.hosts i).state.lasting.boot) any_told) (replies_of (c.hosts i).state.backs.held)
+held_now : (c : Cell) (past : List Entry) (i : ℕ) (ls : List Line) → Current i (c.hosts i).state (lines_of past) → Each (IsAnswer (IsNow i (onto (lines_of past) ls) (c.hosts i).state.lasting.boot) (OfBoot (c.hosts i).state.lasting.boot)) (replies_of (c.hosts i).state.backs.held)
 held_now c past i ls h = (current_onto i (c.hosts i).state (lines_of past) ls h).held
 
-serves_now : (c : Cell) (past : List Entry) (i place : ℕ) (m : Message) → KnownCurrent c past → (c.hosts i).down ≡ None → message_at c.sent place ≡ Some m → HostStep (IsNow i (onto (lines_of past) (server_row (Server i) (c.hosts i).state c.clock place (Whole m)).lines) (c.hosts i).state.lasting.boot) any_told (Some place) (Server i) (c.hosts i).state (server_row (Server i) (c.hosts i).state c.clock place (Whole m))
+serves_now : (c : Cell) (past : List Entry) (i place : ℕ) (m : Message) → KnownCurrent c past → (c.hosts i).down ≡ None → message_at c.sent place ≡ Some m → HostStep (IsNow i (onto (lines_of past) (server_row (Server i) (c.hosts i).state c.clock place (Whole m)).lines) (c.hosts i).state.lasting.boot) (OfBoot (c.hosts i).state.lasting.boot) (Some place) (Server i) (c.hosts i).state (server_row (Server i) (c.hosts i).state c.clock place (Whole m))
 serves_now c past i place m h up at =
     let x : ServerState = (c.hosts i).state in
     let ls : List Line = (server_row (Server i) x c.clock place (Whole m)).lines in
     let K : Head → Type 0 = IsNow i (onto (lines_of past) ls) x.lasting.boot in
-    let sound : IsSound K any_told (memory_of x) = sound_now c past i ls h.0 (h.1 i up) in
-    let call : IfCall (λ y user z. K (reply_head x.lasting.boot y)) m = if_call (λ y user z. IsHad c.hosts y.to y.boot) (λ y user z. K (reply_head x.lasting.boot y)) (λ y user z had. inl refl) m (each_at (IfCall (λ y user z. IsHad c.hosts y.to y.boot)) c.sent place m at h.0.hears.calls) in
-    serves_step K any_told i x c.clock place m sound (held_now c past i ls (h.1 i up)) (decides_due K any_told (Server i) x c.clock m sound.seats (any_call K x.lasting.boot x.seats m.head m.carried call) (λ to. tt))
+    let L : Head → Type 0 = OfBoot x.lasting.boot in
+    let sound : IsSound K L (memory_of x) = sound_now c past i ls h.0 (h.1 i up) in
+    let call : IfCall (λ y user z. K (reply_head x.lasting.boot y)) m = if_call (λ y user z. IsHad c.hosts y.to y.boot) (λ y user z. K (reply_head x.lasting.boot y)) (λ y user z had. inl refl) m (each_at (IfCall (λ y user z. IsHad c.hosts y.to y.boot)) c.sent place m at h.0.0.hears.calls) in
+    serves_step K L i x c.clock place m sound (held_now c past i ls (h.1 i up)) (decides_due K L (Server i) x c.clock m sound.seats (any_call K x.lasting.boot x.seats m.head m.carried call) (λ to. refl))
 
 -- ---- one that begins again
 
@@ -217,19 +230,19 @@ started_seats : (i clock count : ℕ) (f : Begun) → (start_row (Server i) cloc
 unfolding start_row
 started_seats i clock count f = refl
 
-started_present : (c : Cell) (past : List Entry) (i : ℕ) (f : Begun) → KnownCurrent c past → Known (server_rises c i f).cell ((server_rises c i f).entry ∷ past) → Presents past (server_rises c i f)
+started_present : (c : Cell) (past : List Entry) (i : ℕ) (f : Begun) → KnownCurrent c past → KnownSits (server_rises c i f).cell ((server_rises c i f).entry ∷ past) → Presents past (server_rises c i f)
 started_present c past i f h K =
     let st : Step ServerState = start_row (Server i) c.clock c.count f in
     let x : Host = record { state = st.state; down = None; armed = unarmed } in
     let ls : List Line = onto (lines_of past) st.lines in
     let m : Moved = server_rises c i f in
-    let kept : AreReplies (IsNow i ls st.state.lasting.boot) any_told st.state.lasting.kept =
-    subst (λ (y : Host). AreReplies (IsNow i ls st.state.lasting.boot) any_told y.state.lasting.kept) (put_same i x c.hosts) (kept_now m.cell (m.entry ∷ past) i st.state.lasting.boot K) in
+    let kept : AreReplies (IsNow i ls st.state.lasting.boot) (OfBoot st.state.lasting.boot) st.state.lasting.kept =
+    subst (λ (y : Host). AreReplies (IsNow i ls st.state.lasting.boot) (OfBoot st.state.lasting.boot) y.state.lasting.kept) (put_same i x c.hosts) (kept_now m.cell (m.entry ∷ past) i st.state.lasting.boot K) in
     record {
       sent = λ k is. subst (λ (n : ℕ). EachSent (IsOfNow n) (m.entry ∷ past) st.sent) (one_server i k is) (calls_now i (m.entry ∷ past) st.sent (start_sends i c.clock c.count f));
       current = own_current c past i x st.lines h (λ none. record {
-        seats = subst (AreReplies (IsNow i ls st.state.lasting.boot) any_told) (sym (started_seats i c.clock c.count f)) kept;
-        held = subst (λ (hs : List Held). Each (IsAnswer (IsNow i ls st.state.lasting.boot) any_told) (replies_of hs)) (sym (started_held i c.clock c.count f)) tt;
+        seats = subst (AreReplies (IsNow i ls st.state.lasting.boot) (OfBoot st.state.lasting.boot)) (sym (started_seats i c.clock c.count f)) kept;
+        held = subst (λ (hs : List Held). Each (IsAnswer (IsNow i ls st.state.lasting.boot) (OfBoot st.state.lasting.boot)) (replies_of hs)) (sym (started_held i c.clock c.count f)) tt;
       });
     }
 
@@ -253,9 +266,9 @@ present_moves = record {
   stop_set = λ c past i calls pick armed h up K. quiet_present c past i (record (c.hosts i) { armed = armed }) (server_set c i (lines.Stop (Server i) calls pick) armed) h refl refl (h.1 i);
   fail_set = λ c past i call armed h up K. quiet_present c past i (record (c.hosts i) { armed = armed }) (server_set c i (lines.Fail (Server i) call) armed) h refl refl (h.1 i);
   timed = λ c past i n b armed h up at K. (let st : Step ServerState = back_timeout_row (Server i) (c.hosts i).state c.clock n b in
-      up_present c past i None armed st h (timed_state i (c.hosts i).state c.clock n b).1 (times_step (IsNow i (onto (lines_of past) st.lines) (c.hosts i).state.lasting.boot) any_told i (c.hosts i).state c.clock n b (sound_now c past i st.lines h.0 (h.1 i up)) (held_now c past i st.lines (h.1 i up))) K);
+      up_present c past i None armed st h (timed_state i (c.hosts i).state c.clock n b).1 (times_step (IsNow i (onto (lines_of past) st.lines) (c.hosts i).state.lasting.boot) (OfBoot (c.hosts i).state.lasting.boot) i (c.hosts i).state c.clock n b (sound_now c past i st.lines h.0 (h.1 i up)) (held_now c past i st.lines (h.1 i up))) K);
   woken = λ c past i armed h up K. (let st : Step ServerState = wake_row (Server i) (c.hosts i).state c.clock in
-      up_present c past i None armed st h (woken_state i (c.hosts i).state c.clock).1 (wakes_step (IsNow i (onto (lines_of past) st.lines) (c.hosts i).state.lasting.boot) any_told i (c.hosts i).state c.clock (sound_now c past i st.lines h.0 (h.1 i up)) (held_now c past i st.lines (h.1 i up))) K);
+      up_present c past i None armed st h (woken_state i (c.hosts i).state c.clock).1 (wakes_step (IsNow i (onto (lines_of past) st.lines) (c.hosts i).state.lasting.boot) (OfBoot (c.hosts i).state.lasting.boot) i (c.hosts i).state c.clock (sound_now c past i st.lines h.0 (h.1 i up)) (held_now c past i st.lines (h.1 i up))) K);
   started = λ c past i after fall h down K. started_present c past i (begun_by_disk (Server i) (c.hosts i).state after fall) h K;
   early = λ c past i fall h down K. quiet_present c past i (record (c.hosts i) { down = Some fall; armed = unarmed }) (server_falls c i (lines.Fault (Server i) ∷ []) fall) h refl refl (no_fall fall _);
   midway = λ c past i after fall h down K. (let f : Begun = begun_by_disk (Server i) (c.hosts i).state after fall in quiet_present c past i (record { state = f.state; down = Some in_boot; armed = unarmed }) (server_stays c i f (lines.Fault (Server i)) in_boot) h refl refl (no_fall in_boot _));
@@ -263,28 +276,42 @@ present_moves = record {
 }
 
 current_kept : IsKept KnownCurrent
-current_kept c past x h = let K : Behind Known c past (moved c x) = known_kept c past x h.0 in (K, (each_moved KnownCurrent PresentStep present_moves c past x h K).current)
+current_kept c past x h = let K : Behind KnownSits c past (moved c x) = known_sits_kept c past x h.0 in (K, (each_moved KnownCurrent PresentStep present_moves c past x h K).current)
 
 current_first : (s : Script) → KnownCurrent (start s) (set_up s ∷ [])
-current_first s = (known_first s, λ i up. record { seats = λ n seat m e. absurd cc; held = tt })
+current_first s = ((known_first s, λ i. record { seats = λ n seat m e. absurd cc; kept = λ n seat m e. absurd cc }), λ i up. record { seats = λ n seat m e. absurd cc; held = tt })
 
 -- ---- each message of a run
 
 abbrev OfServers : List Entry → Entry → Type 0
 OfServers past e = (i : ℕ) → e.actor ≡ actors.Node (Server i) → EachSent (IsOfNow i) (e ∷ past) e.sent
 
-sent_present : (e : Entry) (past : List Entry) (ms : List Message) → EachSent IsOwn (e ∷ past) ms → ((i : ℕ) → e.actor ≡ actors.Node (Server i) → EachSent (IsOfNow i) (e ∷ past) ms) → EachSent IsPresent (e ∷ past) ms
-sent_present e past [] o w = tt
-sent_present e past (m ∷ ms) o w = (
-  λ i j is from to. subst (λ (n : Node). (server_boot n (lines_of (e ∷ past)) ≡ Some m.head.boot) ⊎ HasChangeBy n (answered_key m.head) (lines_of (e ∷ past))) (sym from) ((w i (o.0.0 ∙ ap actors.Node from)).0 j is.1 to),
-  sent_present e past ms o.1 (λ i is. (w i is).1),
+run_now : (s : Script) (h : List Entry) (end : Cell) → RunsTo h s end → EachEntry OfServers (set_up s ∷ []) h
+run_now s h end r = run_each KnownCurrent OfServers current_kept (λ c past x k. (each_moved KnownCurrent PresentStep present_moves c past x k (known_sits_kept c past x k.0)).sent) r.inputs (start s) (set_up s ∷ []) h end (current_first s) r.leads
+
+abbrev pub TrueNow : List Entry → Message → Type 0
+TrueNow past m = IsPresent past m × TellsItsBoot past m
+
+-- by the nodes that send them
+in_boot_of : (n : Node) (boot : ℕ) (ls : List Line) → ((j : ℕ) → n ≡ Client j → epoch_after (Client j) ls ≡ boot) → ((i : ℕ) → n ≡ Server i → server_boot (Server i) ls ≡ Some boot) → IsInBoot n boot ls
+in_boot_of (Client j) boot ls c w = c j refl
+in_boot_of (Server i) boot ls c w = w i refl
+in_boot_of (Admin i) boot ls c w = tt
+in_boot_of Loc boot ls c w = tt
+
+sent_present : (e : Entry) (past : List Entry) (ms : List Message) → EachSent IsOwn (e ∷ past) ms → ((j : ℕ) → e.actor ≡ actors.Node (Client j) → EachSent (TellsEpoch j) (e ∷ past) ms) → ((i : ℕ) → e.actor ≡ actors.Node (Server i) → EachSent (IsOfNow i) (e ∷ past) ms) → EachSent TrueNow (e ∷ past) ms
+sent_present e past [] o c w = tt
+sent_present e past (m ∷ ms) o c w = (
+  (
+    λ i j is from to. subst (λ (n : Node). (server_boot n (lines_of (e ∷ past)) ≡ Some m.head.boot) ⊎ HasChangeBy n (answered_key m.head) (lines_of (e ∷ past))) (sym from) ((w i (o.0.0 ∙ ap actors.Node from)).0.reply j is.1 to),
+    λ is. in_boot_of m.head.from m.head.boot (lines_of (e ∷ past)) (λ j from. (c j (o.0.0 ∙ ap actors.Node from)).0 is) (λ i from. (w i (o.0.0 ∙ ap actors.Node from)).0.notice is),
+  ),
+  sent_present e past ms o.1 (λ j is. (c j is).1) (λ i is. (w i is).1),
 )
 
-all_present : (past es : List Entry) → EachEntry (λ before e. EachSent IsOwn (e ∷ before) e.sent) past es → EachEntry OfServers past es → EachEntry (λ before e. EachSent IsPresent (e ∷ before) e.sent) past es
-all_present past [] o w = tt
-all_present past (e ∷ es) o w = (sent_present e past e.sent o.0 w.0, all_present (e ∷ past) es o.1 w.1)
+all_present : (past es : List Entry) → EachEntry (λ before e. EachSent IsOwn (e ∷ before) e.sent) past es → EachEntry OfClients past es → EachEntry OfServers past es → EachEntry (λ before e. EachSent TrueNow (e ∷ before) e.sent) past es
+all_present past [] o c w = tt
+all_present past (e ∷ es) o c w = (sent_present e past e.sent o.0 c.0 w.0, all_present (e ∷ past) es o.1 c.1 w.1)
 
-pub run_present : (s : Script) (h : List Entry) (end : Cell) → RunsTo h s end → EachEntry (λ past e. EachSent IsPresent (e ∷ past) e.sent) (set_up s ∷ []) h
-run_present s h end r =
-    all_present (set_up s ∷ []) h (run_own s h end r)
-    (run_each KnownCurrent OfServers current_kept (λ c past x k. (each_moved KnownCurrent PresentStep present_moves c past x k (known_kept c past x k.0)).sent) r.inputs (start s) (set_up s ∷ []) h end (current_first s) r.leads)
+pub run_present : (s : Script) (h : List Entry) (end : Cell) → RunsTo h s end → EachEntry (λ past e. EachSent TrueNow (e ∷ past) e.sent) (set_up s ∷ []) h
+run_present s h end r = all_present (set_up s ∷ []) h (run_own s h end r) (run_noticed s h end r) (run_now s h end r)

@@ -22,7 +22,7 @@ use Rattle.afs_law.proofs.Finding.{IsAmong}
 use Rattle.afs_law.proofs.Ticking.{HeldTicks, ticks_first, ticks_kept}
 use Rattle.afs_law.specs.Breaks.{HasStopped}
 use Rattle.afs_law.specs.Ideal.{clock_of, last_version, set_up, volume_after}
-use Rattle.afs_law.specs.Legal.{GoodGrant, IsPromisedBy, RunsHere, answer_at, code_given}
+use Rattle.afs_law.specs.Legal.{GoodGrant, IsClient, IsPromisedBy, RunsHere, answer_at, code_given}
 use Rattle.afs_law.specs.Parts.{EachLine}
 use Rattle.afs_law.specs.Past.{IsCall, IsCallUnder, given_message, lines_of, sent_of}
 use Rattle.afs_law.specs.ServerParts.{GrantsAreGood, IsGrantGood}
@@ -144,6 +144,7 @@ blow_still i place false = refl
 
 grant_more : (server c : Node) (x : ℕ) (g : Found) (past : List Entry) (own : List Line) (f : Found) → GoodGrant server c f.fid f.vnode.index x past own → GoodGrant server c f.fid f.vnode.index x past (lines.Grant server c g.fid g.vnode.index x ∷ own)
 grant_more server c x g past own f h = record {
+  client = h.client;
   key = h.key;
   node = h.node;
   ran = record { boot = h.ran.boot; up = h.ran.up; given = h.ran.given; first = h.ran.first; latest = h.ran.latest };
@@ -202,6 +203,7 @@ shows_grant s c past i j place m r f h up at run is z =
     let given : given_message (lines.Given place ∷ []) (sent_of past) ≡ Some m = was_given s c past place m h.0 at in
     let q = read_there V run.call r (answer_at run.user run.call past) past f is.is z in
     record {
+      client = subst IsClient (sym run.from) tt;
       key = key_of m.head;
       node = refl;
       ran = runs_here s c past i j m (lines.Given place ∷ []) h.0 up run given;
@@ -247,6 +249,7 @@ saves_grant s c past i j place m ch f h up at run is z =
     let new = newly ch.id (the_user run.user) run.call v ch.edits ch.shown past f is.of_volume is.result there (h.0.1.fine i ch.id v is.at).ascends (subst (λ (x : FsCall). IsAmong f (granted_in (record ch { call = x }))) is.called z) in
     let old : Sound ch.id v base = sound_same ch.id (Some v) (lines_of past) base (λ n u. refl) (subst (λ (o : Option Volume). SoundIn ch.id o (lines_of past)) there (h.0.1.sound ch.id)) in
     record {
+      client = subst IsClient (sym run.from) tt;
       key = k;
       node = refl;
       ran = runs_here s c past i j m own h.0 up run given;

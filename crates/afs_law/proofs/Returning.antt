@@ -18,6 +18,7 @@ use Rattle.afs_law.proofs.Origins.{any_cut, any_message, blow_idle, idle_leaves,
 use Rattle.afs_law.proofs.Ours.{AreOurs, IsOurs, trusted_ours'}
 use Rattle.afs_law.proofs.Silent.{GivenSilent}
 use Rattle.afs_law.proofs.Words.{fids_of_gifts}
+use Rattle.afs_law.proofs.Walking.{statuses_act, walked_act}
 use Rattle.afs_law.specs.Breaks.{IsNamedIn}
 use Rattle.afs_law.specs.Cells.{IsOfCell}
 use Rattle.afs_law.specs.Ideal.{set_up, user_of}
@@ -185,32 +186,6 @@ runs_keeps n o gs s a b e r same w q = record { goes = λ c p. (a, (e, (subst (�
 either_keeps : (t : Bool) (n : ℕ) (o : Option Going) (gs : List Gift) (a b : Step ClientState) → Keeps n o gs a → Keeps n o gs b → Keeps n o gs (cond t a b)
 either_keeps true n o gs a b h k = h
 either_keeps false n o gs a b h k = k
-
--- reads leave the act
-with_act : (more : Going → List CacheEntry → Walked) (act : Going) (cache : List CacheEntry) (e : CacheEntry) (o : Option ReadBody) → ((b : Going) (cs : List CacheEntry) → (more b cs).act.act ≡ b.act) → (walked_with more act cache e o).act.act ≡ act.act
-with_act more act cache e None w = refl
-with_act more act cache e (Some body) w = w (with_read e.fid body act) _
-
-trusted_act : (t : Bool) (a b : Walked) (act : Going) → a.act.act ≡ act.act → b.act.act ≡ act.act → (cond t a b).act.act ≡ act.act
-trusted_act true a b act h k = h
-trusted_act false a b act h k = k
-
-at_act : (more : Going → List CacheEntry → Walked) (clock : ℕ) (act : Going) (cache : List CacheEntry) (need : Need) (o : Option CacheEntry) → ((b : Going) (cs : List CacheEntry) → (more b cs).act.act ≡ b.act) → (walked_at more clock act cache need o).act.act ≡ act.act
-at_act more clock act cache need None w = refl
-at_act more clock act cache need (Some e) w = trusted_act (is_trusted clock e) _ _ act (with_act more act cache e _ w) refl
-
-by_act : (more : Going → List CacheEntry → Walked) (clock : ℕ) (act : Going) (cache : List CacheEntry) (need : Need) → ((b : Going) (cs : List CacheEntry) → (more b cs).act.act ≡ b.act) → (walked_by more clock act cache need).act.act ≡ act.act
-by_act more clock act cache (reads f) w = at_act more clock act cache (reads f) (find_cached f cache) w
-by_act more clock act cache (reads_status f) w = at_act more clock act cache (reads_status f) (find_cached f cache) w
-by_act more clock act cache need w = refl
-
-walked_act : (n clock : ℕ) (act : Going) (cache : List CacheEntry) → (walked n clock act cache).act.act ≡ act.act
-walked_act zero clock act cache = refl
-walked_act (suc n) clock act cache = by_act (walked n clock) clock act cache (next act) (walked_act n clock)
-
-statuses_act : (es : List CacheEntry) (act : Going) → (with_statuses es act).act ≡ act.act
-statuses_act [] act = refl
-statuses_act (e ∷ es) act = statuses_act es (with_read e.fid (seen.Status e.status) act)
 
 goes_keeps : (o : Option Going) (n : ℕ) (c : ClientState) (front : List Line → List Line) (w : Walked) (need : Need) (a : Going) → Quiet n front → o ≡ Some a → w.act.act ≡ a.act → Keeps n o c.gifts (goes_by (Client n) c front w need)
 goes_keeps o n c front w (answers k) a q e same = none_keeps n o c.gifts _ refl (q (looked (Client n) w.looks (lines.Answer (Client n) (record { 0 = pos k }) ∷ [])) ∙ looked_begins n (Client n) w.looks (lines.Answer (Client n) (record { 0 = pos k }) ∷ []))

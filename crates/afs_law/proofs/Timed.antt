@@ -10,7 +10,6 @@ use Rattle.afs_law.proofs.Acting.{last_key}
 use Rattle.afs_law.proofs.Basics.{IfCall, both, each_at}
 use Rattle.afs_law.proofs.Changing.{run_each}
 use Rattle.afs_law.proofs.Choosing.{risen_lines}
-use Rattle.afs_law.proofs.Counting.{CountedFacts, counted_first, counted_kept}
 use Rattle.afs_law.proofs.Hearing.{client_given}
 use Rattle.afs_law.proofs.KeysOnce.{IsKnown, any_told, by_key, call_pair}
 use Rattle.afs_law.proofs.Knowing.{Known}
@@ -21,9 +20,10 @@ use Rattle.afs_law.proofs.Owing.{CallOut}
 use Rattle.afs_law.proofs.Placing.{serves_each}
 use Rattle.afs_law.proofs.Timing.{given_has, row_begun}
 use Rattle.afs_law.proofs.Trying.{GivenWaits, Waits, waits_first, waits_kept}
+use Rattle.afs_law.proofs.Unanswered.{UnansweredFacts, unanswered_first, unanswered_kept}
 use Rattle.afs_law.specs.Breaks.{HasTimeout}
 use Rattle.afs_law.specs.Ideal.{set_up}
-use Rattle.afs_law.specs.Legal.{AwaitsReply, IsInPlace}
+use Rattle.afs_law.specs.Legal.{AwaitsReply, HasAnswer, IsInPlace}
 use Rattle.afs_law.specs.Parts.{EachLine}
 use Rattle.afs_law.specs.Past.{CalledSince, SendsTo, WasSent, has_begun, has_given, lines_of}
 use Rattle.afs_law.specs.ServerParts.{IsTimeoutGood, TimeoutsAreGood}
@@ -33,6 +33,7 @@ use Rattle.afs_num.specs.declared.histories.Actor.{Actor}
 use Rattle.afs_num.specs.declared.histories.Actor.TheVariants as actors
 use Rattle.afs_num.specs.declared.messages.Message.{Message}
 use Rattle.afs_num.specs.declared.messages.Received.TheVariants.{Whole}
+use Rattle.afs_num.specs.declared.types.Code.{Code}
 use Rattle.afs_num.specs.declared.types.Key.{Key}
 use Rattle.afs_num.specs.declared.types.Node.{Node}
 use Rattle.afs_num.specs.declared.types.Node.TheVariants.{Client, Server}
@@ -43,7 +44,7 @@ use Rattle.afs_rows.specs.Runs.{Cell, Entry, Fall, Moved, begun_by_disk, blow_li
 use Rattle.afs_rows.specs.ServerRow.{key_of, Decision, does, drops, refuses, repeats, saves, shows, tells_boot}
 use Rattle.afs_rows.specs.ServerSteps.{back_timeout_row, server_row, start_row, wake_row}
 use Rattle.afs_rows.specs.States.{BackCall, Backs, CacheEntry, ServerState}
-use Rattle.std.proofs.Common.{ap, ltb-true, ◌<◌, zero, suc, ◌≡◌, ◌≤◌, ℕ, ◌+◌, ◌⊎◌, inl, inr, Bool, true, false, cond, List, [], ◌∷◌, ◌++◌, map, Some, refl, sym, subst, ◌∙◌, nat_lt, ltb-false, arith}
+use Rattle.std.proofs.Common.{ap, ltb-true, ◌<◌, zero, suc, ◌≡◌, ◌≤◌, ℕ, ◌+◌, ◌⊎◌, inl, inr, Bool, true, false, cond, List, [], ◌∷◌, ◌++◌, map, Some, refl, sym, subst, ◌∙◌, nat_lt, ltb-false, arith, negsuc}
 
 abbrev Timely : Script → Actor → List Entry → List Line → List Line → Type 0
 Timely s who past own ls = EachLine (IsTimeoutGood s) who past own ls
@@ -126,20 +127,27 @@ below_by n callee epoch number (suc k) ls h = inr (suc k, (refl, h (suc k) (omeg
 -- ---- a client's
 
 -- the reply to the call is awaited still
-awaited : (s : Script) (c : Cell) (past : List Entry) (n : ℕ) (act : Going) (count : ℕ) → CountedFacts s c past → (c.clients n).running ≡ Some act → (HasTimeout (Client n) (c.clients n).callee (c.clients n).epoch (c.clients n).last count (lines_of past) → ⊥)
-    → AwaitsReply s (Client n) (c.clients n).callee (last_key n (c.clients n)) (c.clients n).user (call_of (c.clients n) act) count past []
-awaited s c past n act count h r none =
-    let known : Known c past = h.0.0.0.0.0.0.0.0 in
-    let asked : AskedIn s c past = h.0.0.0.0.0.0.0.1 in
+awaited : (s : Script) (c : Cell) (past : List Entry) (n : ℕ) (act : Going) (count : ℕ) (next : List Line) → UnansweredFacts s c past → (c.clients n).running ≡ Some act → (HasTimeout (Client n) (c.clients n).callee (c.clients n).epoch (c.clients n).last count (lines_of past) → ⊥) → (count ≡ 3 → HasAnswer (Client n) (negsuc 0) next)
+    → AwaitsReply s (Client n) (c.clients n).callee (last_key n (c.clients n)) (c.clients n).user (call_of (c.clients n) act) count past [] next
+awaited s c past n act count next h r none dead =
+    let known : Known c past = h.0.0.0.0.0.0.0.0.0 in
+    let asked : AskedIn s c past = h.0.0.0.0.0.0.0.0.1 in
     record {
       act = act;
       runs = asked.acts n ∙ r;
       called = subst (λ (u : List ℕ). CalledSince (last_key n (c.clients n)) u (call_of (c.clients n) act) past) (sym (asked.user n)) (asked.asked n act r);
       last = λ place m at is from. call_pair known.keys.callees c.clients n m.head m.carried is from (each_at (IfCall (λ x u y. IsKnown known.keys.callees c.clients x.to (key_of x))) c.sent place m (ap (λ (ms : List Message). message_at ms place) (sym known.hears.told) ∙ at) known.keys.calls);
+      unanswered = h.1 n act r;
       once = none;
+      dead = dead;
     }
 
-waits_timely : (s : Script) (c : Cell) (past : List Entry) (n : ℕ) (act : Going) (t : Bool) → Waits n (c.clients n) past → CountedFacts s c past → (c.clients n).running ≡ Some act → nat_lt (c.clients n).tries 2 ≡ t
+-- the act that is given up is answered behind what it drops
+dead_answer : (me : Node) (es : List CacheEntry) (code : Code) → HasAnswer me code.0 (dropped me es (lines.Answer me code ∷ []))
+dead_answer me [] code = inl (refl, refl)
+dead_answer me (e ∷ es) code = dead_answer me es code
+
+waits_timely : (s : Script) (c : Cell) (past : List Entry) (n : ℕ) (act : Going) (t : Bool) → Waits n (c.clients n) past → UnansweredFacts s c past → (c.clients n).running ≡ Some act → nat_lt (c.clients n).tries 2 ≡ t
     → Timely s (actors.Node (Client n)) past [] (cond t (tries_again (Client n) (c.clients n) act) (gives_up (Client n) (c.clients n) (call_of (c.clients n) act))).lines
 waits_timely s c past n act true w h r e =
     let x : ClientState = c.clients n in
@@ -150,7 +158,7 @@ waits_timely s c past n act true w h r e =
         sent = w.sent act r;
         below = below_by (Client n) x.callee x.epoch x.last x.tries (lines_of past) (w.tried act r);
         few = omega (arith, l);
-        awaited = awaited s c past n act (x.tries + 1) h r (λ y. (let le : x.tries + 1 ≤ x.tries = h.1 n act r x.callee (x.tries + 1) y in absurd (omega (arith, le))));
+        awaited = awaited s c past n act (x.tries + 1) [] h r (λ y. (let le : x.tries + 1 ≤ x.tries = h.0.1 n act r x.callee (x.tries + 1) y in absurd (omega (arith, le)))) (λ y. (let third : x.tries + 1 ≡ 3 = y in absurd (omega (arith, l, third))));
       },
       tt,
     )
@@ -163,7 +171,7 @@ waits_timely s c past n act false w h r e =
         sent = w.sent act r;
         below = inr (2, (refl, w.tried act r 2 (omega arith) le));
         few = omega arith;
-        awaited = awaited s c past n act 3 h r (λ y. (h.0.1 n).alive act r x.callee y);
+        awaited = awaited s c past n act 3 _ h r (λ y. (h.0.0.1 n).alive act r x.callee y) (λ y. dead_answer (Client n) (given_up_in (volume_changed (call_of x act)) x.cache) dead_code);
       },
       timeless s (actors.Node (Client n)) past _ _ (dropped_timeless (Client n) (given_up_in (volume_changed (call_of x act)) x.cache) (lines.Answer (Client n) dead_code ∷ []) refl),
     )
@@ -218,7 +226,7 @@ blow_timely s past i place false = (tt, (tt, tt))
 -- ---- every step
 
 abbrev TimedFacts : Script → Cell → List Entry → Type 0
-TimedFacts s c past = Breaks s c past × (GivenWaits s c past × CountedFacts s c past)
+TimedFacts s c past = Breaks s c past × (GivenWaits s c past × UnansweredFacts s c past)
 
 abbrev TimelyStep : Script → Cell → List Entry → Moved → Type 0
 TimelyStep s c past m = Timely s m.entry.actor past [] m.entry.lines
@@ -248,8 +256,8 @@ timely_moves s = record {
 }
 
 timed_facts_kept : (s : Script) → IsKept (TimedFacts s)
-timed_facts_kept s c past x h = (breaks_kept s c past x h.0, (waits_kept s c past x h.1.0, counted_kept s c past x h.1.1))
+timed_facts_kept s c past x h = (breaks_kept s c past x h.0, (waits_kept s c past x h.1.0, unanswered_kept s c past x h.1.1))
 
 pub run_timed : TimeoutsAreGood
 run_timed s h end r =
-    run_each (TimedFacts s) (λ past e. EachLine (IsTimeoutGood s) e.actor past [] e.lines) (timed_facts_kept s) (λ c past x k. each_moved (TimedFacts s) (TimelyStep s) (timely_moves s) c past x k) r.inputs (start s) (set_up s ∷ []) h end (breaks_first s, (waits_first s, counted_first s)) r.leads
+    run_each (TimedFacts s) (λ past e. EachLine (IsTimeoutGood s) e.actor past [] e.lines) (timed_facts_kept s) (λ c past x k. each_moved (TimedFacts s) (TimelyStep s) (timely_moves s) c past x k) r.inputs (start s) (set_up s ∷ []) h end (breaks_first s, (waits_first s, unanswered_first s)) r.leads

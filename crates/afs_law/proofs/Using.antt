@@ -42,7 +42,7 @@ use Rattle.std.specs.Prelude.{◌&&◌}
 -- behind it none is given
 given_once : (s : Script) (who : Actor) (past : List Entry) (own ls : List Line) → EachLine (IsInPlace s) who past own ls → has_given own ≡ true → has_given ls ≡ false
 given_once s who past own [] place has = refl
-given_once s who past own (lines.Given p ∷ ls) place has = let no_ : true ≡ false = sym has ∙ place.0 in absurd cc
+given_once s who past own (lines.Given p ∷ ls) place has = let no_ : true ≡ false = sym has ∙ ap has_given place.0 in absurd cc
 given_once s who past own (l ∷ ls) place has = given_once s who past (l ∷ own) ls place.1 (still l own has)
   where
     still : (l : Line) (own : List Line) → has_given own ≡ true → has_given (l ∷ own) ≡ true

@@ -11,7 +11,7 @@ use Rattle.afs_num.specs.declared.types.Fid.{Fid}
 use Rattle.afs_num.specs.declared.types.Node.{Node}
 use Rattle.afs_num.specs.declared.messages.Message.{Message}
 use Rattle.afs_law.proofs.Words.{AreApart, IsBody, IsWhole}
-use Rattle.afs_rows.specs.ClientRow.{body_seen, shown_by, walked_with, find_cached, used_first, Look, Walked, walked, walked_by, walked_at, looked}
+use Rattle.afs_rows.specs.ClientRow.{body_seen, shown_by, walked_with, find_cached, used_first, Look, Walked, walked, walked_by, walked_at, looked, is_trusted, with_statuses}
 use Rattle.afs_rows.specs.Going.{reads_status, reads_statuses, reads_rights, gives_back, Going, Need, reads, asks_for, answers, next, with_read}
 use Rattle.afs_law.specs.Grants.{is_promised}
 use Rattle.afs_law.specs.Ideal.{HasVersion}
@@ -117,3 +117,31 @@ walked_apart k clock a cache h = walked_keeps AreApart (λ f u cs found x. apart
 -- what is in the cache then was in it before
 pub walked_found : (k clock : ℕ) (a : Going) (cache : List CacheEntry) (g : Fid) (v : CacheEntry) → find_cached g (walked k clock a cache).cache ≡ Some v → find_cached g cache ≡ Some v
 walked_found k clock a cache g v at = walked_keeps (λ cs. find_cached g cs ≡ Some v → find_cached g cache ≡ Some v) (λ f u cs found x y. x (used_found g u cs v found y)) k clock a cache (λ y. y) at
+
+-- ---- it stays the same act
+
+-- reads leave the act
+with_act : (more : Going → List CacheEntry → Walked) (act : Going) (cache : List CacheEntry) (e : CacheEntry) (o : Option ReadBody) → ((b : Going) (cs : List CacheEntry) → (more b cs).act.act ≡ b.act) → (walked_with more act cache e o).act.act ≡ act.act
+with_act more act cache e None w = refl
+with_act more act cache e (Some body) w = w (with_read e.fid body act) _
+
+trusted_act : (t : Bool) (a b : Walked) (act : Going) → a.act.act ≡ act.act → b.act.act ≡ act.act → (cond t a b).act.act ≡ act.act
+trusted_act true a b act h k = h
+trusted_act false a b act h k = k
+
+at_act : (more : Going → List CacheEntry → Walked) (clock : ℕ) (act : Going) (cache : List CacheEntry) (need : Need) (o : Option CacheEntry) → ((b : Going) (cs : List CacheEntry) → (more b cs).act.act ≡ b.act) → (walked_at more clock act cache need o).act.act ≡ act.act
+at_act more clock act cache need None w = refl
+at_act more clock act cache need (Some e) w = trusted_act (is_trusted clock e) _ _ act (with_act more act cache e _ w) refl
+
+by_act : (more : Going → List CacheEntry → Walked) (clock : ℕ) (act : Going) (cache : List CacheEntry) (need : Need) → ((b : Going) (cs : List CacheEntry) → (more b cs).act.act ≡ b.act) → (walked_by more clock act cache need).act.act ≡ act.act
+by_act more clock act cache (reads f) w = at_act more clock act cache (reads f) (find_cached f cache) w
+by_act more clock act cache (reads_status f) w = at_act more clock act cache (reads_status f) (find_cached f cache) w
+by_act more clock act cache need w = refl
+
+pub walked_act : (n clock : ℕ) (act : Going) (cache : List CacheEntry) → (walked n clock act cache).act.act ≡ act.act
+walked_act zero clock act cache = refl
+walked_act (suc n) clock act cache = by_act (walked n clock) clock act cache (next act) (walked_act n clock)
+
+pub statuses_act : (es : List CacheEntry) (act : Going) → (with_statuses es act).act ≡ act.act
+statuses_act [] act = refl
+statuses_act (e ∷ es) act = statuses_act es (with_read e.fid (seen.Status e.status) act)

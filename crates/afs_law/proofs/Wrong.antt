@@ -21,18 +21,17 @@ use Rattle.afs_ideal.specs.AccessLists.{rights_of, acl_text, entry_text, acl_at,
 use Rattle.afs_ideal.specs.AccessLists as access
 use Rattle.afs_ideal.specs.Directories.{directory_bytes, name_bytes, directory_of, names_at, whole_at, count_at, name_at, spelled_at, bytes_below}
 use Rattle.afs_ideal.specs.SetUp.{acl_laid, laid_at, led}
-use Rattle.afs_ideal.specs.Operations.{Result}
 use Rattle.afs_ideal.specs.VnodeImage.{image}
 use Rattle.afs_law.proofs.Basics.{both, same_key-refl, some_of}
 use Rattle.afs_law.proofs.Passing.{sent_right}
 use Rattle.afs_law.proofs.Recent.{sent_before}
 use Rattle.afs_law.proofs.Heard.{ran_heard}
-use Rattle.afs_law.specs.Grants.{GrantOf, IsDropped, until}
+use Rattle.afs_law.specs.Grants.{GrantOf, IsDropped}
 use Rattle.afs_num.specs.declared.histories.Actor.{Actor}
 use Rattle.afs_num.specs.declared.types.Node.{Node}
 use Rattle.afs_law.proofs.Worked.{apart_numbers, home, by_lines, stores, alters, answer, begun, entries, file, root, script, six_front}
 use Rattle.afs_law.specs.Breaks.{HasStopped, IsCarried, IsNamedIn}
-use Rattle.afs_law.specs.Legal.{Answered, Brings, IsKind, IsOpen, IsPromisedBy, Cause, EndsAct, IsGivenBack, IsResult, Legal, answer_at, code_given}
+use Rattle.afs_law.specs.Legal.{Answered, Brings, IsKind, IsOpen, IsPromisedBy, Cause, EndsAct, IsGivenBack, IsNeededFrom, IsResult, Legal, answer_at, code_given}
 use Rattle.afs_model.specs.Messages.{spelled}
 use Rattle.afs_num.specs.Names.{name_ok}
 use Rattle.afs_num.specs.declared.types.Fid.{Fid}
@@ -44,7 +43,7 @@ use Rattle.afs_law.specs.Ideal.{IsLast, last_version, set_up}
 use Rattle.afs_num.specs.declared.histories.Version.{Version}
 use Rattle.std.specs.Option.{option_map}
 use Rattle.afs_law.specs.Once.{past_of}
-use Rattle.afs_law.specs.Past.{HasChangeBy, IsLatest, WasSent, SendsTo, has_begun, has_sent, is_called, same_key, onto, lines_on, IsCall, server_boot, CalledSince, IsToCome, called_key, Ran, answered_key, code_told, given_message, lines_of, sent_of}
+use Rattle.afs_law.specs.Past.{HasChangeBy, IsLater, IsLatest, WasSent, SendsTo, has_begun, has_sent, is_called, same_key, onto, lines_on, IsCall, server_boot, CalledSince, IsToCome, called_key, Ran, answered_key, code_told, given_message, lines_of, sent_of}
 use Rattle.afs_num.specs.declared.calls.AfsCallBack.{AfsCallBack}
 use Rattle.afs_num.specs.declared.calls.FsCall.{FsCall}
 use Rattle.afs_num.specs.declared.calls.FsCall.TheVariants as calls
@@ -52,16 +51,18 @@ use Rattle.afs_num.specs.declared.volume_calls.VolCall.TheVariants as volumes
 use Rattle.afs_num.specs.declared.histories.Actor.TheVariants as actors
 use Rattle.afs_num.specs.declared.messages.Call.TheVariants as ask
 use Rattle.afs_num.specs.declared.types.Half.TheVariants as halves
+use Rattle.afs_num.specs.declared.histories.Body.{Body}
 use Rattle.afs_num.specs.declared.histories.Body.TheVariants as bodies
 use Rattle.afs_num.specs.declared.histories.ReadBody.TheVariants as seen
 use Rattle.afs_num.specs.declared.histories.ReadSource.{ReadSource}
 use Rattle.afs_num.specs.declared.histories.ReadSource.TheVariants.{Cached, Fetched}
 use Rattle.afs_num.specs.declared.messages.Carried.TheVariants as carried
+use Rattle.afs_num.specs.declared.messages.Reply.{Reply}
 use Rattle.afs_num.specs.declared.messages.Reply.TheVariants as tell
 use Rattle.afs_num.specs.declared.calls.FsReply.TheVariants as replies
 use Rattle.afs_num.specs.declared.messages.Message.{Message}
 use Rattle.afs_num.specs.declared.types.Node.TheVariants.{Client, Server}
-use Rattle.std.proofs.Common.{arith, ◌<◌, ◌≤◌, ◌≡◌, ◌∙◌, true, false, cond, not, nat_eq, Bool, ℕ, ℤ, List, [], ◌∷◌, ◌++◌, ◌⊎◌, Option, None, Some, ap, sym, subst, refl, inl, inr, negsuc, pos}
+use Rattle.std.proofs.Common.{arith, eqb-true, ◌<◌, ◌≤◌, ◌≡◌, ◌∙◌, true, false, cond, not, nat_eq, Bool, ℕ, ℤ, List, [], ◌∷◌, ◌++◌, ◌⊎◌, Option, None, Some, ap, sym, subst, refl, inl, inr, negsuc, pos}
 use Rattle.std.specs.Fmt.{digits}
 use Rattle.std.specs.Prelude.{⊤, ◌&&◌, codes, drop, map, take}
 
@@ -317,6 +318,17 @@ promises_nothing (e ∷ f ∷ es) = e ∷ promises_nothing (f ∷ es)
 granted_beside_no_call : Legal (promises_nothing (entries (start (script 2)) six_front)) (script 2) → ⊥
 unfolding moved begin_row client_row server_row back_timeout_row wake_row start_row record_bytes head_form volume_form spelled opaque pad word laid_at led name_ok directory_bytes name_bytes rights_of image acl_text digits entry_text directory_of names_at opaque_at word_at counted_at whole_at count_at name_at spelled_at bytes_below
 granted_beside_no_call h = h.1.1.1.0.0.0.0.1.ran.given
+
+-- a promise to a server, which asked for the file as if it were a client
+abbrev asks_as_a_server : Message
+asks_as_a_server = record {
+  head = record { half = halves.Call; from = Server 2; to = Server 1; epoch = 1; number = 1; boot = 1; stamp = 0; opcode = 130 };
+  carried = carried.Call (codes "guest") (ask.File (calls.FetchData file (pos 0) (pos 2147483647)));
+}
+
+granted_to_a_server : Legal (step_of (Server 2) [] (asks_as_a_server ∷ []) ∷ step_of (Server 1) (lines.Given 1 ∷ lines.Grant (Server 1) (Server 2) file 1 7200 ∷ []) [] ∷ []) (record (script 1) { servers = 2 }) → ⊥
+unfolding moved begin_row client_row server_row back_timeout_row wake_row start_row record_bytes head_form volume_form spelled opaque pad word laid_at led name_ok directory_bytes name_bytes rights_of image acl_text digits entry_text directory_of names_at opaque_at word_at counted_at whole_at count_at name_at spelled_at bytes_below
+granted_to_a_server h = h.1.0.0.0.1.0.1.client
 
 -- one that ends before its time
 abbrev shortly : Entry → Entry
@@ -652,9 +664,25 @@ gave_back_what_is_new h = h.1.1.0.0.1.0.gift.0
 
 -- ---- an entry is given one message
 
+not_none : (l : Line) (ls : List Line) → l ∷ ls ≡ [] → ⊥
+not_none l ls e = absurd cc
+
 given_two : Legal (alters 2 (instead (lines.Given 2 ∷ lines.Given 2 ∷ [])) (entries (start (script 1)) (begins 1 (acts.Open (operands.Fid file)) ∷ gives 1 steady ∷ gives 2 steady ∷ []))) (script 1) → ⊥
 unfolding moved begin_row client_row server_row back_timeout_row wake_row start_row record_bytes head_form volume_form spelled opaque pad word laid_at led name_ok directory_bytes name_bytes rights_of image acl_text digits entry_text directory_of names_at opaque_at word_at counted_at whole_at count_at name_at spelled_at bytes_below
-given_two h = let e : true ≡ false = h.1.1.0.0.0.1.0 in absurd cc
+given_two h = not_none _ _ h.1.1.0.0.0.1.0
+
+-- and begins nothing before
+given_behind_a_begin : Legal (alters 3 (instead (begun 1 ∷ lines.Given 2 ∷ [])) (entries (start (script 1)) again_front)) (script 1) → ⊥
+unfolding moved begin_row client_row server_row back_timeout_row wake_row start_row record_bytes head_form volume_form spelled opaque pad word laid_at led name_ok directory_bytes name_bytes rights_of image acl_text digits entry_text directory_of names_at opaque_at word_at counted_at whole_at count_at name_at spelled_at bytes_below
+given_behind_a_begin h = not_none _ _ h.1.1.1.0.0.0.1.0
+
+-- a stop is set in the step that answers a call
+abbrev sets_a_stop_too : Entry → Entry
+sets_a_stop_too e = record e { lines = e.lines ++ lines.Stop (Server 1) 0 0 ∷ [] }
+
+set_beside_another : Legal (alters 1 sets_a_stop_too (entries (start (script 1)) fetch_front)) (script 1) → ⊥
+unfolding moved begin_row client_row server_row back_timeout_row wake_row start_row record_bytes head_form volume_form spelled opaque pad word laid_at led name_ok directory_bytes name_bytes rights_of image acl_text digits entry_text directory_of names_at opaque_at word_at counted_at whole_at count_at name_at spelled_at bytes_below
+set_beside_another h = not_none _ _ h.1.0.0.0.1.1.0.1.0
 
 -- ---- whose an entry is, and which boot a server begins
 
@@ -1172,10 +1200,41 @@ read_what_was_only_looked_at : Legal (entries (start (script 1)) stat_front ++ s
 unfolding moved begin_row client_row server_row back_timeout_row wake_row start_row record_bytes head_form volume_form spelled opaque pad word laid_at led name_ok directory_bytes name_bytes rights_of image acl_text digits entry_text directory_of names_at opaque_at word_at counted_at whole_at count_at name_at spelled_at bytes_below
 read_what_was_only_looked_at h =
     elim h.1.1.1.0.0.0.1.0.1.brought.1 [
-      | inl x ↦ x.1.1
+      | inl x ↦ x.1.1.0
       | inr y ↦ elim y [
-        | inl x ↦ let e : seen.Status status ≡ seen.Contents (bodies.File (codes "abc")) = x.1.1.1 in absurd cc
+        | inl x ↦ let e : seen.Status status ≡ seen.Contents (bodies.File (codes "abc")) = x.1.1.1.1 in absurd cc
         | inr x ↦ x
+      ]
+    ]
+
+-- an act that needs a status shows what is in the file besides
+shown_unneeded : Legal (entries (start (script 1)) open_front ++ step_of (Client 1) (lines.Begin (Client 1) (acts.Stat (operands.Fid file)) ∷ shown Cached ∷ []) [] ∷ []) (script 1) → ⊥
+unfolding moved begin_row client_row server_row back_timeout_row wake_row start_row record_bytes head_form volume_form spelled opaque pad word laid_at led name_ok directory_bytes name_bytes rights_of image acl_text digits entry_text directory_of names_at opaque_at word_at counted_at whole_at count_at name_at spelled_at bytes_below
+shown_unneeded h = let x = h.1.1.1.0.0.0.1.0.0.1 in subst (λ (a : Going). IsNeededFrom Cached file (seen.Contents (bodies.File (codes "abc"))) (next a)) (sym (some_of _ _ x.runs)) x.needs
+
+-- it had read the file once, and when its promise was over another set the mode; now it looks at the file again, and shows the contents of before as
+-- those of the version at which it looked: its server wasn't asked whether it may read them still
+abbrev looked_again : List Input
+looked_again =
+    begins 1 (acts.Open (operands.Fid file)) ∷ gives 1 steady ∷ gives 2 steady ∷ ticks 7200 ∷ begins 2 (acts.SetMode (operands.Fid file) 384) ∷ gives 3 steady ∷ gives 4 steady ∷ begins 1 (acts.Stat (operands.Fid file)) ∷ gives 5 steady ∷ gives 6 steady ∷ []
+
+status_not : (a : ReadStatus) (b : Body) → seen.Status a ≡ seen.Contents b → ⊥
+status_not a b e = absurd cc
+
+contents_of_another_version : Legal (entries (start (script 2)) looked_again ++ step_of (Client 1) (begun 1 ∷ lines.Read (Client 1) file 2 Cached (seen.Contents (bodies.File (codes "abc"))) ∷ answer 1 ∷ []) [] ∷ []) (script 2) → ⊥
+unfolding moved begin_row client_row server_row back_timeout_row wake_row start_row record_bytes head_form volume_form spelled opaque pad word laid_at led name_ok directory_bytes name_bytes rights_of image acl_text digits entry_text directory_of names_at opaque_at word_at counted_at whole_at count_at name_at spelled_at bytes_below
+contents_of_another_version h =
+    elim h.1.1.1.1.1.1.1.1.1.1.0.0.0.1.0.1.brought.1 [
+      | inl x ↦ x.1.1.0
+      | inr a ↦ elim a [
+        | inl x ↦ status_not _ _ x.1.1.1.1
+        | inr b ↦ elim b [
+          | inl x ↦ two_clients x.0
+          | inr d ↦ elim d [
+            | inl x ↦ x.1.1.0
+            | inr e ↦ elim e [ inl x ↦ let n : 1 ≡ 2 = x.1.1.0 in absurd (omega (arith, n)) | inr x ↦ x ]
+          ]
+        ]
       ]
     ]
 
@@ -1187,7 +1246,7 @@ status_that_never_came : Legal (entries (start (script 2)) mode_front ++ step_of
 unfolding moved begin_row client_row server_row back_timeout_row wake_row start_row record_bytes head_form volume_form spelled opaque pad word laid_at led name_ok directory_bytes name_bytes rights_of image acl_text digits entry_text directory_of names_at opaque_at word_at counted_at whole_at count_at name_at spelled_at bytes_below
 status_that_never_came h =
     elim h.1.1.1.1.1.0.0.0.1.0.1.brought.0 [
-      | inl x ↦ x.1.1
+      | inl x ↦ x.1.1.0
       | inr y ↦ elim y [ inl x ↦ let e : 1 ≡ 2 = x.1.1.0 in absurd (omega (arith, e)) | inr x ↦ x ]
     ]
 
@@ -1359,6 +1418,75 @@ called_ahead : Legal (alters 0 to_boot_two (entries (start (script 1)) (begins 1
 unfolding moved begin_row client_row server_row back_timeout_row wake_row start_row record_bytes head_form volume_form spelled opaque pad word laid_at led name_ok directory_bytes name_bytes rights_of image acl_text digits entry_text directory_of names_at opaque_at word_at counted_at whole_at count_at name_at spelled_at bytes_below
 called_ahead h = let e : 2 ≡ 1 = h.0.1.1.1.0.0.boot in absurd (omega (arith, e))
 
+-- it had read the file, gave up all that it kept, and looks at the same version again: it shows the contents that it has no more
+abbrev given_up_front : List Input
+given_up_front =
+    begins 1 (acts.Open (operands.Fid file)) ∷ gives 1 steady ∷ gives 2 steady ∷ begins 1 acts.GiveUp ∷ gives 3 steady ∷ gives 4 steady ∷ begins 1 (acts.Stat (operands.Fid file)) ∷ gives 5 steady ∷ gives 6 steady ∷ []
+
+contents_that_were_dropped : Legal (entries (start (script 1)) given_up_front ++ step_of (Client 1) (begun 1 ∷ shown Cached ∷ answer 1 ∷ []) [] ∷ []) (script 1) → ⊥
+unfolding moved begin_row client_row server_row back_timeout_row wake_row start_row record_bytes head_form volume_form spelled opaque pad word laid_at led name_ok directory_bytes name_bytes rights_of image acl_text digits entry_text directory_of names_at opaque_at word_at counted_at whole_at count_at name_at spelled_at bytes_below
+contents_that_were_dropped h =
+    elim h.1.1.1.1.1.1.1.1.1.0.0.0.1.0.1.brought.1 [
+      | inl x ↦ x.1.1.0
+      | inr a ↦ elim a [
+        | inl x ↦ status_not _ _ x.1.1.1.1
+        | inr b ↦ elim b [ inl x ↦ x.1.1.0 | inr d ↦ d ]
+      ]
+    ]
+
+-- ---- a client's calls are numbered one by one, in its epoch
+
+-- its first call is its seventh
+abbrev as_seven : Entry → Entry
+as_seven e = record e { sent = map (λ (m : Message). record m { head = record m.head { number = 7 } }) e.sent }
+
+sent_if : (b : Bool) → cond b true false ≡ true → b ≡ true
+sent_if true e = refl
+sent_if false e = e
+
+called_seventh_first : Legal (alters 0 as_seven (entries (start (script 1)) (begins 1 (acts.Open (operands.Fid file)) ∷ []))) (script 1) → ⊥
+unfolding moved begin_row client_row server_row back_timeout_row wake_row start_row record_bytes head_form volume_form spelled opaque pad word laid_at led name_ok directory_bytes name_bytes rights_of image acl_text digits entry_text directory_of names_at opaque_at word_at counted_at whole_at count_at name_at spelled_at bytes_below
+called_seventh_first h = elim h.0.1.1.1.0.0.order [
+  | inl e ↦ let no_ : 7 ≡ 1 = e in absurd (omega (arith, no_))
+  | inr x ↦ let same : 7 ≡ x.0 = eqb-true 7 x.0 (sent_if (nat_eq 7 x.0) x.1.1) in absurd (omega (arith, same, x.1.0))
+]
+
+-- it calls in its next epoch, before it crashed
+abbrev in_epoch_two : Entry → Entry
+in_epoch_two e = record e { sent = map (λ (m : Message). record m { head = record m.head { epoch = 2 } }) e.sent }
+
+called_in_the_next_epoch : Legal (alters 0 in_epoch_two (entries (start (script 1)) (begins 1 (acts.Open (operands.Fid file)) ∷ []))) (script 1) → ⊥
+unfolding moved begin_row client_row server_row back_timeout_row wake_row start_row record_bytes head_form volume_form spelled opaque pad word laid_at led name_ok directory_bytes name_bytes rights_of image acl_text digits entry_text directory_of names_at opaque_at word_at counted_at whole_at count_at name_at spelled_at bytes_below
+called_in_the_next_epoch h = let e : 2 ≡ 1 = h.0.1.1.1.0.0.epoch in absurd (omega (arith, e))
+
+-- ---- an act that needs no more calls nobody
+
+called_after_its_end : Legal (step_of (Client 1) (lines.Begin (Client 1) (acts.Open (operands.Fid unknown)) ∷ []) (asks_the_time ∷ []) ∷ []) (script 1) → ⊥
+unfolding moved begin_row client_row server_row back_timeout_row wake_row start_row record_bytes head_form volume_form spelled opaque pad word laid_at led name_ok directory_bytes name_bytes rights_of image acl_text digits entry_text directory_of names_at opaque_at word_at counted_at whole_at count_at name_at spelled_at bytes_below
+called_after_its_end h = let g = h.0.1.1.1.0.0 in subst (λ (a : Going). IsOpen (next a)) (sym (some_of opens_unknown g.act g.runs)) g.unended
+
+-- ---- what is given back is given back to its server, and is something
+
+abbrev gives_front : List Input
+gives_front = begins 1 (acts.Open (operands.Fid file)) ∷ gives 1 steady ∷ gives 2 steady ∷ begins 1 acts.GiveUp ∷ []
+
+abbrev to_client_two : Entry → Entry
+to_client_two e = record e { sent = map (λ (m : Message). record m { head = record m.head { to = Client 2 } }) e.sent }
+
+no_client_two : Server 1 ≡ Client 2 → ⊥
+no_client_two e = absurd cc
+
+gave_back_to_a_client : Legal (alters 3 to_client_two (entries (start (script 2)) gives_front)) (script 2) → ⊥
+unfolding moved begin_row client_row server_row back_timeout_row wake_row start_row record_bytes head_form volume_form spelled opaque pad word laid_at led name_ok directory_bytes name_bytes rights_of image acl_text digits entry_text directory_of names_at opaque_at word_at counted_at whole_at count_at name_at spelled_at bytes_below
+gave_back_to_a_client h = elim h.1.1.1.0.1.1.1.0.0.home.0 [ inl x ↦ no_client_two x.1.1 | inr x ↦ x ]
+
+abbrev names_nothing : Entry → Entry
+names_nothing e = record e { sent = map (λ (m : Message). record m { carried = carried.Call (codes "guest") (ask.File (calls.GiveUpCallBacks [] [])) }) e.sent }
+
+gave_nothing_back : Legal (alters 3 names_nothing (entries (start (script 1)) gives_front)) (script 1) → ⊥
+unfolding moved begin_row client_row server_row back_timeout_row wake_row start_row record_bytes head_form volume_form spelled opaque pad word laid_at led name_ok directory_bytes name_bytes rights_of image acl_text digits entry_text directory_of names_at opaque_at word_at counted_at whole_at count_at name_at spelled_at bytes_below
+gave_nothing_back h = h.1.1.1.0.1.1.1.0.0.gives
+
 -- ---- a break is owed once in an entry, and ends once
 
 owed_twice : Legal (alters 3 (owes_number 2) (entries (start (script 2)) changes_file)) (script 2) → ⊥
@@ -1464,6 +1592,49 @@ timed_out_when_replaced : Legal (entries (start (script 1)) walk_front ++ step_o
 unfolding moved begin_row client_row server_row back_timeout_row wake_row start_row record_bytes head_form volume_form spelled opaque pad word laid_at led name_ok directory_bytes name_bytes rights_of image acl_text digits entry_text directory_of names_at opaque_at word_at counted_at whole_at count_at name_at spelled_at bytes_below
 timed_out_when_replaced h = elim (h.1.1.1.0.0.0.0.1.awaited.last 3 _ refl tt refl) [ inl x ↦ let e : 1 < 1 = x in absurd (omega arith) | inr x ↦ let e : 2 ≤ 1 = x.1 in absurd (omega arith) ]
 
+-- the reply comes, and the client leaves it: its act is answered -1 after three timeouts
+abbrev times_out_as : ℕ → Line
+times_out_as n = lines.Timeout (Client 1) (Server 1) 1 1 n
+
+abbrev left_history : List Entry
+left_history = alters 2 (instead (lines.Given 2 ∷ [])) (entries (start (script 1)) (begins 1 (acts.Close (operands.Fid file) (Hex (codes "def"))) ∷ gives 1 steady ∷ gives 2 steady ∷ []))
+    ++ step_of (Client 1) (times_out_as 1 ∷ []) [] ∷ step_of (Client 1) (times_out_as 2 ∷ []) [] ∷ step_of (Client 1) (times_out_as 3 ∷ lines.Answer (Client 1) (record { 0 = negsuc 0 }) ∷ []) [] ∷ []
+
+-- the calls among the messages have this number
+abbrev HaveNumber : ℕ → List Message → Type 0
+HaveNumber n [] = ⊤
+HaveNumber n (m ∷ ms) = ((user : List ℕ) (call : FsCall) → m.carried ≡ carried.Call user (ask.File call) → n ≡ call_number call) × HaveNumber n ms
+
+abbrev AllHave : ℕ → List Entry → Type 0
+AllHave n [] = ⊤
+AllHave n (e ∷ past) = HaveNumber n e.sent × AllHave n past
+
+has_number : (n : ℕ) (q : Node) (k : Key) (user : List ℕ) (call : FsCall) (ms : List Message) → HaveNumber n ms → SendsTo q k user call ms → n ≡ call_number call
+has_number n q k user call [] h x = absurd x
+has_number n q k user call (m ∷ ms) h (inl x) = h.0 user call x.1.1
+has_number n q k user call (m ∷ ms) h (inr x) = has_number n q k user call ms h.1 x
+
+one_number : (n : ℕ) (q : Node) (k : Key) (user : List ℕ) (call : FsCall) (past : List Entry) → AllHave n past → WasSent q k user call past → n ≡ call_number call
+one_number n q k user call [] h x = absurd x
+one_number n q k user call (e ∷ past) h (inl x) = has_number n q k user call e.sent h.0 x
+one_number n q k user call (e ∷ past) h (inr x) = one_number n q k user call past h.1 x
+
+told_no_call : (r : Reply) (user : List ℕ) (call : FsCall) → carried.Reply r ≡ carried.Call user (ask.File call) → ⊥
+told_no_call r user call e = absurd cc
+
+left_the_reply : Legal left_history (script 1) → ⊥
+unfolding moved begin_row client_row server_row back_timeout_row wake_row start_row record_bytes head_form volume_form spelled opaque pad word laid_at led name_ok directory_bytes name_bytes rights_of image acl_text digits entry_text directory_of names_at opaque_at word_at counted_at whole_at count_at name_at spelled_at bytes_below
+left_the_reply h =
+    let g = h.1.1.1.0.0.0.0.1 in
+    let past : List Entry = past_of (set_up (script 1) ∷ []) (take 3 left_history) in
+    let all : AllHave 133 past = (tt, (((λ u k e. absurd (told_no_call _ u k e)), tt), (((λ u k e. ap call_number (one_call _ u _ k e)), tt), (tt, tt)))) in
+    g.awaited.unanswered.0 ((tt, refl), (refl, one_number 133 (Server 1) (key_of_one 1) g.user g.call past all g.sent))
+
+-- it tells a third timeout, and goes on waiting
+waited_on : Legal (alters 3 (instead (times_out_as 3 ∷ [])) (entries (start (script 1)) (begins 1 (acts.Open (operands.Fid file)) ∷ waits 1 ∷ waits 1 ∷ waits 1 ∷ []))) (script 1) → ⊥
+unfolding moved begin_row client_row server_row back_timeout_row wake_row start_row record_bytes head_form volume_form spelled opaque pad word laid_at led name_ok directory_bytes name_bytes rights_of image acl_text digits entry_text directory_of names_at opaque_at word_at counted_at whole_at count_at name_at spelled_at bytes_below
+waited_on h = h.1.1.1.0.0.0.0.1.awaited.dead refl
+
 -- a server times its call out once more than thrice
 timed_out_four_times : Legal (entries (start (script 2)) (changes_file ++ server_waits 1 (Client 1) ∷ server_waits 1 (Client 1) ∷ server_waits 1 (Client 1) ∷ []) ++ step_of (Server 1) (lines.Timeout (Server 1) (Client 1) 1 1 4 ∷ []) [] ∷ []) (script 2) → ⊥
 unfolding moved begin_row client_row server_row back_timeout_row wake_row start_row record_bytes head_form volume_form spelled opaque pad word laid_at led name_ok directory_bytes name_bytes rights_of image acl_text digits entry_text directory_of names_at opaque_at word_at counted_at whole_at count_at name_at spelled_at bytes_below
@@ -1489,10 +1660,23 @@ restarts = stops 1 ∷ starts_again 1 false comes_up ∷ []
 
 answered_from_before : Legal (entries (start (script 1)) (fetch_front ++ restarts) ++ step_of (Server 1) [] (sent_by (start (script 1)) fetch_front) ∷ []) (script 1) → ⊥
 unfolding moved begin_row client_row server_row back_timeout_row wake_row start_row record_bytes head_form volume_form spelled opaque pad word laid_at led name_ok directory_bytes name_bytes rights_of image acl_text digits entry_text directory_of names_at opaque_at word_at counted_at whole_at count_at name_at spelled_at bytes_below
-answered_from_before h = elim (h.1.1.1.1.0.1.0.1.1.1.1.1.0 1 1 (refl, tt) refl refl) [ inl e ↦ absurd (two_boots e) | inr x ↦ x ]
+answered_from_before h = elim (h.1.1.1.1.0.1.0.1.1.1.1.1.0.0.0 1 1 (refl, tt) refl refl) [ inl e ↦ absurd (two_boots e) | inr x ↦ x ]
   where
     two_boots : ◌≡◌ {A = Option ℕ} (Some 2) (Some 1) → ⊥
     two_boots e = absurd cc
+
+-- ---- a notice tells the boot of its sender
+
+-- a client that crashed is given a break that is to its first epoch, and tells that as its own: so it is never given one that it would run
+abbrev tells_one : Entry → Entry
+tells_one e = record e { sent = map (λ (m : Message). record m { head = record m.head { boot = 1 } }) e.sent }
+
+abbrev crashed_and_called : List Input
+crashed_and_called = client_stops 1 ∷ client_starts 1 ∷ begins 1 (acts.Open (operands.Fid file)) ∷ gives 1 steady ∷ gives 2 steady ∷ begins 2 (acts.Close (operands.Fid file) (Hex (codes "def"))) ∷ gives 3 steady ∷ gives 4 steady ∷ []
+
+noticed_an_old_epoch : Legal (alters 7 tells_one (entries (start (script 2)) crashed_and_called)) (script 2) → ⊥
+unfolding moved begin_row client_row server_row back_timeout_row wake_row start_row record_bytes head_form volume_form spelled opaque pad word laid_at led name_ok directory_bytes name_bytes rights_of image acl_text digits entry_text directory_of names_at opaque_at word_at counted_at whole_at count_at name_at spelled_at bytes_below
+noticed_an_old_epoch h = let e : 2 ≡ 1 = h.1.1.1.1.1.1.1.0.1.0.1.1.1.1.1.0.0.1 refl in absurd (omega (arith, e))
 
 -- ---- what a client calls
 
@@ -1617,3 +1801,139 @@ refused_what_was_done h =
       (λ x. again_changed _ _ (inl (refl, refl)) x),
       ((λ x. again_none _ _ refl x), ((λ x. again_none _ _ refl x), ((λ x. again_none _ _ refl x), ((λ x. again_first _ _ _ refl refl x), ((λ x. again_none _ _ refl x), ((λ x. again_none _ _ refl x), tt)))))),
     ) (ran_again _ (h.1.1.1.1.1.0.1.1.0.0 1 1 (refl, tt) refl refl).ran)
+
+-- ---- no room for what the act has changed
+
+-- A client asks twice for its store, under two numbers: the server makes the first, and has no room for the second
+abbrev no_room_for_two : Message
+no_room_for_two = record {
+  head = record { half = halves.Reply; from = Server 1; to = Client 1; epoch = 1; number = 2; boot = 1; stamp = 0; opcode = 133 };
+  carried = carried.Refusal (record { 0 = pos 108 });
+}
+
+abbrev made_first : List Entry
+made_first = alters 1 asked_anew_as_two (entries (start (script 1)) (begins 1 (acts.Close (operands.Fid file) (Hex (codes "def"))) ∷ waits 1 ∷ gives 1 steady ∷ []))
+
+abbrev refuses_second : Entry
+refuses_second = step_of (Server 1) (lines.Given 2 ∷ []) (no_room_for_two ∷ [])
+
+abbrev made_past_first : List Entry
+made_past_first = past_of (set_up (script 1) ∷ []) made_first
+
+one_before_two : (l : Key) → key_of_one 1 ≡ l → IsLater (key_of_one 2) l
+one_before_two l e = subst (IsLater (key_of_one 2)) e (inr (refl, omega arith))
+
+two_not_one : key_of_one 2 ≡ key_of_one 1 → ⊥
+two_not_one e = let no_ : 2 ≡ 1 = ap (λ (k : Key). k.number) e in absurd (omega (arith, no_))
+
+ran_second : Ran no_room_for_two.head (refuses_second ∷ made_past_first)
+unfolding moved begin_row client_row server_row back_timeout_row wake_row start_row record_bytes head_form volume_form spelled opaque pad word laid_at led name_ok directory_bytes name_bytes rights_of image acl_text digits entry_text directory_of names_at opaque_at word_at counted_at whole_at count_at name_at spelled_at bytes_below
+ran_second = record {
+  newer = [];
+  at = refuses_second;
+  older = made_past_first;
+  split = refl;
+  message = record { head = record { half = halves.Call; from = Client 1; to = Server 1; epoch = 1; number = 2; boot = 1; stamp = 0; opcode = 133 }; carried = carried.Call (codes "guest") (ask.File (stored_whole file (codes "def"))) };
+  given = refl;
+  is_call = tt;
+  key = refl;
+  opcode = refl;
+  boot = refl;
+  up = refl;
+  callee = refl;
+  node = refl;
+  first = ((λ x. elim x.1.0.1 [ inl y ↦ let no_ : 1 < 1 = y in absurd (omega arith) | inr y ↦ let no_ : 2 ≤ 1 = y.1 in absurd (omega arith) ]), ((λ x. x), ((λ x. x), ((λ x. x), tt))));
+  latest = λ l h same. elim h [ inl x ↦ one_before_two l x.1 | inr x ↦ absurd x ];
+}
+
+no_room_for_what_was_made : Legal (made_first ++ refuses_second ∷ []) (script 1) → ⊥
+unfolding moved begin_row client_row server_row back_timeout_row wake_row start_row record_bytes head_form volume_form spelled opaque pad word laid_at led name_ok directory_bytes name_bytes rights_of image acl_text digits entry_text directory_of names_at opaque_at word_at counted_at whole_at count_at name_at spelled_at bytes_below ran_second
+no_room_for_what_was_made h =
+    h.1.1.1.0.1.0.1.1.1.1.1.0.1 1 1 refl refl ran_second (codes "guest") (stored_whole file (codes "def")) refl home refl
+    (record { newer = take 1 made_past_first; older = drop 1 made_past_first; split = refl; of_act = refl; changed = key_of_one 1; other = λ e. two_not_one e; change = inl refl; same = refl })
+
+-- A client asks twice for its new directory, under two numbers: the server makes it by the first, and answers the second as if another had made it
+abbrev asked_anew_as_three : Entry → Entry
+asked_anew_as_three e = record e { sent = map (λ (m : Message). record m { head = record m.head { number = 3 } }) e.sent }
+
+abbrev made_by_two : List Entry
+made_by_two =
+    alters 3 asked_anew_as_three (entries (start (script 1)) (begins 1 (acts.MakeDirectory (record { volume = codes "proj"; names = codes "d" ∷ [] })) ∷ gives 1 steady ∷ gives 2 steady ∷ waits 1 ∷ gives 3 steady ∷ []))
+
+abbrev there_already : Message
+there_already = record {
+  head = record { half = halves.Reply; from = Server 1; to = Client 1; epoch = 1; number = 3; boot = 1; stamp = 0; opcode = 141 };
+  carried = carried.Refusal (record { 0 = pos 17 });
+}
+
+abbrev refuses_third : Entry
+refuses_third = step_of (Server 1) (lines.Given 4 ∷ []) (there_already ∷ [])
+
+abbrev made_past_two : List Entry
+made_past_two = past_of (set_up (script 1) ∷ []) made_by_two
+
+two_before_three : (l : Key) → key_of_one 2 ≡ l → IsLater (key_of_one 3) l
+two_before_three l e = subst (IsLater (key_of_one 3)) e (inr (refl, omega arith))
+
+three_not_two : key_of_one 3 ≡ key_of_one 2 → ⊥
+three_not_two e = let no_ : 3 ≡ 2 = ap (λ (k : Key). k.number) e in absurd (omega (arith, no_))
+
+abbrev makes_d : FsCall
+makes_d = calls.MakeDir root (codes "d") nothing_set
+
+ran_third : Ran there_already.head (refuses_third ∷ made_past_two)
+unfolding moved begin_row client_row server_row back_timeout_row wake_row start_row record_bytes head_form volume_form spelled opaque pad word laid_at led name_ok directory_bytes name_bytes rights_of image acl_text digits entry_text directory_of names_at opaque_at word_at counted_at whole_at count_at name_at spelled_at bytes_below
+ran_third = record {
+  newer = [];
+  at = refuses_third;
+  older = made_past_two;
+  split = refl;
+  message = record { head = record { half = halves.Call; from = Client 1; to = Server 1; epoch = 1; number = 3; boot = 1; stamp = 0; opcode = 141 }; carried = carried.Call (codes "guest") (ask.File makes_d) };
+  given = refl;
+  is_call = tt;
+  key = refl;
+  opcode = refl;
+  boot = refl;
+  up = refl;
+  callee = refl;
+  node = refl;
+  first = (
+    (λ x. elim x.1.0.1 [ inl y ↦ let no_ : 1 < 1 = y in absurd (omega arith) | inr y ↦ let no_ : 3 ≤ 2 = y.1 in absurd (omega arith) ]),
+    ((λ x. x), ((λ x. x.0.0), ((λ x. elim x.1.0.1 [ inl y ↦ let no_ : 1 < 1 = y in absurd (omega arith) | inr y ↦ let no_ : 3 ≤ 1 = y.1 in absurd (omega arith) ]), ((λ x. x), ((λ x. x), tt))))),
+  );
+  latest = λ l h same. elim h [ inl x ↦ two_before_three l x.1 | inr x ↦ absurd x ];
+}
+
+refused_what_it_made : Legal (made_by_two ++ refuses_third ∷ []) (script 1) → ⊥
+unfolding moved begin_row client_row server_row back_timeout_row wake_row start_row record_bytes head_form volume_form spelled opaque pad word laid_at led name_ok directory_bytes name_bytes rights_of image acl_text digits entry_text directory_of names_at opaque_at word_at counted_at whole_at count_at name_at spelled_at bytes_below ran_third
+refused_what_it_made h =
+    h.1.1.1.1.1.0.1.0.1.1.1.1.1.0.1 1 1 refl refl ran_third (codes "guest") makes_d refl home refl
+    (record { newer = take 1 made_past_two; older = drop 1 made_past_two; split = refl; of_act = refl; changed = key_of_one 2; other = λ e. three_not_two e; change = inl refl; same = refl })
+
+-- ---- what an act makes of something else its client isn't told
+
+-- A client has a file in its cache, and gives it a second name. By that the file has a new version, whose status no reply tells; but the client keeps
+-- its entry, and shows that
+abbrev linked_front : List Input
+linked_front =
+    begins 1 (acts.Open (operands.Fid file)) ∷ gives 1 steady ∷ gives 2 steady ∷ begins 1 (acts.Link (record { volume = codes "proj"; names = codes "a" ∷ [] }) (record { volume = codes "proj"; names = codes "b" ∷ [] })) ∷ gives 3 steady ∷ gives 4 steady ∷ gives 5 steady ∷ gives 6 steady ∷ []
+
+abbrev linked_status : Line
+linked_status = lines.Read (Client 1) file 2 Cached (seen.Status (record { kind = 1; link_count = 2; length = 3; mode = 420 }))
+
+shown_after_a_link : Legal (alters 7 (instead (lines.Given 6 ∷ answer 1 ∷ [])) (entries (start (script 1)) linked_front) ++ step_of (Client 1) (lines.Begin (Client 1) (acts.Stat (operands.Fid file)) ∷ linked_status ∷ answer 1 ∷ []) [] ∷ []) (script 1) → ⊥
+unfolding moved begin_row client_row server_row back_timeout_row wake_row start_row record_bytes head_form volume_form spelled opaque pad word laid_at led name_ok directory_bytes name_bytes rights_of image acl_text digits entry_text directory_of names_at opaque_at word_at counted_at whole_at count_at name_at spelled_at bytes_below
+shown_after_a_link h =
+    elim h.1.1.1.1.1.1.1.1.0.0.0.1.0.1.brought.0 [
+      | inl x ↦ x.1.1.0
+      | inr y ↦ elim y [
+        | inl x ↦ let no_ : Cached ≡ Fetched = x.1.1.1.0 in absurd cc
+        | inr z ↦ elim z [
+          | inl x ↦ file_apart (sym x.1.0)
+          | inr w ↦ elim w [
+            | inl x ↦ x.1.1.0
+            | inr v ↦ elim v [ inl x ↦ let no_ : 1 ≡ 2 = x.1.1.0 in absurd (omega (arith, no_)) | inr u ↦ u ]
+          ]
+        ]
+      ]
+    ]

@@ -143,7 +143,8 @@ is_in boot None = false
 is_in boot (Some now) = nat_eq boot now
 
 -- whether an entry behind this past that is given the call runs it: it is to the boot in which the server is, and the first there
--- under its key, before any later call of its node
+-- under its key, before any later call of its node. What the server changed in older boots isn't looked at here: a client sends no call of
+-- an older key to a later boot
 abbrev pub runs_now : Node → Head → List Entry → Bool
 runs_now s head past = is_in head.boot (server_boot s (lines_of past)) && is_to_come s (called_key head) head.boot past
 

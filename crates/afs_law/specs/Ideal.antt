@@ -64,7 +64,7 @@ abbrev pub call_under : Key → List Message → Option (List ℕ × FsCall)
 call_under k [] = None
 call_under k (m ∷ ms) = if is_called k m.head m.carried then call_in m.carried else call_under k ms
 
--- the node to which that was sent first
+-- the node to which the first file call under this key went
 abbrev pub callee_under : Key → List Message → Option Node
 callee_under k [] = None
 callee_under k (m ∷ ms) = if is_called k m.head m.carried then Some m.head.to else callee_under k ms

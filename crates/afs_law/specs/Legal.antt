@@ -15,17 +15,17 @@ use Rattle.afs_num.specs.declared.calls.FsCall.{FsCall}
 use Rattle.afs_num.specs.declared.calls.FsCall.TheVariants as calls
 use Rattle.afs_num.specs.declared.messages.Carried.{Carried}
 use Rattle.afs_num.specs.declared.messages.Message.{Message}
-use Rattle.afs_ideal.specs.Operations.{Caller, the_user, Result, refused, changes, no_operation, op, code_of, volume_called}
+use Rattle.afs_ideal.specs.Operations.{Caller, the_user, Result, refused, changes, no_operation, op, code_of, volume_called, volume_changed}
 use Rattle.afs_ideal.specs.Volumes.{Volume, Edit, versions_by}
 use Rattle.afs_law.specs.Breaks.{HasDrop, unbroken_grant, IsNamedIn, AllOwes, HasEnded, HasStopped, HasTimeout, EndedOf, EndedAll, GoodSettle, GoodQuit, live_grant, lines_at, HasOwe, last_number}
-use Rattle.afs_rows.specs.Going.{Going, Need, answers, asks_for, next, asked, gives_back, reads_rights}
+use Rattle.afs_rows.specs.Going.{Going, Need, answers, asks_for, next, asked, gives_back, reads, reads_rights, reads_status}
 use Rattle.afs_law.specs.Grants.{change_below, is_promised, read_reply, GrantOf, since, until, IsWithdrawn, IsChangedByOther, IsDropped}
 use Rattle.afs_law.specs.Ideal.{last_version, Unless, set_up, IsLast, WasLast, HasBeen, HasVersion, Accepts, clock_of, user_of, seen, change_in, change_key, call_under, callee_under, volume_after}
 use Rattle.afs_history.specs.declared.acts.Act.TheVariants as acts
 use Rattle.afs_history.specs.declared.lines.Line.{Line}
 use Rattle.afs_rows.specs.Runs.{message_at}
 use Rattle.afs_law.specs.Lives.{IsDelivered, IsHostLived, epoch_after, last_written}
-use Rattle.afs_law.specs.Past.{HasBoot, IsLatest, IsUpTo, WasSent, is_down, last_boot, is_new_to_act, called_key, IsCall, IsToCome, is_of_act, lines_of, sent_of, given_message, answered_key, code_told, IsReply, running, has_begun, has_given, Called, CalledSince, IsCallUnder, Ran, server_boot}
+use Rattle.afs_law.specs.Past.{HasBoot, IsLatest, IsUpTo, WasSent, has_sent, is_down, last_boot, is_new_to_act, called_key, IsCall, IsToCome, is_of_act, lines_of, sent_of, given_message, answered_key, code_told, IsReply, running, has_begun, has_given, Called, CalledSince, IsCallUnder, Ran, server_boot}
 use Rattle.afs_rows.specs.Runs.{Entry}
 use Rattle.afs_history.specs.declared.scripts.Script.{Script}
 use Rattle.afs_num.specs.declared.histories.Actor.{Actor}
@@ -101,14 +101,15 @@ abbrev pub StoresBy : Option Going → Fid → Body → Type 0
 StoresBy None f body = ⊥
 StoresBy (Some act) f body = Stores (asked act) f body
 
--- by these lines, the newest first, this body of the object, of whichever version, came to the client since it last crashed: by a read that
--- was fetched, or by its own store, which was answered 0
-abbrev pub HasBrought : Script → Node → Fid → Body → List Line → Type 0
-HasBrought s c f body [] = ⊥
-HasBrought s c f body (lines.Read m g index source shown ∷ older) = ((m ≡ c) × ((g ≡ f) × ((source ≡ Fetched) × (shown ≡ shows.Contents body)))) ⊎ HasBrought s c f body older
-HasBrought s c f body (lines.Answer m code ∷ older) = ((m ≡ c) × ((code.0 ≡ pos 0) × StoresBy (running s c older) f body)) ⊎ HasBrought s c f body older
-HasBrought s c f body (lines.Crash n ∷ older) = Unless (same_node n c) (HasBrought s c f body older)
-HasBrought s c f body (l ∷ older) = HasBrought s c f body older
+-- a call that sets the status or the rights of an object, and leaves what is in it
+abbrev pub Sets : FsCall → Fid → Type 0
+Sets (calls.StoreStatus g status) f = g ≡ f
+Sets (calls.StoreAcl g acl) f = g ≡ f
+Sets call f = ⊥
+
+abbrev pub SetsBy : Option Going → Fid → Type 0
+SetsBy None f = ⊥
+SetsBy (Some act) f = Sets (asked act) f
 
 -- it is a change of this node's own call
 abbrev pub IsOwnChange : Node → Option (Node × Key) → Type 0
@@ -122,23 +123,48 @@ HasMadeItself c f index (lines.Version v ∷ older) = ((v.fid ≡ f) × ((v.inde
 HasMadeItself c f index (lines.Begin m act ∷ older) = Unless (same_node m c) (HasMadeItself c f index older)
 HasMadeItself c f index (l ∷ older) = HasMadeItself c f index older
 
--- by these lines, the newest first, the version of this index came to the client since it last crashed: by a read of its contents or its
--- status that was fetched, or by an own act that made it and was answered 0
-abbrev pub HasLearned : Node → Fid → ℕ → List Line → Type 0
-HasLearned c f index [] = ⊥
-HasLearned c f index (lines.Read m g i source shown ∷ older) = ((m ≡ c) × ((g ≡ f) × ((i ≡ index) × ((source ≡ Fetched) × (is_promised shown ≡ true))))) ⊎ HasLearned c f index older
-HasLearned c f index (lines.Answer m code ∷ older) = ((m ≡ c) × ((code.0 ≡ pos 0) × HasMadeItself c f index older)) ⊎ HasLearned c f index older
-HasLearned c f index (lines.Crash n ∷ older) = Unless (same_node n c) (HasLearned c f index older)
-HasLearned c f index (l ∷ older) = HasLearned c f index older
+-- a call that stores into just this object: its contents, its rights or its mode. Its reply tells the object's status
+abbrev pub StoresInto : FsCall → Fid → Type 0
+StoresInto (calls.StoreData g status position wanted file_length contents) f = g ≡ f
+StoresInto (calls.StoreAcl g acl) f = g ≡ f
+StoresInto (calls.StoreStatus g status) f = g ≡ f
+StoresInto call f = ⊥
 
--- contents came to the client as just this body, of whichever version
-abbrev pub AreBrought : Script → Node → Fid → ReadBody → List Line → Type 0
-AreBrought s c f (shows.Contents body) ls = HasBrought s c f body ls
-AreBrought s c f body ls = ⊤
+abbrev pub StoresIntoBy : Option Going → Fid → Type 0
+StoresIntoBy None f = ⊥
+StoresIntoBy (Some act) f = StoresInto (asked act) f
+
+-- By these lines, the newest first, the version of this index came to the client since it last crashed: by a read of its contents or its
+-- status that was fetched; or by an act that asks for a store into just this object, and was answered 0 after a call of the client's own had made
+-- the version since the act began
+abbrev pub HasLearned : Script → Node → Fid → ℕ → List Line → Type 0
+HasLearned s c f index [] = ⊥
+HasLearned s c f index (lines.Read m g i source shown ∷ older) = ((m ≡ c) × ((g ≡ f) × ((i ≡ index) × ((source ≡ Fetched) × (is_promised shown ≡ true))))) ⊎ HasLearned s c f index older
+HasLearned s c f index (lines.Answer m code ∷ older) = ((m ≡ c) × ((code.0 ≡ pos 0) × (StoresIntoBy (running s c older) f × HasMadeItself c f index older))) ⊎ HasLearned s c f index older
+HasLearned s c f index (lines.Crash n ∷ older) = Unless (same_node n c) (HasLearned s c f index older)
+HasLearned s c f index (l ∷ older) = HasLearned s c f index older
+
+-- By these lines, the newest first, this body came to the client as that of the version of this index, and since then it neither dropped the object
+-- nor crashed. It came by a read that was fetched; or by an own act that made the version and was answered 0: a store of the whole, or a setting of
+-- the status or the rights, over contents that had come as those of the index below. What drops all of a server drops the objects of its volumes
+abbrev pub HasBrought : Script → Node → Fid → ℕ → Body → List Line → Type 0
+HasBrought s c f index body [] = ⊥
+HasBrought s c f index body (lines.Read m g i source shown ∷ older) = ((m ≡ c) × ((g ≡ f) × ((i ≡ index) × ((source ≡ Fetched) × (shown ≡ shows.Contents body))))) ⊎ HasBrought s c f index body older
+HasBrought s c f index body (lines.Answer m code ∷ older) =
+    ((m ≡ c) × ((code.0 ≡ pos 0) × (HasMadeItself c f index older × (StoresBy (running s c older) f body ⊎ ((below : ℕ) × ((index ≡ below + 1) × (SetsBy (running s c older) f × HasBrought s c f below body older))))))) ⊎ HasBrought s c f index body older
+HasBrought s c f index body (lines.Drop m g ∷ older) = Unless (same_node m c && same_fid g f) (HasBrought s c f index body older)
+HasBrought s c f index body (lines.DropAll m server ∷ older) = (m ≡ c → Accepts s f.volume server older → ⊥) × HasBrought s c f index body older
+HasBrought s c f index body (lines.Crash n ∷ older) = Unless (same_node n c) (HasBrought s c f index body older)
+HasBrought s c f index body (l ∷ older) = HasBrought s c f index body older
+
+-- contents came to the client as just this body of that version, and it has them still
+abbrev pub AreBrought : Script → Node → Fid → ℕ → ReadBody → List Line → Type 0
+AreBrought s c f index (shows.Contents body) ls = HasBrought s c f index body ls
+AreBrought s c f index body ls = ⊤
 
 -- what is read from the cache came to the client: the version of this index, and contents
 abbrev pub IsBrought : Script → Node → Fid → ℕ → ReadSource → ReadBody → List Line → Type 0
-IsBrought s c f index Cached body ls = HasLearned c f index ls × AreBrought s c f body ls
+IsBrought s c f index Cached body ls = HasLearned s c f index ls × AreBrought s c f index body ls
 IsBrought s c f index Fetched body ls = ⊤
 
 -- a version of this index was told, whatever its body
@@ -158,8 +184,8 @@ Shows f index body past own = HasIndex f index (own ++ lines_of past) × HasBeen
 -- A read shows one stored version, whole. It is not older than what the client saw, or than the last one when the promise was made. The
 -- promise is of the server that accepts stores of the volume; it lasts, and since then the client didn't drop what it is on. The version is the
 -- last one, unless the promise was withdrawn. A fetched read has a reply with code 0 to a call of the running act for such a thing, and shows
--- the version that the promise tells, which was made where that call ran. A cached read is of a version that came to the client before, and so did
--- its contents
+-- the version that the promise tells; the promise was made where that call ran. A cached read is of a version that came to the client before, and
+-- its contents came too
 pub record GoodRead (s : Script) (c : Node) (f : Fid) (index : ℕ) (source : ReadSource) (body : ReadBody) (past : List Entry) (own : List Line) : Type 0 where
   pub whole : Shows f index body past own
   pub not_older : seen c f past own ≤ index
@@ -218,8 +244,8 @@ abbrev pub AreFailed : Node → List Entry → Type 0
 AreFailed s [] = ⊤
 AreFailed s (e ∷ past) = (e.actor ≡ actors.Node s → e.lines ≡ lines.Fault s ∷ []) × AreFailed s past
 
--- this entry was given a call of the key to the server and to the boot in which that is, the first in that boot, and before any
--- later call of its node; and in whichever boot the server changed something for that node before, it did so under an earlier key
+-- This entry was given a call of the key to the node, a server or a client, and to the boot or epoch in which that is: the first in that boot,
+-- and before any later call of the key's node. What a server changed for the key's node before, in whichever boot, it changed under earlier keys
 pub record RunsHere (server : Node) (k : Key) (past : List Entry) (own : List Line) : Type 0 where
   pub boot : ℕ
   pub up : server_boot server (lines_of past) ≡ Some boot
@@ -482,7 +508,7 @@ abbrev pub dropped_first : Node → List Entry → List Fid
 dropped_first c [] = []
 dropped_first c (e ∷ past) = if has_begun c e.lines then drops_in c e.lines else dropped_first c past
 
--- a call that the client sent since it began its act gives back what it was promised on f
+-- a call that the client sent since it began its act names f among what it gives back
 pub record IsGivenBack (s : Script) (c : Node) (past : List Entry) (f : Fid) : Type 0 where
   pub key : Key
   pub node : key.node ≡ c
@@ -491,7 +517,7 @@ pub record IsGivenBack (s : Script) (c : Node) (past : List Entry) (f : Fid) : T
   pub called : CalledSince key (user_of s c) (calls.GiveUpCallBacks fids callbacks) past
   pub named : IsNamedIn f fids
 
--- an act that gives promises back is answered 0, in a later entry than that in which it began, only where its calls gave back all that
+-- an act that gives promises back is answered 0, in a later entry than that in which it began, only where its calls named all that
 -- its client gave up when it began
 abbrev pub GivesAllBack : Script → Node → ℤ → List Entry → List Line → Type 0
 GivesAllBack s c code past own = (act : Going) (f : Fid) → running s c (own ++ lines_of past) ≡ Some act → act.act ≡ acts.GiveUp → code ≡ pos 0 → has_begun c own ≡ false → IsNamedIn f (dropped_first c past) → IsGivenBack s c past f
@@ -526,9 +552,14 @@ IsPromisedBy f (calls.CreateFile d name status) r past = IsNewIn d.volume f r (v
 IsPromisedBy f (calls.MakeDir d name status) r past = IsNewIn d.volume f r (volume_after d.volume past)
 IsPromisedBy f call r past = ⊥
 
--- A server makes a promise in the entry in which it runs a call of the client, for 7200 ticks. The call's reply promises the fid, and
+abbrev pub IsClient : Node → Type 0
+IsClient (Client j) = ⊤
+IsClient n = ⊥
+
+-- A server makes a promise to a client in the entry in which it runs a call of that, for 7200 ticks. The call's reply promises the fid, and
 -- the ideal operation gives it code 0. The index that the grant tells is the fid's last one
 pub record GoodGrant (server c : Node) (f : Fid) (index expiry : ℕ) (past : List Entry) (own : List Line) : Type 0 where
+  pub client : IsClient c
   pub key : Key
   pub node : key.node ≡ c
   pub ran : RunsHere server key past own
@@ -584,13 +615,43 @@ GoodCall head c past = ⊤
 abbrev pub HasOwnHalf : Message → Type 0
 HasOwnHalf m = IsCall m.carried → m.head.half ≡ halves.Call
 
--- a server answers a client in the boot in which it is; or it repeats its reply to a change, which it keeps over all boots
+-- a server answers a client in the boot in which it is; or the call is one that changed something, the reply to which is kept over all boots
 abbrev pub IsPresent : List Entry → Message → Type 0
 IsPresent past m = (i j : ℕ) → IsReply m → m.head.from ≡ Server i → m.head.to ≡ Client j → (server_boot m.head.from (lines_of past) ≡ Some m.head.boot) ⊎ HasChangeBy m.head.from (answered_key m.head) (lines_of past)
 
+-- the node is in this boot; that of a client is its epoch
+abbrev pub IsInBoot : Node → ℕ → List Line → Type 0
+IsInBoot (Client j) boot ls = epoch_after (Client j) ls ≡ boot
+IsInBoot (Server i) boot ls = server_boot (Server i) ls ≡ Some boot
+IsInBoot n boot ls = ⊤
+
+-- a notice tells the boot in which its sender is
+abbrev pub TellsItsBoot : List Entry → Message → Type 0
+TellsItsBoot past m = m.carried ≡ carried.Notice → IsInBoot m.head.from m.head.boot (lines_of past)
+
+-- Something was changed under another key of the act to which this key belongs: at some moment of these entries both were keys of calls of the
+-- act which the key's node had begun last. The act may be over since
+pub record HasActed (k : Key) (past : List Entry) : Type 0 where
+  pub newer : List Entry
+  pub older : List Entry
+  pub split : past ≡ newer ++ older
+  pub of_act : is_of_act k.node k older ≡ true
+  pub changed : Key
+  pub other : k ≡ changed → ⊥
+  pub change : HasChange changed (lines_of past)
+  pub same : is_of_act k.node changed older ≡ true
+
+-- What a server tells a client of a call that may change something: when that call ran, nothing had been changed by another call of its act. So a
+-- call that repeats a change of its own act under another key isn't answered, also if that act is over by now
+abbrev pub RunsFirstOfAct : List Entry → Message → Type 0
+RunsFirstOfAct past m =
+    (i j : ℕ) → m.head.from ≡ Server i → m.head.to ≡ Client j → (ran : Ran m.head past) (user : List ℕ) (call : FsCall) → ran.message.carried ≡ carried.Call user (ask.File call) → (id : ℕ) → volume_changed call ≡ Some id → HasActed (answered_key m.head) ran.older → ⊥
+
+-- what servers answer is of now, and none answers a changing call that ran after another of its act had changed something; and notices tell the
+-- boots of their senders
 abbrev pub ArePresent : List Entry → List Message → Type 0
 ArePresent past [] = ⊤
-ArePresent past (m ∷ ms) = IsPresent past m × ArePresent past ms
+ArePresent past (m ∷ ms) = ((IsPresent past m × TellsItsBoot past m) × RunsFirstOfAct past m) × ArePresent past ms
 
 -- A message is sent by the node that its header names as sender, in the entry with which `past` begins, and a call is one by its header.
 -- A reply of a server waits for its breaks, what a call gives back was dropped, and a client's call has a key that no file call had
@@ -638,9 +699,11 @@ abbrev pub AcceptsEach : Script → Node → List Fid → List Line → Type 0
 AcceptsEach s n [] ls = ⊤
 AcceptsEach s n (f ∷ fs) ls = Accepts s f.volume n ls × AcceptsEach s n fs ls
 
--- the node accepts stores of the volume of which the call asks, or of each, where it asks for several statuses; some calls ask of none
+-- The node accepts stores of the volume of which the call asks; or of each, where it asks for several statuses or gives promises back. A call for
+-- the time asks of none
 abbrev pub IsAtHome : Script → Node → FsCall → List Line → Type 0
 IsAtHome s n (calls.BulkStatus fids) ls = AcceptsEach s n fids ls
+IsAtHome s n (calls.GiveUpCallBacks fids callbacks) ls = AcceptsEach s n fids ls
 IsAtHome s n call ls = (id : ℕ) → volume_called call ≡ Some id → Accepts s id n ls
 
 -- none of these messages is a call of this call's sender under a later pair of epoch and number
@@ -648,19 +711,33 @@ abbrev pub IsItsLast : Head → List Message → Type 0
 IsItsLast head [] = ⊤
 IsItsLast head (m ∷ ms) = (IsCall m.carried → m.head.from ≡ head.from → IsUpTo m.head.epoch m.head.number head.epoch head.number) × IsItsLast head ms
 
--- A client sends a file call for its user while an act runs there that asks for just this call, which the header names too. Of all calls that it
--- sent so far none has a later pair. It is the call under its key, to the one callee: what is sent again is the same call. That callee accepts
--- stores of the volumes of which it asks; and it is sent to a boot that its callee, where a server, has begun
+-- a call that gives promises back names one
+abbrev pub GivesSome : FsCall → Type 0
+GivesSome (calls.GiveUpCallBacks [] callbacks) = ⊥
+GivesSome call = ⊤
+
+-- the key's number is 1, or the one after that of a call which its node sent in the same epoch
+abbrev pub IsInOrder : Key → List Message → Type 0
+IsInOrder k ms = (k.number ≡ 1) ⊎ ((n : ℕ) × ((k.number ≡ n + 1) × (has_sent (record k { number = n }) ms ≡ true)))
+
+-- A client sends a file call for its user while an act runs there that isn't at its end, and asks for just this call, which the header names too.
+-- It sends it in its epoch. Of all calls that it sent so far none has a later pair, and its numbers go on one by one. It is the call under its key,
+-- to the one callee: what is sent again is the same call. That callee accepts stores of the volumes of which it asks, and of those whose promises
+-- it gives back, which are one at least; and it is sent to a boot that its callee, where a server, has begun
 pub record OwnFileCall (s : Script) (c : Node) (head : Head) (user : List ℕ) (call : FsCall) (past : List Entry) : Type 0 where
   pub own_user : user ≡ user_of s c
   pub act : Going
   pub runs : running s c (lines_of past) ≡ Some act
+  pub unended : IsOpen (next act)
   pub asks : as_asked call ≡ asked act
   pub opcode : head.opcode ≡ call_number call
+  pub epoch : head.epoch ≡ epoch_after c (lines_of past)
+  pub order : IsInOrder (called_key head) (sent_of past)
   pub last : IsItsLast head (sent_of past)
   pub one : call_under (called_key head) (sent_of past) ≡ Some (user, call)
   pub one_callee : callee_under (called_key head) (sent_of past) ≡ Some head.to
   pub home : IsAtHome s head.to call (lines_of past)
+  pub gives : GivesSome call
   pub boot : IsBootOf head.to head.boot (lines_of past)
 
 abbrev pub OwnCallOf : Script → Node → Head → List ℕ → FsCall → List Entry → Type 0
@@ -671,7 +748,7 @@ abbrev pub IsNoClient : Node → Type 0
 IsNoClient (Client j) = ⊥
 IsNoClient n = ⊤
 
--- a client calls file servers alone
+-- a client makes calls of file servers alone
 abbrev pub OwnCall : Script → Head → Carried → List Entry → Type 0
 OwnCall s head (carried.Call user (ask.File call)) past = OwnCallOf s head.from head user call past
 OwnCall s head (carried.Call user call) past = IsNoClient head.from
@@ -695,7 +772,7 @@ abbrev pub AreDroppedIn : Node → Node → List Fid → List Line → Type 0
 AreDroppedIn server c [] ls = ⊤
 AreDroppedIn server c (f ∷ fs) ls = HasDrop server c (Some f) ls × AreDroppedIn server c fs ls
 
--- what a call of this header breaks
+-- these lines drop what a call of this header breaks
 abbrev pub DropsBroken : Node → Head → Carried → List Line → Type 0
 DropsBroken c head (carried.Call user (ask.File (calls.CallBack fids callbacks))) ls = AreDroppedIn head.from c fids ls
 DropsBroken c head (carried.Call user (ask.File calls.InitCallBackState)) ls = HasDrop head.from c None ls
@@ -705,7 +782,7 @@ abbrev pub DropsGiven : Node → Option Message → List Line → Type 0
 DropsGiven c None ls = ⊤
 DropsGiven c (Some m) ls = DropsBroken c m.head m.carried ls
 
--- a client that runs a call which breaks promises drops in that step what these are on
+-- a client that runs a call which breaks promises, one to its present epoch, drops in that step what these are on
 abbrev pub HandlesBreaks : Actor → List Entry → List Line → Type 0
 HandlesBreaks (actors.Node (Client j)) past ls = (k : Key) → RunsHere (Client j) k past ls → DropsGiven (Client j) (given_message ls (sent_of past)) ls
 HandlesBreaks who past ls = ⊤
@@ -736,8 +813,8 @@ abbrev pub IsLived : Node → Bool → ℕ → List Line → List Message → Ty
 IsLived c true epoch ls sent = (ls ≡ lines.Restart c epoch ∷ []) × (sent ≡ [])
 IsLived c false epoch ls sent = ((ls ≡ lines.Crash c ∷ []) × (sent ≡ [])) ⊎ (has_crash_or_restart ls ≡ false)
 
--- a client's entry is as the client is, up or down, and so is a server's; that begins again in the next boot, or where restarts failed before in
--- one that comes after those which they may have written
+-- A client's entry is as the client is, up or down, and so is a server's. A server begins again in a boot at most one above those which restarts
+-- that failed may have written; it may be a lower one
 abbrev pub IsLivedBy : Actor → List Entry → List Line → List Message → Type 0
 IsLivedBy (actors.Node (Client j)) past ls sent = IsLived (Client j) (is_down (Client j) (lines_of past)) (epoch_after (Client j) (lines_of past)) ls sent
 IsLivedBy (actors.Node (Server i)) past ls sent = IsHostLived (server_boot (Server i) (lines_of past)) (last_written (Server i) (lines_of past) + 1) ls sent
@@ -745,29 +822,53 @@ IsLivedBy who past ls sent = ⊤
 
 -- ---- timeouts
 
--- the client waits for the reply to this call, of which this timeout wasn't told before: its act runs, which sent the call, and it sent no
--- later one
-pub record AwaitsReply (s : Script) (c callee : Node) (k : Key) (user : List ℕ) (call : FsCall) (count : ℕ) (past : List Entry) (own : List Line) : Type 0 where
+-- what a file server answers a call with: a refusal, or what was asked for
+abbrev pub IsFileReply : Carried → Type 0
+IsFileReply (carried.Refusal code) = ⊤
+IsFileReply (carried.Reply (tell.File reply)) = ⊤
+IsFileReply c = ⊥
+
+-- this is the callee's reply to the call of this key and this opcode
+abbrev pub IsReplyTo : Node → Key → ℕ → Option Message → Type 0
+IsReplyTo callee k opcode None = ⊥
+IsReplyTo callee k opcode (Some m) = (IsFileReply m.carried × (m.head.from ≡ callee)) × ((answered_key m.head ≡ k) × (m.head.opcode ≡ opcode))
+
+-- none of these entries was given such a reply
+abbrev pub IsUnanswered : Node → Key → ℕ → List Entry → Type 0
+IsUnanswered callee k opcode [] = ⊤
+IsUnanswered callee k opcode (e ∷ past) = (IsReplyTo callee k opcode (given_message e.lines (sent_of past)) → ⊥) × IsUnanswered callee k opcode past
+
+-- in these lines the client's act is answered with this code
+abbrev pub HasAnswer : Node → ℤ → List Line → Type 0
+HasAnswer c code [] = ⊥
+HasAnswer c code (lines.Answer m given ∷ ls) = ((m ≡ c) × (given.0 ≡ code)) ⊎ HasAnswer c code ls
+HasAnswer c code (l ∷ ls) = HasAnswer c code ls
+
+-- The client waits for the reply to this call: the call is its last one, of the act that runs, and no reply to it was given. This timeout of it
+-- wasn't told before; and the third is followed by the act's answer -1 in the same entry
+pub record AwaitsReply (s : Script) (c callee : Node) (k : Key) (user : List ℕ) (call : FsCall) (count : ℕ) (past : List Entry) (own next : List Line) : Type 0 where
   pub act : Going
   pub runs : running s c (lines_of past) ≡ Some act
   pub called : CalledSince k user call past
   pub last : (place : ℕ) (m : Message) → message_at (sent_of past) place ≡ Some m → IsCall m.carried → m.head.from ≡ c → IsUpTo m.head.epoch m.head.number k.epoch k.number
+  pub unanswered : IsUnanswered callee k (call_number call) past
   pub once : HasTimeout c callee k.epoch k.number count (own ++ lines_of past) → ⊥
+  pub dead : count ≡ 3 → HasAnswer c (negsuc 0) next
 
 -- of a server's calls this isn't asked
-abbrev pub IsAwaitedBy : Script → Node → Node → Key → List ℕ → FsCall → ℕ → List Entry → List Line → Type 0
-IsAwaitedBy s (Client j) callee k user call count past own = AwaitsReply s (Client j) callee k user call count past own
-IsAwaitedBy s n callee k user call count past own = ⊤
+abbrev pub IsAwaitedBy : Script → Node → Node → Key → List ℕ → FsCall → ℕ → List Entry → List Line → List Line → Type 0
+IsAwaitedBy s (Client j) callee k user call count past own next = AwaitsReply s (Client j) callee k user call count past own next
+IsAwaitedBy s n callee k user call count past own next = ⊤
 
 -- The call of this key was sent to this node before. Its count is 1, or the timeout of the count below stands in an entry before; and it is 3
 -- at most. A client waits for the reply still
-pub record GoodTimeout (s : Script) (n callee : Node) (epoch number count : ℕ) (past : List Entry) (own : List Line) : Type 0 where
+pub record GoodTimeout (s : Script) (n callee : Node) (epoch number count : ℕ) (past : List Entry) (own next : List Line) : Type 0 where
   pub user : List ℕ
   pub call : FsCall
   pub sent : WasSent callee (record { node = n; epoch = epoch; number = number }) user call past
   pub below : (count ≡ 1) ⊎ ((k : ℕ) × ((count ≡ k + 1) × HasTimeout n callee epoch number k (lines_of past)))
   pub few : count ≤ 3
-  pub awaited : IsAwaitedBy s n callee (record { node = n; epoch = epoch; number = number }) user call count past own
+  pub awaited : IsAwaitedBy s n callee (record { node = n; epoch = epoch; number = number }) user call count past own next
 
 -- ---- histories
 
@@ -784,6 +885,27 @@ IsOfServer who n = ⊥
 abbrev pub IsTimed : Node → List Line → List Line → Type 0
 IsTimed c own next = ((has_given own ≡ false) × (has_begun c own ≡ false)) × ((has_given next ≡ false) × (has_begun c next ≡ false))
 
+-- it is the only line of its entry
+abbrev pub IsOnlyLine : List Line → List Line → Type 0
+IsOnlyLine own next = (own ≡ []) × (next ≡ [])
+
+-- what this shows of the object is what an act needs
+abbrev pub IsNeeded : Fid → ReadBody → Need → Type 0
+IsNeeded f (shows.Contents body) (reads g) = g ≡ f
+IsNeeded f (shows.Status status) (reads_status g) = g ≡ f
+IsNeeded f body need = ⊥
+
+-- so is what is read from the cache; what is fetched comes by a call that the act asked for
+abbrev pub IsNeededFrom : ReadSource → Fid → ReadBody → Need → Type 0
+IsNeededFrom Cached f body need = IsNeeded f body need
+IsNeededFrom Fetched f body need = ⊤
+
+-- an act runs at the client; and what this shows from the cache is what that needs next
+pub record NeedsRead (s : Script) (c : Node) (f : Fid) (source : ReadSource) (body : ReadBody) (past : List Entry) (own : List Line) : Type 0 where
+  pub act : Going
+  pub runs : running s c (own ++ lines_of past) ≡ Some act
+  pub needs : IsNeededFrom source f body (next act)
+
 -- an act begins first in its entry, while none runs
 abbrev pub IsBegun : Script → Node → List Entry → List Line → Type 0
 IsBegun s c past own = (own ≡ []) × (running s c (lines_of past) ≡ None)
@@ -796,16 +918,16 @@ IsBegun s c past own = (own ≡ []) × (running s c (lines_of past) ≡ None)
 -- fault of a server alone, for clients have no disk
 abbrev pub IsInPlace : Script → Actor → Line → List Entry → List Line → List Line → Type 0
 IsInPlace s who (lines.Begin c act) past own next = IsOfClient who c × IsBegun s c past own
-IsInPlace s who (lines.Given place) past own next = has_given own ≡ false
+IsInPlace s who (lines.Given place) past own next = own ≡ []
 IsInPlace s who (lines.Grant server c f index expiry) past own next = IsOfServer who server
 IsInPlace s who (lines.Change server k count) past own next = IsOfServer who server
 IsInPlace s who (lines.Version v) past own next = IsUnderChange own
-IsInPlace s who (lines.Read c f index source body) past own next = IsOfClient who c × HasAct s c past own
+IsInPlace s who (lines.Read c f index source body) past own next = IsOfClient who c × NeedsRead s c f source body past own
 IsInPlace s who (lines.Answer c code) past own next = IsOfClient who c × HasAct s c past own
 IsInPlace s who (lines.Timeout c callee epoch number count) past own next = (who ≡ actors.Node c) × IsTimed c own next
-IsInPlace s who (lines.Tick n) past own next = (who ≡ actors.Clock) × ((0 < n) × ((own ≡ []) × (next ≡ [])))
-IsInPlace s who (lines.Stop n calls pick) past own next = IsOfServer who n
-IsInPlace s who (lines.Fail n call) past own next = IsOfServer who n
+IsInPlace s who (lines.Tick n) past own next = (who ≡ actors.Clock) × ((0 < n) × IsOnlyLine own next)
+IsInPlace s who (lines.Stop n calls pick) past own next = IsOfServer who n × IsOnlyLine own next
+IsInPlace s who (lines.Fail n call) past own next = IsOfServer who n × IsOnlyLine own next
 IsInPlace s who (lines.Crash n) past own next = who ≡ actors.Node n
 IsInPlace s who (lines.Fault n) past own next = IsOfServer who n
 IsInPlace s who (lines.Restart n boot) past own next = (who ≡ actors.Node n) × GoodRestart s n next
@@ -823,7 +945,7 @@ IsGood s who (lines.Grant server c f index expiry) past own next = IsInPlace s w
 IsGood s who (lines.Change server k count) past own next = IsInPlace s who (lines.Change server k count) past own next × GoodChange s server k count past own next
 IsGood s who (lines.Read c f index source body) past own next = IsInPlace s who (lines.Read c f index source body) past own next × GoodReadBy s (is_promised body) c f index source body past own
 IsGood s who (lines.Answer c code) past own next = IsInPlace s who (lines.Answer c code) past own next × GoodCode s c code past own
-IsGood s who (lines.Timeout n callee epoch number count) past own next = IsInPlace s who (lines.Timeout n callee epoch number count) past own next × GoodTimeout s n callee epoch number count past own
+IsGood s who (lines.Timeout n callee epoch number count) past own next = IsInPlace s who (lines.Timeout n callee epoch number count) past own next × GoodTimeout s n callee epoch number count past own next
 IsGood s who (lines.Owe server c what n) past own next = IsInPlace s who (lines.Owe server c what n) past own next × GoodOwe s server c what n past own
 IsGood s who (lines.Settle server c n) past own next = IsInPlace s who (lines.Settle server c n) past own next × GoodSettle server c n past own
 IsGood s who (lines.Quit server c n) past own next = IsInPlace s who (lines.Quit server c n) past own next × GoodQuit server c n past own
@@ -843,7 +965,9 @@ IsOfScript s actors.Nobody = ⊤
 
 -- An entry lays no volumes, for the set-up alone does; and it is of a node of the script. A server that begins again was down, and is then in
 -- a boot above the last one that it began. A node that is down does nothing but begin again, or fail to. What an entry is given was sent to its
--- node; and a client that runs a call which breaks promises drops what these are on. A server answers in the boot in which it is
+-- node; and a client that runs a call which breaks promises drops what these are on. A server answers in the boot in which it is,
+-- and to a changing call only where no other call of its act had changed something before that ran. A notice
+-- tells the boot of its sender
 abbrev pub IsEntryOf : Script → List Entry → Entry → Type 0
 IsEntryOf s past e = ((e.volumes ≡ []) × IsOfScript s e.actor) × (AreRising (lines_of past) e.lines × (IsLivedBy e.actor past e.lines e.sent × (IsDelivered e.actor past e.lines × (HandlesBreaks e.actor past e.lines × ArePresent (e ∷ past) e.sent))))
 

@@ -73,7 +73,7 @@ TellsNoStop (lines.Restart n boot ∷ ls) = ⊥
 TellsNoStop (lines.Full n ∷ ls) = ⊥
 TellsNoStop (l ∷ ls) = TellsNoStop ls
 
--- a stop is told, and before it at most what was given
+-- a stop is told: a crash, alone or after what was given; or a fault after what was given
 abbrev pub TellsStop : List Line → Type 0
 TellsStop (lines.Crash n ∷ []) = ⊤
 TellsStop (lines.Given place ∷ lines.Crash n ∷ []) = ⊤

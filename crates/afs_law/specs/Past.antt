@@ -213,7 +213,7 @@ abbrev pub IsCallFrom : Node → Key → ℕ → Option Message → Type 0
 IsCallFrom s k boot None = ⊥
 IsCallFrom s k boot (Some m) = (IsCall m.carried × (m.head.to ≡ s)) × (((m.head.from ≡ k.node) × IsUpTo k.epoch k.number m.head.epoch m.head.number) × (m.head.boot ≡ boot))
 
--- none of these entries was given the callee's call under this key for that boot, or a later one of the key's node: it may still run
+-- none of these entries, of whatever node, was given this call for that boot, nor a later call of its node to this callee
 abbrev pub IsToCome : Node → Key → ℕ → List Entry → Type 0
 IsToCome s k boot [] = ⊤
 IsToCome s k boot (e ∷ past) = (IsCallFrom s k boot (given_message e.lines (sent_of past)) → ⊥) × IsToCome s k boot past

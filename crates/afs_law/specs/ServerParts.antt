@@ -42,9 +42,10 @@ IsBreakGood s who (lines.Settle server c n) past own next = GoodSettle server c 
 IsBreakGood s who (lines.Quit server c n) past own next = GoodQuit server c n past own
 IsBreakGood s who l past own next = ⊤
 
--- a timeout is of a call that was sent before, the one below it was told, and a client waits for the reply still
+-- A timeout is of a call that was sent before, and the one below it was told. A client waits for the reply still: no entry was given one; and
+-- its third timeout stands before the answer -1
 abbrev pub IsTimeoutGood : Script → LineRule
-IsTimeoutGood s who (lines.Timeout n callee epoch number count) past own next = GoodTimeout s n callee epoch number count past own
+IsTimeoutGood s who (lines.Timeout n callee epoch number count) past own next = GoodTimeout s n callee epoch number count past own next
 IsTimeoutGood s who l past own next = ⊤
 
 -- so is each timeout of a run
@@ -99,7 +100,8 @@ abbrev pub IsBroughtGood : Script → LineRule
 IsBroughtGood s who (lines.Read c f index source body) past own next = IsBrought s c f index source body (own ++ lines_of past)
 IsBroughtGood s who l past own next = ⊤
 
--- what a client of a run reads from its cache came to it since it last crashed: that version, and contents as just this body
+-- what a client of a run reads from its cache came to it since it last crashed: that version, and contents as just this body of it, which it didn't
+-- drop since
 abbrev pub CachedAreBrought : Type 0
 CachedAreBrought = (s : Script) (history : List Entry) (end : Cell) → RunsTo history s end → AllLines (IsBroughtGood s) s history
 

@@ -210,7 +210,7 @@ pub fn messages_are_own()
     ensures { MessagesAreOwn }
 {}
 
-/// A client's file call is made for its user, and is the one under its key, to the one callee.
+/// A client's call is one that its running act asks for, numbered in order, the one under its key, and to the server of what it asks or gives back.
 pub fn calls_are_own()
     ensures { CallsAreOwn }
 {}
@@ -235,13 +235,13 @@ pub fn breaks_are_once()
     ensures { BreaksAreOnce }
 {}
 
-/// Each timeout is of a call that was sent before, and is its first or has the one below it before; it is the third at most, and a client
-/// waits for the reply still.
+/// Each timeout is of a call that was sent before, and is its first or has the one below it before; it is the third at most. A client
+/// waits for the reply still, which no entry was given, and answers its act -1 after the third.
 pub fn timeouts_are_good()
     ensures { TimeoutsAreGood }
 {}
 
-/// What a client reads from its cache came to it since it last crashed: by a read that was fetched, or by its own store.
+/// What a client reads from its cache came to it since it last crashed: by a read that was fetched, or by an own act that made that version.
 pub fn cached_are_brought()
     ensures { CachedAreBrought }
 {}

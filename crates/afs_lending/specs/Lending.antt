@@ -1,7 +1,9 @@
 -- The disks of a cell's servers are lent, and given back.
-use Rattle.std.specs.Prelude.{◌≡◌, ◌⊎◌, ℕ, zero, suc, ◌+◌, List, [], ◌∷◌, ◌++◌, Option, Some, min, map, take, option_map, IsSome}
+use Rattle.std.specs.Prelude.{◌≡◌, ◌≤◌, ◌⊎◌, ℕ, zero, suc, ◌+◌, List, [], ◌∷◌, ◌++◌, Option, Some, Result, min, map, take, option_map, IsErr, IsSome}
 use Rattle.afs_num.specs.Places.{at_place}
+use Rattle.afs_num.specs.declared.devices.Failed.{Failed}
 use Rattle.afs_disk.specs.Banks.{GivesBack}
+use Rattle.afs_disk.specs.Disk.{Rose}
 use Rattle.afs_disk.specs.Fuses.{last_count}
 use Rattle.afs_disk.specs.declared.bank.Lend.{Lend}
 use Rattle.afs_disk.specs.declared.bank.Place.{Place}
@@ -44,15 +46,27 @@ abbrev pub kept_disks : {D : Type 0} → ℕ → List (Left (Store D) D) → Lis
 kept_disks {D} i [] = []
 kept_disks {D} i (f ∷ fs) = record { node = i; disk = kept_disk f } ∷ kept_disks (i + 1) fs
 
--- each of these is given back, in their order, and nothing else
-abbrev pub GivesBackAll : {D : Type 0} → (D → Option (List ℕ)) → List (Lent D) → Option (List (ℕ × List ℕ)) → Option (List (ℕ × List ℕ)) → Type 0
-GivesBackAll {D} seen [] old new = new ≡ old
-GivesBackAll {D} seen (l ∷ ls) old new = (next : Option (List (ℕ × List ℕ))) × (GivesBack l.node (seen l.disk) old next × GivesBackAll seen ls next new)
+-- A bank failed so often: its count of faults rose by so many, or by more, and where it didn't fail, it stands. One that stands at the last
+-- value of a counter counts as risen.
+abbrev pub HasFailed : ℕ → ℕ → ℕ → Type 0
+HasFailed times before after = ((before + times ≤ after) ⊎ (last_count ≤ after)) × (times ≡ 0 → after ≡ before)
 
--- some of these are given back, in their order, and nothing else
-abbrev pub GivesBackSome : {D : Type 0} → (D → Option (List ℕ)) → List (Lent D) → Option (List (ℕ × List ℕ)) → Option (List (ℕ × List ℕ)) → Type 0
-GivesBackSome {D} seen [] old new = new ≡ old
-GivesBackSome {D} seen (l ∷ ls) old new = (next : Option (List (ℕ × List ℕ))) × ((GivesBack l.node (seen l.disk) old next ⊎ (next ≡ old)) × GivesBackSome seen ls next new)
+-- so many of these are missing, and the others are given back, in their order, and nothing else
+abbrev pub GivesBackBut : {D : Type 0} → (D → Option (List ℕ)) → ℕ → List (Lent D) → Option (List (ℕ × List ℕ)) → Option (List (ℕ × List ℕ)) → Type 0
+GivesBackBut {D} seen missing [] old new = (missing ≡ 0) × (new ≡ old)
+GivesBackBut {D} seen missing (l ∷ ls) old new = ((next : Option (List (ℕ × List ℕ))) × (GivesBack l.node (seen l.disk) old next × GivesBackBut seen missing ls next new))
+    ⊎ ((others : ℕ) × ((missing ≡ others + 1) × GivesBackBut seen others ls old new))
+
+-- These go back, but for those at which the bank failed.
+pub record GoBack {D : Type 0} (seen : D → Option (List ℕ)) (ls : List (Lent D)) (old new : Option (List (ℕ × List ℕ))) (before after : ℕ) : Type 0 where
+  pub missing : ℕ
+  pub given : GivesBackBut seen missing ls old new
+  pub failed : HasFailed missing before after
+
+-- One goes back: the bank took it and counts no failure, or it didn't and counts one.
+abbrev pub OneGoesBack : ℕ → Option (List ℕ) → Option (List (ℕ × List ℕ)) → Option (List (ℕ × List ℕ)) → ℕ → ℕ → Result (Unit {0}) Failed → Result (Unit {0}) Failed → Type 0
+OneGoesBack node seen old new before after taken_before taken =
+    (GivesBack node seen old new × ((after ≡ before) × (taken ≡ taken_before))) ⊎ ((new ≡ old) × (Rose before after × IsErr taken))
 
 -- how often each of them has failed
 abbrev pub faults_of : {D : Type 0} → (D → ℕ) → List (Lent D) → List ℕ

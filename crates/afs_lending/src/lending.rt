@@ -1,9 +1,8 @@
 //! The bank lends the disks of a cell's servers, and takes them back.
 
 ghost use Rattle.std.specs.Prelude.{◌≡◌, ◌≤◌, ◌<◌, ◌^◌, ◌++◌, ◌∷◌, ◌⊎◌, [], length, option_map, vec_capacity, vec_len, IfErr, IfOk, OnErr, OnOk};
-ghost use Rattle.afs_disk.specs.Banks.{GivesBack};
 ghost use Rattle.afs_disk.specs.Disk.{Rose};
-ghost use Rattle.afs_lending.specs.Lending.{faults_of, kept_disks, lends, with_faults, AreLent, AreUnused, GivesBackAll, GivesBackSome, LendsSome, LentTell};
+ghost use Rattle.afs_lending.specs.Lending.{faults_of, kept_disks, lends, with_faults, AreLent, AreUnused, GivesBackBut, GoBack, LendsSome, LentTell, OneGoesBack};
 
 use afs_disk::{Bank, Disks, LendFault, Lent, Place};
 use afs_final::{Left, disk_in};
@@ -41,10 +40,13 @@ pub fn lend_all<B: Bank<D: Drop>>(
     ensures back { IfErr result (λ e. AreUnused B.D.faults e.1) }
     ensures back_lent { IfErr result (λ e. AreLent B.D.limit capacity 1 e.1) }
     ensures fewer { IfErr result (λ e. e.0 ≡ LendFault.Failed → length e.1 < servers) }
+    ensures few { IfErr result (λ e. 0 < servers → length e.1 < servers) }
     ensures back_lends { IfErr result (λ e. B.lends bank.new ≡ option_map (λ ls. ls ++ lends place.now capacity 1 (length e.1)) (B.lends bank.old)) }
     ensures faults { B.lent_faults bank.new ≡ B.lent_faults bank.old }
     ensures given { B.given bank.new ≡ B.given bank.old }
     ensures cause { IfErr result (λ e. e.0 ≡ LendFault.Failed → Rose (B.faults bank.old) (B.faults bank.new)) }
+    ensures memory { IfErr result (λ e. e.0 ≡ LendFault.OutOfMemory → B.faults bank.new ≡ B.faults bank.old) }
+    ensures quiet { OnOk result (B.faults bank.new ≡ B.faults bank.old) }
     ensures never_falls { B.faults bank.old ≤ B.faults bank.new }
 {
     let Ok(mut disks) = Vec::with_capacity(alloc, servers as usize) else {
@@ -67,9 +69,7 @@ fn give_one<B: Bank<D: Drop>>(
     disk: B::D,
     all: Result<(), Failed>,
 ) -> Result<(), Failed>
-    ensures given { OnOk result (GivesBack node (B.D.seen disk) (B.given bank.old) (B.given bank.new)) }
-    ensures kept { GivesBack node (B.D.seen disk) (B.given bank.old) (B.given bank.new) ⊎ (B.given bank.new ≡ B.given bank.old) }
-    ensures all { OnOk result (all ≡ result) }
+    ensures goes { OneGoesBack node (B.D.seen disk) (B.given bank.old) (B.given bank.new) (B.faults bank.old) (B.faults bank.new) all result }
     ensures cause { OnErr result (Rose (B.faults bank.old) (B.faults bank.new) ⊎ (all ≡ result)) }
     ensures faults { B.lent_faults bank.new ≡ with_faults (B.D.faults disk ∷ []) (B.lent_faults bank.old) }
     ensures lends { B.lends bank.new ≡ B.lends bank.old }
@@ -81,10 +81,11 @@ fn give_one<B: Bank<D: Drop>>(
     }
 }
 
-/// All disks go back, also behind one that the bank doesn't take.
+/// All disks go back, also after one that the bank doesn't take.
 pub fn give_back_all<B: Bank<D: Drop>>(bank: &mut B, disks: Disks<B::D>) -> Result<(), Failed>
-    ensures all { OnOk result (GivesBackAll B.D.seen disks (B.given bank.old) (B.given bank.new)) }
-    ensures some { GivesBackSome B.D.seen disks (B.given bank.old) (B.given bank.new) }
+    ensures all { OnOk result (GivesBackBut B.D.seen 0 disks (B.given bank.old) (B.given bank.new)) }
+    ensures back { GoBack B.D.seen disks (B.given bank.old) (B.given bank.new) (B.faults bank.old) (B.faults bank.new) }
+    ensures quiet { OnOk result (B.faults bank.new ≡ B.faults bank.old) }
     ensures cause { OnErr result (Rose (B.faults bank.old) (B.faults bank.new)) }
     ensures faults { B.lent_faults bank.new ≡ with_faults (faults_of B.D.faults disks) (B.lent_faults bank.old) }
     ensures lends { B.lends bank.new ≡ B.lends bank.old }
@@ -98,14 +99,15 @@ pub fn give_back_all<B: Bank<D: Drop>>(bank: &mut B, disks: Disks<B::D>) -> Resu
     all
 }
 
-/// The disks go back behind what was read of them, those of the servers from number 1 on.
+/// The disks go back after they were read, those of the servers from number 1 on.
 pub fn give_back<B: Bank<D: Drop>>(
     bank: &mut B,
     left: Vec<Left<VolStore<B::D>, B::D>>,
 ) -> Result<(), Failed>
     requires { length left.items < 2 ^ 32 }
-    ensures all { OnOk result (GivesBackAll B.D.seen (kept_disks 1 left.items) (B.given bank.old) (B.given bank.new)) }
-    ensures some { GivesBackSome B.D.seen (kept_disks 1 left.items) (B.given bank.old) (B.given bank.new) }
+    ensures all { OnOk result (GivesBackBut B.D.seen 0 (kept_disks 1 left.items) (B.given bank.old) (B.given bank.new)) }
+    ensures back { GoBack B.D.seen (kept_disks 1 left.items) (B.given bank.old) (B.given bank.new) (B.faults bank.old) (B.faults bank.new) }
+    ensures quiet { OnOk result (B.faults bank.new ≡ B.faults bank.old) }
     ensures cause { OnErr result (Rose (B.faults bank.old) (B.faults bank.new)) }
     ensures faults { B.lent_faults bank.new ≡ with_faults (faults_of B.D.faults (kept_disks 1 left.items)) (B.lent_faults bank.old) }
     ensures lends { B.lends bank.new ≡ B.lends bank.old }

@@ -1,7 +1,9 @@
 -- The rows of a table that is made of parts, and what they make.
-use Rattle.std.proofs.Common.{◌≡◌, ℕ, Bool, true, false, cond, eqb, List, [], ◌∷◌, ◌++◌, Option, Some, None, Result, Ok, Err, refl, sym, ap, ◌∙◌}
+use Rattle.std.proofs.Common.{◌≡◌, ℕ, Bool, true, false, cond, eqb, List, [], ◌∷◌, ◌++◌, Option, Some, None, Result, Ok, Err, refl, sym, ap, subst, ◌∙◌}
 use Rattle.std.specs.Prelude.{nat_eq, ◌==◌, find, map}
 use Rattle.std.specs.Option.{option_map}
+use Rattle.std.specs.Result.{IsErrAnd}
+use Rattle.std.proofs.lemmas.Result.{err_from_is_err_and}
 use Rattle.std.proofs.lemmas.Bool.{eqb-true, eqb-false, eq-eqb, ne_eqb}
 use Rattle.afs_shape.specs.declared.faults.ShapeFault.{ShapeFault}
 use Rattle.afs_shape.specs.declared.faults.ShapeFault.TheVariants as faults
@@ -151,6 +153,10 @@ failed_as one all read whole (faults.Field i f) e h = e ∙ h
 
 same_fields : {X W : Type 0} (table : MessageTable X) (whole : MessageTable W) (n : ℕ) (bytes : List ℕ) (r : Result (List Kind) ShapeFault) → row_at table n ≡ r → row_at whole n ≡ r → row_fields_at whole n bytes ≡ row_fields_at table n bytes
 same_fields table whole n bytes r e f = ap (λ (o : Result (List Kind) ShapeFault). o >>= λ ks. fields_to_end_at ks bytes) (f ∙ sym e)
+
+-- a fault that is handed up
+pub failed_with : {W : Type 0} (all : List Field → Option W) (whole : Result (List Field) ShapeFault) (r : Result W ShapeFault) (f : ShapeFault) → IsErrAnd r (λ (e : ShapeFault). e ≡ f) → TakesRead all whole (Err f) → TakesRead all whole r
+failed_with {W} all whole r f h t = let p = err_from_is_err_and r h in subst (λ (x : Result W ShapeFault). TakesRead all whole x) (sym (subst (λ (e : ShapeFault). r ≡ Err e) p.2 p.1)) t
 
 pub first_taken : {X Y Z W : Type 0} {first : MessageTable X} {second : MessageTable Y} {third : MessageTable Z} {whole : MessageTable W} {a : X → W} {b : Y → W} {c : Z → W} → IsOfThree first second third whole a b c
     → (n : ℕ) (ks : List Kind) (bytes : List ℕ) (x : X) → row_at first n ≡ Ok ks → TakesRead (message_of first n) (row_fields_at first n bytes) (Ok x) → TakesRead (message_of whole n) (row_fields_at whole n bytes) (Ok (a x))

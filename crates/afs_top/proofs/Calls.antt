@@ -9,7 +9,7 @@ use Rattle.afs_grammar.specs.Lines.{script_of}
 use Rattle.afs_grammar.proofs.TooLong.{longer_as_front}
 use Rattle.afs_outside.specs.Outside.{Gives, HadAll, TakesTooMuch}
 use Rattle.afs_top.specs.Forms.{form_in, Asks, HaveForm}
-use Rattle.afs_top.specs.Outside.{Outside, RoseBy, Span}
+use Rattle.afs_top.specs.Outside.{IsUnchanged, Outside, RoseBy, Span}
 use Rattle.afs_top.specs.Parts.{refusal_status, IsLongRefusal, RefusedBy}
 use Rattle.afs_top.specs.Reading.{GivesNone, GivesScript}
 use Rattle.afs_top.specs.Top.{level, most_bytes, AtBankFault, DoesNothing, Ends, EndsReplay, EndsRun, IsBeforeReplay, IsScript, LendingFails, LendsAll}
@@ -33,26 +33,26 @@ had_behind None after front taken = ([], tt)
 had_behind (Some left) None front taken = absurd taken
 had_behind (Some left) (Some rest) front taken = (rest, taken)
 
-pub none_of_long : (source : Span (Option (List ℕ))) (faults : Span ℕ) (front : List ℕ) (r : Refusal) → TakesTooMuch most_bytes source.before source.after front → IsLongRefusal front r → GivesNone source faults (refusal_status r)
-none_of_long source faults front (refusals.Script line reason) taken bad =
+pub none_of_long : (source : Span (Option (List ℕ))) (faults : Span ℕ) (front : List ℕ) (r : Refusal) → IsUnchanged faults → TakesTooMuch most_bytes source.before source.after front → IsLongRefusal front r → GivesNone source faults (refusal_status r)
+none_of_long source faults front (refusals.Script line reason) quiet taken bad =
     let all = had_behind source.before source.after front taken.consumed in
-    record { input = front ++ all.0; had = all.1; taken = inr (front, taken); bad = bad all.0 }
-none_of_long source faults front refusals.OutOfMemory taken bad = tt
+    record { quiet = quiet; input = front ++ all.0; had = all.1; taken = inr (front, taken); bad = bad all.0 }
+none_of_long source faults front refusals.OutOfMemory quiet taken bad = quiet
 
-pub none_of_bad : (source : Span (Option (List ℕ))) (faults : Span ℕ) (input : List ℕ) (r : Refusal) → HadAll source.before input → IsAtEnd source.after → RefusedBy {A = Script} input (Err r) → GivesNone source faults (refusal_status r)
-none_of_bad source faults input (refusals.Script line reason) had end bad = record { input = input; had = had; taken = inl end; bad = bad }
-none_of_bad source faults input refusals.OutOfMemory had end bad = tt
+pub none_of_bad : (source : Span (Option (List ℕ))) (faults : Span ℕ) (input : List ℕ) (r : Refusal) → IsUnchanged faults → HadAll source.before input → IsAtEnd source.after → RefusedBy {A = Script} input (Err r) → GivesNone source faults (refusal_status r)
+none_of_bad source faults input (refusals.Script line reason) quiet had end bad = record { quiet = quiet; input = input; had = had; taken = inl end; bad = bad }
+none_of_bad source faults input refusals.OutOfMemory quiet had end bad = quiet
 
 -- ---- a call that ends before a replay
 
 pub ends_unread : (words : List (List ℕ)) (source : Span (Option (List ℕ))) (faults : Span ℕ) (Tells : Place → Type 0) (Left : Script → Outside → Type 0) (Unlent : Script → Outside → ℕ → ℕ → Type 0) (o : Outside) (status : Status) → HaveForm words → DoesNothing o → GivesNone source faults status → Ends words source faults Tells Left Unlent o status
 ends_unread words source faults Tells Left Unlent o statuses.Done form nothing none = absurd none
 ends_unread words source faults Tells Left Unlent o statuses.Usage form nothing none = absurd none
-ends_unread words source faults Tells Left Unlent o (statuses.Script line reason) form nothing none = record { asked = form; input = none.input; had = none.had; taken = none.taken; bad = none.bad }
+ends_unread words source faults Tells Left Unlent o (statuses.Script line reason) form nothing none = record { quiet = none.quiet; asked = form; input = none.input; had = none.had; taken = none.taken; bad = none.bad }
 ends_unread words source faults Tells Left Unlent o statuses.ReadFault form nothing none = (form, none)
 ends_unread words source faults Tells Left Unlent o statuses.WriteFault form nothing none = absurd none
 ends_unread words source faults Tells Left Unlent o statuses.BankFault form nothing none = absurd none
-ends_unread words source faults Tells Left Unlent o statuses.OutOfMemory form nothing none = (form, inl nothing)
+ends_unread words source faults Tells Left Unlent o statuses.OutOfMemory form nothing none = (form, inl (none, nothing))
 ends_unread words source faults Tells Left Unlent o statuses.Limit form nothing none = absurd none
 
 pub none_isnt_usage : (source : Span (Option (List ℕ))) (faults : Span ℕ) (status : Status) → GivesNone source faults status → status ≡ statuses.Usage → ⊥
@@ -103,15 +103,15 @@ replay_isnt_before s wire place tells left Unlent o status ends before = either 
   either statuses.OutOfMemory how before = before
   either statuses.Limit how before = before
 
-pub ends_replayed : (words : List (List ℕ)) (source : Span (Option (List ℕ))) (faults : Span ℕ) (Tells : Place → Type 0) (Left : Script → Outside → Type 0) (Unlent : Script → Outside → ℕ → ℕ → Type 0) (o : Outside) (status : Status) (wire : Bool) (place : Place) (s : Script) → Asks (Replay wire place) words → GivesScript source s → EndsReplay s wire place (Tells place) (Left s o) (Unlent s o) o status → Ends words source faults Tells Left Unlent o status
-ends_replayed words source faults Tells Left Unlent o statuses.Done wire place s asked gives ends = record { wire = wire; place = place; asked = asked; input = gives.input; had = gives.had; at_end = gives.at_end; script = s; read = gives.read; ends = ends }
+pub ends_replayed : (words : List (List ℕ)) (source : Span (Option (List ℕ))) (faults : Span ℕ) (Tells : Place → Type 0) (Left : Script → Outside → Type 0) (Unlent : Script → Outside → ℕ → ℕ → Type 0) (o : Outside) (status : Status) (wire : Bool) (place : Place) (s : Script) → Asks (Replay wire place) words → GivesScript source faults s → EndsReplay s wire place (Tells place) (Left s o) (Unlent s o) o status → Ends words source faults Tells Left Unlent o status
+ends_replayed words source faults Tells Left Unlent o statuses.Done wire place s asked gives ends = record { quiet = gives.quiet; wire = wire; place = place; asked = asked; input = gives.input; had = gives.had; at_end = gives.at_end; script = s; read = gives.read; ends = ends }
 ends_replayed words source faults Tells Left Unlent o statuses.Usage wire place s asked gives ends = absurd (replay_isnt_before s wire place _ _ _ o statuses.Usage ends tt)
 ends_replayed words source faults Tells Left Unlent o (statuses.Script line reason) wire place s asked gives ends = absurd (replay_isnt_before s wire place _ _ _ o (statuses.Script line reason) ends tt)
 ends_replayed words source faults Tells Left Unlent o statuses.ReadFault wire place s asked gives ends = absurd (replay_isnt_before s wire place _ _ _ o statuses.ReadFault ends tt)
-ends_replayed words source faults Tells Left Unlent o statuses.WriteFault wire place s asked gives ends = record { wire = wire; place = place; asked = asked; input = gives.input; had = gives.had; at_end = gives.at_end; script = s; read = gives.read; ends = ends }
-ends_replayed words source faults Tells Left Unlent o statuses.BankFault wire place s asked gives ends = record { wire = wire; place = place; asked = asked; input = gives.input; had = gives.had; at_end = gives.at_end; script = s; read = gives.read; ends = ends }
-ends_replayed words source faults Tells Left Unlent o statuses.OutOfMemory wire place s asked gives ends = ((Replay wire place, asked), inr (record { wire = wire; place = place; asked = asked; input = gives.input; had = gives.had; at_end = gives.at_end; script = s; read = gives.read; ends = ends }))
-ends_replayed words source faults Tells Left Unlent o statuses.Limit wire place s asked gives ends = record { wire = wire; place = place; asked = asked; input = gives.input; had = gives.had; at_end = gives.at_end; script = s; read = gives.read; ends = ends }
+ends_replayed words source faults Tells Left Unlent o statuses.WriteFault wire place s asked gives ends = record { quiet = gives.quiet; wire = wire; place = place; asked = asked; input = gives.input; had = gives.had; at_end = gives.at_end; script = s; read = gives.read; ends = ends }
+ends_replayed words source faults Tells Left Unlent o statuses.BankFault wire place s asked gives ends = record { quiet = gives.quiet; wire = wire; place = place; asked = asked; input = gives.input; had = gives.had; at_end = gives.at_end; script = s; read = gives.read; ends = ends }
+ends_replayed words source faults Tells Left Unlent o statuses.OutOfMemory wire place s asked gives ends = ((Replay wire place, asked), inr (record { quiet = gives.quiet; wire = wire; place = place; asked = asked; input = gives.input; had = gives.had; at_end = gives.at_end; script = s; read = gives.read; ends = ends }))
+ends_replayed words source faults Tells Left Unlent o statuses.Limit wire place s asked gives ends = record { quiet = gives.quiet; wire = wire; place = place; asked = asked; input = gives.input; had = gives.had; at_end = gives.at_end; script = s; read = gives.read; ends = ends }
 
 is_before : (status : Status) → status ≡ statuses.Usage → IsBeforeReplay status
 is_before status is = subst IsBeforeReplay (sym is) tt
@@ -136,7 +136,7 @@ completes_replayed s wire place tells left Unlent o status ends sink bank disks 
   either statuses.ReadFault (inr run) = absurd run.1
   either statuses.WriteFault (inl unlent) = absurd unlent.why
   either statuses.WriteFault (inr run) = absurd (sink run.1.rose)
-  either statuses.BankFault (inl unlent) = absurd (bank unlent.why.1)
+  either statuses.BankFault (inl unlent) = absurd (bank unlent.why)
   either statuses.BankFault (inr run) = absurd (no_bank_fault s wire tells left o run.1 bank disks)
   either statuses.OutOfMemory how = inr (inl refl)
   either statuses.Limit how = inr (inr refl)
@@ -151,5 +151,5 @@ pub have_form : (words : List (List ℕ)) → IsSome (form_in words) → HaveFor
 have_form words some = let form = some_form (form_in words) some in (form.0, asked_as_read words form.0 form.1)
 
 -- a replay as the words ask
-pub ends_read : (words : List (List ℕ)) (source : Span (Option (List ℕ))) (faults : Span ℕ) (Tells : Place → Type 0) (Left : Script → Outside → Type 0) (Unlent : Script → Outside → ℕ → ℕ → Type 0) (o : Outside) (status : Status) (wire : Bool) (place : Place) (s : Script) → EndsReplay s wire place (Tells place) (Left s o) (Unlent s o) o status → GivesScript source s → form_in words ≡ Some (Replay wire place) → Ends words source faults Tells Left Unlent o status
+pub ends_read : (words : List (List ℕ)) (source : Span (Option (List ℕ))) (faults : Span ℕ) (Tells : Place → Type 0) (Left : Script → Outside → Type 0) (Unlent : Script → Outside → ℕ → ℕ → Type 0) (o : Outside) (status : Status) (wire : Bool) (place : Place) (s : Script) → EndsReplay s wire place (Tells place) (Left s o) (Unlent s o) o status → GivesScript source faults s → form_in words ≡ Some (Replay wire place) → Ends words source faults Tells Left Unlent o status
 ends_read words source faults Tells Left Unlent o status wire place s ends gives form = ends_replayed words source faults Tells Left Unlent o status wire place s (asked_as_read words (Replay wire place) form) gives ends

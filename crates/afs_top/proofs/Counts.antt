@@ -3,13 +3,14 @@ use Rattle.std.specs.Prelude.{◌≡◌, ◌≤◌, ◌<◌, ◌⊎◌, ℕ, ◌
 use Rattle.std.proofs.Common.{refl, ap, sym, subst, ◌∙◌, inl, inr, arith}
 use Rattle.std.proofs.lemmas.Bool.Decides.{leb_tells}
 use Rattle.std.proofs.Math.Dec.{leb}
+use Rattle.afs_num.specs.declared.types.Node.{Node}
 use Rattle.afs_disk.specs.Disk.{Rose}
 use Rattle.afs_disk.specs.Fuses.{last_count}
 use Rattle.afs_disk.specs.declared.bank.LendFault.{LendFault}
 use Rattle.afs_disk.specs.declared.bank.LendFault.TheVariants as lending
 use Rattle.afs_disk.specs.declared.disks.Lent.{Lent}
 use Rattle.afs_volstore.specs.Stores.{Store}
-use Rattle.afs_cell.specs.Ends.{NoneFell, OneRose}
+use Rattle.afs_cell.specs.Ends.{NoneFell, RoseAt}
 use Rattle.afs_cell.specs.Steps.{lent_from}
 use Rattle.afs_cell.specs.Worlds.{all_faults, seat_disk, Counts, OneIsFull, ServerSeat}
 use Rattle.afs_final.specs.Reading.{fault_in, kept_disk, AreFound}
@@ -145,12 +146,12 @@ found_failed {D} seen faults limit i (l ∷ ls) (left.Failed d ∷ fs) found fai
 found_failed {D} seen faults limit i (l ∷ ls) (left.Unread d ∷ fs) found failed = absurd (wants_memory failed)
 
 -- set-up lets no count fall, and where it is refused by a disk, one rose
-pub none_fell : {D : Type 0} (faults : D → ℕ) (ls back : List (Lent D)) → NoneFell faults ls back → OneRose faults ls back → AtLeast 1 (faults_of faults back)
-none_fell {D} faults [] back fell rose = absurd rose
-none_fell {D} faults (l ∷ ls) [] fell rose = absurd fell
-none_fell {D} faults (l ∷ ls) (b ∷ back) fell (inl (inl here)) = inl (omega (arith, here))
-none_fell {D} faults (l ∷ ls) (b ∷ back) fell (inl (inr full)) = inr (inl (omega (arith, full, fell.0)))
-none_fell {D} faults (l ∷ ls) (b ∷ back) fell (inr there) = either (none_fell faults ls back fell.1 there) where
+pub none_fell : {D : Type 0} (faults : D → ℕ) (n : Node) (i : ℕ) (ls back : List (Lent D)) → NoneFell faults ls back → RoseAt faults n i ls back → AtLeast 1 (faults_of faults back)
+none_fell {D} faults n i [] back fell rose = absurd rose
+none_fell {D} faults n i (l ∷ ls) [] fell rose = absurd fell
+none_fell {D} faults n i (l ∷ ls) (b ∷ back) fell (inl (named, inl here)) = inl (omega (arith, here))
+none_fell {D} faults n i (l ∷ ls) (b ∷ back) fell (inl (named, inr full)) = inr (inl (omega (arith, full, fell.0)))
+none_fell {D} faults n i (l ∷ ls) (b ∷ back) fell (inr there) = either (none_fell faults n (i + 1) ls back fell.1 there) where
   either : AtLeast 1 (faults_of faults back) → AtLeast 1 (faults b.disk ∷ faults_of faults back)
   either (inl many) = inl (omega (arith, many))
   either (inr full) = inr (inr full)

@@ -1,5 +1,5 @@
 -- How a replay ends, by what its parts promise.
-use Rattle.std.specs.Prelude.{◌≡◌, ◌≤◌, ◌<◌, ◌⊎◌, ℕ, suc, ◌+◌, List, [], ◌∷◌, ◌++◌, length, map, Bool, false, Option, Some, None, Result, Ok, Err, OnOk, OnErr}
+use Rattle.std.specs.Prelude.{◌≡◌, ◌≤◌, ◌<◌, ◌⊎◌, ℕ, zero, suc, ◌+◌, List, [], ◌∷◌, ◌++◌, length, map, Bool, false, Option, Some, None, Result, Ok, Err, OnOk, OnErr}
 use Rattle.std.proofs.Common.{refl, ap, sym, subst, ◌∙◌, inl, inr, arith}
 use Rattle.std.specs.Option.{option_map}
 use Rattle.afs_num.specs.declared.devices.Failed.{Failed}
@@ -21,6 +21,7 @@ use Rattle.afs_text.specs.KeptText.{kept_history_text}
 use Rattle.afs_text.specs.Telling.{told, AreRead}
 use Rattle.afs_text.proofs.Kept.{history_told}
 use Rattle.afs_volstore.specs.Stores.{Store}
+use Rattle.afs_cell.specs.Steps as cells
 use Rattle.afs_cell.specs.Ends.{AreLeft, IsRefused}
 use Rattle.afs_cell.specs.Steps.{lent_from, AreStanding, HasPlayedAll, HasPlayedFirst, HasPlayedSome}
 use Rattle.afs_cell.specs.Worlds.{most_entries, AllTell, IsCell, IsWorld, WorldState}
@@ -28,33 +29,37 @@ use Rattle.afs_cell.specs.declared.faults.SetupFault.{SetupFault}
 use Rattle.afs_cell.specs.declared.faults.SetupFault.TheVariants as setup
 use Rattle.afs_final.specs.Reading.{fault_in, part, AreFound}
 use Rattle.afs_final.specs.declared.reading.Left.{Left}
-use Rattle.afs_lending.specs.Lending.{faults_of, kept_disks, lends, with_faults, AreLent, AreUnused, GivesBackAll, GivesBackSome}
-use Rattle.afs_top.specs.Outside.{span, IsUnchanged, Outside, RoseBy, Span, Writes, WritesAll, WritesText, WritesWhole}
+use Rattle.afs_disk.specs.Fuses.{last_count}
+use Rattle.afs_lending.specs.Lending.{faults_of, kept_disks, lends, with_faults, AreLent, AreUnused, GivesBackBut, GoBack, HasFailed}
+use Rattle.afs_top.specs.Outside.{span, IsUnchanged, Outside, RoseBy, SoManyFailed, Span, Writes, WritesAll, WritesText, WritesWhole}
 use Rattle.afs_top.specs.Parts.{lend_status, returned, set_up_status, TellsLeft}
-use Rattle.afs_top.specs.Top.{lends_of, AreKept, AtBankFault, EndsReplay, EndsRun, GivesBack, GivesBackLent, IsFew, IsFull, IsLegalRun, LendingLeaves, NotToItsEnd, ReadingFails, Replays, ReplaysFirst, ReplaysSome, ReplaysUnread, SetUpLeaves, SomeOfIt, ToItsEnd, WritesEntries, WritesRun}
+use Rattle.afs_top.specs.Top.{lends_of, AreAllBut, AreOfServers, AtBankFault, EndsReplay, EndsRun, GivesBack, GivesBackLent, GivesBackThose, IsFew, IsFull, IsLegalRun, LendingLeaves, MissedByTheBank, NoneIsMissing, NotToItsEnd, ReadingFails, Replays, ReplaysFirst, ReplaysSome, ReplaysUnread, SetUpLeaves, SomeOfIt, ToItsEnd, WritesEntries, WritesRun}
 use Rattle.afs_top.specs.declared.statuses.Status.{Status}
 use Rattle.afs_top.specs.declared.statuses.Status.TheVariants as statuses
-use Rattle.afs_top.proofs.Counts.{counted, counts_lent, found_failed, found_no_less, grown, none_fell, one_grown, rose_once, rose_since, AtLeast}
-use Rattle.afs_top.proofs.Ending.{given_so, left_so, legal_run, length_told, lent_length, no_others, read_so}
+use Rattle.afs_top.proofs.Counts.{counted, counts_lent, found_failed, found_no_less, grown, none_fell, one_grown, rose_once, AtLeast}
+use Rattle.afs_top.proofs.Ending.{found_come, given_so, left_so, legal_run, length_told, lent_come, lent_length, no_others, read_so, Missing}
 
 -- ---- the disks go back
 
 abbrev Given : Type 0
 Given = Option (List (ℕ × List ℕ))
 
--- as the bank takes them: all, or some where its count rose; and their faults are counted
+-- as the bank takes them; and their faults are counted
 pub record GoesBack {D : Type 0} (seen : D → Option (List ℕ)) (faults : D → ℕ) (disks : List (Lent D)) (o : Outside) : Type 0 where
-  pub gives : GivesBackAll seen disks o.given.before o.given.after ⊎ Rose o.bank_faults.before o.bank_faults.after
-  pub some : GivesBackSome seen disks o.given.before o.given.after
+  pub back : GoBack seen disks o.given.before o.given.after o.bank_faults.before o.bank_faults.after
   pub counts : o.disk_faults.after ≡ with_faults (faults_of faults disks) o.disk_faults.before
   pub never_falls : o.bank_faults.before ≤ o.bank_faults.after
 
+missed : {D : Type 0} (seen : D → Option (List ℕ)) (faults : D → ℕ) (disks : List (Lent D)) (o : Outside) → GoesBack seen faults disks o → Missing (MissedByTheBank o) seen disks o.given.before o.given.after
+missed {D} seen faults disks o goes = (goes.back.missing, (goes.back.given, goes.back.failed))
+
+missed_of : {D : Type 0} (seen : D → Option (List ℕ)) (faults : D → ℕ) (disks : List (Lent D)) (o : Outside) → GoesBack seen faults disks o → GivesBackLent seen 0 disks o
+missed_of {D} seen faults disks o goes =
+    let same : goes.back.missing ≡ 0 + goes.back.missing = omega (arith) in
+    (goes.back.missing, (goes.back.given, subst (λ (n : ℕ). SoManyFailed n o.bank_faults) same goes.back.failed))
+
 rose_by : (n : ℕ) (ns : List ℕ) (count : Span ℕ) → count.after ≡ with_faults ns count.before → AtLeast n ns → RoseBy n count
 rose_by n ns count are many = subst (λ (k : ℕ). RoseBy n (span count.before k)) (sym are) (counted n ns count.before many)
-
-excused : {A : Type 0} (before after : ℕ) → before ≤ after → A ⊎ Rose before after → A ⊎ RoseBy 1 (span before after)
-excused {A} before after never_falls (inl all) = inl all
-excused {A} before after never_falls (inr rose) = inr (rose_once before after rose never_falls)
 
 -- ---- a world that played its script to its end
 
@@ -116,10 +121,10 @@ run_of {D} seen may_leave faults limit s w fs wire Writes is found written = rec
 }
 
 -- its history is that of its script, and what was read from its disks is what that leaves
-replays : {D : Type 0} (seen : D → Option (List ℕ)) (may_leave : D → List ℕ → Type 0) (faults limit : D → ℕ) (s : Script) (w : WorldState D) (fs : List (Left (Store D) D)) (wire : Bool) (Writes : List ℕ → Type 0) (excuse : Type 0) (o : Outside)
+replays : {D : Type 0} (seen : D → Option (List ℕ)) (may_leave : D → List ℕ → Type 0) (faults limit : D → ℕ) (s : Script) (w : WorldState D) (fs : List (Left (Store D) D)) (wire : Bool) (Writes : List ℕ → Type 0) (MayBeMissing : ℕ → Type 0) (o : Outside)
     → HasEnded seen may_leave faults limit s w → AreFound seen faults limit (lent_from 1 w.servers) fs → fault_in fs ≡ None → Writes (kept_history_text wire w.wire w.history ++ final_text (map part fs)) → GoesBack seen faults (kept_disks 1 fs) o
-    → GivesBackAll seen (kept_disks 1 fs) o.given.before o.given.after ⊎ excuse → All seen may_leave faults limit s w → Replays s wire Writes excuse o
-replays {D} seen may_leave faults limit s w fs wire Writes excuse o is found none written back gives p =
+    → Missing MayBeMissing seen (kept_disks 1 fs) o.given.before o.given.after → All seen may_leave faults limit s w → Replays s wire Writes MayBeMissing o
+replays {D} seen may_leave faults limit s w fs wire Writes MayBeMissing o is found none written back missing p =
     let cell = p.1.runs.cell_is is.going in
     let so = read_so seen may_leave faults limit w p.1.cell fs cell p.0 (is.standing p.0 p.1.cell cell) found none in
     let many = grown _ _ _ (found_no_less seen faults limit 1 (lent_from 1 w.servers) fs found) (counts_lent faults _ 1 w.servers p.1.runs.counts) in
@@ -130,7 +135,7 @@ replays {D} seen may_leave faults limit s w fs wire Writes excuse o is found non
       kept = map part fs;
       keep = so.keep;
       written = subst Writes (whole_text seen may_leave faults limit s w fs wire is.world p.1.runs.read) written;
-      given = given_so excuse seen p.1.cell (map part fs) (kept_disks 1 fs) o.given.before o.given.after so gives back.some;
+      given = given_so MayBeMissing seen p.1.cell (map part fs) (kept_disks 1 fs) o.given.before o.given.after so missing;
     }
 
 -- a disk failed while it was read
@@ -147,6 +152,7 @@ reading_fails {D} seen may_leave faults limit s w fs wire o is found failed writ
         end = p.1.cell;
         run = legal_run seen may_leave faults limit is.law (ToItsEnd s) 1 s w o.disk_faults is.in_cell is.world.safe.entries p.1 (rose_by _ _ o.disk_faults back.counts (one_grown _ _ _ less more (counts_lent faults _ 1 w.servers p.1.runs.counts)));
         written = written_told seen may_leave faults limit s w wire o is.world p.1.runs.read written;
+        given = found_come (MissedByTheBank o) seen faults limit s.servers w.servers fs o.given.before o.given.after is.world.safe.server_count p.0 found (missed seen faults (kept_disks 1 fs) o back);
       };
     }
 
@@ -161,35 +167,37 @@ reading_stops {D} seen may_leave faults limit s w fs wire o is found written bac
       end = p.1.cell;
       run = legal_run seen may_leave faults limit is.law (SomeOfIt s) 0 s w o.disk_faults is.in_cell is.world.safe.entries some (no_others _ o.disk_faults (rose_by _ _ o.disk_faults back.counts many));
       written = written_told seen may_leave faults limit s w wire o is.world p.1.runs.read written;
+      given = found_come (MissedByTheBank o) seen faults limit s.servers w.servers fs o.given.before o.given.after is.world.safe.server_count p.0 found (missed seen faults (kept_disks 1 fs) o back);
     }
 
 pub ended : {D : Type 0} (seen : D → Option (List ℕ)) (may_leave : D → List ℕ → Type 0) (faults limit : D → ℕ) (s : Script) (w : WorldState D) (fs : List (Left (Store D) D)) (wire : Bool) (o : Outside) (status : Status) (taken : Result (Unit {0}) Failed)
     → HasEnded seen may_leave faults limit s w → AreFound seen faults limit (lent_from 1 w.servers) fs → TellsLeft (kept_history_text wire w.wire w.history) (final_text (map part fs)) (fault_in fs) o.sink o.passed o.sink_faults status
-    → OnOk taken (GivesBackAll seen (kept_disks 1 fs) o.given.before o.given.after) → OnErr taken (Rose o.bank_faults.before o.bank_faults.after) → GoesBack seen faults (kept_disks 1 fs) o → EndsRun s wire (All seen may_leave faults limit s w) ⊥ o (returned status taken)
-ended {D} seen may_leave faults limit s w fs wire o statuses.Done (Ok u) is found tells all cause back =
+    → OnOk taken (GivesBackBut seen 0 (kept_disks 1 fs) o.given.before o.given.after) → OnOk taken (o.bank_faults.after ≡ o.bank_faults.before) → OnErr taken (Rose o.bank_faults.before o.bank_faults.after) → GoesBack seen faults (kept_disks 1 fs) o → EndsRun s wire (All seen may_leave faults limit s w) ⊥ o (returned status taken)
+ended {D} seen may_leave faults limit s w fs wire o statuses.Done (Ok u) is found tells all quiet cause back =
     record {
+      quiet = quiet;
       written = run_of seen may_leave faults limit s w fs wire (WritesAll o) is.world found tells.1;
-      told = λ p. replays seen may_leave faults limit s w fs wire (WritesAll o) ⊥ o is found tells.0 tells.1 back (inl all) p;
+      told = λ p. replays seen may_leave faults limit s w fs wire (WritesAll o) NoneIsMissing o is found tells.0 tells.1 back (0, (all, refl)) p;
     }
-ended {D} seen may_leave faults limit s w fs wire o statuses.Done (Err f) is found tells all cause back =
+ended {D} seen may_leave faults limit s w fs wire o statuses.Done (Err f) is found tells all quiet cause back =
     let rose = rose_once o.bank_faults.before o.bank_faults.after cause back.never_falls in
     inr (inr (record {
       rose = rose;
       written = run_of seen may_leave faults limit s w fs wire (WritesAll o) is.world found tells.1;
-      told = λ p. replays seen may_leave faults limit s w fs wire (WritesAll o) (RoseBy 1 o.bank_faults) o is found tells.0 tells.1 back (inr rose) p;
+      told = λ p. replays seen may_leave faults limit s w fs wire (WritesAll o) (MissedByTheBank o) o is found tells.0 tells.1 back (missed seen faults (kept_disks 1 fs) o back) p;
     }))
-ended {D} seen may_leave faults limit s w fs wire o statuses.WriteFault taken is found tells all cause back =
+ended {D} seen may_leave faults limit s w fs wire o statuses.WriteFault taken is found tells all quiet cause back =
     record {
       rose = tells.1.1;
       written = run_of seen may_leave faults limit s w fs wire (AppendsFront o.sink.before o.sink.after) is.world found tells.1.0;
-      told = λ p. replays seen may_leave faults limit s w fs wire (AppendsFront o.sink.before o.sink.after) (RoseBy 1 o.bank_faults) o is found tells.0 tells.1.0 back (excused o.bank_faults.before o.bank_faults.after back.never_falls back.gives) p;
+      told = λ p. replays seen may_leave faults limit s w fs wire (AppendsFront o.sink.before o.sink.after) (MissedByTheBank o) o is found tells.0 tells.1.0 back (missed seen faults (kept_disks 1 fs) o back) p;
     }
-ended {D} seen may_leave faults limit s w fs wire o statuses.BankFault taken is found tells all cause back = inr (inl (reading_fails seen may_leave faults limit s w fs wire o is found tells.0 tells.1 back))
-ended {D} seen may_leave faults limit s w fs wire o statuses.OutOfMemory taken is found tells all cause back = inr (record { written = entries_of seen may_leave faults limit s w IsFew wire o is.world is.world.safe.entries tells; told = λ p. reading_stops seen may_leave faults limit s w fs wire o is found tells back p })
-ended {D} seen may_leave faults limit s w fs wire o statuses.Usage taken is found tells all cause back = absurd tells
-ended {D} seen may_leave faults limit s w fs wire o (statuses.Script line reason) taken is found tells all cause back = absurd tells
-ended {D} seen may_leave faults limit s w fs wire o statuses.ReadFault taken is found tells all cause back = absurd tells
-ended {D} seen may_leave faults limit s w fs wire o statuses.Limit taken is found tells all cause back = absurd tells
+ended {D} seen may_leave faults limit s w fs wire o statuses.BankFault taken is found tells all quiet cause back = inr (inl (reading_fails seen may_leave faults limit s w fs wire o is found tells.0 tells.1 back))
+ended {D} seen may_leave faults limit s w fs wire o statuses.OutOfMemory taken is found tells all quiet cause back = inr (record { written = entries_of seen may_leave faults limit s w IsFew wire o is.world is.world.safe.entries tells; told = λ p. reading_stops seen may_leave faults limit s w fs wire o is found tells back p })
+ended {D} seen may_leave faults limit s w fs wire o statuses.Usage taken is found tells all quiet cause back = absurd tells
+ended {D} seen may_leave faults limit s w fs wire o (statuses.Script line reason) taken is found tells all quiet cause back = absurd tells
+ended {D} seen may_leave faults limit s w fs wire o statuses.ReadFault taken is found tells all quiet cause back = absurd tells
+ended {D} seen may_leave faults limit s w fs wire o statuses.Limit taken is found tells all quiet cause back = absurd tells
 
 -- ---- memory ran out in the run, or for the disks
 
@@ -206,6 +214,7 @@ stopped {D} seen may_leave faults limit s w wire o is written back p = record {
   end = p.1.cell;
   run = legal_run seen may_leave faults limit is.law (SomeOfIt s) 0 s w o.disk_faults is.in_cell is.world.safe.entries p.1 (no_others _ o.disk_faults (rose_by _ _ o.disk_faults back.counts (counts_lent faults _ 1 w.servers p.1.runs.counts)));
   written = written_told seen may_leave faults limit s w wire o is.world p.1.runs.read written;
+  given = lent_come (MissedByTheBank o) seen s.servers w.servers o.given.before o.given.after is.world.safe.server_count p.0 (missed seen faults (lent_from 1 w.servers) o back);
 }
 
 -- all was played by then
@@ -229,29 +238,29 @@ was_cut {D} seen may_leave faults limit s w wire o is full written back = record
         kept = left.0;
         keep = left.1.keep;
         written = written_told seen may_leave faults limit s w wire o is.world p.1.0.runs.read written;
-        given = given_so (RoseBy 1 o.bank_faults) seen p.1.0.cell left.0 (lent_from 1 w.servers) o.given.before o.given.after left.1 (excused o.bank_faults.before o.bank_faults.after back.never_falls back.gives) back.some;
+        given = given_so (MissedByTheBank o) seen p.1.0.cell left.0 (lent_from 1 w.servers) o.given.before o.given.after left.1 (missed seen faults (lent_from 1 w.servers) o back);
       };
 }
 
 -- ---- disks that come back unplayed
 
--- they are given back, but where the bank failed once more than before
-lent_back : {D : Type 0} (seen : D → Option (List ℕ)) (failed : ℕ) (ls : List (Lent D)) (o : Outside) → (Rose o.bank_faults.before o.bank_faults.after → RoseBy failed o.bank_faults) → GivesBackAll seen ls o.given.before o.given.after ⊎ Rose o.bank_faults.before o.bank_faults.after → GivesBackSome seen ls o.given.before o.given.after → GivesBackLent seen failed ls o
-lent_back {D} seen failed ls o often (inl all) some = inl all
-lent_back {D} seen failed ls o often (inr rose) some = inr (often rose, some)
+-- disks that were lent in order of number are those of the servers
+pub of_servers : {D : Type 0} (limit : D → ℕ) (capacity i : ℕ) (ls : List (Lent D)) → cells.AreLent limit capacity i ls → AreOfServers i ls
+of_servers {D} limit capacity i [] are = tt
+of_servers {D} limit capacity i (l ∷ ls) are = (are.0, of_servers limit capacity (i + 1) ls are.1.1)
 
 pub not_set_up : {D : Type 0} (seen : D → Option (List ℕ)) (may_leave : D → List ℕ → Type 0) (faults : D → ℕ) (s : Script) (wire : Bool) (tells : Type 0) (disks : List (Lent D)) (e : SetupFault × List (Lent D)) (o : Outside)
-    → AreUnused faults disks → IsRefused faults disks e → AreLeft seen may_leave s 1 disks e.1 → IsUnchanged o.sink → GoesBack seen faults e.1 o → EndsRun s wire tells (SetUpLeaves seen may_leave faults s o) o (set_up_status e.0)
-not_set_up {D} seen may_leave faults s wire tells disks (setup.Disk n, back) o unused refused left unwritten gone =
+    → AreUnused faults disks → IsRefused faults disks e → AreLeft seen may_leave s 1 disks e.1 → AreOfServers 1 e.1 × (length e.1 ≡ s.servers) → IsUnchanged o.sink → GoesBack seen faults e.1 o → EndsRun s wire tells (SetUpLeaves seen may_leave faults s o) o (set_up_status e.0)
+not_set_up {D} seen may_leave faults s wire tells disks (setup.Disk n, back) o unused refused left whose unwritten gone =
     inl (record {
-      rose = rose_by 1 _ o.disk_faults gone.counts (none_fell faults disks back refused.0 refused.1);
+      rose = rose_by 1 _ o.disk_faults gone.counts (none_fell faults n 1 disks back refused.0 refused.1);
       written = unwritten;
-      only_set_up = record { lent = disks; unused = unused; back = back; left = left; given = lent_back seen 1 back o (λ rose. rose_once o.bank_faults.before o.bank_faults.after rose gone.never_falls) gone.gives gone.some };
+      only_set_up = record { lent = disks; unused = unused; back = back; counted = whose.1; are = whose.0; left = left; given = missed_of seen faults back o gone };
     })
-not_set_up {D} seen may_leave faults s wire tells disks (setup.OutOfMemory, back) o unused refused left unwritten gone =
+not_set_up {D} seen may_leave faults s wire tells disks (setup.OutOfMemory, back) o unused refused left whose unwritten gone =
     inl (record {
       written = unwritten;
-      only_set_up = record { lent = disks; unused = unused; back = back; left = left; given = lent_back seen 1 back o (λ rose. rose_once o.bank_faults.before o.bank_faults.after rose gone.never_falls) gone.gives gone.some };
+      only_set_up = record { lent = disks; unused = unused; back = back; counted = whose.1; are = whose.0; left = left; given = missed_of seen faults back o gone };
     })
 
 -- ---- seen from before
@@ -263,44 +272,50 @@ pub record Since (o earlier : Outside) : Type 0 where
   pub given : earlier.given ≡ o.given
   pub sink_faults : earlier.sink_faults ≡ o.sink_faults
   pub disk_faults : earlier.disk_faults ≡ o.disk_faults
-  pub bank_before : earlier.bank_faults.before ≤ o.bank_faults.before
-  pub bank_after : earlier.bank_faults.after ≡ o.bank_faults.after
+  pub bank_faults : earlier.bank_faults ≡ o.bank_faults
 
--- the lends changed neither what was given back nor the faults of disks, and let the bank's count not fall
-pub since_lent : (sink : Span (Option (List ℕ))) (passed : Option (List ℕ)) (sink_faults : Span ℕ) (lends lends_too : Span (Option (List Lend))) (g0 g1 g2 : Given) (b0 b1 b2 d0 d1 d2 : ℕ) → g1 ≡ g0 → d1 ≡ d0 → b0 ≤ b1 →
+-- the lends changed neither what was given back nor the faults of disks, and the bank didn't fail at them
+pub since_lent : (sink : Span (Option (List ℕ))) (passed : Option (List ℕ)) (sink_faults : Span ℕ) (lends lends_too : Span (Option (List Lend))) (g0 g1 g2 : Given) (b0 b1 b2 d0 d1 d2 : ℕ) → g1 ≡ g0 → d1 ≡ d0 → b1 ≡ b0 →
     Since (record { sink = sink; passed = passed; lends = lends; given = span g1 g2; sink_faults = sink_faults; bank_faults = span b1 b2; disk_faults = span d1 d2 }) (record { sink = sink; passed = passed; lends = lends_too; given = span g0 g2; sink_faults = sink_faults; bank_faults = span b0 b2; disk_faults = span d0 d2 })
-since_lent sink passed sink_faults lends lends_too g0 g1 g2 b0 b1 b2 d0 d1 d2 given faults never_falls = record {
+since_lent sink passed sink_faults lends lends_too g0 g1 g2 b0 b1 b2 d0 d1 d2 given faults quiet = record {
   sink = refl;
   passed = refl;
   given = ap (λ (x : Given). span x g2) (sym given);
   sink_faults = refl;
   disk_faults = ap (λ (x : ℕ). span x d2) (sym faults);
-  bank_before = never_falls;
-  bank_after = refl;
+  bank_faults = ap (λ (x : ℕ). span x b2) (sym quiet);
 }
 
 pub since_same : (o : Outside) → Since o o
-since_same o = record { sink = refl; passed = refl; given = refl; sink_faults = refl; disk_faults = refl; bank_before = omega (arith); bank_after = refl }
+since_same o = record { sink = refl; passed = refl; given = refl; sink_faults = refl; disk_faults = refl; bank_faults = refl }
 
 bank_since : (o earlier : Outside) → Since o earlier → RoseBy 1 o.bank_faults → RoseBy 1 earlier.bank_faults
-bank_since o earlier since rose =
-    subst (λ (k : ℕ). RoseBy 1 (span earlier.bank_faults.before k)) (sym since.bank_after) (rose_since 1 earlier.bank_faults.before o.bank_faults.before o.bank_faults.after since.bank_before rose)
+bank_since o earlier since rose = subst (λ (x : Span ℕ). RoseBy 1 x) (sym since.bank_faults) rose
 
-kept_map : (a b : Type 0) → (a → b) → (i : ℕ) (ds : List Durable) (disks : List (ℕ × List ℕ)) → AreKept a i ds disks → AreKept b i ds disks
-kept_map a b f i [] disks h = h
-kept_map a b f i (d ∷ ds) [] (inl h) = absurd h
-kept_map a b f i (d ∷ ds) (disk ∷ disks) (inl h) = inl (h.0, kept_map a b f (i + 1) ds disks h.1)
-kept_map a b f i (d ∷ ds) [] (inr h) = inr (f h.0, kept_map a b f (i + 1) ds [] h.1)
-kept_map a b f i (d ∷ ds) (disk ∷ disks) (inr h) = inr (f h.0, kept_map a b f (i + 1) ds (disk ∷ disks) h.1)
+quiet_since : (o earlier : Outside) → Since o earlier → IsUnchanged o.bank_faults → IsUnchanged earlier.bank_faults
+quiet_since o earlier since quiet = subst (λ (x : Span ℕ). IsUnchanged x) (sym since.bank_faults) quiet
 
-given_map : (a b : Type 0) → (a → b) → (kept : List Durable) (before after : Given) → GivesBack a kept before after → GivesBack b kept before after
+missed_since : (o earlier : Outside) → Since o earlier → (missing : ℕ) → MissedByTheBank o missing → MissedByTheBank earlier missing
+missed_since o earlier since missing failed = subst (λ (x : Span ℕ). SoManyFailed missing x) (sym since.bank_faults) failed
+
+but_map : (a b : ℕ → Type 0) → ((missing : ℕ) → a missing → b missing) → (count : ℕ) (disks : List (ℕ × List ℕ)) → AreAllBut a count disks → AreAllBut b count disks
+but_map a b f count disks h = (h.0, (h.1.0, f h.0 h.1.1))
+
+given_map : (a b : ℕ → Type 0) → ((missing : ℕ) → a missing → b missing) → (kept : List Durable) (before after : Given) → GivesBack a kept before after → GivesBack b kept before after
 given_map a b f kept None after g = tt
-given_map a b f kept (Some before) after g = (g.0, (g.1.0, kept_map a b f 1 kept g.0 g.1.1))
+given_map a b f kept (Some before) after g = (g.0, (g.1.0, (g.1.1.0, but_map a b f (length kept) g.0 g.1.1.1)))
 
-given_since : (a b : Type 0) (o earlier : Outside) → Since o earlier → (a → b) → (kept : List Durable) → GivesBack a kept o.given.before o.given.after → GivesBack b kept earlier.given.before earlier.given.after
+given_since : (a b : ℕ → Type 0) (o earlier : Outside) → Since o earlier → ((missing : ℕ) → a missing → b missing) → (kept : List Durable) → GivesBack a kept o.given.before o.given.after → GivesBack b kept earlier.given.before earlier.given.after
 given_since a b o earlier since f kept g = subst (λ (x : Span Given). GivesBack b kept x.before x.after) (sym since.given) (given_map a b f kept o.given.before o.given.after g)
 
-replays_since : (s : Script) (wire : Bool) (Writes WritesToo : List ℕ → Type 0) (a b : Type 0) (o earlier : Outside) → Since o earlier → ((t : List ℕ) → Writes t → WritesToo t) → (a → b) → Replays s wire Writes a o → Replays s wire WritesToo b earlier
+those_map : (a b : ℕ → Type 0) → ((missing : ℕ) → a missing → b missing) → (n : ℕ) (before after : Given) → GivesBackThose a n before after → GivesBackThose b n before after
+those_map a b f n None after g = tt
+those_map a b f n (Some before) after g = (g.0, (g.1.0, (g.1.1.0, but_map a b f n g.0 g.1.1.1)))
+
+those_since : (n : ℕ) (o earlier : Outside) → Since o earlier → GivesBackThose (MissedByTheBank o) n o.given.before o.given.after → GivesBackThose (MissedByTheBank earlier) n earlier.given.before earlier.given.after
+those_since n o earlier since g = subst (λ (x : Span Given). GivesBackThose (MissedByTheBank earlier) n x.before x.after) (sym since.given) (those_map _ _ (missed_since o earlier since) n o.given.before o.given.after g)
+
+replays_since : (s : Script) (wire : Bool) (Writes WritesToo : List ℕ → Type 0) (a b : ℕ → Type 0) (o earlier : Outside) → Since o earlier → ((t : List ℕ) → Writes t → WritesToo t) → ((missing : ℕ) → a missing → b missing) → Replays s wire Writes a o → Replays s wire WritesToo b earlier
 replays_since s wire Writes WritesToo a b o earlier since w f r = record {
   history = r.history;
   end = r.end;
@@ -336,8 +351,8 @@ entries_since IsSoMany wire o earlier since w = record {
   written = writes_since o earlier since (kept_history_text wire w.sent w.entries) w.written;
 }
 
-first_since : (s : Script) (wire : Bool) (a b : Type 0) (o earlier : Outside) → Since o earlier → (a → b) → ReplaysFirst s wire a o → ReplaysFirst s wire b earlier
-first_since s wire a b o earlier since f r = record {
+first_since : (s : Script) (wire : Bool) (o earlier : Outside) → Since o earlier → ReplaysFirst s wire o → ReplaysFirst s wire earlier
+first_since s wire o earlier since r = record {
   history = r.history;
   end = r.end;
   run = subst (λ (x : Span ℕ). IsLegalRun s (NotToItsEnd s) 0 x r.history r.end) (sym since.disk_faults) r.run;
@@ -345,7 +360,7 @@ first_since s wire a b o earlier since f r = record {
   kept = r.kept;
   keep = r.keep;
   written = writes_since o earlier since (history_text wire r.history) r.written;
-  given = given_since a b o earlier since f r.kept r.given;
+  given = given_since (MissedByTheBank o) (MissedByTheBank earlier) o earlier since (missed_since o earlier since) r.kept r.given;
 }
 
 some_since : (s : Script) (wire : Bool) (o earlier : Outside) → Since o earlier → ReplaysSome s wire o → ReplaysSome s wire earlier
@@ -354,10 +369,13 @@ some_since s wire o earlier since r = record {
   end = r.end;
   run = subst (λ (x : Span ℕ). IsLegalRun s (SomeOfIt s) 0 x r.history r.end) (sym since.disk_faults) r.run;
   written = writes_since o earlier since (history_text wire r.history) r.written;
+  given = those_since s.servers o earlier since r.given;
 }
 
 whole_since : (o earlier : Outside) → Since o earlier → (t : List ℕ) → WritesAll o t → WritesAll earlier t
-whole_since o earlier since t w = subst (λ (x : Span (Option (List ℕ))). WritesWhole x earlier.passed t) (sym since.sink) (subst (λ (x : Option (List ℕ)). WritesWhole o.sink x t) (sym since.passed) w)
+whole_since o earlier since t w =
+    subst (λ (x : Span (Option (List ℕ))). WritesWhole x earlier.passed earlier.sink_faults t) (sym since.sink)
+    (subst (λ (x : Option (List ℕ)). WritesWhole o.sink x earlier.sink_faults t) (sym since.passed) (subst (λ (x : Span ℕ). WritesWhole o.sink o.passed x t) (sym since.sink_faults) w))
 
 front_since : (o earlier : Outside) → Since o earlier → (t : List ℕ) → AppendsFront o.sink.before o.sink.after t → AppendsFront earlier.sink.before earlier.sink.after t
 front_since o earlier since t w = subst (λ (x : Span (Option (List ℕ))). AppendsFront x.before x.after t) (sym since.sink) w
@@ -374,6 +392,7 @@ unread_since s wire o earlier since r = record {
   end = r.end;
   run = subst (λ (x : Span ℕ). IsLegalRun s (ToItsEnd s) 1 x r.history r.end) (sym since.disk_faults) r.run;
   written = writes_since o earlier since (history_text wire r.history) r.written;
+  given = those_since s.servers o earlier since r.given;
 }
 
 bank_fault_since : (s : Script) (wire : Bool) (tells tells_too left left_too : Type 0) (o earlier : Outside) → Since o earlier → (tells_too → tells) → (left → left_too) → AtBankFault s wire tells left o → AtBankFault s wire tells_too left_too earlier
@@ -385,38 +404,40 @@ bank_fault_since s wire tells tells_too left left_too o earlier since t l (inr (
     inr (inr (record {
       rose = bank_since o earlier since h.rose;
       written = run_since s wire _ _ (whole_since o earlier since) h.written;
-      told = λ x. replays_since s wire _ _ _ _ o earlier since (whole_since o earlier since) (bank_since o earlier since) (h.told (t x));
+      told = λ x. replays_since s wire _ _ _ _ o earlier since (whole_since o earlier since) (missed_since o earlier since) (h.told (t x));
     }))
 
 pub ends_since : (s : Script) (wire : Bool) (tells tells_too left left_too : Type 0) (o earlier : Outside) (status : Status) → Since o earlier → (tells_too → tells) → (left → left_too) → EndsRun s wire tells left o status → EndsRun s wire tells_too left_too earlier status
 ends_since s wire tells tells_too left left_too o earlier statuses.Done since t l h =
     record {
+      quiet = quiet_since o earlier since h.quiet;
       written = run_since s wire _ _ (whole_since o earlier since) h.written;
-      told = λ x. replays_since s wire _ _ _ _ o earlier since (whole_since o earlier since) (λ y. y) (h.told (t x));
+      told = λ x. replays_since s wire _ _ _ _ o earlier since (whole_since o earlier since) (λ missing none. none) (h.told (t x));
     }
 ends_since s wire tells tells_too left left_too o earlier statuses.WriteFault since t l h =
     record {
       rose = subst (λ (x : Span ℕ). RoseBy 1 x) (sym since.sink_faults) h.rose;
       written = run_since s wire _ _ (front_since o earlier since) h.written;
-      told = λ x. replays_since s wire _ _ _ _ o earlier since (front_since o earlier since) (bank_since o earlier since) (h.told (t x));
+      told = λ x. replays_since s wire _ _ _ _ o earlier since (front_since o earlier since) (missed_since o earlier since) (h.told (t x));
     }
 ends_since s wire tells tells_too left left_too o earlier statuses.BankFault since t l h = bank_fault_since s wire tells tells_too left left_too o earlier since t l h
 ends_since s wire tells tells_too left left_too o earlier statuses.OutOfMemory since t l (inl h) = inl (record { written = unwritten_since o earlier since h.written; only_set_up = l h.only_set_up })
 ends_since s wire tells tells_too left left_too o earlier statuses.OutOfMemory since t l (inr h) = inr (record { written = entries_since _ wire o earlier since h.written; told = λ x. some_since s wire o earlier since (h.told (t x)) })
-ends_since s wire tells tells_too left left_too o earlier statuses.Limit since t l h = record { written = entries_since _ wire o earlier since h.written; told = λ x. first_since s wire _ _ o earlier since (bank_since o earlier since) (h.told (t x)) }
+ends_since s wire tells tells_too left left_too o earlier statuses.Limit since t l h = record { written = entries_since _ wire o earlier since h.written; told = λ x. first_since s wire o earlier since (h.told (t x)) }
 ends_since s wire tells tells_too left left_too o earlier statuses.Usage since t l h = absurd h
 ends_since s wire tells tells_too left left_too o earlier (statuses.Script line reason) since t l h = absurd h
 ends_since s wire tells tells_too left left_too o earlier statuses.ReadFault since t l h = absurd h
 
-lent_since : {D : Type 0} (seen : D → Option (List ℕ)) (ls : List (Lent D)) (o earlier : Outside) → Since o earlier → GivesBackLent seen 1 ls o → GivesBackLent seen 1 ls earlier
-lent_since {D} seen ls o earlier since (inl all) = inl (subst (λ (x : Span Given). GivesBackAll seen ls x.before x.after) (sym since.given) all)
-lent_since {D} seen ls o earlier since (inr some) = inr (bank_since o earlier since some.0, subst (λ (x : Span Given). GivesBackSome seen ls x.before x.after) (sym since.given) some.1)
+lent_since : {D : Type 0} (seen : D → Option (List ℕ)) (ls : List (Lent D)) (o earlier : Outside) → Since o earlier → GivesBackLent seen 0 ls o → GivesBackLent seen 0 ls earlier
+lent_since {D} seen ls o earlier since back = (back.0, (subst (λ (x : Span Given). GivesBackBut seen back.0 ls x.before x.after) (sym since.given) back.1.0, missed_since o earlier since (0 + back.0) back.1.1))
 
 pub left_since : {D : Type 0} (seen : D → Option (List ℕ)) (may_leave : D → List ℕ → Type 0) (faults : D → ℕ) (s : Script) (o earlier : Outside) → Since o earlier → SetUpLeaves seen may_leave faults s o → SetUpLeaves seen may_leave faults s earlier
 left_since {D} seen may_leave faults s o earlier since l = record {
   lent = l.lent;
   unused = l.unused;
   back = l.back;
+  counted = l.counted;
+  are = l.are;
   left = l.left;
   given = lent_since seen l.back o earlier since l.given;
 }
@@ -424,40 +445,41 @@ left_since {D} seen may_leave faults s o earlier since l = record {
 -- ---- what was lent
 
 -- No further disk was lent: so many were, and they went back.
-pub not_lent : (s : Script) (wire : Bool) (place : Place) (tells left : Type 0) (Unlent : ℕ → ℕ → Type 0) (fault : LendFault) (n : ℕ) (o : Outside) (result status : Status) → (fault ≡ lending.Failed → n < s.servers) → o.lends.after ≡ option_map (λ ls. ls ++ lends place s.capacity 1 n) o.lends.before
+pub not_lent : (s : Script) (wire : Bool) (place : Place) (tells left : Type 0) (Unlent : ℕ → ℕ → Type 0) (fault : LendFault) (n : ℕ) (o : Outside) (result status : Status) → n < s.servers → o.lends.after ≡ option_map (λ ls. ls ++ lends place s.capacity 1 n) o.lends.before
     → IsUnchanged o.sink → (fault ≡ lending.Failed → RoseBy 1 o.bank_faults) → (fault ≡ lending.Failed → Unlent 1 n) → (fault ≡ lending.OutOfMemory → Unlent 0 n) → result ≡ status → status ≡ lend_status fault → EndsReplay s wire place tells left Unlent o result
-not_lent s wire place tells left Unlent lending.Failed n o result status short lent unwritten cause failed ran_out is meant =
-    subst (λ (x : Status). EndsReplay s wire place tells left Unlent o x) (sym (is ∙ meant)) (record { how = inl (record { count = n; lent = lent; written = unwritten; why = (short refl, cause refl); back = failed refl }) })
-not_lent s wire place tells left Unlent lending.OutOfMemory n o result status short lent unwritten cause failed ran_out is meant =
-    subst (λ (x : Status). EndsReplay s wire place tells left Unlent o x) (sym (is ∙ meant)) (record { how = inl (record { count = n; lent = lent; written = unwritten; why = tt; back = ran_out refl }) })
+not_lent s wire place tells left Unlent lending.Failed n o result status fewer lent unwritten cause failed ran_out is meant =
+    subst (λ (x : Status). EndsReplay s wire place tells left Unlent o x) (sym (is ∙ meant)) (record { how = inl (record { count = n; fewer = fewer; lent = lent; written = unwritten; why = cause refl; back = failed refl }) })
+not_lent s wire place tells left Unlent lending.OutOfMemory n o result status fewer lent unwritten cause failed ran_out is meant =
+    subst (λ (x : Status). EndsReplay s wire place tells left Unlent o x) (sym (is ∙ meant)) (record { how = inl (record { count = n; fewer = fewer; lent = lent; written = unwritten; why = tt; back = ran_out refl }) })
 
--- the bank's count rose so often, and then once more
-rose_after : (n b0 b1 b2 : ℕ) → RoseBy n (span b0 b1) → Rose b1 b2 → b1 ≤ b2 → RoseBy (n + 1) (span b0 b2)
-rose_after n b0 b1 b2 (inl before) (inl more) falls = inl (omega (arith, before, more))
-rose_after n b0 b1 b2 (inl before) (inr full) falls = inr (omega (arith, full, falls))
-rose_after n b0 b1 b2 (inr full) rose falls = inr (omega (arith, full, falls))
+-- so many calls failed, and then so many others
+both_failed : (n m b0 b1 b2 : ℕ) → b1 ≤ b2 → HasFailed n b0 b1 → HasFailed m b1 b2 → HasFailed (n + m) b0 b2
+both_failed n m b0 b1 b2 falls first second = (rose first.0 second.0, λ none. quiet (omega (arith, none)) (omega (arith, none))) where
+  rose : (b0 + n ≤ b1) ⊎ (last_count ≤ b1) → (b1 + m ≤ b2) ⊎ (last_count ≤ b2) → (b0 + (n + m) ≤ b2) ⊎ (last_count ≤ b2)
+  rose (inl before) (inl more) = inl (omega (arith, before, more))
+  rose (inl before) (inr full) = inr full
+  rose (inr full) more = inr (omega (arith, full, falls))
+  quiet : n ≡ 0 → m ≡ 0 → b2 ≡ b0
+  quiet none_first none_second = second.1 none_second ∙ first.1 none_first
 
 -- those that were lent came back unused
-pub leaves_lent : {D : Type 0} (seen : D → Option (List ℕ)) (faults limit : D → ℕ) (s : Script) (sink : Span (Option (List ℕ))) (passed : Option (List ℕ)) (lent : Span (Option (List Lend))) (g0 g1 g2 : Given) (sink_faults : Span ℕ) (b0 b1 b2 : ℕ) (disk_faults : Span ℕ) (failed : ℕ) (ls : List (Lent D))
-    → AreLent limit s.capacity 1 ls → AreUnused faults ls → g1 ≡ g0 → RoseBy failed (span b0 b1) → b1 ≤ b2 → GivesBackAll seen ls g1 g2 ⊎ Rose b1 b2 → GivesBackSome seen ls g1 g2
-    → LendingLeaves seen faults limit s (record { sink = sink; passed = passed; lends = lent; given = span g0 g2; sink_faults = sink_faults; bank_faults = span b0 b2; disk_faults = disk_faults }) failed (length ls)
-leaves_lent {D} seen faults limit s sink passed lent g0 g1 g2 sink_faults b0 b1 b2 disk_faults failed ls are unused same rose falls gives some = record {
+pub leaves_lent : {D : Type 0} (seen : D → Option (List ℕ)) (faults limit : D → ℕ) (s : Script) (sink : Span (Option (List ℕ))) (passed : Option (List ℕ)) (lent : Span (Option (List Lend))) (g0 g1 g2 : Given) (sink_faults : Span ℕ) (b0 b1 b2 : ℕ) (disk_faults : Span ℕ) (lends_failed : ℕ) (ls : List (Lent D))
+    → AreLent limit s.capacity 1 ls → AreUnused faults ls → g1 ≡ g0 → HasFailed lends_failed b0 b1 → b1 ≤ b2 → GoBack seen ls g1 g2 b1 b2
+    → LendingLeaves seen faults limit s (record { sink = sink; passed = passed; lends = lent; given = span g0 g2; sink_faults = sink_faults; bank_faults = span b0 b2; disk_faults = disk_faults }) lends_failed (length ls)
+leaves_lent {D} seen faults limit s sink passed lent g0 g1 g2 sink_faults b0 b1 b2 disk_faults lends_failed ls are unused same failed falls back = record {
   lent = ls;
   counted = refl;
   are = are;
   unused = unused;
-  given = given gives;
-} where
-  given : GivesBackAll seen ls g1 g2 ⊎ Rose b1 b2 → GivesBackAll seen ls g0 g2 ⊎ (RoseBy (failed + 1) (span b0 b2) × GivesBackSome seen ls g0 g2)
-  given (inl all) = inl (subst (λ (x : Given). GivesBackAll seen ls x g2) same all)
-  given (inr more) = inr (rose_after failed b0 b1 b2 rose more falls, subst (λ (x : Given). GivesBackSome seen ls x g2) same some)
+  given = (back.missing, (subst (λ (x : Given). GivesBackBut seen back.missing ls x g2) same back.given, both_failed lends_failed back.missing b0 b1 b2 falls failed back.failed));
+}
 
--- the first failure, or none
-pub rose_first : (b0 b1 : ℕ) → Rose b0 b1 → b0 ≤ b1 → RoseBy 1 (span b0 b1)
-rose_first b0 b1 rose never_falls = rose_once b0 b1 rose never_falls
+-- a lend failed, or none
+pub one_failed : (b0 b1 : ℕ) → Rose b0 b1 → b0 ≤ b1 → HasFailed 1 b0 b1
+one_failed b0 b1 rose never_falls = (rose_once b0 b1 rose never_falls, λ none. absurd (omega (arith, none)))
 
-pub none_failed : (b0 b1 : ℕ) → b0 ≤ b1 → RoseBy 0 (span b0 b1)
-none_failed b0 b1 never_falls = inl (omega (arith, never_falls))
+pub none_failed : (b0 b1 : ℕ) → b1 ≡ b0 → HasFailed 0 b0 b1
+none_failed b0 b1 quiet = (inl (omega (arith, quiet)), λ none. quiet)
 
 -- what was lent, and the bank's count, after the disks went back
 pub lent_before : (place : Place) (capacity n : ℕ) (l0 l1 l2 : Option (List Lend)) → l1 ≡ option_map (λ ls. ls ++ lends place capacity 1 n) l0 → l2 ≡ l1 → l2 ≡ option_map (λ ls. ls ++ lends place capacity 1 n) l0
@@ -471,13 +493,13 @@ rose_before b0 b1 b2 rose never_falls falls = rose_once b0 b2 (rose_on rose) (om
 
 -- The script's replay over the disks that were lent is its replay.
 pub replayed : {D : Type 0} (seen : D → Option (List ℕ)) (may_leave : D → List ℕ → Type 0) (faults : D → ℕ) (s : Script) (wire : Bool) (place : Place) (tells tells_too : Type 0) (Unlent : ℕ → ℕ → Type 0) (sink : Span (Option (List ℕ))) (passed : Option (List ℕ)) (sink_faults : Span ℕ) (l0 l1 l2 : Option (List Lend)) (g0 g1 g2 : Given) (b0 b1 b2 d0 d1 d2 : ℕ) (status : Status)
-    → (tells_too → tells) → l1 ≡ option_map (λ ls. ls ++ lends_of s place) l0 → l2 ≡ l1 → g1 ≡ g0 → d1 ≡ d0 → b0 ≤ b1
+    → (tells_too → tells) → l1 ≡ option_map (λ ls. ls ++ lends_of s place) l0 → l2 ≡ l1 → g1 ≡ g0 → d1 ≡ d0 → b1 ≡ b0
     → EndsRun s wire tells (SetUpLeaves seen may_leave faults s (record { sink = sink; passed = passed; lends = span l1 l2; given = span g1 g2; sink_faults = sink_faults; bank_faults = span b1 b2; disk_faults = span d1 d2 })) (record { sink = sink; passed = passed; lends = span l1 l2; given = span g1 g2; sink_faults = sink_faults; bank_faults = span b1 b2; disk_faults = span d1 d2 }) status
     → EndsReplay s wire place tells_too (SetUpLeaves seen may_leave faults s (record { sink = sink; passed = passed; lends = span l0 l2; given = span g0 g2; sink_faults = sink_faults; bank_faults = span b0 b2; disk_faults = span d0 d2 })) Unlent (record { sink = sink; passed = passed; lends = span l0 l2; given = span g0 g2; sink_faults = sink_faults; bank_faults = span b0 b2; disk_faults = span d0 d2 }) status
-replayed {D} seen may_leave faults s wire place tells tells_too Unlent sink passed sink_faults l0 l1 l2 g0 g1 g2 b0 b1 b2 d0 d1 d2 status tell all lent given counts never_falls run =
+replayed {D} seen may_leave faults s wire place tells tells_too Unlent sink passed sink_faults l0 l1 l2 g0 g1 g2 b0 b1 b2 d0 d1 d2 status tell all lent given counts quiet run =
     let o : Outside = record { sink = sink; passed = passed; lends = span l1 l2; given = span g1 g2; sink_faults = sink_faults; bank_faults = span b1 b2; disk_faults = span d1 d2 } in
     let earlier : Outside = record { sink = sink; passed = passed; lends = span l0 l2; given = span g0 g2; sink_faults = sink_faults; bank_faults = span b0 b2; disk_faults = span d0 d2 } in
-    let since : Since o earlier = since_lent sink passed sink_faults (span l1 l2) (span l0 l2) g0 g1 g2 b0 b1 b2 d0 d1 d2 given counts never_falls in
+    let since : Since o earlier = since_lent sink passed sink_faults (span l1 l2) (span l0 l2) g0 g1 g2 b0 b1 b2 d0 d1 d2 given counts quiet in
     record {
       how = inr (lent ∙ all, ends_since s wire tells tells_too (SetUpLeaves seen may_leave faults s o) (SetUpLeaves seen may_leave faults s earlier) o earlier status since tell (left_since seen may_leave faults s o earlier since) run);
     }
@@ -489,10 +511,9 @@ played_on s played wire tells tells_too left o status same tell run =
 
 -- the disks that set-up handed back went back to the bank
 pub refused_of : {D : Type 0} (seen : D → Option (List ℕ)) (may_leave : D → List ℕ → Type 0) (faults : D → ℕ) (s : Script) (wire : Bool) (tells : Type 0) (disks : List (Lent D)) (fault : SetupFault) (back : List (Lent D)) (o : Outside) (result status : Status)
-    → AreUnused faults disks → IsRefused faults disks (fault, back) → AreLeft seen may_leave s 1 disks back → IsUnchanged o.sink
-    → GivesBackAll seen back o.given.before o.given.after ⊎ Rose o.bank_faults.before o.bank_faults.after → GivesBackSome seen back o.given.before o.given.after
-    → o.disk_faults.after ≡ with_faults (faults_of faults back) o.disk_faults.before → o.bank_faults.before ≤ o.bank_faults.after → result ≡ status → status ≡ set_up_status fault
+    → AreUnused faults disks → IsRefused faults disks (fault, back) → AreLeft seen may_leave s 1 disks back → AreOfServers 1 back × (length back ≡ s.servers) → IsUnchanged o.sink
+    → GoBack seen back o.given.before o.given.after o.bank_faults.before o.bank_faults.after → o.disk_faults.after ≡ with_faults (faults_of faults back) o.disk_faults.before → o.bank_faults.before ≤ o.bank_faults.after → result ≡ status → status ≡ set_up_status fault
     → EndsRun s wire tells (SetUpLeaves seen may_leave faults s o) o result
-refused_of {D} seen may_leave faults s wire tells disks fault back o result status unused refused left unwritten gives some counts never_falls is meant =
+refused_of {D} seen may_leave faults s wire tells disks fault back o result status unused refused left whose unwritten goes counts never_falls is meant =
     subst (λ (x : Status). EndsRun s wire tells (SetUpLeaves seen may_leave faults s o) o x) (sym (is ∙ meant))
-    (not_set_up seen may_leave faults s wire tells disks (fault, back) o unused refused left unwritten (record { gives = gives; some = some; counts = counts; never_falls = never_falls }))
+    (not_set_up seen may_leave faults s wire tells disks (fault, back) o unused refused left whose unwritten (record { back = goes; counts = counts; never_falls = never_falls }))

@@ -25,9 +25,9 @@ use Rattle.afs_cell.specs.Worlds.{most_entries, own_falls, seat_disk, AllTell, I
 use Rattle.afs_final.specs.Reading.{fault_in, kept_disk, part, AreFound, IsRead}
 use Rattle.afs_final.specs.declared.reading.Left.{Left}
 use Rattle.afs_final.specs.declared.reading.Left.TheVariants as left
-use Rattle.afs_lending.specs.Lending.{kept_disks, GivesBackAll, GivesBackSome}
+use Rattle.afs_lending.specs.Lending.{kept_disks, GivesBackBut}
 use Rattle.afs_top.specs.Outside.{RoseBy, Span}
-use Rattle.afs_top.specs.Top.{AreKept, GivesBack, IsLegalRun, MayKeep}
+use Rattle.afs_top.specs.Top.{AreKept, AreOf, GivesBack, GivesBackThose, IsLegalRun, MayKeep}
 
 some_of : {A : Type 0} (o : Option A) → IsSome o → (x : A) × (o ≡ Some x)
 some_of {A} None some = absurd cc
@@ -105,46 +105,36 @@ StandFor {D} seen i (l ∷ ls) (d ∷ ds) = ((l.node ≡ i) × (IsSome (seen l.d
 abbrev Given : Type 0
 Given = List (ℕ × List ℕ)
 
--- each goes back, or it is missing with this excuse
-abbrev GivesBackEach : {D : Type 0} → Type 0 → (D → Option (List ℕ)) → List (Lent D) → Option Given → Option Given → Type 0
-GivesBackEach {D} excuse seen [] old new = new ≡ old
-GivesBackEach {D} excuse seen (l ∷ ls) old new = (next : Option Given) × ((banks.GivesBack l.node (seen l.disk) old next ⊎ (excuse × (next ≡ old))) × GivesBackEach excuse seen ls next new)
-
-all_as_each : {D : Type 0} (excuse : Type 0) (seen : D → Option (List ℕ)) (ls : List (Lent D)) (old new : Option Given) → GivesBackAll seen ls old new → GivesBackEach excuse seen ls old new
-all_as_each {D} excuse seen [] old new all = all
-all_as_each {D} excuse seen (l ∷ ls) old new all = (all.0, (inl all.1.0, all_as_each excuse seen ls all.0 new all.1.1))
-
-some_as_each : {D : Type 0} (excuse : Type 0) (seen : D → Option (List ℕ)) (ls : List (Lent D)) (old new : Option Given) → excuse → GivesBackSome seen ls old new → GivesBackEach excuse seen ls old new
-some_as_each {D} excuse seen [] old new excused some = some
-some_as_each {D} excuse seen (l ∷ ls) old new excused some = (some.0, (either some.1.0, some_as_each excuse seen ls some.0 new excused some.1.1)) where
-  either : banks.GivesBack l.node (seen l.disk) old some.0 ⊎ (some.0 ≡ old) → banks.GivesBack l.node (seen l.disk) old some.0 ⊎ (excuse × (some.0 ≡ old))
-  either (inl back) = inl back
-  either (inr same) = inr (excused, same)
-
 given_next : (told : Option (List ℕ)) (i : ℕ) (given : Given) (next : Option Given) (bytes : List ℕ) → told ≡ Some bytes → banks.GivesBack i told (Some given) next → next ≡ Some (given ++ (i, bytes) ∷ [])
 given_next told i given next bytes e back = subst (λ (o : Option (List ℕ)). banks.GivesBack i o (Some given) next) e back
 
-given_each : {D : Type 0} (excuse : Type 0) (seen : D → Option (List ℕ)) (i : ℕ) (ls : List (Lent D)) (ds : List Durable) (given : Given) (new : Option Given) → StandFor seen i ls ds → GivesBackEach excuse seen ls (Some given) new → (disks : Given) × ((new ≡ Some (given ++ disks)) × AreKept excuse i ds disks)
-given_each {D} excuse seen i [] ds given new stand back = ([], (back ∙ ap (λ (x : Given). Some x) (sym (append-nil given)), subst (λ (xs : List Durable). AreKept excuse i xs []) (sym stand) refl))
-given_each {D} excuse seen i (l ∷ ls) [] given new stand back = absurd stand
-given_each {D} excuse seen i (l ∷ ls) (d ∷ ds) given new stand (after, (inl goes, back)) =
+-- these were given back, and so many of so many are missing
+abbrev Returned : (List (ℕ × List ℕ) → Type 0) → ℕ → ℕ → Given → Option Given → Type 0
+Returned AreSuch missing count given new = (disks : Given) × ((new ≡ Some (given ++ disks)) × (AreSuch disks × (length disks + missing ≡ count)))
+
+given_each : {D : Type 0} (seen : D → Option (List ℕ)) (missing i : ℕ) (ls : List (Lent D)) (ds : List Durable) (given : Given) (new : Option Given) → StandFor seen i ls ds → GivesBackBut seen missing ls (Some given) new → Returned (AreKept i ds) missing (length ds) given new
+given_each {D} seen missing i [] ds given new stand back =
+    let none : length ds ≡ 0 = ap length stand in
+    ([], (back.1 ∙ ap (λ (x : Given). Some x) (sym (append-nil given)), (subst (λ (xs : List Durable). AreKept i xs []) (sym stand) refl, omega (arith, back.0, none))))
+given_each {D} seen missing i (l ∷ ls) [] given new stand back = absurd stand
+given_each {D} seen missing i (l ∷ ls) (d ∷ ds) given new stand (inl (after, (goes, back))) =
     let bytes = some_of (seen l.disk) stand.0.1.0 in
     let next = given_next (seen l.disk) l.node given after bytes.0 bytes.1 goes in
-    let more = given_each excuse seen (i + 1) ls ds (given ++ (l.node, bytes.0) ∷ []) new stand.1 (subst (λ (o : Option Given). GivesBackEach excuse seen ls o new) next back) in
-    ((l.node, bytes.0) ∷ more.0, (more.1.0 ∙ ap (λ (x : Given). Some x) (append_assoc given ((l.node, bytes.0) ∷ []) more.0), inl ((stand.0.0, stand.0.1.1 bytes.0 bytes.1), more.1.1)))
-given_each {D} excuse seen i (l ∷ ls) (d ∷ ds) given new stand (after, (inr missing, back)) =
-    let more = given_each excuse seen (i + 1) ls ds given new stand.1 (subst (λ (o : Option Given). GivesBackEach excuse seen ls o new) missing.1 back) in
-    (more.0, (more.1.0, inr (missing.0, more.1.1)))
+    let more = given_each seen missing (i + 1) ls ds (given ++ (l.node, bytes.0) ∷ []) new stand.1 (subst (λ (o : Option Given). GivesBackBut seen missing ls o new) next back) in
+    ((l.node, bytes.0) ∷ more.0, (more.1.0 ∙ ap (λ (x : Given). Some x) (append_assoc given ((l.node, bytes.0) ∷ []) more.0), (inl ((stand.0.0, stand.0.1.1 bytes.0 bytes.1), more.1.1.0), omega (arith, more.1.1.1))))
+given_each {D} seen missing i (l ∷ ls) (d ∷ ds) given new stand (inr (others, (one, back))) =
+    let more = given_each seen others (i + 1) ls ds given new stand.1 back in
+    (more.0, (more.1.0, (inr more.1.1.0, omega (arith, one, more.1.1.1))))
 
-given_by : {D : Type 0} (excuse : Type 0) (seen : D → Option (List ℕ)) (ls : List (Lent D)) (ds : List Durable) (old new : Option Given) → StandFor seen 1 ls ds → GivesBackEach excuse seen ls old new → GivesBack excuse ds old new
-given_by {D} excuse seen ls ds None new stand back = tt
-given_by {D} excuse seen ls ds (Some given) new stand back = given_each excuse seen 1 ls ds given new stand back
+-- as many as the bank took
+abbrev pub Missing : {D : Type 0} → (ℕ → Type 0) → (D → Option (List ℕ)) → List (Lent D) → Option Given → Option Given → Type 0
+Missing {D} MayBeMissing seen ls old new = (missing : ℕ) × (GivesBackBut seen missing ls old new × MayBeMissing missing)
 
-given_all : {D : Type 0} (excuse : Type 0) (seen : D → Option (List ℕ)) (ls : List (Lent D)) (ds : List Durable) (old new : Option Given) → StandFor seen 1 ls ds → GivesBackAll seen ls old new → GivesBack excuse ds old new
-given_all {D} excuse seen ls ds old new stand back = given_by excuse seen ls ds old new stand (all_as_each excuse seen ls old new back)
-
-given_some : {D : Type 0} (excuse : Type 0) (seen : D → Option (List ℕ)) (ls : List (Lent D)) (ds : List Durable) (old new : Option Given) → StandFor seen 1 ls ds → excuse → GivesBackSome seen ls old new → GivesBack excuse ds old new
-given_some {D} excuse seen ls ds old new stand excused back = given_by excuse seen ls ds old new stand (some_as_each excuse seen ls old new excused back)
+given_by : {D : Type 0} (MayBeMissing : ℕ → Type 0) (seen : D → Option (List ℕ)) (ls : List (Lent D)) (ds : List Durable) (old new : Option Given) → StandFor seen 1 ls ds → Missing MayBeMissing seen ls old new → GivesBack MayBeMissing ds old new
+given_by {D} MayBeMissing seen ls ds None new stand back = tt
+given_by {D} MayBeMissing seen ls ds (Some given) new stand back =
+    let all = given_each seen back.0 1 ls ds given new stand back.1.0 in
+    (all.0, (all.1.0, (all.1.1.0, (back.0, (all.1.1.1, back.1.1)))))
 
 -- ---- what is kept at the end of a run, and the disks that stand for it
 
@@ -152,10 +142,8 @@ pub record EndsSo {D : Type 0} (seen : D → Option (List ℕ)) (end : Cell) (ke
   pub keep : MayKeep end 1 kept
   pub stand : StandFor seen 1 disks kept
 
--- as the bank takes them: all, or some where the rest is excused
-pub given_so : {D : Type 0} (excuse : Type 0) (seen : D → Option (List ℕ)) (c : Cell) (kept : List Durable) (disks : List (Lent D)) (old new : Option Given) → EndsSo seen c kept disks → GivesBackAll seen disks old new ⊎ excuse → GivesBackSome seen disks old new → GivesBack excuse kept old new
-given_so {D} excuse seen c kept disks old new so (inl all) some = given_all excuse seen disks kept old new so.stand all
-given_so {D} excuse seen c kept disks old new so (inr excused) some = given_some excuse seen disks kept old new so.stand excused some
+pub given_so : {D : Type 0} (MayBeMissing : ℕ → Type 0) (seen : D → Option (List ℕ)) (c : Cell) (kept : List Durable) (disks : List (Lent D)) (old new : Option Given) → EndsSo seen c kept disks → Missing MayBeMissing seen disks old new → GivesBack MayBeMissing kept old new
+given_so {D} MayBeMissing seen c kept disks old new so back = given_by MayBeMissing seen disks kept old new so.stand back
 
 one_stands : {D : Type 0} (seen : D → Option (List ℕ)) (faults limit : D → ℕ) (c : Cell) (i : ℕ) (l : Lent D) (f : Left (Store D) D) (fs : List (Left (Store D) D)) → Stand seen limit c i l → Tells seen i l → IsRead seen faults limit l.disk f → fault_in (f ∷ fs) ≡ None →
     IsSome (seen (kept_disk f)) × ((bytes : List ℕ) → seen (kept_disk f) ≡ Some bytes → Stands bytes (part f))
@@ -213,6 +201,58 @@ left_so {D} seen may_leave limit w c is tells stand =
     let all = tells_from seen 1 w.servers (each_is (λ (i : ℕ) (s : ServerSeat D). IsSome (seen (seat_disk s))) w.servers tells) in
     let left = parts_stand seen limit c 1 (lent_from 1 w.servers) each all (numbered_from 1 w.servers) (omega (arith, lent_length 1 w.servers, is.host_count)) in
     (left.0, record { keep = left.1.0; stand = left.1.1 })
+
+-- ---- disks go back, whatever they hold
+
+-- each of these disks is that of its server, by number from this one on, and tells
+abbrev TellFrom : {D : Type 0} → (D → Option (List ℕ)) → ℕ → List (Lent D) → Type 0
+TellFrom {D} seen i [] = Unit {0}
+TellFrom {D} seen i (l ∷ ls) = ((l.node ≡ i) × IsSome (seen l.disk)) × TellFrom seen (i + 1) ls
+
+come_each : {D : Type 0} (seen : D → Option (List ℕ)) (missing i : ℕ) (ls : List (Lent D)) (given : Given) (new : Option Given) → TellFrom seen i ls → GivesBackBut seen missing ls (Some given) new → Returned (AreOf i (length ls)) missing (length ls) given new
+come_each {D} seen missing i [] given new tell back = ([], (back.1 ∙ ap (λ (x : Given). Some x) (sym (append-nil given)), (refl, omega (arith, back.0))))
+come_each {D} seen missing i (l ∷ ls) given new tell (inl (after, (goes, back))) =
+    let bytes = some_of (seen l.disk) tell.0.1 in
+    let next = given_next (seen l.disk) l.node given after bytes.0 bytes.1 goes in
+    let more = come_each seen missing (i + 1) ls (given ++ (l.node, bytes.0) ∷ []) new tell.1 (subst (λ (o : Option Given). GivesBackBut seen missing ls o new) next back) in
+    ((l.node, bytes.0) ∷ more.0, (more.1.0 ∙ ap (λ (x : Given). Some x) (append_assoc given ((l.node, bytes.0) ∷ []) more.0), (inl (tell.0.0, more.1.1.0), omega (arith, more.1.1.1))))
+come_each {D} seen missing i (l ∷ ls) given new tell (inr (others, (one, back))) =
+    let more = come_each seen others (i + 1) ls given new tell.1 back in
+    (more.0, (more.1.0, (inr more.1.1.0, omega (arith, one, more.1.1.1))))
+
+come_back : {D : Type 0} (MayBeMissing : ℕ → Type 0) (seen : D → Option (List ℕ)) (count : ℕ) (ls : List (Lent D)) (old new : Option Given) → length ls ≡ count → TellFrom seen 1 ls → Missing MayBeMissing seen ls old new → GivesBackThose MayBeMissing count old new
+come_back {D} MayBeMissing seen count ls None new are tell back = tt
+come_back {D} MayBeMissing seen count ls (Some given) new are tell back =
+    let disks = come_each seen back.0 1 ls given new tell back.1.0 in
+    (disks.0, (disks.1.0, (subst (λ (n : ℕ). AreOf 1 n disks.0) are disks.1.1.0, (back.0, (disks.1.1.1 ∙ are, back.1.1)))))
+
+tell_lent : {D : Type 0} (seen : D → Option (List ℕ)) (i : ℕ) (ss : List (ServerSeat D)) → EachFrom i (λ (i : ℕ) (s : ServerSeat D). IsSome (seen (seat_disk s))) ss → TellFrom seen i (lent_from i ss)
+tell_lent {D} seen i [] tell = tt
+tell_lent {D} seen i (s ∷ ss) tell = ((refl, tell.0), tell_lent seen (i + 1) ss tell.1)
+
+-- those of a world, as they are
+pub lent_come : {D : Type 0} (MayBeMissing : ℕ → Type 0) (seen : D → Option (List ℕ)) (count : ℕ) (ss : List (ServerSeat D)) (old new : Option Given) → length ss ≡ count → AllTell seen ss → Missing MayBeMissing seen (lent_from 1 ss) old new → GivesBackThose MayBeMissing count old new
+lent_come {D} MayBeMissing seen count ss old new are tell back =
+    come_back MayBeMissing seen count (lent_from 1 ss) old new (lent_length 1 ss ∙ are) (tell_lent seen 1 ss (each_is (λ (i : ℕ) (s : ServerSeat D). IsSome (seen (seat_disk s))) ss tell)) back
+
+tell_found : {D : Type 0} (seen : D → Option (List ℕ)) (faults limit : D → ℕ) (i : ℕ) (ls : List (Lent D)) (fs : List (Left (Store D) D)) → AreFound seen faults limit ls fs → EachFrom i (Tells seen) ls → TellFrom seen i (kept_disks i fs)
+tell_found {D} seen faults limit i [] [] found tells = tt
+tell_found {D} seen faults limit i [] (f ∷ fs) found tells = absurd found
+tell_found {D} seen faults limit i (l ∷ ls) [] found tells = absurd found
+tell_found {D} seen faults limit i (l ∷ ls) (f ∷ fs) found tells = ((refl, found.0.told.1 tells.0), tell_found seen faults limit (i + 1) ls fs found.1 tells.1)
+
+found_count : {D : Type 0} (seen : D → Option (List ℕ)) (faults limit : D → ℕ) (i : ℕ) (ls : List (Lent D)) (fs : List (Left (Store D) D)) → AreFound seen faults limit ls fs → length (kept_disks i fs) ≡ length ls
+found_count {D} seen faults limit i [] [] found = refl
+found_count {D} seen faults limit i [] (f ∷ fs) found = absurd found
+found_count {D} seen faults limit i (l ∷ ls) [] found = absurd found
+found_count {D} seen faults limit i (l ∷ ls) (f ∷ fs) found = ap suc (found_count seen faults limit (i + 1) ls fs found.1)
+
+-- those of a world, after they were read
+pub found_come : {D : Type 0} (MayBeMissing : ℕ → Type 0) (seen : D → Option (List ℕ)) (faults limit : D → ℕ) (count : ℕ) (ss : List (ServerSeat D)) (fs : List (Left (Store D) D)) (old new : Option Given) → length ss ≡ count → AllTell seen ss → AreFound seen faults limit (lent_from 1 ss) fs
+    → Missing MayBeMissing seen (kept_disks 1 fs) old new → GivesBackThose MayBeMissing count old new
+found_come {D} MayBeMissing seen faults limit count ss fs old new are tell found back =
+    let all = tells_from seen 1 ss (each_is (λ (i : ℕ) (s : ServerSeat D). IsSome (seen (seat_disk s))) ss tell) in
+    come_back MayBeMissing seen count (kept_disks 1 fs) old new (found_count seen faults limit 1 (lent_from 1 ss) fs found ∙ (lent_length 1 ss ∙ are)) (tell_found seen faults limit 1 (lent_from 1 ss) fs found all) back
 
 -- ---- the history
 

@@ -16,7 +16,7 @@ use Rattle.afs_cell.specs.Steps.{lent_from, AreStanding, HasPlayedAll, HasPlayed
 use Rattle.afs_cell.specs.Worlds.{most_entries, AllTell, HistoryTold, IsWorld, WorldState}
 use Rattle.afs_final.specs.Reading.{fault_in, part, AreFound}
 use Rattle.afs_final.specs.declared.reading.Left.{Left}
-use Rattle.afs_lending.specs.Lending.{faults_of, kept_disks, with_faults, GivesBackAll, GivesBackSome}
+use Rattle.afs_lending.specs.Lending.{faults_of, kept_disks, with_faults, GivesBackBut, GoBack}
 use Rattle.afs_top.specs.Outside.{Outside, Writes}
 use Rattle.afs_top.specs.Parts.{returned, TellsLeft}
 use Rattle.afs_top.specs.Playing.{world_text, IsWritten}
@@ -54,29 +54,26 @@ has_ended {D} seen may_leave faults limit wire start count gone w now counted wr
   standing = λ tells c is. subst (λ (ls : List (Lent D)). AreStanding seen limit c ls) over.are (over.standing going gone told.is told.world.safe c is);
 }
 
-gives_of : {D : Type 0} (seen : D → Option (List ℕ)) (disks : List (Lent D)) (o : Outside) (taken : Result (Unit {0}) bank.Failed) → OnOk taken (GivesBackAll seen disks o.given.before o.given.after) → OnErr taken (Rose o.bank_faults.before o.bank_faults.after) → GivesBackAll seen disks o.given.before o.given.after ⊎ Rose o.bank_faults.before o.bank_faults.after
-gives_of {D} seen disks o (Ok u) all cause = inl all
-gives_of {D} seen disks o (Err f) all cause = inr cause
-
 module _ {D : Type 0} (seen : D → Option (List ℕ)) (may_leave : D → List ℕ → Type 0) (faults limit : D → ℕ) (wire : Bool) (start : Option (List ℕ)) (count : ℕ) (gone : HistoryTold) (w : WorldState D) (now : Option (List ℕ)) (counted : ℕ) (written : Result (Unit {0}) Failed) (disks : List (Lent D)) (o : Outside) (law : RunsAreLegal × RunsEndWell) (in_cell : IsOfCell w.script)
     (told : IsWritten seen may_leave faults limit wire start count gone w now counted written) where
   -- played to its end, and what its disks keep was read
   pub end_of : (fs : List (Left (Store D) D)) (status result : Status) (taken : Result (Unit {0}) bank.Failed) → w.is_lost ≡ false → IsOver seen may_leave limit w disks → AreFound seen faults limit disks fs
       → TellsLeft (world_text wire (whole gone w)) (final_text (map part fs)) (fault_in fs) o.sink o.passed o.sink_faults status
-      → OnOk taken (GivesBackAll seen (kept_disks 1 fs) o.given.before o.given.after) → GivesBackSome seen (kept_disks 1 fs) o.given.before o.given.after → OnErr taken (Rose o.bank_faults.before o.bank_faults.after)
+      → OnOk taken (GivesBackBut seen 0 (kept_disks 1 fs) o.given.before o.given.after) → OnOk taken (o.bank_faults.after ≡ o.bank_faults.before) → OnErr taken (Rose o.bank_faults.before o.bank_faults.after)
+      → GoBack seen (kept_disks 1 fs) o.given.before o.given.after o.bank_faults.before o.bank_faults.after
       → o.disk_faults.after ≡ with_faults (faults_of faults (kept_disks 1 fs)) o.disk_faults.before → o.bank_faults.before ≤ o.bank_faults.after → result ≡ returned status taken
       → EndsRun w.script wire (AllTell seen w.servers × HasPlayedAll seen may_leave faults limit w.script (whole gone w)) ⊥ o result
-  end_of fs status result taken going over found tells all some cause counts never_falls are =
+  end_of fs status result taken going over found tells all quiet cause goes counts never_falls are =
       let is = has_ended seen may_leave faults limit wire start count gone w now counted written disks law in_cell going told over in
       let found_here = subst (λ (ls : List (Lent D)). AreFound seen faults limit ls fs) over.are found in
-      let back : GoesBack seen faults (kept_disks 1 fs) o = record { gives = gives_of seen (kept_disks 1 fs) o taken all cause; some = some; counts = counts; never_falls = never_falls } in
-      subst (λ (x : Status). EndsRun w.script wire (AllTell seen w.servers × HasPlayedAll seen may_leave faults limit w.script (whole gone w)) ⊥ o x) (sym are) (ended seen may_leave faults limit w.script (whole gone w) fs wire o status taken is found_here tells all cause back)
+      let back : GoesBack seen faults (kept_disks 1 fs) o = record { back = goes; counts = counts; never_falls = never_falls } in
+      subst (λ (x : Status). EndsRun w.script wire (AllTell seen w.servers × HasPlayedAll seen may_leave faults limit w.script (whole gone w)) ⊥ o x) (sym are) (ended seen may_leave faults limit w.script (whole gone w) fs wire o status taken is found_here tells all quiet cause back)
 
   -- what was written stands there, and the disks go back
-  module _ (gives : GivesBackAll seen disks o.given.before o.given.after ⊎ Rose o.bank_faults.before o.bank_faults.after) (some : GivesBackSome seen disks o.given.before o.given.after) (counts : o.disk_faults.after ≡ with_faults (faults_of faults disks) o.disk_faults.before)
+  module _ (goes : GoBack seen disks o.given.before o.given.after o.bank_faults.before o.bank_faults.after) (counts : o.disk_faults.after ≡ with_faults (faults_of faults disks) o.disk_faults.before)
       (never_falls : o.bank_faults.before ≤ o.bank_faults.after) (over : IsOver seen may_leave limit w disks) (writes : Writes o (world_text wire (whole gone w))) (result : Status) where
     gone_back : GoesBack seen faults (lent_from 1 w.servers) o
-    gone_back = subst (λ (ls : List (Lent D)). GoesBack seen faults ls o) over.are (record { gives = gives; some = some; counts = counts; never_falls = never_falls })
+    gone_back = subst (λ (ls : List (Lent D)). GoesBack seen faults ls o) over.are (record { back = goes; counts = counts; never_falls = never_falls })
 
     entries : WritesEntries IsFew wire o
     entries = entries_of seen may_leave faults limit w.script (whole gone w) IsFew wire o told.world told.world.safe.entries writes

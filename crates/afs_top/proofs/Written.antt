@@ -14,7 +14,7 @@ use Rattle.afs_top.proofs.Counts.{rose_outside}
 
 -- what was put of a text was written, or a beginning of it
 written_by : {T : Type 0} (x : List ℕ) (a b passed : Option (List ℕ)) (f g : ℕ) (r : Result T Failed) → OnOk r (passed ≡ b) → Puts x a b f g r → WritesText (span a b) passed (span f g) x
-written_by x a b passed f g (Ok v) all p = inl (p.whole, all)
+written_by x a b passed f g (Ok v) all p = inl (p.whole, (all, p.cause.quiet))
 written_by x a b passed f g (Err e) all p = inr (rose_outside f g p.cause.cause, p.front)
 
 -- and nothing after it
@@ -32,7 +32,7 @@ untold history final fault why sink passed faults status is reason written = sub
 
 -- the text was written with what was told of the disks
 pub all_told : {T : Type 0} (text more final : List ℕ) (fault : Option LendFault) (a b passed : Option (List ℕ)) (f g : ℕ) (r : Result T Failed) → IsOk r → fault ≡ None → more ≡ final → OnOk r (passed ≡ b) → Puts (text ++ more) a b f g r → TellsLeft text final fault (span a b) passed (span f g) statuses.Done
-all_told text more final fault a b passed f g (Ok v) ok none same all p = (none, (subst (λ (t : List ℕ). Appends a b (text ++ t)) same p.whole, all))
+all_told text more final fault a b passed f g (Ok v) ok none same all p = (none, (subst (λ (t : List ℕ). Appends a b (text ++ t)) same p.whole, (all, p.cause.quiet)))
 all_told text more final fault a b passed f g (Err e) ok none same all p = absurd cc
 
 pub not_all_told : {T : Type 0} (text more final : List ℕ) (fault : Option LendFault) (a b passed : Option (List ℕ)) (f g : ℕ) (r : Result T Failed) → IsErr r → fault ≡ None → more ≡ final → Puts (text ++ more) a b f g r → TellsLeft text final fault (span a b) passed (span f g) statuses.WriteFault

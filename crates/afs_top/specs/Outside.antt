@@ -3,6 +3,7 @@ use Rattle.std.specs.Prelude.{◌≡◌, ◌≤◌, ◌⊎◌, ℕ, ◌+◌, Lis
 use Rattle.std.specs.Io.KnownBytes.{Appends}
 use Rattle.afs_disk.specs.Fuses.{last_count}
 use Rattle.afs_disk.specs.declared.bank.Lend.{Lend}
+use Rattle.afs_lending.specs.Lending.{HasFailed}
 use Rattle.afs_outside.specs.Outside.{AppendsFront}
 
 -- what stood there before the call, and what stands there after it
@@ -32,16 +33,20 @@ pub record Outside : Type 0 where
 abbrev pub RoseBy : ℕ → Span ℕ → Type 0
 RoseBy n count = (count.before + n ≤ count.after) ⊎ (last_count ≤ count.after)
 
--- all of the text was written, and nothing of it waits in the sink
-abbrev pub WritesWhole : Span (Option (List ℕ)) → Option (List ℕ) → List ℕ → Type 0
-WritesWhole sink passed text = Appends sink.before sink.after text × (passed ≡ sink.after)
+-- So many failed: the count rose so, and where none failed it stands.
+abbrev pub SoManyFailed : ℕ → Span ℕ → Type 0
+SoManyFailed n count = HasFailed n count.before count.after
+
+-- all of the text was written, nothing of it waits in the sink, and the sink didn't fail
+abbrev pub WritesWhole : Span (Option (List ℕ)) → Option (List ℕ) → Span ℕ → List ℕ → Type 0
+WritesWhole sink passed faults text = Appends sink.before sink.after text × ((passed ≡ sink.after) × IsUnchanged faults)
 
 -- so it was, or where the sink failed, a beginning of the text was written
 abbrev pub WritesText : Span (Option (List ℕ)) → Option (List ℕ) → Span ℕ → List ℕ → Type 0
-WritesText sink passed faults text = WritesWhole sink passed text ⊎ (RoseBy 1 faults × AppendsFront sink.before sink.after text)
+WritesText sink passed faults text = WritesWhole sink passed faults text ⊎ (RoseBy 1 faults × AppendsFront sink.before sink.after text)
 
 abbrev pub WritesAll : Outside → List ℕ → Type 0
-WritesAll o text = WritesWhole o.sink o.passed text
+WritesAll o text = WritesWhole o.sink o.passed o.sink_faults text
 
 abbrev pub Writes : Outside → List ℕ → Type 0
 Writes o text = WritesText o.sink o.passed o.sink_faults text

@@ -49,7 +49,7 @@ returned status taken = status
 -- The final part was written after the history, or a beginning of both, where the disks could be read. Else nothing was written after the
 -- history, nor where memory ran out.
 abbrev pub TellsLeft : List ℕ → List ℕ → Option LendFault → Span (Option (List ℕ)) → Option (List ℕ) → Span ℕ → Status → Type 0
-TellsLeft history final fault sink passed faults statuses.Done = (fault ≡ None) × WritesWhole sink passed (history ++ final)
+TellsLeft history final fault sink passed faults statuses.Done = (fault ≡ None) × WritesWhole sink passed faults (history ++ final)
 TellsLeft history final fault sink passed faults statuses.WriteFault = (fault ≡ None) × (AppendsFront sink.before sink.after (history ++ final) × RoseBy 1 faults)
 TellsLeft history final fault sink passed faults statuses.BankFault = (fault ≡ Some lending.Failed) × WritesText sink passed faults history
 TellsLeft history final fault sink passed faults statuses.OutOfMemory = WritesText sink passed faults history

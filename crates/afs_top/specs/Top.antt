@@ -1,6 +1,6 @@
 -- What the program promises: what it writes is the text of a legal history of the script that it read, and the disks that it
 -- gives back stand for what that history leaves.
-use Rattle.std.specs.Prelude.{◌≡◌, ◌≤◌, ◌<◌, ◌⊎◌, ℕ, ◌+◌, List, [], ◌∷◌, ◌++◌, length, Bool, Option, Some, None, Ok, Err}
+use Rattle.std.specs.Prelude.{◌≡◌, ◌≤◌, ◌<◌, ◌⊎◌, ℕ, zero, suc, ◌+◌, List, [], ◌∷◌, ◌++◌, length, Bool, Option, Some, None, Ok, Err}
 use Rattle.std.specs.Option.{option_map}
 use Rattle.std.specs.Io.KnownBytes.{IsAtEnd}
 use Rattle.afs_num.specs.declared.scripts.Reason.{Reason}
@@ -25,9 +25,9 @@ use Rattle.afs_schedule.specs.Schedules.{events_of, first_turn, AreFirst, AreInp
 use Rattle.afs_cell.specs.Ends.{AreLeft}
 use Rattle.afs_cell.specs.Steps.{MayBeRead}
 use Rattle.afs_cell.specs.Worlds.{most_entries, own_falls}
-use Rattle.afs_lending.specs.Lending.{lends, AreLent, AreUnused, GivesBackAll, GivesBackSome}
+use Rattle.afs_lending.specs.Lending.{lends, AreLent, AreUnused, GivesBackBut}
 use Rattle.afs_top.specs.Forms.{Asks, HaveForm}
-use Rattle.afs_top.specs.Outside.{IsUnchanged, Outside, RoseBy, Span, Writes, WritesAll}
+use Rattle.afs_top.specs.Outside.{IsUnchanged, Outside, RoseBy, SoManyFailed, Span, Writes, WritesAll}
 use Rattle.afs_top.specs.declared.statuses.Form.TheVariants.{Replay}
 use Rattle.afs_top.specs.declared.statuses.Status.{Status}
 use Rattle.afs_top.specs.declared.statuses.Status.TheVariants as statuses
@@ -49,16 +49,42 @@ abbrev pub FirstIsKept : ℕ → Durable → List (ℕ × List ℕ) → (List (�
 FirstIsKept i d [] rest = ⊥
 FirstIsKept i d (disk ∷ disks) rest = ((disk.0 ≡ i) × Stands disk.1 d) × rest disks
 
--- These disks, each by its node and its bytes, stand for what is kept at the servers from this number on, in order. One may be missing
--- only with this excuse.
-abbrev pub AreKept : Type 0 → ℕ → List Durable → List (ℕ × List ℕ) → Type 0
-AreKept excuse i [] disks = disks ≡ []
-AreKept excuse i (d ∷ ds) disks = FirstIsKept i d disks (λ rest. AreKept excuse (i + 1) ds rest) ⊎ (excuse × AreKept excuse (i + 1) ds disks)
+-- Each of these disks, by its node and its bytes, stands for what is kept at its server, and they come in order of the servers' numbers,
+-- from this one on. Some may be missing.
+abbrev pub AreKept : ℕ → List Durable → List (ℕ × List ℕ) → Type 0
+AreKept i [] disks = disks ≡ []
+AreKept i (d ∷ ds) disks = FirstIsKept i d disks (λ rest. AreKept (i + 1) ds rest) ⊎ AreKept (i + 1) ds disks
+
+-- of so many disks these are there, and as many are missing as may be
+abbrev pub AreAllBut : (ℕ → Type 0) → ℕ → List (ℕ × List ℕ) → Type 0
+AreAllBut MayBeMissing count disks = (missing : ℕ) × ((length disks + missing ≡ count) × MayBeMissing missing)
+
+abbrev pub NoneIsMissing : ℕ → Type 0
+NoneIsMissing missing = missing ≡ 0
+
+-- the bank failed as often as a disk is missing, and where none is, it didn't
+abbrev pub MissedByTheBank : Outside → ℕ → Type 0
+MissedByTheBank o missing = SoManyFailed missing o.bank_faults
 
 -- those are the disks that the bank was given back, where it tells them
-abbrev pub GivesBack : Type 0 → List Durable → Option (List (ℕ × List ℕ)) → Option (List (ℕ × List ℕ)) → Type 0
-GivesBack excuse kept None after = Unit {0}
-GivesBack excuse kept (Some before) after = (disks : List (ℕ × List ℕ)) × ((after ≡ Some (before ++ disks)) × AreKept excuse 1 kept disks)
+abbrev pub GivesBack : (ℕ → Type 0) → List Durable → Option (List (ℕ × List ℕ)) → Option (List (ℕ × List ℕ)) → Type 0
+GivesBack MayBeMissing kept None after = Unit {0}
+GivesBack MayBeMissing kept (Some before) after = (disks : List (ℕ × List ℕ)) × ((after ≡ Some (before ++ disks)) × (AreKept 1 kept disks × AreAllBut MayBeMissing (length kept) disks))
+
+-- the first of these disks is that of this server, whatever it holds, and of the others this is so
+abbrev pub FirstIsOf : ℕ → List (ℕ × List ℕ) → (List (ℕ × List ℕ) → Type 0) → Type 0
+FirstIsOf i [] rest = ⊥
+FirstIsOf i (disk ∷ disks) rest = (disk.0 ≡ i) × rest disks
+
+-- These are disks of so many servers, in order of number from this one on, whatever they hold. Some may be missing.
+abbrev pub AreOf : ℕ → ℕ → List (ℕ × List ℕ) → Type 0
+AreOf i zero disks = disks ≡ []
+AreOf i (suc more) disks = FirstIsOf i disks (λ rest. AreOf (i + 1) more rest) ⊎ AreOf (i + 1) more disks
+
+-- those are the disks that the bank was given back, where it tells them
+abbrev pub GivesBackThose : (ℕ → Type 0) → ℕ → Option (List (ℕ × List ℕ)) → Option (List (ℕ × List ℕ)) → Type 0
+GivesBackThose MayBeMissing count None after = Unit {0}
+GivesBackThose MayBeMissing count (Some before) after = (disks : List (ℕ × List ℕ)) × ((after ≡ Some (before ++ disks)) × (AreOf 1 count disks × AreAllBut MayBeMissing count disks))
 
 -- one disk for each server of the script, in order of number, with the script's capacity
 abbrev pub lends_of : Script → Place → List Lend
@@ -68,9 +94,9 @@ lends_of s place = lends place s.capacity 1 s.servers
 abbrev pub LendsAll : Script → Place → Outside → Type 0
 LendsAll s place o = o.lends.after ≡ option_map (λ ls. ls ++ lends_of s place) o.lends.before
 
--- These disks were given back, in their order, and nothing else; one may be missing only where the bank failed so often.
+-- These disks were given back, in their order, and nothing else, but for those at which the bank failed; and so many lends had failed.
 abbrev pub GivesBackLent : {D : Type 0} → (D → Option (List ℕ)) → ℕ → List (Lent D) → Outside → Type 0
-GivesBackLent {D} seen failed lent o = GivesBackAll seen lent o.given.before o.given.after ⊎ (RoseBy failed o.bank_faults × GivesBackSome seen lent o.given.before o.given.after)
+GivesBackLent {D} seen lends_failed lent o = (missing : ℕ) × (GivesBackBut seen missing lent o.given.before o.given.after × SoManyFailed (lends_failed + missing) o.bank_faults)
 
 -- ---- histories
 
@@ -99,18 +125,18 @@ SomeOfIt s = λ (inputs : List Input). AreInputs (first_turn s) (events_of s) in
 
 -- The script was played to its end. What was written is the text of its history with what the disks keep, all of it or a beginning;
 -- and the disks that were given back stand for just that.
-pub record Replays (s : Script) (wire : Bool) (Writes : List ℕ → Type 0) (excuse : Type 0) (o : Outside) : Type 0 where
+pub record Replays (s : Script) (wire : Bool) (Writes : List ℕ → Type 0) (MayBeMissing : ℕ → Type 0) (o : Outside) : Type 0 where
   pub history : List Entry
   pub end : Cell
   pub run : IsLegalRun s (ToItsEnd s) 0 o.disk_faults history end
   pub kept : List Durable
   pub keep : MayKeep end 1 kept
   pub written : Writes (text wire history kept)
-  pub given : GivesBack excuse kept o.given.before o.given.after
+  pub given : GivesBack MayBeMissing kept o.given.before o.given.after
 
 -- The first events were played, as many as a history may have. The text of their history was written, in which nothing of the final part
 -- stands, or where the sink failed, a beginning of it; and the disks that were given back stand for what it leaves.
-pub record ReplaysFirst (s : Script) (wire : Bool) (excuse : Type 0) (o : Outside) : Type 0 where
+pub record ReplaysFirst (s : Script) (wire : Bool) (o : Outside) : Type 0 where
   pub history : List Entry
   pub end : Cell
   pub run : IsLegalRun s (NotToItsEnd s) 0 o.disk_faults history end
@@ -118,23 +144,25 @@ pub record ReplaysFirst (s : Script) (wire : Bool) (excuse : Type 0) (o : Outsid
   pub kept : List Durable
   pub keep : MayKeep end 1 kept
   pub written : Writes o (history_text wire history)
-  pub given : GivesBack excuse kept o.given.before o.given.after
+  pub given : GivesBack (MissedByTheBank o) kept o.given.before o.given.after
 
 -- The first events were played, however many, and the text of their history was written, or where the sink failed, a beginning of it.
--- Nothing of the final part stands there.
+-- Nothing of the final part stands there. The disks were given back, whatever they hold.
 pub record ReplaysSome (s : Script) (wire : Bool) (o : Outside) : Type 0 where
   pub history : List Entry
   pub end : Cell
   pub run : IsLegalRun s (SomeOfIt s) 0 o.disk_faults history end
   pub written : Writes o (history_text wire history)
+  pub given : GivesBackThose (MissedByTheBank o) s.servers o.given.before o.given.after
 
 -- The script was played to its end, and then a disk failed: that failure is none of the history's. The text of the history was written,
--- without the final part, or where the sink failed, a beginning of it.
+-- without the final part, or where the sink failed, a beginning of it. The disks were given back, whatever they hold.
 pub record ReplaysUnread (s : Script) (wire : Bool) (o : Outside) : Type 0 where
   pub history : List Entry
   pub end : Cell
   pub run : IsLegalRun s (ToItsEnd s) 1 o.disk_faults history end
   pub written : Writes o (history_text wire history)
+  pub given : GivesBackThose (MissedByTheBank o) s.servers o.given.before o.given.after
 
 -- ---- texts, whatever the disks tell
 
@@ -167,42 +195,51 @@ pub record WritesRun (s : Script) (wire : Bool) (Writes : List ℕ → Type 0) :
 
 -- ---- disks that come back unplayed
 
--- What comes back of disks that were lent and set up, but not played. No disk had failed when it was lent. Where it told its bytes, and
--- there were none, it comes back with the record of the script's set-up, or with none. A bank need not lend empty disks.
+-- these disks are those of the servers from this number on, in order
+abbrev pub AreOfServers : {D : Type 0} → ℕ → List (Lent D) → Type 0
+AreOfServers {D} i [] = Unit {0}
+AreOfServers {D} i (l ∷ ls) = (l.node ≡ i) × AreOfServers (i + 1) ls
+
+-- What comes back of disks that were lent and set up, but not played: one for each server, in order of number. No disk had failed when it
+-- was lent. Where it told its bytes, and there were none, it comes back with the record of the script's set-up, or with none. A bank need
+-- not lend empty disks.
 pub record SetUpLeaves {D : Type 0} (seen : D → Option (List ℕ)) (may_leave : D → List ℕ → Type 0) (faults : D → ℕ) (s : Script) (o : Outside) : Type 0 where
   pub lent : List (Lent D)
   pub unused : AreUnused faults lent
   pub back : List (Lent D)
+  pub counted : length back ≡ s.servers
+  pub are : AreOfServers 1 back
   pub left : AreLeft seen may_leave s 1 lent back
-  pub given : GivesBackLent seen 1 back o
+  pub given : GivesBackLent seen 0 back o
 
--- What comes back where no further disk was lent: so many, those of the first servers in order of number, each of the script's capacity,
--- and none of which had failed. One may be missing only where the bank failed once more than it had failed before.
-pub record LendingLeaves {D : Type 0} (seen : D → Option (List ℕ)) (faults limit : D → ℕ) (s : Script) (o : Outside) (failed count : ℕ) : Type 0 where
+-- What comes back where no further disk was lent, after so many lends had failed: so many disks, those of the first servers in order of
+-- number, each of the script's capacity, and none of which had failed, but for those at which the bank failed.
+pub record LendingLeaves {D : Type 0} (seen : D → Option (List ℕ)) (faults limit : D → ℕ) (s : Script) (o : Outside) (lends_failed count : ℕ) : Type 0 where
   pub lent : List (Lent D)
   pub counted : length lent ≡ count
   pub are : AreLent limit s.capacity 1 lent
   pub unused : AreUnused faults lent
-  pub given : GivesBackLent seen (failed + 1) lent o
+  pub given : GivesBackLent seen lends_failed lent o
 
 -- ---- how the replay of a script ends, over disks that tell what they hold or not
 
--- All is done: the whole text was written and passed on, and each disk given back. Whatever the disks tell, the text is that of some
--- entries, and of what so many servers keep.
+-- All is done: the whole text was written and passed on, and each disk given back; neither the sink nor the bank failed. Whatever the disks
+-- tell, the text is that of some entries, and of what so many servers keep.
 pub record AtDone (s : Script) (wire : Bool) (tells : Type 0) (o : Outside) : Type 0 where
+  pub quiet : IsUnchanged o.bank_faults
   pub written : WritesRun s wire (WritesAll o)
-  pub told : tells → Replays s wire (WritesAll o) ⊥ o
+  pub told : tells → Replays s wire (WritesAll o) NoneIsMissing o
 
--- the sink failed: a beginning of the text was written; a disk is kept from the bank only where that failed too
+-- the sink failed: a beginning of the text was written; a disk is missing only where the bank failed too
 pub record AtWriteFault (s : Script) (wire : Bool) (tells : Type 0) (o : Outside) : Type 0 where
   pub rose : RoseBy 1 o.sink_faults
   pub written : WritesRun s wire (AppendsFront o.sink.before o.sink.after)
-  pub told : tells → Replays s wire (AppendsFront o.sink.before o.sink.after) (RoseBy 1 o.bank_faults) o
+  pub told : tells → Replays s wire (AppendsFront o.sink.before o.sink.after) (MissedByTheBank o) o
 
 -- a history was full before the last event
 pub record AtLimit (s : Script) (wire : Bool) (tells : Type 0) (o : Outside) : Type 0 where
   pub written : WritesEntries IsFull wire o
-  pub told : tells → ReplaysFirst s wire (RoseBy 1 o.bank_faults) o
+  pub told : tells → ReplaysFirst s wire o
 
 -- a disk failed while it was set up: what that leaves comes back
 pub record SettingUpFails (left : Type 0) (o : Outside) : Type 0 where
@@ -220,7 +257,7 @@ pub record ReadingFails (s : Script) (wire : Bool) (tells : Type 0) (o : Outside
 pub record ReturningFails (s : Script) (wire : Bool) (tells : Type 0) (o : Outside) : Type 0 where
   pub rose : RoseBy 1 o.bank_faults
   pub written : WritesRun s wire (WritesAll o)
-  pub told : tells → Replays s wire (WritesAll o) (RoseBy 1 o.bank_faults) o
+  pub told : tells → Replays s wire (WritesAll o) (MissedByTheBank o) o
 
 -- The bank failed, or a disk. What is seen outside are counts, the sink and the disks that come back: by these alone a call that stops
 -- at a disk's failure in an event isn't told from the first and the second.
@@ -250,23 +287,24 @@ EndsRun s wire tells left o statuses.OutOfMemory = AtOutOfMemory s wire tells le
 EndsRun s wire tells left o statuses.Limit = AtLimit s wire tells o
 EndsRun s wire tells left o status = ⊥
 
--- why no further disk was lent, after so many: the bank failed before all were lent, or memory ran out
-abbrev pub LendsNoMore : Script → ℕ → Outside → Status → Type 0
-LendsNoMore s count o statuses.BankFault = (count < s.servers) × RoseBy 1 o.bank_faults
-LendsNoMore s count o statuses.OutOfMemory = Unit {0}
-LendsNoMore s count o status = ⊥
+-- why no further disk was lent: the bank failed, or memory ran out
+abbrev pub LendsNoMore : Outside → Status → Type 0
+LendsNoMore o statuses.BankFault = RoseBy 1 o.bank_faults
+LendsNoMore o statuses.OutOfMemory = Unit {0}
+LendsNoMore o status = ⊥
 
--- how often the bank had failed then
+-- how many lends had failed then
 abbrev pub lend_failures : Status → ℕ
 lend_failures statuses.BankFault = 1
 lend_failures status = 0
 
--- So many disks were lent, the first of them, and no further one. `Unlent` says what comes back of so many.
+-- So many disks were lent, the first of them, fewer than the script has servers, and no further one. `Unlent` says what comes back of so many.
 pub record LendingFails (s : Script) (place : Place) (Unlent : ℕ → ℕ → Type 0) (o : Outside) (status : Status) : Type 0 where
   pub count : ℕ
+  pub fewer : count < s.servers
   pub lent : o.lends.after ≡ option_map (λ ls. ls ++ lends place s.capacity 1 count) o.lends.before
   pub written : IsUnchanged o.sink
-  pub why : LendsNoMore s count o status
+  pub why : LendsNoMore o status
   pub back : Unlent (lend_failures status) count
 
 -- Over disks at this place: not all were lent; or all were, and nothing else, and the replay over them ends so.
@@ -291,8 +329,9 @@ most_bytes = 16777216
 abbrev pub IsReadOut : Span (Option (List ℕ)) → Type 0
 IsReadOut source = IsAtEnd source.after ⊎ ((front : List ℕ) × TakesTooMuch most_bytes source.before source.after front)
 
--- The words ask for a replay. All was read that the source had left, and that is a script. Its replay ends so.
-pub record Answers (words : List (List ℕ)) (source : Span (Option (List ℕ))) (Ends : Script → Bool → Place → Type 0) : Type 0 where
+-- The words ask for a replay. All was read that the source had left, which didn't fail, and that is a script. Its replay ends so.
+pub record Answers (words : List (List ℕ)) (source : Span (Option (List ℕ))) (source_faults : Span ℕ) (Ends : Script → Bool → Place → Type 0) : Type 0 where
+  pub quiet : IsUnchanged source_faults
   pub wire : Bool
   pub place : Place
   pub asked : Asks (Replay wire place) words
@@ -303,8 +342,9 @@ pub record Answers (words : List (List ℕ)) (source : Span (Option (List ℕ)))
   pub read : script_of level input ≡ Ok script
   pub ends : Ends script wire place
 
--- The words ask for a replay, and what the source had left is no script. It was read out before that was said.
-pub record Refuses (words : List (List ℕ)) (source : Span (Option (List ℕ))) (line : ℕ) (reason : Reason) : Type 0 where
+-- The words ask for a replay, and what the source had left is no script. It was read out before that was said, and didn't fail.
+pub record Refuses (words : List (List ℕ)) (source : Span (Option (List ℕ))) (source_faults : Span ℕ) (line : ℕ) (reason : Reason) : Type 0 where
+  pub quiet : IsUnchanged source_faults
   pub asked : HaveForm words
   pub input : List ℕ
   pub had : HadAll source.before input
@@ -321,10 +361,10 @@ pub record DoesNothing (o : Outside) : Type 0 where
 -- comes back of them where they are only set up, or where not all are lent.
 abbrev pub Ends : List (List ℕ) → Span (Option (List ℕ)) → Span ℕ → (Place → Type 0) → (Script → Outside → Type 0) → (Script → Outside → ℕ → ℕ → Type 0) → Outside → Status → Type 0
 Ends words source source_faults Tells Left Unlent o statuses.Usage = HaveForm words → ⊥
-Ends words source source_faults Tells Left Unlent o (statuses.Script line reason) = Refuses words source line reason
+Ends words source source_faults Tells Left Unlent o (statuses.Script line reason) = Refuses words source source_faults line reason
 Ends words source source_faults Tells Left Unlent o statuses.ReadFault = HaveForm words × RoseBy 1 source_faults
-Ends words source source_faults Tells Left Unlent o statuses.OutOfMemory = HaveForm words × (DoesNothing o ⊎ Answers words source (λ s wire place. EndsReplay s wire place (Tells place) (Left s o) (Unlent s o) o statuses.OutOfMemory))
-Ends words source source_faults Tells Left Unlent o status = Answers words source (λ s wire place. EndsReplay s wire place (Tells place) (Left s o) (Unlent s o) o status)
+Ends words source source_faults Tells Left Unlent o statuses.OutOfMemory = HaveForm words × ((IsUnchanged source_faults × DoesNothing o) ⊎ Answers words source source_faults (λ s wire place. EndsReplay s wire place (Tells place) (Left s o) (Unlent s o) o statuses.OutOfMemory))
+Ends words source source_faults Tells Left Unlent o status = Answers words source source_faults (λ s wire place. EndsReplay s wire place (Tells place) (Left s o) (Unlent s o) o status)
 
 -- these statuses come before anything is lent or written
 abbrev pub IsBeforeReplay : Status → Type 0

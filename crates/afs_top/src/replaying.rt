@@ -1,7 +1,6 @@
 //! A script is played over the disks of its servers, and its history is written.
 
 ghost use Rattle.std.specs.Prelude.{◌≡◌, ◌≤◌, ◌⊎◌, ◌+◌, ◌++◌, ℕ, List, [], Bool, Option, None, length, map, false, IfErr, IfOk, OnOk};
-ghost use Rattle.afs_disk.specs.Disk.{Rose};
 ghost use Rattle.afs_grammar.specs.CellScripts.{IsCellScript};
 ghost use Rattle.afs_outside.specs.Outside.{Puts};
 ghost use Rattle.afs_cell.specs.Since.{whole, IsWorldSince};
@@ -10,7 +9,7 @@ ghost use Rattle.afs_cell.specs.Worlds.{most_entries, AllTell, HistoryTold};
 ghost use Rattle.afs_final.specs.Reading.{part};
 ghost use Rattle.afs_final.specs.Reading as read;
 ghost use Rattle.afs_final.specs.Telling.{final_of};
-ghost use Rattle.afs_lending.specs.Lending.{faults_of, with_faults, AreUnused, GivesBackAll, GivesBackSome};
+ghost use Rattle.afs_lending.specs.Lending.{faults_of, with_faults, AreUnused, GoBack};
 ghost use Rattle.afs_text.specs.FinalText.{final_text};
 ghost use Rattle.afs_top.specs.Outside.{span, WritesText};
 ghost use Rattle.afs_top.specs.Parts.{lend_status, returned, set_up_status, IsUntold, TellsLeft};
@@ -65,8 +64,7 @@ fn returned(status: Status, taken: Result<(), BankFailed>) -> Status
 /// The disks go back, and the program ends so, also where the bank doesn't take one of them.
 fn give_up<B: Bank<D: Drop>>(bank: &mut B, disks: Disks<B::D>, status: Status) -> Status
     ensures status { result ≡ status }
-    ensures given { GivesBackAll B.D.seen disks (B.given bank.old) (B.given bank.new) ⊎ Rose (B.faults bank.old) (B.faults bank.new) }
-    ensures some { GivesBackSome B.D.seen disks (B.given bank.old) (B.given bank.new) }
+    ensures back { GoBack B.D.seen disks (B.given bank.old) (B.given bank.new) (B.faults bank.old) (B.faults bank.new) }
     ensures faults { B.lent_faults bank.new ≡ with_faults (faults_of B.D.faults disks) (B.lent_faults bank.old) }
     ensures lends { B.lends bank.new ≡ B.lends bank.old }
     ensures never_falls { B.faults bank.old ≤ B.faults bank.new }

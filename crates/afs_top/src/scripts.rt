@@ -69,7 +69,7 @@ fn refusal_of_long(alloc: Global, input: &[u8]) -> Refusal
 /// The script that the source holds, or the status of a call that ends here: the input is no script, the source failed, or
 /// memory ran out.
 pub(crate) fn script_in<S: Source>(alloc: Global, source: &mut S) -> Result<Script, Status>
-    ensures script { IfOk result (GivesScript (span (S.left source.old) (S.left source.new))) }
+    ensures script { IfOk result (GivesScript (span (S.left source.old) (S.left source.new)) (span (S.faults source.old) (S.faults source.new))) }
     ensures none { IfErr result (GivesNone (span (S.left source.old) (S.left source.new)) (span (S.faults source.old) (S.faults source.new))) }
     ensures stops { TakesAtMost (16777216 + 1) (S.left source.old) (S.left source.new) }
 {

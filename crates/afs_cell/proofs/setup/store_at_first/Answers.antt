@@ -42,7 +42,7 @@ returns-clause-err g c =
     let disk : c.new.result.disk ≡ c.args.disk = ap (λ (f : Fused g.row.D.Denot). f.disk) c.new.ensures in
     let now : ℕ = min (g.D.Disk.faults fuse.disk + fuse.tripped) last_count in
     let refused =
-    refused_store g.D.Disk.seen g.D.Disk.may_leave g.D.Disk.faults g.D.Disk.limit c.args.script.now c.requires.script c.args.server c.args.disk ls c.set_ups_are_accepted.ensures (Server c.args.server) c.in-Err.fault fuse.disk fuse.calls (min (g.D.Disk.faults c.args.disk + 0) last_count) now lines
+    refused_store g.D.Disk.seen g.D.Disk.may_leave g.D.Disk.faults g.D.Disk.limit c.args.script.now c.requires.script c.args.server c.args.disk ls c.set_ups_are_accepted.ensures c.in-Err.fault fuse.disk fuse.calls (min (g.D.Disk.faults c.args.disk + 0) last_count) now lines
     c.requires.capacity e.refusals (λ used capacity is. subst (λ (d : g.row.D.Denot). set_up (g.D.Disk.limit d) ls ≡ None) disk (e.full used capacity is).1.1)
     (subst (λ (f : Fused g.row.D.Denot). IsCaused (setting_of f) fuse.calls (min (g.D.Disk.faults f.disk + f.tripped) last_count) now (g.D.Disk.faults f.disk) (g.D.Disk.faults fuse.disk) c.in-Err.fault) c.new.ensures e.err.1) (m.same_limit ∙ ap g.D.Disk.limit disk)
     (subst (λ (d : g.row.D.Denot). g.D.Disk.faults d ≤ g.D.Disk.faults fuse.disk) disk m.own_never_falls) (subst (λ (d : g.row.D.Denot). IsSome (g.D.Disk.seen fuse.disk) ↔ IsSome (g.D.Disk.seen d)) disk e.told)

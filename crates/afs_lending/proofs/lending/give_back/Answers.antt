@@ -1,18 +1,29 @@
-use Rattle.std.specs.Prelude.{◌≡◌, ◌+◌, [], ◌∷◌, ℕ, List, Option, length}
-use Rattle.std.proofs.Common.{refl, rules, ap, sym, subst, ◌∙◌, arith}
+use Rattle.std.specs.Prelude.{◌≡◌, ◌+◌, [], ◌∷◌, List, length}
+use Rattle.std.proofs.Common.{refl, rules, ap, sym, ◌∙◌, arith}
 use Rattle.std.specs.Vec.Iter.{into_iter_items}
 use Rattle.std.proofs.lemmas.List.{nil_from_length}
 use Rattle.afs_disk.specs.declared.disks.Lent.{Lent}
 use Rattle.afs_lending.specs.Lending.{kept_disks}
-use Rattle.afs_lending.proofs.Returns.{all_next, cause_next, ok_end, ok_next, some_end, some_next, sum_next}
+use Rattle.afs_lending.proofs.Returns.{all_back, all_quiet, cause_next, goes_on, gone_back, none_yet, sum_next}
 use Rattle.afs_lending.proofs.lending.give_back.Goals as goal
+
+pub loop-found-init : goal.loop-found-init
+loop-found-init g c =
+    let all : kept_disks 1 (into_iter_items c.into_iter-found-iterator.result) ≡ kept_disks 1 c.args.left.items = ap (kept_disks 1) c.into_iter-found-iterator.ensures.into_iter_gives.0 in
+    record {
+      place = search rules;
+      back = none_yet g.B.D.Disk.seen _ _ _ _ _ all;
+      cause = tt;
+      sum = search rules;
+      lends = refl;
+      never_falls = omega (arith);
+    }
 
 pub loop-found-preserved : goal.loop-found-preserved
 loop-found-preserved g c =
     let i = c.loop-found.invariant in
     let e = c.give_one-all.ensures in
     let n = c.loop-found.node + 1 in
-    let seen = g.B.D.Disk.seen in
     let steps : into_iter_items c.loop-found.found-iterator ≡ c.in-Some.found ∷ into_iter_items c.next.new.self = search rules in
     let lent : Lent g.row.B-D.Denot = record { node = n; disk = c.disk_in.result } in
     let rest : List (Lent g.row.B-D.Denot) = kept_disks (n + 1) (into_iter_items c.next.new.self) in
@@ -20,9 +31,7 @@ loop-found-preserved g c =
     ap (kept_disks n) steps ∙ ap (λ (d : g.row.B-D.Denot). record { node = n; disk = d } ∷ rest) (sym c.disk_in.ensures) in
     record {
       place = omega (arith, i.place, ap length steps);
-      all = ok_next c.loop-found.all c.give_one-all.result _ _ _ e.all i.all e.given
-          (λ so_far one last more. so_far last (all_next seen (kept_disks n (into_iter_items c.loop-found.found-iterator)) rest lent (g.B.Bank.given c.loop-found.bank) (g.B.Bank.given c.give_one-all.new.bank) last next one more));
-      some = λ last more. i.some last (some_next seen (kept_disks n (into_iter_items c.loop-found.found-iterator)) rest lent (g.B.Bank.given c.loop-found.bank) (g.B.Bank.given c.give_one-all.new.bank) last next e.kept more);
+      back = goes_on g.B.D.Disk.seen (kept_disks n (into_iter_items c.loop-found.found-iterator)) rest (kept_disks 1 c.args.left.items) lent (g.B.Bank.given c.loop-found.bank) (g.B.Bank.given c.give_one-all.new.bank) (g.B.Bank.given c.args.bank.now) (g.B.Bank.faults c.args.bank.now) (g.B.Bank.faults c.loop-found.bank) (g.B.Bank.faults c.give_one-all.new.bank) c.loop-found.all c.give_one-all.result next e.never_falls i.back e.goes;
       cause = cause_next c.loop-found.all c.give_one-all.result (g.B.Bank.faults c.args.bank.now) (g.B.Bank.faults c.loop-found.bank) (g.B.Bank.faults c.give_one-all.new.bank) i.never_falls e.never_falls i.cause e.cause;
       sum = sum_next g.B.D.Disk.faults (kept_disks n (into_iter_items c.loop-found.found-iterator)) rest lent (g.B.Bank.lent_faults c.loop-found.bank) (g.B.Bank.lent_faults c.give_one-all.new.bank) next e.faults ∙ i.sum;
       lends = e.lends ∙ i.lends;
@@ -32,11 +41,15 @@ loop-found-preserved g c =
 pub returns-clause-all : goal.returns-clause-all
 returns-clause-all g c =
     let none : into_iter_items c.loop-found.found-iterator ≡ [] = nil_from_length (into_iter_items c.loop-found.found-iterator) (sym c.loop-found.found-iterator.rest.ok.0 ∙ c.in-None.ensures.steps.0) in
-    ok_end g.B.D.Disk.seen (kept_disks (c.loop-found.node + 1) (into_iter_items c.loop-found.found-iterator)) (kept_disks 1 c.args.left.items) c.loop-found.all (g.B.Bank.given c.loop-found.bank) (g.B.Bank.given c.args.bank.now)
-    (ap (kept_disks (c.loop-found.node + 1)) none) c.loop-found.invariant.all
+    all_back g.B.D.Disk.seen (kept_disks (c.loop-found.node + 1) (into_iter_items c.loop-found.found-iterator)) (kept_disks 1 c.args.left.items) (g.B.Bank.given c.loop-found.bank) (g.B.Bank.given c.args.bank.now) _ _ c.loop-found.all
+    (ap (kept_disks (c.loop-found.node + 1)) none) c.loop-found.invariant.back
 
-pub returns-clause-some : goal.returns-clause-some
-returns-clause-some g c =
+pub returns-clause-back : goal.returns-clause-back
+returns-clause-back g c =
     let none : into_iter_items c.loop-found.found-iterator ≡ [] = nil_from_length (into_iter_items c.loop-found.found-iterator) (sym c.loop-found.found-iterator.rest.ok.0 ∙ c.in-None.ensures.steps.0) in
-    some_end g.B.D.Disk.seen (kept_disks (c.loop-found.node + 1) (into_iter_items c.loop-found.found-iterator)) (kept_disks 1 c.args.left.items) (g.B.Bank.given c.loop-found.bank) (g.B.Bank.given c.args.bank.now)
-    (ap (kept_disks (c.loop-found.node + 1)) none) c.loop-found.invariant.some
+    gone_back g.B.D.Disk.seen (kept_disks (c.loop-found.node + 1) (into_iter_items c.loop-found.found-iterator)) (kept_disks 1 c.args.left.items) (g.B.Bank.given c.loop-found.bank) (g.B.Bank.given c.args.bank.now) _ _ c.loop-found.all
+    (ap (kept_disks (c.loop-found.node + 1)) none) c.loop-found.invariant.back
+
+pub returns-clause-quiet : goal.returns-clause-quiet
+returns-clause-quiet g c =
+    all_quiet g.B.D.Disk.seen (kept_disks (c.loop-found.node + 1) (into_iter_items c.loop-found.found-iterator)) (kept_disks 1 c.args.left.items) (g.B.Bank.given c.loop-found.bank) (g.B.Bank.given c.args.bank.now) _ _ c.loop-found.all c.loop-found.invariant.back

@@ -26,6 +26,7 @@ loop-before-preserved g c =
       unused = subst (AreUnused g.B.D.Disk.faults) (sym now) (unused_more g.B.D.Disk.faults before lent i.unused e.unused);
       sum = e.lent ∙ i.sum;
       given = e.given ∙ i.given;
+      quiet = e.quiet (λ failed. absurd cc) ∙ i.quiet;
       never_falls = omega (arith, i.never_falls, e.never_falls);
     }
 

@@ -15,5 +15,6 @@ invariant-loop-before g l = record {
   unused : AreUnused g.B.D.Disk.faults l.disks.items;
   sum : g.B.Bank.lent_faults l.bank ≡ g.B.Bank.lent_faults l.fn.bank;
   given : g.B.Bank.given l.bank ≡ g.B.Bank.given l.fn.bank;
+  quiet : g.B.Bank.faults l.bank ≡ g.B.Bank.faults l.fn.bank;
   never_falls : g.B.Bank.faults l.fn.bank ≤ g.B.Bank.faults l.bank;
 }

@@ -7,7 +7,7 @@ use Rattle.afs_top.proofs.Calls.{ends_read, ends_unread, have_form}
 use Rattle.afs_top.proofs.cell.cell_main.Goals as goal
 
 pub returns-in-Err-clause-ends : goal.returns-in-Err-clause-ends
-returns-in-Err-clause-ends g c = (have_form (map string_bytes c.args.words.now) c.in-Err.ensures.err, inl (record { sink = refl; lends = refl; given = refl }))
+returns-in-Err-clause-ends g c = (have_form (map string_bytes c.args.words.now) c.in-Err.ensures.err, inl (refl, record { sink = refl; lends = refl; given = refl }))
 
 pub returns-in-Err-clause-no_form : goal.returns-in-Err-clause-no_form
 returns-in-Err-clause-no_form g c = λ none. absurd (none (have_form (map string_bytes c.args.words.now) c.in-Err.ensures.err))

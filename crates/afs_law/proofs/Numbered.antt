@@ -1,0 +1,105 @@
+-- The calls of a client are numbered one by one in each epoch, however many servers a cell has.
+use Rattle.afs_history.specs.declared.scripts.Script.{Script}
+use Rattle.afs_law.proofs.Acting.{Acts, Asks, Rests, begins_acts, falls_acts, given_acts, last_key, rises_acts, waits_acts, who_at}
+use Rattle.afs_law.proofs.Basics.{at_put, same_key-refl}
+use Rattle.afs_law.proofs.KeysOnce.{IsKnown, any_told, by_key}
+use Rattle.afs_law.proofs.Lives.{Lived, lived_first, lived_kept}
+use Rattle.afs_law.proofs.Moving.{Behind, EachMove, IsKept, each_moved}
+use Rattle.afs_law.proofs.Origins.{same_key_at}
+use Rattle.afs_law.proofs.Passing.{sent_left, sent_right}
+use Rattle.afs_law.specs.Ideal.{set_up}
+use Rattle.afs_law.specs.Legal.{IsInOrder}
+use Rattle.afs_law.specs.Past.{has_sent}
+use Rattle.afs_num.specs.declared.messages.Message.{Message}
+use Rattle.afs_num.specs.declared.types.Key.{Key}
+use Rattle.afs_num.specs.declared.types.Node.TheVariants.{Client}
+use Rattle.afs_rows.specs.Callbacks.{put}
+use Rattle.afs_rows.specs.ClientRow.{call_message}
+use Rattle.afs_rows.specs.Going.{ClientState, Going}
+use Rattle.afs_rows.specs.Runs.{Cell, Entry, start}
+use Rattle.afs_rows.specs.Steps.{Step}
+use Rattle.std.proofs.Common.{◌+◌, ◌≡◌, ◌⊎◌, ℕ, inl, inr, Bool, true, false, cond, List, [], ◌∷◌, ◌++◌, None, refl, sym, ap, subst, ◌∙◌}
+
+-- it made no call in this epoch, and waits for none; or the last one was sent, and its number goes on from the one before
+abbrev pub IsNumbered : ℕ → ClientState → List Message → Type 0
+IsNumbered j x sent = ((x.last ≡ 0) × (x.running ≡ None)) ⊎ ((has_sent (last_key j x) sent ≡ true) × IsInOrder (last_key j x) sent)
+
+order_more : (k : Key) (a b : List Message) → IsInOrder k a → IsInOrder k (a ++ b)
+order_more k a b (inl e) = inl e
+order_more k a b (inr y) = inr (y.0, (y.1.0, sent_left (record k { number = y.0 }) a b y.1.1))
+
+numbered_more : (j : ℕ) (x : ClientState) (a b : List Message) → IsNumbered j x a → IsNumbered j x (a ++ b)
+numbered_more j x a b (inl e) = inl e
+numbered_more j x a b (inr y) = inr (sent_left (last_key j x) a b y.0, order_more (last_key j x) a b y.1)
+
+-- ---- a step of a client
+
+rests_numbered : (j : ℕ) (c : ClientState) (st : Step ClientState) (sent : List Message) → Rests j (who_at c) c.gifts st → IsNumbered j c sent → IsNumbered j st.state (sent ++ st.sent)
+rests_numbered j c st sent r (inl e) = elim r.act [
+  | inl none ↦ inl (r.last ∙ e.0, none)
+  | inr same ↦ inl (r.last ∙ e.0, same.0 ∙ e.1)
+]
+rests_numbered j c st sent r (inr y) =
+    let same : last_key j st.state ≡ last_key j c = same_key_at j c st.state r.epoch r.last in
+    inr (subst (λ (k : Key). has_sent k (sent ++ st.sent) ≡ true) (sym same) (sent_left (last_key j c) sent st.sent y.0), subst (λ (k : Key). IsInOrder k (sent ++ st.sent)) (sym same) (order_more (last_key j c) sent st.sent y.1))
+
+its_own : (j : ℕ) (y : ClientState) (act : Going) → has_sent (last_key j y) (call_message (Client j) y act ∷ []) ≡ true
+its_own j y act = ap (λ (t : Bool). cond t true false) (same_key-refl (last_key j y))
+
+number_after : (j : ℕ) (c : ClientState) (st : Step ClientState) (more sent : List Message) → Asks j (who_at c) st → IsNumbered j c sent → IsInOrder (last_key j st.state) (sent ++ more)
+number_after j c st more sent z (inl e) = inl (z.last ∙ ap (λ (k : ℕ). k + 1) e.0)
+number_after j c st more sent z (inr y) =
+    inr (c.last, (z.last, subst (λ (e : ℕ). has_sent (record { node = Client j; epoch = e; number = c.last }) (sent ++ more) ≡ true) (sym z.epoch) (sent_left (last_key j c) sent more y.0)))
+
+step_numbered : (j : ℕ) (c : ClientState) (st : Step ClientState) (sent : List Message) → Acts j (who_at c) c.gifts st → IsNumbered j c sent → IsNumbered j st.state (sent ++ st.sent)
+step_numbered j c st sent a h = elim a.goes [
+  | inl r ↦ rests_numbered j c st sent r h
+  | inr y ↦ elim y [
+    | inl z ↦ inr (sent_right (last_key j st.state) sent st.sent (subst (λ (ms : List Message). has_sent (last_key j st.state) ms ≡ true) (sym z.sent) (its_own j st.state z.act)), number_after j c st st.sent sent z h)
+    | inr z ↦ inl (z.last, z.act)
+  ]
+]
+
+-- ---- every step
+
+abbrev pub NumbersIn : Cell → List Entry → Type 0
+NumbersIn c past = (j : ℕ) → IsNumbered j (c.clients j) c.sent
+
+abbrev pub Numbered : Script → Cell → List Entry → Type 0
+Numbered s c past = Lived s c past × NumbersIn c past
+
+client_numbered : (c : Cell) (past : List Entry) (n : ℕ) (st : Step ClientState) → NumbersIn c past → Acts n (who_at (c.clients n)) (c.clients n).gifts st → (j : ℕ) → IsNumbered j (put n st.state c.clients j) (c.sent ++ st.sent)
+client_numbered c past n st h a j =
+    at_put n j (λ (x : ClientState). IsNumbered j x (c.sent ++ st.sent)) st.state c.clients
+    (λ same. subst (λ (i : ℕ). IsNumbered i st.state (c.sent ++ st.sent)) same (step_numbered n (c.clients n) st c.sent a (h n))) (λ other. numbered_more j (c.clients j) c.sent st.sent (h j))
+
+server_numbered : (c : Cell) (past : List Entry) (ms : List Message) → NumbersIn c past → (j : ℕ) → IsNumbered j (c.clients j) (c.sent ++ ms)
+server_numbered c past ms h j = numbered_more j (c.clients j) c.sent ms (h j)
+
+numbers_moves : (s : Script) → EachMove (Numbered s) (Behind NumbersIn)
+numbers_moves s = record {
+  void = λ c past h. h.1;
+  ticked = λ c past n h. h.1;
+  begun = λ c past n act h r. client_numbered c past n _ h.1 (begins_acts n (c.clients n) c.clock act r);
+  told = λ c past n place m h at to. client_numbered c past n _ h.1 (given_acts (by_key (IsKnown h.0.0.0.0.keys.callees c.clients)) any_told n (c.clients n) c.clock place m (h.0.0.0.0.keys.replies n) (h.0.0.0.1.seats n));
+  waited = λ c past n act h r. client_numbered c past n _ h.1 (waits_acts n (c.clients n) act r);
+  fallen = λ c past n h. client_numbered c past n _ h.1 (falls_acts n (c.clients n));
+  risen = λ c past n h. client_numbered c past n _ h.1 (rises_acts n (c.clients n));
+  served = λ c past i place m armed h up at to. server_numbered c past _ h.1;
+  cut = λ c past i place m t h up at to. h.1;
+  stopped = λ c past i h up. h.1;
+  stop_set = λ c past i calls pick armed h up. h.1;
+  fail_set = λ c past i call armed h up. h.1;
+  timed = λ c past i n b armed h up at. server_numbered c past _ h.1;
+  woken = λ c past i armed h up. server_numbered c past _ h.1;
+  started = λ c past i after fall h down. server_numbered c past _ h.1;
+  early = λ c past i fall h down. h.1;
+  midway = λ c past i after fall h down. h.1;
+  full = λ c past i after fall h down. h.1;
+}
+
+pub numbered_kept : (s : Script) → IsKept (Numbered s)
+numbered_kept s c past x h = (lived_kept s c past x h.0, each_moved (Numbered s) (Behind NumbersIn) (numbers_moves s) c past x h)
+
+pub numbered_first : (s : Script) → Numbered s (start s) (set_up s ∷ [])
+numbered_first s = (lived_first s, λ j. inl (refl, refl))
