@@ -1,6 +1,6 @@
 ghost use Rattle.std.specs.Prelude.{◌≡◌, ◌++◌, IfOk, OnOk, Ok};
 ghost use Rattle.std.specs.List.{flat_map};
-ghost use Rattle.afs_ideal.specs.AccessLists.{acl_at, acl_text, entry_text, number_line, matches, matching_rights, rights_of, without_rights};
+ghost use Rattle.afs_ideal.specs.AccessLists.{acl_at, acl_text, entry_text, lists_at, number_line, matches, matching_rights, rights_of, without_rights};
 ghost use Rattle.afs_acl.specs.Reading.{Gives, GivesAcl};
 
 use crate::faults::AclFault;
@@ -65,6 +65,16 @@ impl Acl {
     }
 }
 
+/// The access list of so many entries of each kind, behind their counts.
+fn lists(alloc: Global, positive: u32, negative: u32, text: &[u8]) -> Result<AccessList, Stop<'_>>
+    ensures { Gives (λ a. a) (lists_at positive negative text.now) result }
+{
+    let (positive, rest) = entries(alloc, positive, text)?;
+    let (negative, rest) = entries(alloc, negative, rest)?;
+    must_end(rest)?;
+    Ok(AccessList { positive, negative })
+}
+
 /// The access list that stands in a text.
 #[tactic(auto, unfolding(afs_ideal::specs::AccessLists::acl_at))]
 fn read(alloc: Global, text: &[u8]) -> Result<AccessList, Stop<'_>>
@@ -73,10 +83,7 @@ fn read(alloc: Global, text: &[u8]) -> Result<AccessList, Stop<'_>>
     let (positive, rest) = count(text)?;
     let (negative, rest) = count(rest)?;
     must_be_few(u64::from(positive) + u64::from(negative))?;
-    let (positive, rest) = entries(alloc, positive, rest)?;
-    let (negative, rest) = entries(alloc, negative, rest)?;
-    must_end(rest)?;
-    Ok(AccessList { positive, negative })
+    lists(alloc, positive, negative, rest)
 }
 
 /// Whether an entry speaks of the user.

@@ -17,7 +17,7 @@ use Rattle.afs_rows.specs.ServerRow.{begun_after, begun_before, decides, drops, 
 use Rattle.afs_rows.specs.States.{Lasting, ServerState}
 use Rattle.afs_num.specs.declared.messages.Received.TheVariants.{Whole}
 use Rattle.afs_volstore.specs.Opening.{last_effect, last_from, lines_begun, lines_unless_told, same_mark}
-use Rattle.afs_volstore.specs.Telling.{in_words}
+use Rattle.afs_memory.specs.Telling.{in_words}
 use Rattle.afs_server.specs.Seen.{lasting_of}
 use Rattle.afs_host.specs.Standing.{Lies, LiesAfter, LiesAs, LiesBefore, LiesFound, LiesIn, StandsFor}
 use Rattle.afs_host.proofs.Lying.{bind_is, one_taken}

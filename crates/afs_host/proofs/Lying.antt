@@ -15,7 +15,7 @@ use Rattle.afs_records.proofs.Forms.{bound, some_is}
 use Rattle.afs_rows.specs.Runs.{begun_by_disk, Fall, MayFind}
 use Rattle.afs_rows.specs.States.{Lasting, ServerState}
 use Rattle.afs_volstore.specs.Stores.{IsCounted, IsKept, StandsAround}
-use Rattle.afs_volstore.specs.Telling.{in_words}
+use Rattle.afs_memory.specs.Telling.{in_words}
 use Rattle.afs_server.specs.Seen.{lasting_of}
 use Rattle.afs_host.specs.Seats.{count_mark}
 use Rattle.afs_host.specs.Standing.{record_of_fall, Lies, LiesAfter, LiesAs, LiesBefore, LiesFound, LiesIn, StandsFor}

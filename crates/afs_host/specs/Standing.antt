@@ -13,7 +13,7 @@ use Rattle.afs_records.specs.Records.{record_at, record_bytes}
 use Rattle.afs_rows.specs.Runs.{at_rest, begun_by_disk, in_boot, in_step, Fall, MayFind}
 use Rattle.afs_rows.specs.ServerRow.{decides}
 use Rattle.afs_rows.specs.States.{Lasting, ServerState}
-use Rattle.afs_volstore.specs.Telling.{in_words}
+use Rattle.afs_memory.specs.Telling.{in_words}
 use Rattle.afs_server.specs.Handling.{record_decided}
 use Rattle.afs_server.specs.Seen.{lasting_of}
 

@@ -12,6 +12,23 @@ pub enum RecordFault {
     OutOfMemory,
 }
 
+/// Why a record isn't taken: the fold can't take it, or memory ran out.
+#[derive(Clone, Copy, Debug, PartialEq, Eq)]
+pub enum Unfit {
+    Bad,
+    OutOfMemory,
+}
+
+impl From<AllocError> for Unfit {
+    ghost use Rattle.afs_record.specs.declared.faults.Unfit.TheVariants as unfit;
+
+    ghost from_gives = { λ _ e. e ≡ unfit.OutOfMemory };
+
+    fn from(_fault: AllocError) -> Unfit {
+        Unfit::OutOfMemory
+    }
+}
+
 impl From<AllocError> for RecordFault {
     ghost from_gives = { λ _ e. e ≡ OutOfMemory };
 

@@ -18,7 +18,7 @@ use Rattle.afs_records.specs.Forms.{HasImageForm}
 use Rattle.afs_records.specs.Records.{FitsRecord}
 use Rattle.afs_rows.specs.ServerRow.{key_of, made, record_of, saves, versioned, Change}
 use Rattle.afs_rows.specs.States.{ServerState}
-use Rattle.afs_volstore.specs.Telling.{in_words, version_within}
+use Rattle.afs_memory.specs.Telling.{in_words, version_within}
 use Rattle.afs_server.specs.Deciding.{AreCounted, IsCounted, IsMade, IsOfWords}
 use Rattle.afs_server.specs.Putting.{IsToldAgain}
 use Rattle.afs_server.specs.Saving.{change_kept}

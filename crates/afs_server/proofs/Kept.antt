@@ -16,7 +16,7 @@ use Rattle.afs_records.specs.Durable.{Kept}
 use Rattle.afs_breaks.specs.Promises.{owes_all, Lists}
 use Rattle.afs_rows.specs.Callbacks.{owed_to_clients}
 use Rattle.afs_rows.specs.States.{Seat}
-use Rattle.afs_volstore.specs.Called.{AreKnown}
+use Rattle.afs_memory.specs.Called.{AreKnown}
 use Rattle.afs_server.specs.Seen.{kept_found, or_loc, seat_kept, seats_after, AreToNodes, CanFollow, IsToNode}
 
 -- ---- numbers of nodes

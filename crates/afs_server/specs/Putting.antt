@@ -15,7 +15,7 @@ use Rattle.afs_rows.specs.ServerRow.{begun_after, does, shows, Decision}
 use Rattle.afs_rows.specs.ServerSteps.{stepped}
 use Rattle.afs_rows.specs.States.{ServerState}
 use Rattle.afs_volstore.specs.Stores.{LeftAround, Store}
-use Rattle.afs_volstore.specs.Telling.{in_words}
+use Rattle.afs_memory.specs.Telling.{in_words}
 use Rattle.afs_server.specs.Handling.{lines_behind, record_decided, server_seen, IsClosed, IsDone, IsQuiet, IsWritten, Makes, Ran, SameStore}
 use Rattle.afs_server.specs.Seen.{lasting_of, Memory, Serves}
 use Rattle.afs_server.specs.declared.faults.NodeFault.{NodeFault}

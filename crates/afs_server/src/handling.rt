@@ -19,7 +19,7 @@ ghost use Rattle.afs_rows.specs.Callbacks.{no_turn, turn_for, turned_in};
 ghost use Rattle.afs_rows.specs.ServerRow.{begun_after, called, decides, device_calls, drops, Decision};
 ghost use Rattle.afs_rows.specs.ServerSteps.{server_row};
 ghost use Rattle.afs_volstore.specs.Stores.{LeftAround};
-ghost use Rattle.afs_volstore.specs.Telling.{in_words};
+ghost use Rattle.afs_memory.specs.Telling.{in_words};
 ghost use Rattle.afs_server.specs.Deciding.{leaves_disk, CanBeTold, Decides, FitsDecided, IsByClient, IsUnder, Runs};
 ghost use Rattle.afs_server.specs.Handling.{calls_served, record_decided, server_seen, Handles, IsDone, IsQuiet, IsWritten, Ran};
 ghost use Rattle.afs_server.specs.Hearing.{answered_turn, noticed_turn};

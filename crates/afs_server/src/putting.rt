@@ -15,7 +15,7 @@ ghost use Rattle.afs_rows.specs.Callbacks.{turn_for};
 ghost use Rattle.afs_rows.specs.ServerRow as rows;
 ghost use Rattle.afs_rows.specs.ServerRow.{is_client, refusal, roomed};
 ghost use Rattle.afs_server_parts.specs.Kept.{IsSpelling};
-ghost use Rattle.afs_volstore.specs.Named.{IsNamed};
+ghost use Rattle.afs_memory.specs.Named.{IsNamed};
 ghost use Rattle.afs_server.specs.Answering.{answer_turn};
 ghost use Rattle.afs_server.specs.Deciding.{CanBeTold, CanBeWritten, IsMade};
 ghost use Rattle.afs_server.specs.Handling.{record_decided, server_seen, Answers};

@@ -13,9 +13,9 @@ use Rattle.afs_records.specs.Durable.{Durable, Effect, fold_all, StandFor}
 use Rattle.afs_volstore.specs.Stands.{Stands}
 use Rattle.afs_volstore.specs.Folds.{places_length, wanted_lines, TellsLast}
 use Rattle.afs_volstore.specs.Opening.{last_effect, lines_begun, same_mark, IsAttachFault, IsFoldFault}
-use Rattle.afs_volstore.specs.States.{placed}
+use Rattle.afs_memory.specs.States.{placed}
 use Rattle.afs_volstore.specs.Stores.{IsCaused, IsCounted, IsKept}
-use Rattle.afs_volstore.specs.Telling.{in_words}
+use Rattle.afs_memory.specs.Telling.{in_words}
 use Rattle.afs_volstore.proofs.FoldsOn.{journal_length}
 
 pub some_is : (x y : List ℕ) → Some x ≡ Some y → x ≡ y

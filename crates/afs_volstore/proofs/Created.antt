@@ -17,12 +17,12 @@ use Rattle.afs_records.specs.Records.{record_at, record_bytes, FitsRecord}
 use Rattle.afs_volstore.specs.Stands.{Stands}
 use Rattle.afs_volstore.specs.Folds.{places_length}
 use Rattle.afs_volstore.specs.Opening.{IsSetUpSoFar}
-use Rattle.afs_volstore.specs.Redos.{body_of, record_of}
-use Rattle.afs_volstore.specs.States.{parts_of, placed}
+use Rattle.afs_memory.specs.Redos.{body_of, record_of}
+use Rattle.afs_memory.specs.States.{parts_of, placed}
 use Rattle.afs_volstore.specs.Stores.{IsCounted, IsKept}
-use Rattle.afs_volstore.specs.declared.memory.State.{State}
-use Rattle.afs_volstore.specs.declared.prepared.Prepared.{Prepared}
-use Rattle.afs_volstore.specs.declared.redo.Redo.{Redo}
+use Rattle.afs_memory.specs.declared.memory.State.{State}
+use Rattle.afs_memory.specs.declared.prepared.Prepared.{Prepared}
+use Rattle.afs_memory.specs.declared.redo.Redo.{Redo}
 use Rattle.afs_volstore.proofs.Folding.{folded_is}
 
 -- ---- a journal that begins

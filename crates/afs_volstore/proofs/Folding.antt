@@ -15,11 +15,11 @@ use Rattle.afs_records.specs.Durable.{Durable, Stored, body_taken, changed_store
 use Rattle.afs_records.specs.Laws.{OneMoreStands}
 use Rattle.afs_records.specs.Records.{record_bytes, FitsRecord}
 use Rattle.afs_volstore.specs.Stands.{Stands}
-use Rattle.afs_volstore.specs.Preparing.{prepared_seen}
-use Rattle.afs_volstore.specs.Redos.{body_of, record_of}
-use Rattle.afs_volstore.specs.States.{placed}
-use Rattle.afs_volstore.specs.declared.prepared.Prepared.{Prepared}
-use Rattle.afs_volstore.specs.declared.redo.Redo.{Redo}
+use Rattle.afs_memory.specs.Preparing.{prepared_seen}
+use Rattle.afs_memory.specs.Redos.{body_of, record_of}
+use Rattle.afs_memory.specs.States.{placed}
+use Rattle.afs_memory.specs.declared.prepared.Prepared.{Prepared}
+use Rattle.afs_memory.specs.declared.redo.Redo.{Redo}
 use Rattle.afs_volstore.specs.Stores.{LeftAround, StandsAround}
 
 -- ---- the fold does the same whatever the journal's length and the capacity

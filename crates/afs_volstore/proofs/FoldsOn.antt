@@ -15,7 +15,7 @@ use Rattle.afs_xdr.specs.Words.{word}
 use Rattle.afs_records.specs.Durable.{Durable, Effect, bad_by, bad_from, body_taken, effect_by, effect_of, first_bad, first_folded, fold_all, fold_from, folded, is_first, longer, noted, nothing_on, place_length}
 use Rattle.afs_volstore.specs.Folds.{fold_front, is_none_yet, places_length, read_taken, taken_as, wanted_lines, IsBadAt, IsFront, TakesOne, TellsOne}
 use Rattle.afs_volstore.specs.Opening.{last_effect, last_from}
-use Rattle.afs_volstore.specs.States.{placed}
+use Rattle.afs_memory.specs.States.{placed}
 use Rattle.afs_volstore.proofs.Folding.{folded_is, taken_placed}
 
 -- ---- lengths

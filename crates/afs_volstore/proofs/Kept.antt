@@ -5,14 +5,9 @@ use Rattle.afs_journal.specs.Log.{IsJournal}
 use Rattle.afs_journal.specs.Records.{journal_bytes, whole_records}
 use Rattle.afs_records.specs.Laws.{OneMoreStands}
 use Rattle.afs_records.specs.Records.{record_bytes, FitsRecord}
-use Rattle.std.specs.Option.{option_map_or}
-use Rattle.afs_ideal.specs.Tables.{get, Table}
-use Rattle.afs_records.specs.Durable.{Durable, Stored, folded, StandFor}
+use Rattle.afs_records.specs.Durable.{Durable, folded, StandFor}
 use Rattle.afs_volstore.specs.Stands.{Stands}
-use Rattle.afs_volume.specs.declared.volume.Volume.{Volume}
-use Rattle.afs_seats.specs.Seated.{seen_as}
-use Rattle.afs_volume.specs.Taking.{stored_of}
-use Rattle.afs_volstore.specs.States.{placed}
+use Rattle.afs_memory.specs.States.{placed}
 use Rattle.afs_volstore.specs.Stores.{IsCounted, IsKept, LeftAround}
 
 -- a crash leaves what is kept
@@ -21,15 +16,6 @@ stands_now d seen may_leave bytes kept told c left = subst (λ (b : List ℕ). S
 
 pub left_now : (r : StoreRecord) (d : Durable) (seen : Option (List ℕ)) (may_leave : List ℕ → Type 0) (bytes : List ℕ) → IsKept d seen may_leave → seen ≡ Some bytes → (c : List ℕ) → may_leave c → LeftAround (whole_records bytes) r d c
 left_now r d seen may_leave bytes kept told c left = (inl (ap whole_records (kept.durable bytes told c left)), inl (stands_now d seen may_leave bytes kept told c left))
-
--- no volume in memory is new
-chosen : (b : Bool) (v : Volume) (o : Option Stored) → false ≡ option_map_or (λ (s : Stored). s.is_new) o false → false ≡ option_map_or (λ (s : Stored). s.is_new) (if b then Some (stored_of v) else o) false
-chosen true v o e = refl
-chosen false v o e = e
-
-pub not_new : (id : ℕ) (t : Table Volume) → false ≡ option_map_or (λ (s : Stored). s.is_new) (get id (seen_as stored_of t)) false
-not_new id [] = refl
-not_new id (p ∷ ps) = chosen (nat_eq p.0 id) p.1 (get id (seen_as stored_of ps)) (not_new id ps)
 
 -- room alone changed
 pub kept_same : (d : Durable) (seen now : Option (List ℕ)) (may_leave leaves : List ℕ → Type 0) → IsKept d seen may_leave → now ≡ seen → ((c : List ℕ) → leaves c → may_leave c) → IsKept d now leaves

@@ -1,16 +1,8 @@
 mod Attached
-mod Changed
 mod Created
 mod Folding
 mod FoldsOn
-mod Held
 mod Kept
 mod Laid
-mod Names
-mod Patched
-mod Patches
-mod Readied
-mod Redone
 mod Reread
-mod Told
 mod Waiting

@@ -4,12 +4,13 @@ use Rattle.afs_num.specs.declared.records.StoreRecord.{StoreRecord}
 use Rattle.afs_disk.specs.Disk.{Room}
 use Rattle.afs_journal.specs.Log.{Log, KeepsRoom}
 use Rattle.afs_records.specs.Durable.{Durable, body_taken}
-use Rattle.afs_volstore.specs.Preparing.{HasPlaceOn, IsSpelledOut, Waits, WaitsReady}
-use Rattle.afs_volstore.specs.Redoing.{KeepsStates}
-use Rattle.afs_volstore.specs.Redos.{body_of, record_of}
-use Rattle.afs_volstore.specs.States.{parts_of, HasRoomFor}
-use Rattle.afs_volstore.specs.declared.memory.State.{State}
-use Rattle.afs_volstore.specs.declared.prepared.Prepared.{Prepared}
+use Rattle.afs_memory.specs.Preparing.{IsSpelledOut}
+use Rattle.afs_volstore.specs.Waiting.{HasPlaceOn, Waits, WaitsReady}
+use Rattle.afs_memory.specs.Redoing.{KeepsStates}
+use Rattle.afs_memory.specs.Redos.{body_of, record_of}
+use Rattle.afs_memory.specs.States.{parts_of, HasRoomFor}
+use Rattle.afs_memory.specs.declared.memory.State.{State}
+use Rattle.afs_memory.specs.declared.prepared.Prepared.{Prepared}
 
 module _ {D : Type 0} (limit : D → ℕ) (space : D → Room) where
   -- a new one

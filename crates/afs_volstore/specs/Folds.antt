@@ -8,8 +8,8 @@ use Rattle.afs_shape.specs.Taking.{◌>>=◌}
 use Rattle.afs_records.specs.Records.{record_at}
 use Rattle.afs_records.specs.Durable.{Durable, Effect, effect_of, first_folded, fold_all, folded, nothing_on}
 use Rattle.afs_volstore.specs.Opening.{last_effect}
-use Rattle.afs_volstore.specs.Telling.{in_words}
-use Rattle.afs_volstore.specs.States.{placed}
+use Rattle.afs_memory.specs.Telling.{in_words}
+use Rattle.afs_memory.specs.States.{placed}
 
 -- how many bytes the places of these records have
 abbrev pub places_length : List (List ℕ) → ℕ

@@ -1,16 +1,7 @@
-pub mod Called
-pub mod Changing
 pub mod Folds
 pub mod Laying
-pub mod Named
-pub mod Numbered
 pub mod Opening
-pub mod Patching
-pub mod Preparing
-pub mod Redoing
 pub mod Rereading
-pub mod Redos
-pub mod States
 pub mod Stands
 pub mod Stores
-pub mod Telling
+pub mod Waiting

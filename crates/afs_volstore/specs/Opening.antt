@@ -15,7 +15,7 @@ use Rattle.afs_records.specs.Changes.{set_up, volumes_laid}
 use Rattle.afs_volstore.specs.Stands.{Stands}
 use Rattle.afs_records.specs.Durable.{Durable, Effect, effect_of, first_folded, folded, mark_of, most_volumes, nothing_on}
 use Rattle.afs_volstore.specs.Laying.{HaveShortNames}
-use Rattle.afs_volstore.specs.Telling.{in_words}
+use Rattle.afs_memory.specs.Telling.{in_words}
 
 -- ---- the last record
 

@@ -5,66 +5,63 @@ ghost use Rattle.std.specs.Option.{option_map};
 ghost use Rattle.afs_num.specs.declared.faults.StoreFault.TheVariants as faults;
 ghost use Rattle.afs_records.specs.Durable.{body_taken, first_bad, fold_all, is_first, noted};
 ghost use Rattle.afs_records.specs.Records.{record_at, record_bytes, FitsRecord};
-ghost use Rattle.afs_volstore.specs.Called.{IsCaller};
+ghost use Rattle.afs_memory.specs.Called.{IsCaller};
 ghost use Rattle.afs_volstore.specs.Folds.{fold_front, is_none_yet, places_length, read_taken, IsBadAt, TakesNone, TakesOne, TellsLast, TellsOne};
-ghost use Rattle.afs_volstore.specs.Redoing.{FitsRedo};
-ghost use Rattle.afs_volstore.specs.Redos.{body_of, record_of, IsReady};
-ghost use Rattle.afs_volstore.specs.States.{parts_of, placed};
-ghost use Rattle.afs_volstore.specs.declared.faults.Unfit.TheVariants.{Bad};
+ghost use Rattle.afs_memory.specs.Redoing.{FitsRedo};
+ghost use Rattle.afs_memory.specs.Redos.{body_of, record_of, IsReady};
+ghost use Rattle.afs_memory.specs.States.{parts_of, placed};
+ghost use Rattle.afs_record.specs.declared.faults.Unfit.TheVariants.{Bad};
 
 use crate::altering::change_in;
-use crate::faults::Unfit;
-use crate::memory::State;
-use crate::readying::redo_of;
-use crate::redo::Redo;
-use crate::redoing::put_volumes;
 use afs_history::lines::Lines;
+use afs_memory::memory::State;
+use afs_memory::readying::redo_of;
+use afs_memory::redo::Redo;
+use afs_memory::redoing::put_volumes;
 use afs_num::faults::StoreFault;
 use afs_num::records::{RecordBody, RecordHead, StoreRecord};
 use afs_num::sequences::Octets;
 use afs_num::types::Node;
-use afs_record::faults::RecordFault;
+use afs_record::faults::{RecordFault, Unfit};
 use afs_record::records::decode_record;
 use std::alloc::Global;
 
-impl State {
-    /// Does what a record's body says. `Bad` where it can't be taken; then the state may be any.
-    fn take_body(&mut self, redo: Redo) -> Result<(), Unfit>
-        requires ready { IsReady redo }
-        requires images { FitsRedo redo }
-        ensures taken { OnOk result (body_taken (body_of redo) (parts_of self.old) ≡ Some (parts_of self.new)) }
-        ensures bad { result ≡ Err Bad → body_taken (body_of redo) (parts_of self.old) ≡ None }
-    {
-        match redo {
-            Redo::Volumes(added) => {
-                self.volumes.reserve(added.len())?;
-                if put_volumes(&mut self.volumes, added) {
-                    Ok(())
-                } else {
-                    Err(Unfit::Bad)
-                }
-            }
-            Redo::Change(id, change) => change_in(self.alloc, &mut self.volumes, id, change),
-            Redo::Start(boot) => {
-                self.start(boot);
+/// Does what a record's body says. `Bad` where it can't be taken; then the state may be any.
+fn take_body(state: &mut State, redo: Redo) -> Result<(), Unfit>
+    requires ready { IsReady redo }
+    requires images { FitsRedo redo }
+    ensures taken { OnOk result (body_taken (body_of redo) (parts_of state.old) ≡ Some (parts_of state.new)) }
+    ensures bad { result ≡ Err Bad → body_taken (body_of redo) (parts_of state.old) ≡ None }
+{
+    match redo {
+        Redo::Volumes(added) => {
+            state.volumes.reserve(added.len())?;
+            if put_volumes(&mut state.volumes, added) {
                 Ok(())
+            } else {
+                Err(Unfit::Bad)
             }
         }
+        Redo::Change(id, change) => change_in(state.alloc, &mut state.volumes, id, change),
+        Redo::Start(boot) => {
+            state.start(boot);
+            Ok(())
+        }
     }
+}
 
-    /// Does what a record says. `Bad` where it can't be taken; then the state may be any.
-    fn take(&mut self, head: RecordHead, redo: Redo) -> Result<(), Unfit>
-        requires caller { IsCaller head.caller }
-        requires ready { IsReady redo }
-        requires images { FitsRedo redo }
-        ensures taken { OnOk result (option_map (noted head) (body_taken (body_of redo) (parts_of self.old)) ≡ Some (parts_of self.new)) }
-        ensures bad { result ≡ Err Bad → body_taken (body_of redo) (parts_of self.old) ≡ None }
-    {
-        self.take_body(redo)?;
-        self.reserve_head()?;
-        self.note(head);
-        Ok(())
-    }
+/// Does what a record says. `Bad` where it can't be taken; then the state may be any.
+fn take(state: &mut State, head: RecordHead, redo: Redo) -> Result<(), Unfit>
+    requires caller { IsCaller head.caller }
+    requires ready { IsReady redo }
+    requires images { FitsRedo redo }
+    ensures taken { OnOk result (option_map (noted head) (body_taken (body_of redo) (parts_of state.old)) ≡ Some (parts_of state.new)) }
+    ensures bad { result ≡ Err Bad → body_taken (body_of redo) (parts_of state.old) ≡ None }
+{
+    take_body(state, redo)?;
+    state.reserve_head()?;
+    state.note(head);
+    Ok(())
 }
 
 /// Whether a record tells the volumes of set-up.
@@ -90,6 +87,7 @@ fn read(alloc: Global, first: bool, bytes: &[u8]) -> Result<StoreRecord, Unfit>
         Err(RecordFault::OutOfMemory) => return Err(Unfit::OutOfMemory),
     };
     if first && !is_first(&rec.body) {
+        drop(rec);
         return Err(Unfit::Bad);
     }
     Ok(rec)
@@ -116,6 +114,6 @@ pub(crate) fn take_one(
     } else {
         Lines::new(alloc)
     };
-    state.take(head, redo)?;
+    take(state, head, redo)?;
     Ok(lines)
 }

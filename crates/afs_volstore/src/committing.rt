@@ -11,26 +11,27 @@ ghost use Rattle.afs_records.specs.Records.{record_bytes, FitsRecord};
 ghost use Rattle.afs_records.specs.Changes.{boot_record, can_boot};
 ghost use Rattle.afs_records.specs.Durable.{body_taken, effect_of, folded, has_room};
 ghost use Rattle.afs_records.specs.Laws.{started};
-ghost use Rattle.afs_volstore.specs.Named.{IsNamed};
-ghost use Rattle.afs_volstore.specs.Preparing.{HasPlaceOn, IsSpelledOut, IsTooLong};
-ghost use Rattle.afs_volstore.specs.Redoing.{KeepsStates};
-ghost use Rattle.afs_volstore.specs.Redos.{record_of};
-ghost use Rattle.afs_volstore.specs.States.{parts_of, HasRoomFor};
+ghost use Rattle.afs_memory.specs.Named.{IsNamed};
+ghost use Rattle.afs_memory.specs.Preparing.{IsSpelledOut};
+ghost use Rattle.afs_volstore.specs.Waiting.{HasPlaceOn, IsTooLong};
+ghost use Rattle.afs_memory.specs.Redoing.{KeepsStates};
+ghost use Rattle.afs_memory.specs.Redos.{record_of};
+ghost use Rattle.afs_memory.specs.States.{parts_of, HasRoomFor};
 ghost use Rattle.afs_volstore.specs.Stores.{IsEarly, IsFull, IsKept, LeftAround, SameBut, Served};
 
-use crate::faults::Unfit;
-use crate::memory::State;
-use crate::prepared::Prepared;
-use crate::readying::{prepared, prepared_change};
-use crate::redo::Redo;
 use crate::setup::no_head;
 use crate::store::VolStore;
 use afs_disk::Disk;
 use afs_history::lines::Lines;
 use afs_journal::Journal;
+use afs_memory::memory::State;
+use afs_memory::prepared::Prepared;
+use afs_memory::readying::{prepared, prepared_change};
+use afs_memory::redo::Redo;
 use afs_num::faults::{JournalFault, StoreFault};
 use afs_num::records::{RecordBody, RecordHead, StoreRecord};
 use afs_num::types::Mem;
+use afs_record::faults::Unfit;
 use afs_records::laws::{one_more_stands, starts_are_kept};
 use afs_volume::ReadyNames;
 use std::alloc::Global;
@@ -86,11 +87,16 @@ fn place<D: Disk>(
 {
     let len = prepared.bytes.len() as u64;
     if !journal.is_closed() && !journal.fits(len) {
+        // (A record is dropped by a call. The end of a scope would be a step of the proof for each part of each kind of record.)
+        drop(prepared);
         return Err(StoreFault::Full(journal.len(), journal.capacity()));
     }
     match make_room(journal, state, &prepared.redo, len) {
         Ok(()) => Ok(prepared),
-        Err(_) => Err(StoreFault::OutOfMemory),
+        Err(_) => {
+            drop(prepared);
+            Err(StoreFault::OutOfMemory)
+        }
     }
 }
 
@@ -324,7 +330,9 @@ impl<D: Disk> VolStore<D> {
             return Err(StoreFault::Full(self.journal.len(), self.journal.capacity()));
         }
         let rec = start_record(self.alloc, self.state.boot + 1);
-        self.prepare(&rec)?;
+        let prepared = self.prepare(&rec);
+        drop(rec);
+        prepared?;
         self.commit()?;
         Ok(Lines::new(self.alloc))
     }

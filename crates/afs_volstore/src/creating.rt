@@ -11,17 +11,17 @@ ghost use Rattle.afs_records.specs.Changes.{first_record, set_up};
 ghost use Rattle.afs_records.specs.Durable.{Durable, body_taken, first_folded, is_first, noted, nothing_on};
 ghost use Rattle.afs_records.specs.Records.{record_bytes, FitsRecord};
 ghost use Rattle.afs_volstore.specs.Opening.{CanBeSetUp, IsSetUpFault, IsSetUpSoFar, Moved};
-ghost use Rattle.afs_volstore.specs.States.{parts_of};
+ghost use Rattle.afs_memory.specs.States.{parts_of};
 ghost use Rattle.afs_volstore.specs.Stores.{IsCaused, IsKept, Served};
 
 use crate::committing::{make_ready, put};
-use crate::memory::State;
 use crate::setup::{first_record, record_length};
 use crate::store::VolStore;
 use crate::taking_up::take_up;
 use afs_disk::Disk;
 use afs_history::scripts::VolumeLine;
 use afs_journal::Journal;
+use afs_memory::memory::State;
 use afs_num::faults::StoreFault;
 use afs_num::records::StoreRecord;
 use afs_num::types::{Mem, Node};
@@ -45,8 +45,13 @@ fn first_spelled(alloc: Global, volumes: &[&VolumeLine]) -> Mem<(StoreRecord, u6
     ensures small { IfOk result (λ r. r.1 < 2 ^ 63) }
 {
     let rec = first_record(alloc, volumes)?;
-    let len = record_length(alloc, &rec)?;
-    Ok((rec, len))
+    match record_length(alloc, &rec) {
+        Ok(len) => Ok((rec, len)),
+        Err(fault) => {
+            drop(rec);
+            Err(fault)
+        }
+    }
 }
 
 /// Cuts a disk to nothing. An empty one stays as it is.
@@ -197,9 +202,18 @@ impl<D: Disk> VolStore<D> {
         };
         let capacity = disk.capacity();
         if len + FRAME > capacity {
+            drop(rec);
             return Err((StoreFault::Full(EMPTY, capacity), disk));
         }
-        let journal = begin(alloc, disk)?;
-        filled(alloc, journal, node, &rec)
+        let journal = match begin(alloc, disk) {
+            Ok(journal) => journal,
+            Err(refused) => {
+                drop(rec);
+                return Err(refused);
+            }
+        };
+        let store = filled(alloc, journal, node, &rec);
+        drop(rec);
+        store
     }
 }

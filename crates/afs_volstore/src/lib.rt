@@ -4,23 +4,12 @@
 mod altering;
 mod attaching;
 mod committing;
-mod copying;
 mod creating;
-mod faults;
 mod fused;
-mod lines;
-mod memory;
 mod opening;
-mod patching;
-mod prepared;
-mod readying;
-mod redo;
-mod redoing;
 mod replaying;
 mod rereading;
 mod setup;
-mod standing;
-mod state;
 mod store;
 mod taking_up;
 

@@ -6,15 +6,15 @@ ghost use Rattle.afs_num.specs.declared.faults.StoreFault.TheVariants as faults;
 ghost use Rattle.afs_records.specs.Durable.{first_bad, fold_all};
 ghost use Rattle.afs_volstore.specs.Folds.{places_length, IsBadAt, IsFront, TakesOne, TellsLast, TellsOne};
 ghost use Rattle.afs_volstore.specs.Opening.{IsFoldFault};
-ghost use Rattle.afs_volstore.specs.States.{parts_of, placed};
+ghost use Rattle.afs_memory.specs.States.{parts_of, placed};
 
 use crate::attaching::take_one;
-use crate::faults::Unfit;
-use crate::memory::State;
 use afs_history::lines::Lines;
+use afs_memory::memory::State;
 use afs_num::faults::StoreFault;
 use afs_num::sequences::Octets;
 use afs_num::types::Node;
+use afs_record::faults::Unfit;
 use std::alloc::Global;
 
 /// Takes the record of this number; the lines that it tells, where they are wanted.

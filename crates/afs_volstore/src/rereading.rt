@@ -3,15 +3,15 @@
 ghost use Rattle.std.specs.Prelude.{◌≡◌, ◌≤◌, ◌+◌, ℕ, List, Some, false, MatchResult};
 ghost use Rattle.afs_journal.specs.Log.{IsJournal};
 ghost use Rattle.afs_volstore.specs.Rereading.{disk_after, IsAttached, IsMade, IsNotMade, IsRefused, IsTakenUp};
-ghost use Rattle.afs_volstore.specs.States.{parts_of, placed};
+ghost use Rattle.afs_memory.specs.States.{parts_of, placed};
 ghost use Rattle.afs_volstore.specs.Stores.{IsCounted, IsKept};
 
-use crate::memory::State;
 use crate::replaying::fold;
 use crate::store::VolStore;
 use crate::taking_up::take_up;
 use afs_disk::{Disk, Fuse};
 use afs_journal::Journal;
+use afs_memory::memory::State;
 use afs_num::faults::StoreFault;
 use afs_num::types::Node;
 use std::alloc::Global;
@@ -72,9 +72,10 @@ impl<D: Disk> VolStore<Fuse<D>> {
             journal,
             node,
             state,
-            prepared: _,
+            prepared,
             drawn: _,
         } = self;
+        drop(prepared);
         let len = journal.len();
         let disk = journal.into_disk().into_inner();
         again(alloc, disk, node, state, len)

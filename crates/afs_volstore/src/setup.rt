@@ -14,7 +14,7 @@ ghost use Rattle.afs_volume.specs.Giving.{volume_of};
 ghost use Rattle.afs_volume.specs.Taking.{stored_of, IsAtSetUp};
 ghost use Rattle.afs_xdr.specs.Words.{AreWords};
 ghost use Rattle.afs_volstore.specs.Laying.{head_words, AreLaid, HasShortName, HaveShortNames, IsLaid};
-ghost use Rattle.afs_volstore.specs.Numbered.{AreNumbered};
+ghost use Rattle.afs_memory.specs.Numbered.{AreNumbered};
 ghost use Rattle.afs_volstore.specs.Opening.{CanBeSetUp};
 
 use afs_history::scripts::{SetupLine, VolumeLine};
@@ -185,5 +185,7 @@ pub fn first_length(alloc: Global, volumes: &[&VolumeLine]) -> Mem<u64>
     ensures { IfOk result (λ n. first_length (map (λ l. l.now) volumes.now) ≡ Some n) }
 {
     let rec = first_record(alloc, volumes)?;
-    record_length(alloc, &rec)
+    let len = record_length(alloc, &rec);
+    drop(rec);
+    len
 }

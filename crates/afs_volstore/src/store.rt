@@ -12,15 +12,15 @@ ghost use Rattle.afs_records.specs.Changes.{boot_record, can_boot};
 ghost use Rattle.afs_records.specs.Durable.{effect_of, folded, has_room, stamp_of};
 ghost use Rattle.afs_records.specs.Laws.{started};
 ghost use Rattle.afs_volume.specs.Taking.{stored_of};
-ghost use Rattle.afs_volstore.specs.Called.{AreBytes, AreKnown};
-ghost use Rattle.afs_volstore.specs.States.{parts_of, placed};
+ghost use Rattle.afs_memory.specs.Called.{AreBytes, AreKnown};
+ghost use Rattle.afs_memory.specs.States.{parts_of, placed};
 ghost use Rattle.afs_volstore.specs.Stores.{IsCounted, IsEarly, IsFull, IsKept, SameBut, Served, StandsAround};
 
-use crate::memory::State;
-use crate::prepared::Prepared;
 use afs_disk::Disk;
 use afs_history::lines::Lines;
 use afs_journal::Journal;
+use afs_memory::memory::State;
+use afs_memory::prepared::Prepared;
 use afs_num::faults::StoreFault;
 use afs_num::records::Mark;
 use afs_num::types::{Key, Node};
@@ -41,9 +41,10 @@ pub struct VolStore<D: Disk> {
 
 impl<D: Disk> Model for VolStore<D> {
     ghost use Rattle.std.specs.Prelude.{◌≡◌, ◌+◌, ◌<◌, ◌^◌, false};
-    ghost use Rattle.afs_volstore.specs.States.{parts_of, placed};
+    ghost use Rattle.afs_memory.specs.States.{parts_of, placed};
     ghost use Rattle.afs_volstore.specs.Stores.{IsCounted, IsKept, Store};
-    ghost use Rattle.afs_volstore.specs.Preparing.{prepared_seen, WaitsReady};
+    ghost use Rattle.afs_memory.specs.Preparing.{prepared_seen};
+    ghost use Rattle.afs_volstore.specs.Waiting.{WaitsReady};
 
     ghost Value = { Store D };
 

@@ -1,11 +1,14 @@
 //! A volume made of its parts.
 
-ghost use Rattle.std.specs.Prelude.{◌≡◌, ◌≤◌, ◌<◌, ◌*◌, ◌^◌, true, false, length, slice_get, is_ok, Err, IfOk, OnOk};
+ghost use Rattle.std.specs.Prelude.{◌≡◌, ◌≤◌, ◌<◌, ◌*◌, ◌^◌, true, false, length, nat_eq, slice_get, is_ok, Err, IfOk, OnOk};
 ghost use Rattle.std.specs.List.{list_all};
+ghost use Rattle.indexmap.specs.IndexMap as maps;
 ghost use Rattle.afs_ideal.specs.Directories.{directory_bytes, directory_of};
 ghost use Rattle.afs_ideal.specs.Volumes.{blocks_in};
+ghost use Rattle.afs_records.specs.Sound.{is_sound};
 ghost use Rattle.afs_volume.specs.Assembling.{are_read, blocks_in_place, can_be_read, make_volume, passes_at, reads_pair, IsReadablePlace};
-ghost use Rattle.afs_volume.specs.Seen.{all_seen, names_spelled, AreReadable, FitsHead, IsReadable};
+ghost use Rattle.afs_volume.specs.Listed.{Lists};
+ghost use Rattle.afs_volume.specs.Seen.{all_seen, names_spelled, volume_seen, AreReadable, FitsHead, IsReadable};
 ghost use Rattle.afs_volume.specs.declared.faults.AssembleFault.TheVariants.{NotSound};
 
 use crate::Volume;
@@ -96,6 +99,33 @@ fn blocks_in(vnodes: &VnodeStore) -> u32
     sum as u32
 }
 
+/// The names of all directories of the parts of a volume. `NotSound` where they make no sound volume, or can't be read.
+fn sound_names(
+    alloc: Global,
+    head: &VolumeHead,
+    vnodes: &VnodeStore,
+) -> Result<Directories, AssembleFault>
+    ensures listed { IfOk result (λ d. Lists (maps.get nat_eq d.dirs) (all_seen vnodes.now.table)) }
+    ensures readable { OnOk result (AreReadable vnodes.now.table) }
+    ensures sound { OnOk result (is_sound (volume_seen head.now vnodes.now.table) ≡ true) }
+    ensures whole { OnOk result (make_volume head.now vnodes.now.table ≡ true) }
+    ensures not_sound { result ≡ Err NotSound → make_volume head.now vnodes.now.table ≡ false }
+{
+    if !are_read(alloc, vnodes)? {
+        return Err(AssembleFault::NotSound);
+    }
+    let dirs = Directories::of(alloc, vnodes)?;
+    let parts = Parts {
+        head,
+        vnodes,
+        dirs: &dirs,
+    };
+    if !parts.is_sound() {
+        return Err(AssembleFault::NotSound);
+    }
+    Ok(dirs)
+}
+
 impl Volume {
     /// The volume of these parts. `NotSound` where they make no sound volume, or a directory's contents or access list
     /// can't be read. A refusal gives no part back. The head has to be within the limits of a record, as one that was read is.
@@ -109,18 +139,7 @@ impl Volume {
         ensures whole { OnOk result (make_volume head vnodes.table ≡ true) }
         ensures not_sound { result ≡ Err NotSound → make_volume head vnodes.table ≡ false }
     {
-        if !are_read(alloc, &vnodes)? {
-            return Err(AssembleFault::NotSound);
-        }
-        let dirs = Directories::of(alloc, &vnodes)?;
-        let parts = Parts {
-            head: &head,
-            vnodes: &vnodes,
-            dirs: &dirs,
-        };
-        if !parts.is_sound() {
-            return Err(AssembleFault::NotSound);
-        }
+        let dirs = sound_names(alloc, &head, &vnodes)?;
         let blocks = blocks_in(&vnodes);
         Ok(Volume {
             alloc,

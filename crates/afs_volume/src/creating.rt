@@ -1,13 +1,14 @@
 //! Operations that make a vnode or a further name: CreateFile, Symlink, MakeDir, Link.
 
-ghost use Rattle.std.specs.Prelude.{◌≡◌, ◌≤◌, ◌+◌, ◌∷◌, [], Some, None, true, length};
+ghost use Rattle.std.specs.Prelude.{◌≡◌, ◌≤◌, ◌+◌, ◌&&◌, ◌∷◌, [], Some, None, true, length, nat_eq, IfErr, IfOk};
 ghost use Rattle.afs_num.specs.declared.calls.FsCall.TheVariants as calls;
-ghost use Rattle.afs_ideal.specs.Operations.{adds_name, by_tests, creates, first_failing, is_kind, is_mask, names_in};
+ghost use Rattle.afs_ideal.specs.Operations.{adds_name, by_tests, changes, creates, first_failing, is_kind, is_mask, linking, may_link, names_in, no_amend};
 ghost use Rattle.afs_ideal.specs.Tables.{get};
 ghost use Rattle.afs_ideal.specs.VnodeImage.{most_contents, FitsImage};
-ghost use Rattle.afs_ideal.specs.Volumes.{a_directory, vnode_of};
-ghost use Rattle.afs_volume.specs.Giving.{caller_seen, planned, volume_of, Plans};
-ghost use Rattle.afs_volume.specs.Seen.{seen, IsReadable};
+ghost use Rattle.afs_ideal.specs.Volumes.{a_directory, amends, ascending, makes, vnode_of};
+ghost use Rattle.afs_volume.specs.Giving.{caller_seen, edits_seen, planned, volume_of, Plans};
+ghost use Rattle.afs_volume.specs.Seen.{names_spelled, seen, IsReadable, SpellsNames};
+ghost use Rattle.afs_volume.specs.declared.faults.OpFault.TheVariants.{OutOfMemory};
 
 use crate::Volume;
 use crate::callers::Caller;
@@ -22,6 +23,33 @@ use afs_num::calls::AfsStoreStatus;
 use afs_num::sequences::Octets;
 use afs_num::types::Fid;
 use afs_num::vnodes::Vnode;
+use std::alloc::Global;
+
+/// Other names of a directory, which these bytes spell, and a new vnode.
+fn plan_made(
+    alloc: Global,
+    d: u32,
+    names: Octets,
+    links: Option<u64>,
+    number: u32,
+    made: Vnode,
+) -> Result<Plan, OpFault>
+    requires spelled { SpellsNames (Some names) }
+    requires short { length names ≤ most_contents }
+    requires readable { IsReadable made }
+    requires fits { FitsImage made }
+    ensures edits { IfOk result (λ p. edits_seen p.edits ≡ ascending (amends d (record no_amend { names = Some (names_spelled names); links = links }) ∷ makes number (seen made) ∷ [])) }
+    ensures shown { IfOk result (λ p. p.shown ≡ number) }
+    ensures err { IfErr result (λ e. e ≡ OutOfMemory) }
+{
+    let mut edits = Edits::new(alloc);
+    push_spelled(&mut edits, d, names, links)?;
+    edits.push(Edit::Makes(number, New { vnode: made }))?;
+    Ok(Plan {
+        edits: ascending(alloc, edits)?,
+        shown: number,
+    })
+}
 
 impl Volume {
     /// A new vnode and its name, in a directory that the caller may change: 22, 17, 27.
@@ -55,13 +83,7 @@ impl Volume {
         )?;
         let mut made = made;
         set_status(&mut made, status);
-        let mut edits = Edits::new(self.alloc);
-        push_spelled(&mut edits, fid.vnode, names, links)?;
-        edits.push(Edit::Makes(number, New { vnode: made }))?;
-        Ok(Plan {
-            edits: ascending(self.alloc, edits)?,
-            shown: number,
-        })
+        Ok(plan_made(self.alloc, fid.vnode, names, links, number, made)?)
     }
 
     /// CreateFile: a file of mode 644, in octal, and its name.
@@ -126,6 +148,34 @@ impl Volume {
         self.creates(fid, d, name.as_slice(), status, Some(links_of(d) + 1), made)
     }
 
+    /// A further name of a file, in a directory that the caller may change: 22, 17, 27.
+    fn links(&self, fid: &Fid, d: &Vnode, name: &[u8], existing: &Fid) -> Result<Plan, OpFault>
+        requires found { vnode_of fid.now (volume_of self.now) ≡ Some (seen d.now) }
+        requires there { get fid.now.vnode self.now.vnodes.table ≡ Some d.now }
+        requires directory { is_kind (seen d.now).kind a_directory ≡ true }
+        ensures { Plans (by_tests (first_failing (adds_name name.now (names_in (Some (seen d.now))) (nat_eq existing.now.volume fid.now.volume && may_link fid.now (vnode_of existing.now (volume_of self.now))))) (changes (ascending (linking fid.now name.now existing.now (volume_of self.now))) existing.now.vnode)) result }
+    {
+        let x = self.vnode(existing);
+        let good = existing.volume == fid.volume && may_link(fid, x);
+        let names = spelled_with(
+            self.alloc,
+            self.names(fid.vnode, d),
+            d.contents.as_slice(),
+            name,
+            existing.vnode,
+            existing.unique,
+            good,
+        )?;
+        let links = links_there(x) + 1;
+        let mut edits = Edits::new(self.alloc);
+        push_spelled(&mut edits, fid.vnode, names, None)?;
+        edits.push(Edit::Amends(existing.vnode, Amend::with_links(links)))?;
+        Ok(Plan {
+            edits: ascending(self.alloc, edits)?,
+            shown: existing.vnode,
+        })
+    }
+
     /// Link: a further name of a file.
     pub(crate) fn link(
         &self,
@@ -143,23 +193,6 @@ impl Volume {
         check(is_directory(d), 20)?;
         check(self.is_writable(), 30)?;
         check(self.may(caller, 4, d), 13)?;
-        let good = is_here && may_link(fid, x);
-        let names = spelled_with(
-            self.alloc,
-            self.names(fid.vnode, d),
-            d.contents.as_slice(),
-            name.as_slice(),
-            existing.vnode,
-            existing.unique,
-            good,
-        )?;
-        let links = links_there(x) + 1;
-        let mut edits = Edits::new(self.alloc);
-        push_spelled(&mut edits, fid.vnode, names, None)?;
-        edits.push(Edit::Amends(existing.vnode, Amend::with_links(links)))?;
-        Ok(Plan {
-            edits: ascending(self.alloc, edits)?,
-            shown: existing.vnode,
-        })
+        self.links(fid, d, name.as_slice(), existing)
     }
 }

@@ -2,7 +2,7 @@
 
 ghost use Rattle.std.specs.Prelude.{◌≡◌, ◌≤◌, ◌∷◌, true, length, map, Some, None, IfOk, OnOk, OnErr};
 ghost use Rattle.afs_num.specs.declared.calls.FsCall.TheVariants as calls;
-ghost use Rattle.afs_ideal.specs.Operations.{adds_name, all_rights, creating, first_failing, is_kind, most_bytes, names_in, new_file, op};
+ghost use Rattle.afs_ideal.specs.Operations.{adds_name, all_rights, creating, first_failing, is_kind, most_bytes, names_in, new_file, op, IsOn};
 ghost use Rattle.afs_ideal.specs.SetUp.{a_file_of, laid, laid_at, laid_in, led, nothing_set};
 ghost use Rattle.afs_ideal.specs.Tables.{get};
 ghost use Rattle.afs_ideal.specs.VnodeImage.{most_contents, FitsImage};
@@ -10,7 +10,7 @@ ghost use Rattle.afs_ideal.specs.VnodeMaps.{most_vnodes};
 ghost use Rattle.afs_ideal.specs.Volumes.{a_directory, ascending, vnode_of};
 ghost use Rattle.afs_history.specs.Written.{bytes_in};
 ghost use Rattle.afs_volume.specs.Filled.{at_once, image_at_first, is_accepted, Accepts, CanBeLaid, IsFilled, Lays, LaysEdits, Leads};
-ghost use Rattle.afs_volume.specs.Giving.{edits_seen, volume_of};
+ghost use Rattle.afs_volume.specs.Giving.{edits_seen, is_changing, volume_of, FitsCall, Plans};
 ghost use Rattle.afs_volume.specs.Seen.{seen, IsReadable};
 ghost use Rattle.afs_volume.specs.Taking.{IsAtSetUp};
 
@@ -18,7 +18,7 @@ use crate::Volume;
 use crate::callers::Caller;
 use crate::checks::check;
 use crate::drafting::Draft;
-use crate::edits::{Edit, Edits};
+use crate::edits::{Edit, Edits, Plan};
 use crate::faults::OpFault;
 use crate::finding::is_directory;
 use crate::making::new_file;
@@ -106,6 +106,20 @@ impl Volume {
         })
     }
 
+    /// What the operation of a call of the caller with all rights is to do, within its limits.
+    pub(crate) fn plan_laid(&self, call: FsCall) -> Result<Plan, OpFault>
+        requires changing { is_changing call ≡ true }
+        requires fits { FitsCall call }
+        requires on { IsOn self.now.head.id call }
+        ensures plan { Plans (op self.now.head.id all_rights call (volume_of self.now)) result }
+        ensures few { IfOk result (λ p. length (volume_of self.now).vnodes ≤ most_vnodes) }
+    {
+        let planned = self.plan_within(&Caller::AllRights, &call);
+        // (One call to prove. The end of the scope would be one for each part of each kind of call.)
+        drop(call);
+        planned
+    }
+
     /// Whether a file of this name may be made in a directory; the refusals are those of CreateFile.
     fn accepts_file(&self, d: &Fid, name: &Octets) -> Result<(), OpFault>
         requires { d.now.volume ≡ self.now.head.id }
@@ -117,7 +131,7 @@ impl Volume {
             name: name.copy(self.alloc)?,
             status: nothing_set(),
         };
-        self.plan_within(&Caller::AllRights, &call)?;
+        self.plan_laid(call)?;
         Ok(())
     }
 
@@ -186,11 +200,13 @@ impl Volume {
         let draft = self.draft(edits, 0)?;
         let unique = self.unique_left(edits);
         let Draft {
+            versions,
             vnodes,
             names,
             removed,
             ..
         } = draft;
+        drop(versions);
         let vnodes = all_at_first(self.alloc, vnodes)?;
         self.make_room(vnodes.len())?;
         self.take(vnodes, names.into_vec(), removed, 1, unique);

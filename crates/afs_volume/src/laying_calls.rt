@@ -10,7 +10,6 @@ ghost use Rattle.afs_volume.specs.Giving.{is_changing, volume_of, FitsCall};
 ghost use Rattle.afs_volume.specs.Taking.{IsAtSetUp};
 
 use crate::Volume;
-use crate::callers::Caller;
 use crate::checks::check;
 use crate::faults::OpFault;
 use crate::laying::nothing_set;
@@ -28,15 +27,15 @@ const MOST_ACL: usize = 1_024;
 impl Volume {
     /// Lays what a call of the caller with all rights changes, or leaves the volume as it was.
     #[tactic(auto, using(crate::proofs::AtSetUp::still_at_set_up))]
-    fn lay_call(&mut self, call: &FsCall) -> Result<(), OpFault>
-        requires changing { is_changing call.now ≡ true }
-        requires fits { FitsCall call.now }
-        requires on { IsOn self.old.head.id call.now }
-        ensures lays { Lays (called self.old.head.id call.now (volume_of self.old)) self.old self.new result }
+    fn lay_call(&mut self, call: FsCall) -> Result<(), OpFault>
+        requires changing { is_changing call ≡ true }
+        requires fits { FitsCall call }
+        requires on { IsOn self.old.head.id call }
+        ensures lays { Lays (called self.old.head.id call (volume_of self.old)) self.old self.new result }
         ensures id { self.new.head.id ≡ self.old.head.id }
         ensures times { IsAtSetUp self.old → IsAtSetUp self.new }
     {
-        let plan = self.plan_within(&Caller::AllRights, call)?;
+        let plan = self.plan_laid(call)?;
         self.lay_edits(plan.edits.as_slice())?;
         Ok(())
     }
@@ -69,7 +68,7 @@ impl Volume {
             name,
             status: nothing_set(),
         };
-        self.lay_call(&call)
+        self.lay_call(call)
     }
 
     /// Lays a link with this text.
@@ -86,7 +85,7 @@ impl Volume {
             target,
             status: nothing_set(),
         };
-        self.lay_call(&call)
+        self.lay_call(call)
     }
 
     /// Lays a link with this text, or leaves the volume as it was: 27 where the text is too large, 22 where the path has no
@@ -109,7 +108,7 @@ impl Volume {
         ensures times { IsAtSetUp self.old → IsAtSetUp self.new }
     {
         let fid = self.led(path)?;
-        self.lay_call(&FsCall::StoreAcl { fid, acl })
+        self.lay_call(FsCall::StoreAcl { fid, acl })
     }
 
     /// Gives the directory at a path this access list, or leaves the volume as it was: 27 where the text is too large, 20

@@ -1,8 +1,8 @@
 //! Operations on one vnode: StoreData, StoreACL, StoreStatus.
 
-ghost use Rattle.std.specs.Prelude.{◌≡◌, ◌≤◌, ◌∷◌, [], length, IfOk};
+ghost use Rattle.std.specs.Prelude.{◌≡◌, ◌≤◌, ◌∷◌, [], Some, length, IfOk};
 ghost use Rattle.afs_num.specs.declared.calls.FsCall.TheVariants as calls;
-ghost use Rattle.afs_ideal.specs.Operations.{is_acl, is_mask, is_whole_store};
+ghost use Rattle.afs_ideal.specs.Operations.{is_acl, is_mask, is_whole_store, most_bytes, no_amend};
 ghost use Rattle.afs_ideal.specs.VnodeImage.{most_acl};
 ghost use Rattle.afs_ideal.specs.Volumes.{amends};
 ghost use Rattle.afs_volume.specs.Giving.{amend_seen, caller_seen, edits_seen, planned, volume_of, Plans};
@@ -34,6 +34,19 @@ fn plan_one(alloc: Global, number: u32, amend: Amend) -> Mem<Plan>
         edits,
         shown: number,
     })
+}
+
+/// One edit, which gives a file other bytes and the words of a status.
+fn plan_bytes(alloc: Global, number: u32, contents: &Octets, status: &AfsStoreStatus) -> Mem<Plan>
+    requires { length contents.now ≤ most_bytes }
+    ensures edits { IfOk result (λ p. edits_seen p.edits ≡ amends number (record no_amend { contents = Some contents.now; status = Some status.now }) ∷ []) }
+    ensures shown { IfOk result (λ p. p.shown ≡ number) }
+{
+    let contents = contents.copy(alloc)?;
+    let mut amend = Amend::nothing();
+    amend.contents = Some(contents);
+    amend.status = Some(*status);
+    plan_one(alloc, number, amend)
 }
 
 /// The mask has no bit above 16.
@@ -83,10 +96,7 @@ impl Volume {
         let is_whole = is_whole_store(contents, position, length, file_length);
         check(is_file(x) && is_whole && is_mask(status), 22)?;
         check(contents.len() <= MOST_BYTES, 27)?;
-        let mut amend = Amend::nothing();
-        amend.contents = Some(contents.copy(self.alloc)?);
-        amend.status = Some(*status);
-        Ok(plan_one(self.alloc, fid.vnode, amend)?)
+        Ok(plan_bytes(self.alloc, fid.vnode, contents, status)?)
     }
 
     /// StoreACL: a directory's access list.
@@ -104,8 +114,9 @@ impl Volume {
         check(self.is_writable(), 30)?;
         check(self.may(caller, 64, d), 13)?;
         check(is_acl(self.alloc, acl.as_slice())?, 22)?;
+        let acl = acl.copy(self.alloc)?;
         let mut amend = Amend::nothing();
-        amend.acl = Some(acl.copy(self.alloc)?);
+        amend.acl = Some(acl);
         Ok(plan_one(self.alloc, fid.vnode, amend)?)
     }
 

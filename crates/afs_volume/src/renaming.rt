@@ -163,6 +163,36 @@ fn put_across(
     put_in(edits, e, all, new, moved, links)
 }
 
+/// Takes a name from a directory and puts it in another, which is then the parent; each has then so many links.
+fn move_across(
+    alloc: Global,
+    edits: &mut Edits,
+    d: &Fid,
+    x: &Vnode,
+    names: &Listing,
+    old: &[u8],
+    left: u64,
+    e: &Fid,
+    y: &Vnode,
+    others: &Listing,
+    new: &[u8],
+    moved: (u32, u32),
+    links: u64,
+) -> Mem<()>
+    requires good { name_ok new.now ≡ true }
+    requires names { (names.now ≡ (seen x.now).names) × (others.now ≡ (seen y.now).names) }
+    requires kinds { (is_kind (seen x.now).kind a_directory ≡ true) × (is_kind (seen y.now).kind a_directory ≡ true) }
+    requires room { (is_some (named new.now others.now) || nat_lt (length others.now) 1024) ≡ true }
+    ensures { OnOk result (edits_seen edits.new ≡ ((edits_seen edits.old
+        ++ amends d.now.vnode (record no_amend { names = Some (without_name old.now names.now); links = Some left }) ∷ [])
+        ++ amends e.now.vnode (record no_amend { names = Some (with_name (name_of new.now moved.0 moved.1) (without_name new.now others.now)); links = Some links }) ∷ [])
+        ++ amends moved.0 (record no_amend { parent = Some (e.now.vnode, e.now.unique) }) ∷ []) }
+{
+    take_from(alloc, edits, d, x, names, old, left)?;
+    put_across(alloc, edits, e, y, others, new, moved, links)?;
+    edits.push(Edit::Amends(moved.0, Amend::with_parent(e.vnode, e.unique)))
+}
+
 /// Nothing is added to a directory, or a name is replaced, or there is room for one more.
 fn has_room_for(d: &Fid, e: &Fid, others: &Listing, new: &[u8]) -> bool
     ensures { result ≡ (d.now.vnode == e.now.vnode || (is_some (named new.now others.now) || nat_lt (length others.now) 1024)) }
@@ -279,18 +309,11 @@ impl Volume {
             put_within(self.alloc, &mut edits, d, x, names, old, new, moved, links)?;
         } else {
             let moves = is_directory_there(self.named(names, old));
-            take_from(
-                self.alloc,
-                &mut edits,
-                d,
-                x,
-                names,
-                old,
-                linked(false, moves, links_of(x)),
-            )?;
+            let left = linked(false, moves, links_of(x));
             let links = linked(moves, replaced, links_of(y));
-            put_across(self.alloc, &mut edits, e, y, others, new, moved, links)?;
-            edits.push(Edit::Amends(moved.0, Amend::with_parent(e.vnode, e.unique)))?;
+            move_across(
+                self.alloc, &mut edits, d, x, names, old, left, e, y, others, new, moved, links,
+            )?;
         }
         push_unlink(&mut edits, number, target)?;
         Ok(edits)

@@ -131,6 +131,41 @@ impl<'a> Sight<'a> {
         }
     }
 
+    /// The fid and the status of a vnode that the change makes, and the status of its directory.
+    fn made_in(
+        &self,
+        caller: &Caller,
+        number: u32,
+        directory: u32,
+    ) -> (Fid, AfsFetchStatus, AfsFetchStatus)
+        requires images { AllByRecursion (IsLeft self.now.draft.now.time) self.now.draft.now.vnodes }
+        requires left { IsLeftIn (shown_by self.now.draft.now.vnodes) number }
+        requires holds { IsLeftIn (shown_by self.now.draft.now.vnodes) directory }
+        ensures fid { let v = volume_drafted self.now.draft.now self.now.volume.now in result.0 ≡ fid_of self.now.volume.now.head.id number (vnode_at v number) }
+        ensures status { result.1 ≡ status_at self.now.volume.now.head.id (caller_seen caller.now) (λ f. self.now.draft.now.time) (volume_drafted self.now.draft.now self.now.volume.now) number }
+        ensures directory { result.2 ≡ status_at self.now.volume.now.head.id (caller_seen caller.now) (λ f. self.now.draft.now.time) (volume_drafted self.now.draft.now self.now.volume.now) directory }
+    {
+        (
+            self.fid_at(number),
+            self.status_at(caller, number),
+            self.status_at(caller, directory),
+        )
+    }
+
+    /// The statuses of two vnodes that the change leaves.
+    fn both(&self, caller: &Caller, number: u32, other: u32) -> (AfsFetchStatus, AfsFetchStatus)
+        requires images { AllByRecursion (IsLeft self.now.draft.now.time) self.now.draft.now.vnodes }
+        requires left { IsLeftIn (shown_by self.now.draft.now.vnodes) number }
+        requires other { IsLeftIn (shown_by self.now.draft.now.vnodes) other }
+        ensures first { result.0 ≡ status_at self.now.volume.now.head.id (caller_seen caller.now) (λ f. self.now.draft.now.time) (volume_drafted self.now.draft.now self.now.volume.now) number }
+        ensures second { result.1 ≡ status_at self.now.volume.now.head.id (caller_seen caller.now) (λ f. self.now.draft.now.time) (volume_drafted self.now.draft.now self.now.volume.now) other }
+    {
+        (
+            self.status_at(caller, number),
+            self.status_at(caller, other),
+        )
+    }
+
     /// The reply to a change. Promises to call back are left for the server to fill.
     pub fn reply(&self, caller: &Caller, shown: u32, call: &FsCall) -> Mem<FsReply>
         requires changing { is_changing call.now ≡ true }
@@ -161,44 +196,60 @@ impl<'a> Sight<'a> {
                 directory: self.status_at(caller, directory.vnode),
                 sync,
             },
-            FsCall::CreateFile { directory, .. } => FsReply::CreateFile {
-                fid: self.fid_at(shown),
-                status: self.status_at(caller, shown),
-                directory: self.status_at(caller, directory.vnode),
-                callback,
-                sync,
-            },
-            FsCall::Symlink { directory, .. } => FsReply::Symlink {
-                fid: self.fid_at(shown),
-                status: self.status_at(caller, shown),
-                directory: self.status_at(caller, directory.vnode),
-                sync,
-            },
-            FsCall::MakeDir { directory, .. } => FsReply::MakeDir {
-                fid: self.fid_at(shown),
-                status: self.status_at(caller, shown),
-                directory: self.status_at(caller, directory.vnode),
-                callback,
-                sync,
-            },
+            FsCall::CreateFile { directory, .. } => {
+                let (fid, status, directory) = self.made_in(caller, shown, directory.vnode);
+                FsReply::CreateFile {
+                    fid,
+                    status,
+                    directory,
+                    callback,
+                    sync,
+                }
+            }
+            FsCall::Symlink { directory, .. } => {
+                let (fid, status, directory) = self.made_in(caller, shown, directory.vnode);
+                FsReply::Symlink {
+                    fid,
+                    status,
+                    directory,
+                    sync,
+                }
+            }
+            FsCall::MakeDir { directory, .. } => {
+                let (fid, status, directory) = self.made_in(caller, shown, directory.vnode);
+                FsReply::MakeDir {
+                    fid,
+                    status,
+                    directory,
+                    callback,
+                    sync,
+                }
+            }
             FsCall::Link {
                 directory,
                 existing,
                 ..
-            } => FsReply::Link {
-                status: self.status_at(caller, existing.vnode),
-                directory: self.status_at(caller, directory.vnode),
-                sync,
-            },
+            } => {
+                let (status, directory) = self.both(caller, existing.vnode, directory.vnode);
+                FsReply::Link {
+                    status,
+                    directory,
+                    sync,
+                }
+            }
             FsCall::Rename {
                 old_directory,
                 new_directory,
                 ..
-            } => FsReply::Rename {
-                old_directory: self.status_at(caller, old_directory.vnode),
-                new_directory: self.status_at(caller, new_directory.vnode),
-                sync,
-            },
+            } => {
+                let (old_directory, new_directory) =
+                    self.both(caller, old_directory.vnode, new_directory.vnode);
+                FsReply::Rename {
+                    old_directory,
+                    new_directory,
+                    sync,
+                }
+            }
             _ => unreachable!(),
         })
     }

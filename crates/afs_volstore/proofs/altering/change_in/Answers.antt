@@ -2,7 +2,7 @@ use Rattle.std.proofs.Common.{◌∙◌, ap, sym}
 use Rattle.afs_ideal.specs.Tables.{Table, set}
 use Rattle.afs_volume.specs.declared.volume.Volume.{Volume}
 use Rattle.afs_seats.proofs.Places.{put_again}
-use Rattle.afs_volstore.proofs.Redone.{less_numbered, put_numbered}
+use Rattle.afs_memory.proofs.Redone.{less_numbered, put_numbered}
 use Rattle.afs_volstore.proofs.altering.change_in.Goals as goal
 
 pub returns-in_err-after-clause-numbered : goal.returns-in_err-after-clause-numbered

@@ -2,9 +2,9 @@ use Rattle.std.proofs.Common.{◌∙◌, ap, sym, rules}
 use Rattle.std.specs.Option.{option_map}
 use Rattle.afs_num.specs.declared.records.RecordBody.{RecordBody}
 use Rattle.afs_records.specs.Durable.{body_taken, noted}
-use Rattle.afs_volstore.specs.States.{parts_of}
+use Rattle.afs_memory.specs.States.{parts_of}
 use Rattle.afs_volstore.proofs.FoldsOn.{bad_alone, takes_one}
-use Rattle.afs_volstore.proofs.Held.{fits_caller}
+use Rattle.afs_memory.proofs.Held.{fits_caller}
 use Rattle.afs_volstore.proofs.attaching.take_one.Goals as goal
 
 pub returns-in_err-redo-clause-bad : goal.returns-in_err-redo-clause-bad
@@ -21,5 +21,5 @@ returns-in_err-take-clause-bad c = λ e.
 
 pub returns-clause-taken : goal.returns-clause-taken
 returns-clause-taken c =
-    takes_one c.args.first c.args.bytes.now c.in_ok-rec.rec (parts_of c.args.state.now) (parts_of c.take.new.self) c.in_ok-rec.ensures.read c.in_ok-rec.ensures.fits.1 c.in_ok-rec.ensures.first
+    takes_one c.args.first c.args.bytes.now c.in_ok-rec.rec (parts_of c.args.state.now) (parts_of c.take.new.state) c.in_ok-rec.ensures.read c.in_ok-rec.ensures.fits.1 c.in_ok-rec.ensures.first
     (ap (λ (b : RecordBody). option_map (noted c.in_ok-rec.rec.head) (body_taken b (parts_of c.args.state.now))) (sym c.in_ok-redo.ensures.told) ∙ c.in_ok-take.ensures.taken)

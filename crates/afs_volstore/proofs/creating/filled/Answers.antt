@@ -2,7 +2,7 @@ use Rattle.std.proofs.Common.{◌≡◌, ◌∙◌, ◌+◌, List, ℕ, Option, 
 use Rattle.afs_journal.specs.Log.{IsJournal}
 use Rattle.afs_records.specs.Durable.{Durable, first_folded, nothing_on}
 use Rattle.afs_records.specs.Records.{record_bytes}
-use Rattle.afs_volstore.specs.States.{parts_of, placed}
+use Rattle.afs_memory.specs.States.{parts_of, placed}
 use Rattle.afs_volstore.specs.Stores.{Store}
 use Rattle.afs_volstore.proofs.Created.{ends_at, filled_with, kept_first, nothing_placed, then_first}
 use Rattle.afs_volstore.proofs.creating.filled.Goals as goal

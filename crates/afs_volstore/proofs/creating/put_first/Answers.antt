@@ -5,11 +5,11 @@ use Rattle.afs_journal.specs.Records.{whole_records, IsBeforeOrAfter}
 use Rattle.afs_journal.proofs.Moments.{and_on, unmoved}
 use Rattle.afs_num.specs.declared.records.RecordHead.{RecordHead}
 use Rattle.afs_records.specs.Records.{record_bytes}
-use Rattle.afs_volstore.specs.Called.{IsCaller}
-use Rattle.afs_volstore.specs.Redos.{record_of}
-use Rattle.afs_volstore.specs.States.{parts_of}
+use Rattle.afs_memory.specs.Called.{IsCaller}
+use Rattle.afs_memory.specs.Redos.{record_of}
+use Rattle.afs_memory.specs.States.{parts_of}
 use Rattle.afs_volstore.proofs.Created.{can_first, parts_first, spelled_first}
-use Rattle.afs_volstore.proofs.Held.{fits_caller}
+use Rattle.afs_memory.proofs.Held.{fits_caller}
 use Rattle.afs_volstore.proofs.creating.put_first.Goals as goal
 
 pub redo-requires-clause-caller : goal.redo-requires-clause-caller

@@ -5,9 +5,9 @@ use Rattle.afs_num.specs.declared.faults.StoreFault.TheVariants as faults
 use Rattle.afs_records.specs.Durable.{fold_all, first_bad}
 use Rattle.afs_volstore.specs.Folds.{places_length, wanted_lines, IsBadAt, TakesOne, TellsOne}
 use Rattle.afs_volstore.specs.Opening.{last_effect}
-use Rattle.afs_volstore.specs.States.{parts_of, placed}
+use Rattle.afs_memory.specs.States.{parts_of, placed}
 use Rattle.afs_volstore.proofs.FoldsOn.{all_taken, bad_at, told_last}
-use Rattle.afs_volstore.proofs.Redone.{if_err}
+use Rattle.afs_memory.proofs.Redone.{if_err}
 use Rattle.afs_volstore.proofs.replaying.fold.Goals as goal
 
 pub returns-in_err-lines-clause-bad : goal.returns-in_err-lines-clause-bad

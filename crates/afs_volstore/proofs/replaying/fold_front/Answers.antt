@@ -1,6 +1,6 @@
 use Rattle.std.proofs.Common.{ℕ, ◌≤◌, List, length, subst, rules}
 use Rattle.afs_volstore.specs.Folds.{IsFront}
-use Rattle.afs_volstore.specs.States.{parts_of}
+use Rattle.afs_memory.specs.States.{parts_of}
 use Rattle.afs_volstore.proofs.FoldsOn.{take_whole}
 use Rattle.afs_volstore.proofs.replaying.fold_front.Goals as goal
 

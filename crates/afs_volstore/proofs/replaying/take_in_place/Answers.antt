@@ -2,9 +2,9 @@ use Rattle.std.proofs.Common.{◌≡◌, ◌+◌, ℕ, List, None, sym, subst, s
 use Rattle.afs_num.specs.declared.faults.StoreFault.{StoreFault}
 use Rattle.afs_num.specs.declared.faults.StoreFault.TheVariants as faults
 use Rattle.afs_volstore.specs.Folds.{IsBadAt, IsFront, TakesOne}
-use Rattle.afs_volstore.specs.States.{parts_of}
+use Rattle.afs_memory.specs.States.{parts_of}
 use Rattle.afs_volstore.proofs.FoldsOn.{behind_none, goes_on, is_none_at, stops_at}
-use Rattle.afs_volstore.proofs.Redone.{if_err}
+use Rattle.afs_memory.proofs.Redone.{if_err}
 use Rattle.afs_volstore.proofs.replaying.take_in_place.Goals as goal
 
 pub returns-in_default-clause-front : goal.returns-in_default-clause-front

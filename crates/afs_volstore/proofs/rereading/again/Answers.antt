@@ -1,6 +1,6 @@
 use Rattle.std.proofs.Common.{ℕ, subst, sym}
 use Rattle.afs_volstore.specs.Rereading.{IsTakenUp}
-use Rattle.afs_volstore.specs.States.{parts_of, placed}
+use Rattle.afs_memory.specs.States.{parts_of, placed}
 use Rattle.afs_volstore.specs.Stores.{IsKept}
 use Rattle.afs_volstore.proofs.Attached.{counted_taken_up, kept_again}
 use Rattle.afs_volstore.proofs.Reread.{comes_so, disk_is, rests_so}

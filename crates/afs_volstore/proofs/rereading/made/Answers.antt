@@ -1,6 +1,6 @@
 use Rattle.std.proofs.Common.{refl, sym, subst, ◌∙◌}
 use Rattle.afs_volstore.specs.Rereading.{IsMade}
-use Rattle.afs_volstore.specs.States.{parts_of}
+use Rattle.afs_memory.specs.States.{parts_of}
 use Rattle.afs_volstore.specs.Stores.{Store}
 use Rattle.afs_volstore.proofs.Attached.{kept_folded}
 use Rattle.afs_volstore.proofs.rereading.made.Goals as goal

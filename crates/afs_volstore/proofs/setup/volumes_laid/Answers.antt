@@ -2,7 +2,7 @@ use Rattle.std.proofs.Common.{◌≡◌, ◌∷◌, ◌+◌, Bor, List, drop, ma
 use Rattle.afs_history.specs.declared.scripts.VolumeLine.{VolumeLine}
 use Rattle.afs_volstore.specs.Laying.{HaveShortNames}
 use Rattle.afs_volstore.proofs.Laid.{next_of, next_volume, still_few, still_laid}
-use Rattle.afs_volstore.proofs.Redone.{now_numbered}
+use Rattle.afs_memory.proofs.Redone.{now_numbered}
 use Rattle.afs_volstore.proofs.setup.volumes_laid.Goals as goal
 
 pub loop-line-preserved : goal.loop-line-preserved

@@ -8,7 +8,7 @@ use Rattle.afs_records.specs.Records.{volume_form}
 use Rattle.afs_seats.specs.Seated.{seen_as}
 use Rattle.afs_volume.specs.Taking.{stored_of}
 use Rattle.afs_volstore.specs.Laying.{AreLaid}
-use Rattle.afs_volstore.specs.Numbered.{AreNumbered}
+use Rattle.afs_memory.specs.Numbered.{AreNumbered}
 use Rattle.afs_volstore.proofs.setup.volumes_told.Given as goal
 
 abbrev pub invariant-loop-item : goal.invariant-loop-item

@@ -15,7 +15,7 @@ use Rattle.afs_server.specs.Saving.{change_kept, fids_granted, new_grants, reply
 use Rattle.afs_server.specs.Seen.{Serves}
 use Rattle.afs_server.specs.declared.faults.NodeFault.{NodeFault}
 use Rattle.afs_server.specs.declared.faults.NodeFault.TheVariants as nodes
-use Rattle.afs_volstore.specs.Named.{IsNamed}
+use Rattle.afs_memory.specs.Named.{IsNamed}
 use Rattle.afs_volstore.specs.Stores.{Store}
 use Rattle.afs_volume.specs.Listed.{listed_as}
 use Rattle.afs_volume.specs.Seen.{IsReadable}

@@ -3,7 +3,7 @@ use Rattle.std.proofs.Common.{◌≡◌, ◌≤◌, ◌+◌, ℕ, ap, refl, sym,
 use Rattle.afs_num.specs.declared.types.Node.{Node}
 use Rattle.afs_disk.specs.Fuses.{Fused}
 use Rattle.afs_volstore.specs.Rereading.{disk_after, IsAttached, IsRefused, IsTakenUp}
-use Rattle.afs_volstore.specs.States.{parts_of, placed}
+use Rattle.afs_memory.specs.States.{parts_of, placed}
 use Rattle.afs_volstore.specs.Stores.{IsKept, Store}
 use Rattle.afs_volstore.proofs.rereading.«VolStore+Fuse+D».attach_again.Goals as goal
 

@@ -1,7 +1,7 @@
 use Rattle.std.proofs.Common.{◌∙◌, ap, sym, subst}
 use Rattle.afs_journal.specs.Records.{journal_bytes, whole_records}
 use Rattle.afs_journal.specs.Log.{Taken}
-use Rattle.afs_volstore.specs.States.{parts_of}
+use Rattle.afs_memory.specs.States.{parts_of}
 use Rattle.afs_volstore.proofs.Attached.{fault_at_attach, fault_without, kept_taken_up, some_is}
 use Rattle.afs_volstore.proofs.store.VolStore.attach.Goals as goal
 

@@ -7,11 +7,11 @@ use Rattle.afs_num.specs.declared.records.StoreRecord.{StoreRecord}
 use Rattle.afs_num.specs.declared.records.RecordHead.{RecordHead}
 use Rattle.afs_records.specs.Durable.{folded}
 use Rattle.afs_records.specs.Records.{record_bytes}
-use Rattle.afs_volstore.specs.Called.{IsCaller}
-use Rattle.afs_volstore.proofs.Held.{fits_caller}
-use Rattle.afs_volstore.specs.Preparing.{Waits, WaitsReady}
-use Rattle.afs_volstore.specs.Redos.{record_of}
-use Rattle.afs_volstore.specs.States.{parts_of, placed}
+use Rattle.afs_memory.specs.Called.{IsCaller}
+use Rattle.afs_memory.proofs.Held.{fits_caller}
+use Rattle.afs_volstore.specs.Waiting.{Waits, WaitsReady}
+use Rattle.afs_memory.specs.Redos.{record_of}
+use Rattle.afs_memory.specs.States.{parts_of, placed}
 use Rattle.afs_volstore.specs.Stores.{Store, LeftAround}
 use Rattle.afs_volstore.proofs.Folding.{left_around, body_is_taken, put_folds, record_is, some_durable}
 use Rattle.afs_volstore.proofs.Kept.{counted_more, kept_more}

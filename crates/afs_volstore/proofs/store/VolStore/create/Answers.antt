@@ -27,16 +27,16 @@ returns-clause-any_moment g c = λ told only.
     let rec = c.in-Ok.first.0 in
     let le : length (record_bytes rec) + 10 ≤ limit = search rules in
     let made : (e : Durable) × IsMade limit ls rec e = made_on c.records_are_read_again.ensures limit ls rec c.in-Ok.ensures.value c.in-Ok.ensures.fits le c.in-Ok.ensures.taken in
-    let j = c.in_ok-journal.journal.disk in
+    let j = c.in-Ok-begin.journal.disk in
     let none : LeavesOnly g.D.Disk.moment g.D.Disk.left_since disk j (IsSetUpSoFar limit ls) =
-    weaker g.D.Disk.moment g.D.Disk.left_since disk j (IsSetUpSoFar limit ls) (λ (b : List ℕ). whole_records b ≡ []) (c.in_ok-journal.ensures.any_moment told only) (λ b left. inl left) in
-    matched_on c.filled.result _ _ _ _ (c.filled.ensures.any_moment (ap is_some (c.in_ok-journal.ensures.begun (ap is_some told)).now))
+    weaker g.D.Disk.moment g.D.Disk.left_since disk j (IsSetUpSoFar limit ls) (λ (b : List ℕ). whole_records b ≡ []) (c.in-Ok-begin.ensures.any_moment told only) (λ b left. inl left) in
+    matched_on c.filled-store.result _ _ _ _ (c.filled-store.ensures.any_moment (ap is_some (c.in-Ok-begin.ensures.begun (ap is_some told)).now))
     (λ s more. and_on g.D.Disk.moment g.D.Disk.left_since disk j s.disk (IsSetUpSoFar limit ls) (IsBeforeOrAfter [] (record_bytes rec)) none more (λ b left. left_so_far limit ls rec b made left))
     (λ e more. and_on g.D.Disk.moment g.D.Disk.left_since disk j e.1 (IsSetUpSoFar limit ls) (IsBeforeOrAfter [] (record_bytes rec)) none more (λ b left. left_so_far limit ls rec b made left))
 
 -- behind the test the record fits, so something is set up
-pub returns-in_err-journal-clause-room : goal.returns-in_err-journal-clause-room
-returns-in_err-journal-clause-room g c = λ none.
+pub returns-in-Err-begin-clause-room : goal.returns-in-Err-begin-clause-room
+returns-in-Err-begin-clause-room g c = λ none.
     let limit = g.D.Disk.limit c.args.disk in
     let ls = map (λ (l : Bor VolumeLine). l.now) c.args.volumes.now in
     let rec = c.in-Ok.first.0 in

@@ -1,6 +1,6 @@
 use Rattle.std.proofs.Common.{◌≡◌, ◌+◌, true, is_some, sym, ap, ◌∙◌}
 use Rattle.afs_records.specs.Durable.{body_taken, folded}
-use Rattle.afs_volstore.specs.States.{parts_of}
+use Rattle.afs_memory.specs.States.{parts_of}
 use Rattle.afs_volstore.specs.Stores.{Store}
 use Rattle.afs_volstore.proofs.Folding.{body_is_taken}
 use Rattle.afs_volstore.proofs.Kept.{kept_on}

@@ -6,11 +6,8 @@ use Rattle.afs_volume.proofs.Called.{can_be_laid}
 use Rattle.afs_volume.proofs.Soundly.{volume_sound}
 use Rattle.afs_volume.proofs.volume.Volume.lay_call.Goals as goal
 
-pub plan_within-requires-clause-sound : goal.plan_within-requires-clause-sound
-plan_within-requires-clause-sound c = volume_sound c.args.self.now.head c.args.self.now.vnodes.table c.args.self.now.readable c.args.self.now.sound
-
 pub lay_edits-requires : goal.lay_edits-requires
 lay_edits-requires c =
     let w = c.args.self.now in
     subst (λ (es : List Edit). CanBeLaid w.head.id (volume_of w) (edits_seen es)) (sym c.as_slice.ensures)
-    (can_be_laid w.head.id c.args.call.now (volume_of w) (edits_seen c.in_ok-plan.plan.edits) c.in_ok-plan.plan.shown (volume_sound w.head w.vnodes.table w.readable w.sound) c.in_ok-plan.ensures.few c.requires.on c.in_ok-plan.ensures.plan)
+    (can_be_laid w.head.id c.args.call (volume_of w) (edits_seen c.in_ok-plan.plan.edits) c.in_ok-plan.plan.shown (volume_sound w.head w.vnodes.table w.readable w.sound) c.in_ok-plan.ensures.few c.requires.on c.in_ok-plan.ensures.plan)

@@ -1,0 +1,4 @@
+pub mod Held
+pub mod Readied
+pub mod Redone
+pub mod Told

@@ -1,0 +1,8 @@
+pub mod Called
+pub mod Named
+pub mod Numbered
+pub mod Preparing
+pub mod Redoing
+pub mod Redos
+pub mod States
+pub mod Telling

@@ -1,0 +1,37 @@
+-- What a record says, ready to be done, and the record that says it.
+use Rattle.std.specs.Prelude.{◌≡◌, ℕ, map, Some}
+use Rattle.std.specs.List.{AllByRecursion}
+use Rattle.afs_num.specs.declared.vnodes.Vnode as image
+use Rattle.afs_num.specs.declared.records.RecordBody.{RecordBody}
+use Rattle.afs_num.specs.declared.records.RecordBody.TheVariants as bodies
+use Rattle.afs_num.specs.declared.records.RecordHead.{RecordHead}
+use Rattle.afs_num.specs.declared.records.StoredVolume.{StoredVolume}
+use Rattle.afs_num.specs.declared.records.StoreRecord.{StoreRecord}
+use Rattle.afs_volume.specs.Seen.{IsReadable}
+use Rattle.afs_volume.specs.Taking.{stored_of}
+use Rattle.afs_volume.specs.declared.volume.Volume.{Volume}
+use Rattle.afs_records.specs.Durable as durable
+use Rattle.afs_memory.specs.declared.redo.Redo.{Redo}
+use Rattle.afs_memory.specs.declared.redo.Redo.TheVariants as redos
+
+-- a volume, as the first record tells it
+abbrev pub told : Volume → StoredVolume
+told v = record { head = v.head; vnodes = map (λ (p : ℕ × image.Vnode). p.1) v.vnodes.table }
+
+abbrev pub body_of : Redo → RecordBody
+body_of (redos.Volumes vs) = bodies.First (map told vs)
+body_of (redos.Change id c) = bodies.Change id c.counter c.unique c.vnodes c.removed
+body_of (redos.Start boot) = bodies.Boot boot
+
+abbrev pub record_of : RecordHead → Redo → StoreRecord
+record_of head redo = record { head = head; body = body_of redo }
+
+-- the fold makes just this volume of what is told of it
+abbrev pub IsMadeAgain : Volume → Type 0
+IsMadeAgain v = durable.stored_of (told v) ≡ Some (stored_of v)
+
+-- the volumes are made, the images have been read
+abbrev pub IsReady : Redo → Type 0
+IsReady (redos.Volumes vs) = AllByRecursion IsMadeAgain vs
+IsReady (redos.Change id c) = AllByRecursion IsReadable c.vnodes
+IsReady (redos.Start boot) = Unit {0}

@@ -1,0 +1,11 @@
+//! What a server's disk keeps, in memory, and what a record does to it.
+#![tactic(auto)]
+
+mod copying;
+mod lines;
+pub mod memory;
+pub mod prepared;
+pub mod readying;
+pub mod redo;
+pub mod redoing;
+mod state;

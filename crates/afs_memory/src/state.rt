@@ -1,0 +1,214 @@
+//! What is found in memory of what a disk keeps, and what a record's head and a start change there.
+
+ghost use Rattle.std.specs.Prelude.{◌≡◌, ◌≤◌, ◌<◌, ◌+◌, None, Some, [], length, IfSome, IfNone, OnOk, false, filter, nat_eq, not, slice_get, if◌then◌else◌};
+ghost use Rattle.std.specs.Option.{option_copied, option_map, option_map_or};
+ghost use Rattle.afs_num.specs.Nodes.{node_number};
+ghost use Rattle.afs_ideal.specs.DirectoryLaws.{IsBytes};
+ghost use Rattle.afs_ideal.specs.Tables.{get, set, AscendsFrom};
+ghost use Rattle.afs_records.specs.Durable.{booted, is_flagged, noted, or_zero};
+ghost use Rattle.afs_volume.specs.Taking.{stored_of};
+ghost use Rattle.afs_memory.specs.Called.{AreBytes, AreKnown, IsCaller};
+ghost use Rattle.afs_memory.specs.States.{kept_in, kept_seen, parts_of};
+
+use crate::memory::{KeptReply, State};
+use afs_num::records::RecordHead;
+use afs_num::sequences::Octets;
+use afs_num::types::{Mem, Node};
+use afs_seats::Seats;
+use afs_volume::Volume;
+use std::alloc::Global;
+use std::mem::replace;
+
+/// The flag of a volume that goes at the next start.
+const DELETE_ON_SALVAGE: u32 = 1;
+
+/// The boot number of a server whose first record is just being taken.
+const FIRST_BOOT: u32 = 1;
+
+/// Whether a volume goes at the next start.
+fn is_flagged(volume: &Volume) -> bool
+    ensures { result ≡ is_flagged (stored_of volume.now) }
+{
+    volume.head().flags & DELETE_ON_SALVAGE != 0
+}
+
+/// The volumes that stay at a start. It takes no memory.
+fn unflagged(volumes: Seats<Volume>) -> Seats<Volume>
+    ensures { result.table ≡ filter (λ p. not (is_flagged (stored_of p.1))) volumes.table }
+{
+    let mut items = volumes.into_items();
+    items.retain(|item| !is_flagged(&item.1));
+    Seats::from_items(items)
+}
+
+/// Bytes are bytes.
+fn are_bytes(bytes: &[u8])
+    ensures { IsBytes bytes.now }
+{
+    let _ = bytes.len();
+}
+
+impl State {
+    /// What stands on a disk without records. It takes no memory.
+    pub fn new(alloc: Global) -> State
+        ensures boot { result.boot ≡ 1 }
+        ensures volumes { result.volumes.table ≡ [] }
+        ensures stamps { result.stamps.table ≡ [] }
+        ensures kept { result.kept.table ≡ [] }
+    {
+        State {
+            alloc,
+            boot: FIRST_BOOT,
+            volumes: Seats::new(alloc),
+            stamps: Seats::new(alloc),
+            kept: Seats::new(alloc),
+        }
+    }
+
+    /// The volume of this number.
+    pub fn volume(&self, id: u32) -> Option<&Volume>
+        ensures some { IfSome result (λ v. get id (parts_of self.now).volumes ≡ Some (stored_of v.now)) }
+        ensures none { IfNone result (get id (parts_of self.now).volumes ≡ None) }
+        ensures id { IfSome result (λ v. v.now.head.id ≡ id) }
+    {
+        self.volumes.get(id)
+    }
+
+    /// The volume at this place in order of the numbers, from 0.
+    pub fn volume_at(&self, place: u32) -> Option<&Volume>
+        ensures some { IfSome result (λ v. slice_get (parts_of self.now).volumes place ≡ Some (v.now.head.id, stored_of v.now)) }
+        ensures none { IfNone result (slice_get (parts_of self.now).volumes place ≡ None) }
+    {
+        match self.volumes.at(place as usize) {
+            Some(item) => Some(&item.1),
+            None => None,
+        }
+    }
+
+    /// The stamp of this family, or 0.
+    pub fn stamp(&self, family: u32) -> u32
+        ensures { result ≡ or_zero (get family self.now.stamps.table) }
+    {
+        match self.stamps.get(family) {
+            Some(stamp) => *stamp,
+            None => 0,
+        }
+    }
+
+    /// The kept reply of the caller of this number.
+    pub fn kept(&self, caller: u32) -> Option<&KeptReply>
+        ensures some { IfSome result (λ k. get caller (parts_of self.now).kept ≡ Some (kept_seen k.now)) }
+        ensures none { IfNone result (get caller (parts_of self.now).kept ≡ None) }
+    {
+        self.kept.get(caller)
+    }
+
+    /// The kept reply at this place in order of the callers' numbers, from 0.
+    pub fn kept_at(&self, place: u32) -> Option<&KeptReply>
+        ensures some { IfSome result (λ k. slice_get (parts_of self.now).kept place ≡ Some (node_number k.now.caller, kept_seen k.now)) }
+        ensures none { IfNone result (slice_get (parts_of self.now).kept place ≡ None) }
+        ensures ordered { AscendsFrom 0 (parts_of self.now).kept }
+        ensures nodes { AreKnown (parts_of self.now).kept }
+        ensures bytes { AreBytes (parts_of self.now).kept }
+    {
+        match self.kept.at(place as usize) {
+            Some(item) => Some(&item.1),
+            None => None,
+        }
+    }
+
+    /// The server to which calls for a volume are to go. No record that is taken forwards one.
+    pub fn forwarding(&self, _id: u32) -> Option<Node>
+        ensures { option_map node_number result ≡ get _id (parts_of self.now).forwardings }
+    {
+        let _ = &self.boot;
+        None
+    }
+
+    /// Whether a volume is new. No record that is taken makes one.
+    pub fn is_new(&self, _id: u32) -> bool
+        ensures { result ≡ option_map_or (λ s. s.is_new) (get _id (parts_of self.now).volumes) false }
+    {
+        let _ = &self.boot;
+        false
+    }
+
+    /// Makes room for one stamp and one reply more.
+    pub fn reserve_head(&mut self) -> Mem<()>
+        ensures room { OnOk result ((0 < self.new.stamps.room) × (0 < self.new.kept.room)) }
+        ensures same { self.new ≡ record self.old { stamps = self.new.stamps; kept = self.new.kept; called = self.new.called } }
+        ensures stamps { self.new.stamps.table ≡ self.old.stamps.table }
+        ensures kept { self.new.kept.table ≡ self.old.kept.table }
+        ensures grows { (self.old.stamps.room ≤ self.new.stamps.room) × (self.old.kept.room ≤ self.new.kept.room) }
+    {
+        self.stamps.reserve(1)?;
+        self.kept.reserve(1)?;
+        Ok(())
+    }
+
+    /// A new boot number; the flagged volumes go. It takes no memory.
+    pub fn start(&mut self, boot: u32)
+        ensures parts { parts_of self.new ≡ booted boot (parts_of self.old) }
+        ensures rest { (self.new.stamps ≡ self.old.stamps) × (self.new.kept ≡ self.old.kept) }
+    {
+        let volumes = replace(&mut self.volumes, Seats::new(self.alloc));
+        self.volumes = unflagged(volumes);
+        self.boot = boot;
+    }
+
+    /// Keeps a stamp, where one is raised. It takes no memory.
+    fn raise(&mut self, family: u32, stamp: u32)
+        requires { 0 < self.old.stamps.room }
+        ensures table { self.new.stamps.table ≡ (if nat_eq stamp 0 then self.old.stamps.table else set family stamp self.old.stamps.table) }
+        ensures rest { self.new ≡ record self.old { stamps = self.new.stamps } }
+    {
+        if stamp == 0 {
+            return;
+        }
+        match self.stamps.put(family, stamp) {
+            Ok(()) => {}
+            Err(_) => unreachable!(),
+        }
+    }
+
+    /// Keeps a reply, where it has a caller. It takes no memory.
+    fn keep(&mut self, caller: Option<Node>, epoch: u32, number: u32, reply: Octets)
+        requires caller { IsCaller caller }
+        requires room { 0 < self.old.kept.room }
+        ensures table { self.new.kept.table ≡ kept_in caller epoch number reply self.old.kept.table }
+        ensures rest { self.new ≡ record self.old { kept = self.new.kept; called = self.new.called } }
+    {
+        let Some(caller) = caller else {
+            return;
+        };
+        are_bytes(reply.as_slice());
+        let reply = KeptReply {
+            caller,
+            epoch,
+            number,
+            reply,
+        };
+        match self.kept.put(caller.number(), reply) {
+            Ok(()) => {}
+            Err(_) => unreachable!(),
+        }
+    }
+
+    /// Keeps what a record's head says. It takes no memory.
+    pub fn note(&mut self, head: RecordHead)
+        requires caller { IsCaller head.caller }
+        requires room { (0 < self.old.stamps.room) × (0 < self.old.kept.room) }
+        ensures { parts_of self.new ≡ noted head (parts_of self.old) }
+    {
+        let RecordHead {
+            family,
+            stamp,
+            caller,
+            epoch,
+            number,
+            reply,
+        } = head;
+        self.raise(family, stamp);
+        self.keep(caller, epoch, number, reply);
+    }
+}

@@ -1,0 +1,4 @@
+mod Changed
+mod Names
+mod Patched
+mod Patches

@@ -1,0 +1,8 @@
+//! Changes that a disk tells: whether a volume can take one in is found out by what it leaves.
+#![tactic(auto)]
+
+mod altering;
+mod patching;
+mod standing;
+
+pub use altering::changed;

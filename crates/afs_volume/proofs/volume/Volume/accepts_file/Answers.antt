@@ -1,5 +1,0 @@
-use Rattle.afs_volume.proofs.Soundly.{volume_sound}
-use Rattle.afs_volume.proofs.volume.Volume.accepts_file.Goals as goal
-
-pub plan_within-requires-clause-sound : goal.plan_within-requires-clause-sound
-plan_within-requires-clause-sound c = volume_sound c.args.self.now.head c.args.self.now.vnodes.table c.args.self.now.readable c.args.self.now.sound
