@@ -235,6 +235,34 @@ if (ulimit -v 1000000) 2> /dev/null; then
     holds "little memory: wrong statuses:$wrong" [ -z "$wrong" ]
     holds 'little memory: status 7 was met' [ "$sevens" -gt 0 ]
     holds 'little memory: it was enough at last' [ "$ends" -eq 4 ]
+
+    # What was told is let go: a run of 100,000 messages needs little room. Where a deliver is left, which may name any place, all
+    # messages are kept, and the same room is too little.
+    walks() {
+        awk -v last="$1" 'BEGIN {
+            print "cell 1\nservers 1\nclients 1\ncache 1\nvolume proj s1 10000"
+            path = "proj"
+            for (i = 1; i < 100; i++) { path = path "/d"; print "dir " path }
+            for (i = 0; i < 500; i++) print "do c1 list " path
+            print "schedule"
+            for (i = 0; i < 500; i++) print "act c1\ndrain"
+            if (last != "") print last
+            print "end"
+        }'
+    }
+    # what the run has to be: each act reads 100 directories, by a call and a reply each
+    walks '' > "$work/walks.afs"
+    status=0
+    (ulimit -v 30000 && exec "$program" replay < "$work/walks.afs") > "$work/out" 2> "$work/err" || status=$?
+    holds "a long run in little memory: status $status, wanted 0" [ "$status" = 0 ]
+    holds 'a long run in little memory: its messages' [ "$(grep -c '^sent ' "$work/out")" = 100000 ]
+    holds 'a long run in little memory: its answers' [ "$(grep -c '^answer c1 0$' "$work/out")" = 500 ]
+    walks 'deliver 1' > "$work/kept.afs"
+    status=0
+    (ulimit -v 30000 && exec "$program" replay < "$work/kept.afs") > "$work/kept" 2> "$work/err" || status=$?
+    holds "a run that keeps its messages: status $status, wanted 7" [ "$status" = 7 ]
+    head -c "$(wc -c < "$work/kept")" "$work/out" > "$work/beginning"
+    holds 'a run that keeps its messages: a beginning' cmp -s "$work/beginning" "$work/kept"
 else
     echo 'skipped: little memory (the shell sets no limit)'
 fi

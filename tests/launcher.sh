@@ -205,7 +205,8 @@ launch_at_once() {
 
 # ---- words
 
-# Rows of words: whether they have a form, and then the words, parted by bars. One of two bytes is no UTF-8.
+# Rows of words: whether they have a form, or have one but for a folder's name that is no text, and then the words, parted by
+# bars.
 cat > "$work/words" << END
 form|replay
 form|replay|--wire
@@ -245,9 +246,9 @@ none|replay|--disks=disks|--disks=disks
 none|replay|--wire|--disks|disks|--wire
 none|replay|--disks|disks|more
 none|replay|--wire|replay
-none|replay|--disks|$(printf 'a\355\240\200')
-none|replay|--disks=$(printf '\377')
-none|replay|--disks|$(printf '\364\220\200\200')
+bytes|replay|--disks|$(printf 'a\355\240\200')
+bytes|replay|--disks=$(printf '\377')
+bytes|replay|--disks|$(printf '\364\220\200\200')
 none|--wire
 none|--wire|replay
 none|--disks|disks|replay
@@ -278,21 +279,24 @@ each_words() {
     done < "$work/words"
 }
 
-# Words that have a form are the program's; others are refused at once.
+# Words that have a form are the program's; others are refused at once. Of a folder whose name is no text see below.
 launcher_takes() {
     has_form=$1
     shift
-    if [ "$has_form" = none ]; then
+    case $has_form in
+    none)
         wanted 2
         tells "$usage"
         launch_at_once "$@"
-        return
-    fi
-    name=$1
-    shift
-    wanted 0
-    prints "words:$(printf ' <%s>' "$@")"
-    launch_at_once "$name" "$@"
+        ;;
+    form)
+        name=$1
+        shift
+        wanted 0
+        prints "words:$(printf ' <%s>' "$@")"
+        launch_at_once "$name" "$@"
+        ;;
+    esac
 }
 install 0
 each_words launcher_takes
@@ -434,6 +438,73 @@ wanted 6
 prints "words: <replay> <--disks=$work/none>" first second
 tells 'disk fault' "afscell: there is no folder $work/none for the disks"
 launch_at_once 'a disk fault where there is no folder' replay "--disks=$work/none" < "$work/script"
+
+# A folder whose name is no text is the program's by a link that has one: whole or not, in both spellings, and with the input over
+# a pipe too. The stand-in tells its words but the last, what stands in the folder that this one names, and its input.
+install 0
+cat > "$program" << END
+#!/bin/sh
+while [ \$# -gt 1 ]; do printf '<%s> ' "\$1"; shift; done
+cat "\$1/seen" || exit 6
+cat
+END
+bytes=$(printf 'a\377b')
+mkdir "$work/$bytes"
+echo 'by its name' > "$work/$bytes/seen"
+of_bytes() {
+    wanted 0
+    prints '<replay> <--disks> by its name' first second
+    launch_at_once "a folder whose name is no text, $1" replay --disks "$work/$bytes" < "$work/script"
+    launch_at_once "a folder whose name is no text, $1, in one word" replay "--disks=$work/$bytes" < "$work/script"
+    cd "$work"
+    launch_at_once "a folder whose name is no text, $1, from beside it" replay --disks "$bytes" < "$work/script"
+    cd "$work/$bytes"
+    launch_at_once "a folder whose name is no text, $1, from within" replay --disks "../$bytes" < "$work/script"
+    cd "$top"
+    wanted 0
+    prints '<replay> <--wire> <--disks> by its name' first second
+    launch_at_once "a folder whose name is no text, $1, with --wire" replay "--disks=$work/$bytes" --wire < "$work/script"
+}
+of_bytes 'of a file'
+over_pipe of_bytes 'over a pipe'
+# A folder with a name that is text is named as it is, whatever the folder where one stands.
+wanted 0
+prints '<replay> <--disks> by its name' first second
+cd "$work/$bytes"
+launch_at_once 'the folder where one stands, whose name is no text' replay --disks . < "$work/script"
+cd "$top"
+# Where there is none the program finds none.
+status=0
+run_launcher replay --disks "$work/none$bytes" < "$work/script" > "$work/out" 2> "$work/err" || status=$?
+wanted 6
+printf '<replay> <--disks> ' >> "$work/want.out"
+cp "$work/err" "$work/told"
+tail -n 1 "$work/told" > "$work/err"
+tells "afscell: there is no folder $work/none$bytes for the disks"
+judge 'a folder whose name is no text, where there is none'
+# A script that is refused is explained as ever.
+cat > "$program" << END
+#!/bin/sh
+cat > '$work/taken'
+echo 'script: line 2: Order' >&2
+exit 3
+END
+wanted 3
+tells 'script: line 2: Order' '  line 2: "second"' "  Order: $(sed -n 's/^| `Order` | \([^|]*\) | .*/\1/p' docs/formats.md) (docs/formats.md has an example)"
+launch_at_once 'a folder whose name is no text, and a script that is refused' replay --disks "$work/$bytes" < "$work/script"
+over_pipe launch_at_once 'the same over a pipe' replay --disks "$work/$bytes" < "$work/script"
+# Where there is no iconv to see what is text, each name that isn't of ASCII gets a link.
+mkdir "$work/few"
+for tool in awk cat cut dirname find grep head iconv ln mktemp printf rm sed sh tail tr wc; do
+    if [ "$tool" != iconv ]; then ln -s "$(command -v "$tool")" "$work/few"; fi
+done
+install 0
+wanted 0
+printf 'words: <replay> <--disks> <LINK>\nfirst\nsecond\n' >> "$work/want.out"
+status=0
+TMPDIR=$work/tmp PATH=$work/few "$launcher" replay --disks "$work/$(printf '\303\244')" < "$work/script" 2> "$work/err" |
+    sed "s|<$work/tmp/[^/]*/folder>|<LINK>|" > "$work/out" || status=$?
+judge 'a folder of another alphabet, without iconv'
 
 # ---- a script that is refused
 
@@ -705,8 +776,9 @@ prints 'a text'
 tells "$not_proved"
 by_variable launch 'a look with disks' replay --disks=disks --wire < "$work/good"
 by_variable launch 'a look with disks by their whole path' replay --disks "$work/disks" < "$work/good"
-printf 'afs_top: try --cases FOLDER -- replay %s\n' "--wire --disks $top/disks" "--disks $work/disks" > "$work/calls"
-if sed 's/ --cases [^ ]* / --cases FOLDER /' "$work/called" | cmp -s - "$work/calls"; then
+by_variable launch 'a look with disks in a folder whose name is no text' replay --disks "$bytes" < "$work/good"
+printf 'afs_top: try --cases FOLDER -- replay %s\n' "--wire --disks $top/disks" "--disks $work/disks" '--disks LINK' > "$work/calls"
+if sed -e 's/ --cases [^ ]* / --cases FOLDER /' -e "s| $work/tmp/[^/ ]*/folder\$| LINK|" "$work/called" | cmp -s - "$work/calls"; then
     pass
 else
     fail "a look with disks: the kit is called by $(cat "$work/called")"
@@ -721,7 +793,8 @@ rm -f "$home/crates/afs_top/refuse"
 # ---- the program, where it is built
 
 built=crates/afs_top/out/afs_top
-# The program refuses the same words. Those that have a form may meet a disk fault, where there is no such folder.
+# The program refuses the same words, and those that are no text. Those that have a form may meet a disk fault, where there is no
+# such folder.
 program_takes() {
     has_form=$1
     name=$2
@@ -729,6 +802,7 @@ program_takes() {
     status=0
     "$built" "$@" > "$work/out" 2> "$work/err" || status=$?
     taken=form
+    if [ "$has_form" = bytes ]; then has_form=none; fi
     if [ "$status" = 2 ] && [ ! -s "$work/out" ] && [ "$(cat "$work/err")" = "$usage" ]; then taken=none; fi
     if [ "$taken" = "$has_form" ]; then pass; else fail "the program and $name: status $status"; fi
 }
@@ -753,6 +827,11 @@ if [ -e crates/afs_top/out/afscell.built ]; then
     tells 'script: line 3: Word' '  line 3: "clients 1 "' "  Word: $(rule Word) (docs/formats.md has an example)"
     launch_at_once 'the proved program and a bad script' replay < "$work/bad"
     over_pipe launch_at_once 'the proved program and a bad script, over a pipe' replay < "$work/bad"
+    rm -f "$work/$bytes/seen"
+    wanted 0
+    cat "$work/text" >> "$work/want.out"
+    launch_at_once 'the proved program and a folder whose name is no text' replay --disks "$work/$bytes" < examples/open_close.afs
+    if [ -s "$work/$bytes/node-1" ]; then pass; else fail 'a folder whose name is no text has no disk'; fi
 else
     echo "skipped: the proved program (it isn't built)"
 fi

@@ -190,9 +190,18 @@ class Edit:
         if not self.is_refused(said.goals):
             wanted = ", ".join(self.clauses) or "a clause of its contract"
             return False, f"{where} is refused by {', '.join(sorted(found)) or 'no goal'}{without}, and not by {wanted}"
+        if without and self.is_open_in_the_right_program(room, kept, said.goals):
+            return False, f"{where} is refused{without} as the right program is without them, which says nothing of the contract"
         refusing = self.clauses or of_contract(said.goals)
         others = len(found.difference(refusing))
         return True, f"{where} is refused by {', '.join(refusing)}{f' and {others} more' if others else ''}{without}"
+
+    def is_open_in_the_right_program(self, room, kept, goals):
+        """Whether what stays open with the edit does so in the right program too, without the proofs by hand that are gone here."""
+        for file in {it.file for it in edits.pairs_of(self.path)}:
+            shutil.copyfile(f"{edits.ROOT}/crates/{self.crate}/{file}", f"{room}/{file}")
+        right = {clause(it) for it in check(self.crate, room, self.functions, kept).goals}
+        return right.issuperset(self.clauses or of_contract(goals))
 
     def attempt(self, kept):
         """Tries the edit in a copy of the crate."""

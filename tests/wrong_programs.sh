@@ -15,7 +15,8 @@
 # An edit fails here where it can't be applied or compiled, where the function is accepted or only another one is refused, and where
 # its clause is not among those that stay open. Where it tells no clause, one of the function's contract has to stay open, which
 # what a loop keeps and an overflow are not; such an edit has no turn. Where files of answers are complained of, which may only
-# name what the edit took away, and the clause does not stay open beside them, it is tried once more without these files.
+# name what the edit took away, and the clause does not stay open beside them, it is tried once more without these files. It fails
+# where that clause stays open in the right program too, once these files are gone: then nothing but a proof by hand refused it.
 set -eu
 
 exec python3 "$(dirname "$0")/wrong_programs.py" "$@"

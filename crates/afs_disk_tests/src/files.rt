@@ -167,7 +167,7 @@ const FULL: &str = "/dev/full";
 #[test]
 fn after_a_failed_sync_each_call_fails(rt: HostRuntime) -> Result<(), Fail> {
     let file = File::options().read(true).write(true).open(&rt, FULL)?;
-    let mut disk = FileDisk::over(file, 100)?;
+    let mut disk = HostDisk::File(FileDisk::over(file, 100)?);
     disk.room(3, 3)?;
     assert_eq!(rt; disk.write_at(0, b"abc"), Err(Failed));
     assert_eq!(rt; disk.len(), 0);

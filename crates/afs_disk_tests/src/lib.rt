@@ -7,6 +7,8 @@ mod disks;
 #[cfg(test)]
 mod files;
 #[cfg(test)]
+mod interrupted;
+#[cfg(test)]
 mod journals;
 #[cfg(test)]
 mod streams;

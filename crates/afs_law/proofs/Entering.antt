@@ -1,5 +1,6 @@
 -- Each entry of a run is of a node of its script, and each reply that it sends was run, however many servers a cell has.
 use Rattle.afs_history.specs.declared.scripts.Script.{Script}
+use Rattle.afs_law.proofs.Answering.{run_takes}
 use Rattle.afs_law.proofs.Changing.{run_each}
 use Rattle.afs_law.proofs.Delivered.{run_delivered}
 use Rattle.afs_law.proofs.Handling.{run_handled}
@@ -13,7 +14,7 @@ use Rattle.afs_law.specs.Ideal.{set_up}
 use Rattle.afs_law.proofs.Truthful.{run_true}
 use Rattle.afs_law.proofs.Present.{TrueNow, run_present}
 use Rattle.afs_law.proofs.Unmade.{run_firsts}
-use Rattle.afs_law.specs.Legal.{ArePresent, HandlesBreaks, IsEntryOf, IsLivedBy, RunsFirstOfAct, WereRun}
+use Rattle.afs_law.specs.Legal.{ArePresent, HandlesBreaks, IsEntryOf, IsLivedBy, RunsFirstOfAct, TakesReply, WereRun}
 use Rattle.afs_law.specs.Lives.{IsDelivered}
 use Rattle.afs_law.specs.Parts.{EachEntry, EachSent, EntriesAreSound}
 use Rattle.afs_law.specs.ServerParts.{IsTruthful}
@@ -74,12 +75,12 @@ each_present : (past : List Entry) (ms : List Message) → EachSent TrueNow past
 each_present past [] h r = tt
 each_present past (m ∷ ms) h r = ((h.0, r.0), each_present past ms h.1 r.1)
 
-join : (s : Script) (past es : List Entry) → AreEntries s past es → EachEntry (λ past e. e.volumes ≡ []) past es → EachEntry (λ past e. IsClientLived e.actor past e.lines e.sent) past es → EachEntry (λ past e. IsServerLived e.actor past e.lines e.sent) past es → EachEntry (λ past e. IsDelivered e.actor past e.lines) past es → EachEntry (λ past e. HandlesBreaks e.actor past e.lines) past es
+join : (s : Script) (past es : List Entry) → AreEntries s past es → EachEntry (λ past e. e.volumes ≡ []) past es → EachEntry (λ past e. IsClientLived e.actor past e.lines e.sent) past es → EachEntry (λ past e. IsServerLived e.actor past e.lines e.sent) past es → EachEntry (λ past e. IsDelivered e.actor past e.lines) past es → EachEntry (λ past e. HandlesBreaks e.actor past e.lines) past es → EachEntry (λ past e. TakesReply s e.actor past e.lines) past es
     → EachEntry (λ past e. EachSent TrueNow (e ∷ past) e.sent) past es → EachEntry (λ past e. EachSent RunsFirstOfAct (e ∷ past) e.sent) past es → EachEntry (λ past e. EachSent IsTruthful (e ∷ past) e.sent) past es → EachEntry (λ past e. IsEntryOf s past e × WereRun (e ∷ past) e.sent) past es
-join s past [] a b l h d k v w t = tt
-join s past (e ∷ es) a b l h d k v w t = ((((b.0, a.0.0), (a.0.1, (lived_by e.actor past e.lines e.sent l.0 h.0, (d.0, (k.0, each_present (e ∷ past) e.sent v.0 w.0))))), each_ran (e ∷ past) e.sent t.0), join s (e ∷ past) es a.1 b.1 l.1 h.1 d.1 k.1 v.1 w.1 t.1)
+join s past [] a b l h d k z v w t = tt
+join s past (e ∷ es) a b l h d k z v w t = ((((b.0, a.0.0), (a.0.1, (lived_by e.actor past e.lines e.sent l.0 h.0, (d.0, ((k.0, z.0), each_present (e ∷ past) e.sent v.0 w.0))))), each_ran (e ∷ past) e.sent t.0), join s (e ∷ past) es a.1 b.1 l.1 h.1 d.1 k.1 z.1 v.1 w.1 t.1)
 
 pub run_entered : EntriesAreSound
 run_entered s h end r =
-    join s (set_up s ∷ []) h (run_entries s h end r) (run_each Known (λ past e. e.volumes ≡ []) known_kept (λ c past x k. each_moved Known LaysNone none_laid c past x k) r.inputs (start s) (set_up s ∷ []) h end (known_first s) r.leads) (run_lived s h end r) (run_hosted s h end r) (run_delivered s h end r) (run_handled s h end r) (run_present s h end r) (run_firsts s h end r)
+    join s (set_up s ∷ []) h (run_entries s h end r) (run_each Known (λ past e. e.volumes ≡ []) known_kept (λ c past x k. each_moved Known LaysNone none_laid c past x k) r.inputs (start s) (set_up s ∷ []) h end (known_first s) r.leads) (run_lived s h end r) (run_hosted s h end r) (run_delivered s h end r) (run_handled s h end r) (run_takes s h end r) (run_present s h end r) (run_firsts s h end r)
     (run_true s h end r)

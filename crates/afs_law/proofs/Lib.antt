@@ -116,6 +116,7 @@ pub mod Numbered
 pub mod Claims
 pub mod Counting
 pub mod Unanswered
+pub mod Answering
 pub mod Timed
 pub mod Singly
 pub mod Assembled

@@ -142,8 +142,8 @@ awaited s c past n act count next h r none dead =
       dead = dead;
     }
 
--- the act that is given up is answered behind what it drops
-dead_answer : (me : Node) (es : List CacheEntry) (code : Code) → HasAnswer me code.0 (dropped me es (lines.Answer me code ∷ []))
+-- behind what is dropped stands the answer
+pub dead_answer : (me : Node) (es : List CacheEntry) (code : Code) → HasAnswer me code.0 (dropped me es (lines.Answer me code ∷ []))
 dead_answer me [] code = inl (refl, refl)
 dead_answer me (e ∷ es) code = dead_answer me es code
 

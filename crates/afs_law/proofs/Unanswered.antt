@@ -149,14 +149,14 @@ unfolding client_row
 reply_over j c clock place act m is to r w =
     subst (λ (t : Bool). IsOver c (cond t (hears (Client j) c clock place m.head m.carried) (ignores c place))) (sym (ap (λ (n : Node). same_node n (Client j)) to ∙ same_node-refl (Client j))) (hears_over j c clock place act m.head m.carried is r w)
 
-is_its : (c : ClientState) (act : Going) (head : Head) → head.from ≡ c.callee → head.epoch ≡ c.epoch → head.number ≡ c.last → head.opcode ≡ opcode_of c act → is_awaited c act head ≡ true
+pub is_its : (c : ClientState) (act : Going) (head : Head) → head.from ≡ c.callee → head.epoch ≡ c.epoch → head.number ≡ c.last → head.opcode ≡ opcode_of c act → is_awaited c act head ≡ true
 is_its c act head f e n o =
     let its : (same_node head.from c.callee && (nat_eq head.epoch c.epoch && (nat_eq head.number c.last && nat_eq head.opcode (opcode_of c act)))) ≡ true =
     rw (ap (λ (q : Node). same_node q c.callee) f ∙ same_node-refl c.callee, eq-eqb head.epoch c.epoch e, eq-eqb head.number c.last n, eq-eqb head.opcode (opcode_of c act) o) refl in its
 
 -- ---- what entries are given
 
-given_in : (ls : List Line) (sent : List Message) (m : Message) → given_message ls sent ≡ Some m → IsIn m sent
+pub given_in : (ls : List Line) (sent : List Message) (m : Message) → given_message ls sent ≡ Some m → IsIn m sent
 given_in [] sent m e = absurd cc
 given_in (lines.Given p ∷ ls) sent m e = in_at sent p m e
 given_in (l ∷ ls) sent m e = given_in ls sent m e
@@ -180,7 +180,7 @@ apart j e past d other m is to = other (subst (IsTo e.actor) is (d (given_has e.
 
 -- ---- no reply is to a call above the client's last
 
-abbrev AreBehind : ℕ → ℕ → ℕ → List Message → Type 0
+abbrev pub AreBehind : ℕ → ℕ → ℕ → List Message → Type 0
 AreBehind j epoch last ms = (m : Message) → IsIn m ms → IsFileReply m.carried → m.head.to ≡ Client j → UpTo m.head.epoch m.head.number epoch last
 
 of_reply : (x : Carried) (A : Type 0) → IsFileReply x → OfReply A x → A
@@ -189,10 +189,15 @@ of_reply (carried.Reply reply) A is h = h
 of_reply (carried.Call user call) A is h = absurd is
 of_reply carried.Notice A is h = absurd is
 
-known_behind : (c : Cell) (past : List Entry) (j : ℕ) → Known c past → AreBehind j (c.clients j).epoch (c.clients j).last (sent_of past)
-known_behind c past j K m i is to =
+-- a reply is to a call that is known of
+pub known_reply : (c : Cell) (past : List Entry) (j : ℕ) (K : Known c past) (m : Message) → IsIn m (sent_of past) → IsFileReply m.carried → m.head.to ≡ Client j → IsKnown K.keys.callees c.clients m.head.from (answered_key m.head)
+known_reply c past j K m i is to =
     let P : Message → Type 0 = λ r. IsKnown K.keys.callees c.clients r.head.from (answered_key r.head) in
-    let known : P m = by_client j m.head.to (P m) to (of_reply m.carried (OfClient m.head.to (P m)) is (each_in (IfReply P) c.sent m K.keys.answers (subst (IsIn m) K.hears.told i))) in
+    by_client j m.head.to (P m) to (of_reply m.carried (OfClient m.head.to (P m)) is (each_in (IfReply P) c.sent m K.keys.answers (subst (IsIn m) K.hears.told i)))
+
+pub known_behind : (c : Cell) (past : List Entry) (j : ℕ) → Known c past → AreBehind j (c.clients j).epoch (c.clients j).last (sent_of past)
+known_behind c past j K m i is to =
+    let known : IsKnown K.keys.callees c.clients m.head.from (answered_key m.head) = known_reply c past j K m i is to in
     subst (λ (n : ℕ). UpTo m.head.epoch m.head.number (c.clients n).epoch (c.clients n).last) (client_number known.client j (sym known.node ∙ to)) known.behind
 
 not_above : (j e n : ℕ) (callee : Node) (opcode : ℕ) (ms : List Message) (o : Option Message) → AreBehind j e n ms → ((m : Message) → o ≡ Some m → IsIn m ms) → IsReplyTo callee (record { node = Client j; epoch = e; number = n + 1 }) opcode o → ⊥
@@ -262,7 +267,7 @@ other_unanswered j x e past h away act run = (not_to j x.epoch x.last x.callee (
 abbrev Then : Cell → List Entry → Moved → Type 0
 Then c past m = DeliveredStep c past m → UnansweredIn m.cell (m.entry ∷ past)
 
-known_of : (s : Script) (c : Cell) (past : List Entry) → UnansweredFacts s c past → Known c past
+pub known_of : (s : Script) (c : Cell) (past : List Entry) → UnansweredFacts s c past → Known c past
 known_of s c past h = h.0.0.0.0.0.0.0.0.0
 
 one_client : (n j : ℕ) → actors.Node (Client n) ≡ actors.Node (Client j) → n ≡ j

@@ -1630,6 +1630,28 @@ left_the_reply h =
     let all : AllHave 133 past = (tt, (((λ u k e. absurd (told_no_call _ u k e)), tt), (((λ u k e. ap call_number (one_call _ u _ k e)), tt), (tt, tt)))) in
     g.awaited.unanswered.0 ((tt, refl), (refl, one_number 133 (Server 1) (key_of_one 1) g.user g.call past all g.sent))
 
+-- or it only leaves it, to ask again under another number, by which it is answered -1 in the end
+took_no_reply : Legal (alters 2 (instead (lines.Given 2 ∷ [])) (entries (start (script 1)) (begins 1 (acts.Close (operands.Fid file) (Hex (codes "def"))) ∷ gives 1 steady ∷ gives 2 steady ∷ []))) (script 1) → ⊥
+unfolding moved begin_row client_row server_row back_timeout_row wake_row start_row record_bytes head_form volume_form spelled opaque pad word laid_at led name_ok directory_bytes name_bytes rights_of image acl_text digits entry_text directory_of names_at opaque_at word_at counted_at whole_at count_at name_at spelled_at bytes_below
+took_no_reply h =
+    h.1.1.0.1.0.1.1.1.1.0.1
+    (record {
+      act = _;
+      runs = refl;
+      message = _;
+      given = refl;
+      to = refl;
+      reply = _;
+      carries = refl;
+      user = codes "guest";
+      call = stored_whole file (codes "def");
+      called = inr (refl, inl (refl, inl (refl, refl)));
+      from = refl;
+      opcode = refl;
+      last = ((λ is from. inr (refl, omega arith)), ((λ is from. absurd is), tt));
+    })
+    home refl
+
 -- it tells a third timeout, and goes on waiting
 waited_on : Legal (alters 3 (instead (times_out_as 3 ∷ [])) (entries (start (script 1)) (begins 1 (acts.Open (operands.Fid file)) ∷ waits 1 ∷ waits 1 ∷ waits 1 ∷ []))) (script 1) → ⊥
 unfolding moved begin_row client_row server_row back_timeout_row wake_row start_row record_bytes head_form volume_form spelled opaque pad word laid_at led name_ok directory_bytes name_bytes rights_of image acl_text digits entry_text directory_of names_at opaque_at word_at counted_at whole_at count_at name_at spelled_at bytes_below
@@ -1650,7 +1672,7 @@ broken_and_kept : Legal (alters 4 (instead (lines.Given 4 ∷ [])) (entries (sta
 unfolding moved begin_row client_row server_row back_timeout_row wake_row start_row record_bytes head_form volume_form spelled opaque pad word laid_at led name_ok directory_bytes name_bytes rights_of image acl_text digits entry_text directory_of names_at opaque_at word_at counted_at whole_at count_at name_at spelled_at bytes_below
 broken_and_kept h =
     let none_ : IsToCome (Client 1) first_of_server 1 (past_of (set_up (script 2) ∷ []) (entries (start (script 2)) changes_file)) = ((λ x. no_client x.0.1), ((λ x. x), ((λ x. no_client x.0.1), ((λ x. x), ((λ x. x), tt))))) in
-    (h.1.1.1.1.0.1.0.1.1.1.1.0 first_of_server (record { boot = 1; up = refl; given = ((tt, refl), (refl, refl)); first = none_; latest = λ l x same. elim x [ inl y ↦ absurd (no_client y.0) | inr z ↦ absurd z ] })).0
+    (h.1.1.1.1.0.1.0.1.1.1.1.0.0 first_of_server (record { boot = 1; up = refl; given = ((tt, refl), (refl, refl)); first = none_; latest = λ l x same. elim x [ inl y ↦ absurd (no_client y.0) | inr z ↦ absurd z ] })).0
 
 -- ---- a server answers in the boot in which it is
 

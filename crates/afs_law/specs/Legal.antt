@@ -13,6 +13,7 @@ use Rattle.afs_num.specs.declared.types.Node.TheVariants.{Server, Client}
 use Rattle.afs_num.specs.declared.calls.AfsCallBack.{AfsCallBack}
 use Rattle.afs_num.specs.declared.calls.FsCall.{FsCall}
 use Rattle.afs_num.specs.declared.calls.FsCall.TheVariants as calls
+use Rattle.afs_num.specs.declared.calls.FsReply.{FsReply}
 use Rattle.afs_num.specs.declared.messages.Carried.{Carried}
 use Rattle.afs_num.specs.declared.messages.Message.{Message}
 use Rattle.afs_ideal.specs.Operations.{Caller, the_user, Result, refused, changes, no_operation, op, code_of, volume_called, volume_changed}
@@ -787,6 +788,41 @@ abbrev pub HandlesBreaks : Actor → List Entry → List Line → Type 0
 HandlesBreaks (actors.Node (Client j)) past ls = (k : Key) → RunsHere (Client j) k past ls → DropsGiven (Client j) (given_message ls (sent_of past)) ls
 HandlesBreaks who past ls = ⊤
 
+-- ---- a reply that a client is given
+
+-- in these lines the client's act is answered with this code
+abbrev pub HasAnswer : Node → ℤ → List Line → Type 0
+HasAnswer c code [] = ⊥
+HasAnswer c code (lines.Answer m given ∷ ls) = ((m ≡ c) × (given.0 ≡ code)) ⊎ HasAnswer c code ls
+HasAnswer c code (l ∷ ls) = HasAnswer c code ls
+
+-- none of these messages is a call of the key's node under a later key
+abbrev pub IsLastCall : Key → List Message → Type 0
+IsLastCall k [] = ⊤
+IsLastCall k (m ∷ ms) = (IsCall m.carried → m.head.from ≡ k.node → IsUpTo m.head.epoch m.head.number k.epoch k.number) × IsLastCall k ms
+
+-- The entry was given the reply to the client's last call, which brings what that asked for: the act that runs sent the call, the reply comes from
+-- its callee and tells its opcode
+pub record IsReplied (s : Script) (c : Node) (past : List Entry) (ls : List Line) : Type 0 where
+  pub act : Going
+  pub runs : running s c (lines_of past) ≡ Some act
+  pub message : Message
+  pub given : given_message ls (sent_of past) ≡ Some message
+  pub to : message.head.to ≡ c
+  pub reply : FsReply
+  pub carries : message.carried ≡ carried.Reply (tell.File reply)
+  pub user : List ℕ
+  pub call : FsCall
+  pub called : CalledSince (answered_key message.head) user call past
+  pub from : callee_under (answered_key message.head) (sent_of past) ≡ Some message.head.from
+  pub opcode : message.head.opcode ≡ call_number call
+  pub last : IsLastCall (answered_key message.head) (sent_of past)
+
+-- a client that is so given the reply to a call which may change something answers its act 0 in that entry
+abbrev pub TakesReply : Script → Actor → List Entry → List Line → Type 0
+TakesReply s (actors.Node (Client j)) past ls = (given : IsReplied s (Client j) past ls) (id : ℕ) → volume_changed given.call ≡ Some id → HasAnswer (Client j) (pos 0) ls
+TakesReply s who past ls = ⊤
+
 -- ---- what an entry of a restart tells
 
 -- it was down, and its boot is above all that it began before
@@ -837,12 +873,6 @@ IsReplyTo callee k opcode (Some m) = (IsFileReply m.carried × (m.head.from ≡ 
 abbrev pub IsUnanswered : Node → Key → ℕ → List Entry → Type 0
 IsUnanswered callee k opcode [] = ⊤
 IsUnanswered callee k opcode (e ∷ past) = (IsReplyTo callee k opcode (given_message e.lines (sent_of past)) → ⊥) × IsUnanswered callee k opcode past
-
--- in these lines the client's act is answered with this code
-abbrev pub HasAnswer : Node → ℤ → List Line → Type 0
-HasAnswer c code [] = ⊥
-HasAnswer c code (lines.Answer m given ∷ ls) = ((m ≡ c) × (given.0 ≡ code)) ⊎ HasAnswer c code ls
-HasAnswer c code (l ∷ ls) = HasAnswer c code ls
 
 -- The client waits for the reply to this call: the call is its last one, of the act that runs, and no reply to it was given. This timeout of it
 -- wasn't told before; and the third is followed by the act's answer -1 in the same entry
@@ -965,11 +995,12 @@ IsOfScript s actors.Nobody = ⊤
 
 -- An entry lays no volumes, for the set-up alone does; and it is of a node of the script. A server that begins again was down, and is then in
 -- a boot above the last one that it began. A node that is down does nothing but begin again, or fail to. What an entry is given was sent to its
--- node; and a client that runs a call which breaks promises drops what these are on. A server answers in the boot in which it is,
+-- node. A client that runs a call which breaks promises drops what these are on, and one that is given the reply to its change answers its act. A
+-- server answers in the boot in which it is,
 -- and to a changing call only where no other call of its act had changed something before that ran. A notice
 -- tells the boot of its sender
 abbrev pub IsEntryOf : Script → List Entry → Entry → Type 0
-IsEntryOf s past e = ((e.volumes ≡ []) × IsOfScript s e.actor) × (AreRising (lines_of past) e.lines × (IsLivedBy e.actor past e.lines e.sent × (IsDelivered e.actor past e.lines × (HandlesBreaks e.actor past e.lines × ArePresent (e ∷ past) e.sent))))
+IsEntryOf s past e = ((e.volumes ≡ []) × IsOfScript s e.actor) × (AreRising (lines_of past) e.lines × (IsLivedBy e.actor past e.lines e.sent × (IsDelivered e.actor past e.lines × ((HandlesBreaks e.actor past e.lines × TakesReply s e.actor past e.lines) × ArePresent (e ∷ past) e.sent))))
 
 abbrev pub LegalAfter : Script → List Entry → List Entry → Type 0
 LegalAfter s past [] = ⊤

@@ -70,9 +70,10 @@ AllLines G s history = EachEntry (λ past e. EachLine G e.actor past [] e.lines)
 
 -- ---- entries
 
--- each entry of a run is of a node of the script and lays no volume; a server that begins again in it was down, and is then in a boot
--- above the last one that it began; it tells what its node, up or down, can tell, is given what was sent to that, and drops what is broken in it; and what it sends as a server's reply to a client is of its present boot or to a change, is that of the entry which ran its call, and to a changing
--- call is sent only where no other call of the act had changed something. A notice tells the boot of its sender
+-- Each entry of a run is of a node of the script and lays no volume. A server that begins again in it was down, and is then in a boot above the last
+-- one that it began. It tells what its node, up or down, can tell, is given what was sent to that, drops what is broken in it, and answers the act whose
+-- change it is told of. What it sends as a server's reply to a client is of its present boot or to a change, and is that of the entry which ran its
+-- call; to a changing call it is sent only where no other call of the act had changed something. A notice tells the boot of its sender
 abbrev pub EntriesAreSound : Type 0
 EntriesAreSound = (s : Script) (history : List Entry) (end : Cell) → RunsTo history s end → EachEntry (λ past e. IsEntryOf s past e × WereRun (e ∷ past) e.sent) (set_up s ∷ []) history
 

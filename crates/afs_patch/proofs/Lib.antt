@@ -1,4 +1,4 @@
-mod Changed
+mod Left
 mod Names
 mod Patched
 mod Patches

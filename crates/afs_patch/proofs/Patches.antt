@@ -20,7 +20,7 @@ use Rattle.afs_volume.proofs.Tables.{got}
 use Rattle.afs_volume.proofs.Taken.{put_each, removed_first}
 use Rattle.afs_patch.specs.Changing.{is_in}
 use Rattle.afs_patch.specs.Patching.{after, before, gives_touched, image_left, new_among, passes, same_others, table_left, AreTouched, IsPatch, StaysNamed}
-use Rattle.afs_patch.proofs.Changed.{changed_is, its_order, may_hold}
+use Rattle.afs_patch.proofs.Left.{changed_is, its_order, may_hold}
 use Rattle.afs_patch.proofs.Patched.{gives_as_before, named_as_before, still_sound}
 use Rattle.afs_seats.proofs.Seen.{seen_up, set_length}
 

@@ -17,9 +17,13 @@ use Rattle.afs_server.specs.Putting.{calls_for, IsStill, OnDisk}
 use Rattle.afs_server.specs.declared.faults.NodeFault.{NodeFault}
 use Rattle.afs_server.specs.declared.faults.NodeFault.TheVariants as nodes
 
+-- a fault is handed up
+pub handed_up : {T : Type 0} (r : Result T NodeFault) (fault : NodeFault) → IsErrAnd r (λ (e : NodeFault). e ≡ fault) → r ≡ Err fault
+handed_up {T} r fault h = let p = err_from_is_err_and r h in subst (λ (e : NodeFault). r ≡ Err e) p.2 p.1
+
 -- a want of memory is handed up as a node's fault
 pub out_of_memory : {T : Type 0} (r : Result T NodeFault) → IsErrAnd r (λ (e : NodeFault). e ≡ nodes.OutOfMemory) → r ≡ Err nodes.OutOfMemory
-out_of_memory {T} r h = let p = err_from_is_err_and r h in subst (λ (e : NodeFault). r ≡ Err e) p.2 p.1
+out_of_memory {T} r h = handed_up r nodes.OutOfMemory h
 
 as_told : (o p : Option (List ℕ)) → p ≡ o → IsSome p ↔ IsSome o
 as_told o p e = (λ h. subst (λ (q : Option (List ℕ)). IsSome q) e h, λ h. subst (λ (q : Option (List ℕ)). IsSome q) (sym e) h)

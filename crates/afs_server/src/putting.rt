@@ -102,14 +102,7 @@ impl FileServer {
         self.promises
             .grant_all(head.from, planned.granted.as_slice(), now + PROMISE_TICKS)?;
         commit(store)?;
-        let Planned {
-            ended,
-            kept,
-            rec: _,
-            changed: _,
-            withdrawn,
-            granted: _,
-        } = planned;
+        let (ended, kept, withdrawn) = planned.into_rest();
         keep_reply(&mut self.callers, head, kept);
         withdraw_lasting(&mut self.promises, &withdrawn, now);
         let outs = self.keep(store, ended);

@@ -55,7 +55,6 @@ const PROMISE_TICKS: u32 = 7200;
 
 /// What a change comes to before the disk is touched: what its step gives out and leaves in memory, the bytes of its reply, its
 /// record, the fids that it changes, the promises that it withdraws, and the fids that it promises.
-#[derive(Drop)]
 pub struct Planned {
     pub ended: Ended,
     pub kept: Octets,
@@ -65,15 +64,80 @@ pub struct Planned {
     pub granted: Sequence<Fid>,
 }
 
+/// It ends by a drop of its own: a step that ends with it has one drop to prove, and not one for each part of each kind of record.
+impl Drop for Planned {
+    fn drop(self) {
+        let Planned {
+            ended: _,
+            kept: _,
+            rec,
+            changed: _,
+            withdrawn: _,
+            granted: _,
+        } = self;
+        drop(rec);
+    }
+}
+
+impl Planned {
+    /// What is done once the record stands on the disk: what the step gives out and leaves in memory, the bytes of its reply, and
+    /// the promises that it withdraws. It takes no memory.
+    pub fn into_rest(self) -> (Ended, Octets, Vec<Promise>)
+        ensures ended { result.0 ≡ self.ended }
+        ensures kept { result.1 ≡ self.kept }
+        ensures withdrawn { result.2.items ≡ self.withdrawn.items }
+    {
+        let Planned {
+            ended,
+            kept,
+            rec,
+            changed: _,
+            withdrawn,
+            granted: _,
+        } = self;
+        drop(rec);
+        (ended, kept, withdrawn)
+    }
+}
+
 /// What a change withdraws and grants: the fids that it changes; the promises that the reply to it grants, and their fids; the
 /// promises that it withdraws, and the breaks that are then owed.
-#[derive(Drop)]
 pub struct Found {
     pub changed: Sequence<Fid>,
     pub grants: Sequence<Grant>,
     pub granted: Sequence<Fid>,
     pub withdrawn: Vec<Promise>,
     pub breaks: Vec<OwedBreak>,
+}
+
+impl Drop for Found {
+    fn drop(self) {
+        let Found {
+            changed: _,
+            grants: _,
+            granted: _,
+            withdrawn: _,
+            breaks: _,
+        } = self;
+    }
+}
+
+impl Found {
+    /// The fids that are changed, the promises that are withdrawn, and the fids that are promised. It takes no memory.
+    fn into_kept(self) -> (Sequence<Fid>, Vec<Promise>, Sequence<Fid>)
+        ensures changed { result.0 ≡ self.changed }
+        ensures withdrawn { result.1.items ≡ self.withdrawn.items }
+        ensures granted { result.2 ≡ self.granted }
+    {
+        let Found {
+            changed,
+            grants: _,
+            granted,
+            withdrawn,
+            breaks: _,
+        } = self;
+        (changed, withdrawn, granted)
+    }
 }
 
 /// A promise on a new vnode.
@@ -528,13 +592,7 @@ impl FileServer {
         let Replied { ended, kept } = saved;
         let copy = kept.copy(self.alloc)?;
         let rec = change_record(head, copy, id, counter, unique, vnodes, removed);
-        let Found {
-            changed,
-            grants: _,
-            granted,
-            withdrawn,
-            breaks: _,
-        } = found;
+        let (changed, withdrawn, granted) = found.into_kept();
         Ok(Planned {
             ended,
             kept,

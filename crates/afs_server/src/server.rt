@@ -20,13 +20,26 @@ use std::marker::Model;
 
 /// A file server of the cell, without what its disk keeps: its callers with its replies to them; what it promised, and the
 /// breaks that it owes; the nodes that it calls, with the calls that they haven't answered; and replies that wait for breaks.
-#[derive(Drop)]
 pub struct FileServer {
     pub(crate) alloc: Global,
     pub(crate) callers: Callers,
     pub(crate) promises: Promises,
     pub(crate) callees: Vec<Callee>,
     pub(crate) held: Sequence<HeldReply>,
+}
+
+/// It ends by a drop of its own: what holds a server has one drop to prove where it ends.
+impl Drop for FileServer {
+    fn drop(self) {
+        let FileServer {
+            alloc: _,
+            callers: _,
+            promises,
+            callees: _,
+            held: _,
+        } = self;
+        drop(promises);
+    }
 }
 
 impl Model for FileServer {

@@ -1,13 +1,13 @@
 //! A server's own calls: they bring breaks to the nodes that hold promises.
 
-ghost use Rattle.std.specs.Prelude.{◌≡◌, ◌≤◌, filter, length, map, IfOk};
+ghost use Rattle.std.specs.Prelude.{◌≡◌, ◌≤◌, ◌++◌, ◌∷◌, [], filter, length, map, IfOk, OnOk};
 ghost use Rattle.afs_num.specs.Nodes.{IsNode};
 ghost use Rattle.afs_rows.specs.Callbacks.{break_message, breaks_call, breaks_opcode, broken_until, call_for, carries_for, fids_of, first_of, is_for, most_breaks, opcode_for};
 ghost use Rattle.afs_server_parts.specs.Called.{call_seen};
 
 use crate::callees::BackCall;
 use crate::few::Few;
-use crate::spelled::SpelledMessage;
+use crate::spelled::{Sent, SpelledMessage};
 use afs_breaks::types::OwedBreak;
 use afs_num::calls::{AfsCallBack, CallBacks, Fids, FsCall};
 use afs_num::messages::{Call, Carried, Message};
@@ -162,7 +162,7 @@ fn call_message(alloc: Global, boot: u32, callee: Node, known: u32, call: &BackC
 }
 
 /// The message of a call, in its spelling.
-pub fn spell_call(
+fn spell_call(
     alloc: Global,
     boot: u32,
     callee: Node,
@@ -176,4 +176,23 @@ pub fn spell_call(
 {
     let message = call_message(alloc, boot, callee, known, call)?;
     SpelledMessage::from_message(alloc, message)
+}
+
+/// A call goes out to a node of which this boot number is known.
+pub(crate) fn send_call(
+    alloc: Global,
+    boot: u32,
+    callee: Node,
+    known: u32,
+    call: &BackCall,
+    sent: &mut Sent,
+) -> Mem<()>
+    requires server { IsNode call.now.server }
+    requires callee { IsNode callee }
+    requires few { length call.now.breaks ≤ 50 }
+    ensures { OnOk result (sent.new ≡ sent.old ++ break_message call.now.server boot callee known (call_seen call.now) ∷ []) }
+{
+    let message = spell_call(alloc, boot, callee, known, call)?;
+    sent.push(message)?;
+    Ok(())
 }

@@ -11,7 +11,7 @@ ghost use Rattle.afs_server_parts.specs.Called.{calls_seen, AreGoodCalls};
 ghost use Rattle.afs_server_parts.specs.Turning.{started_with, turn_with, IsBreakToNode};
 
 use crate::callees::{BackCall, is_waiting, known, set_call};
-use crate::calling::{carried, spell_call};
+use crate::calling::{carried, send_call};
 use crate::held::{any_ready, hold_all, part_ready};
 use crate::turns::{Calls, Turn};
 use afs_breaks::types::OwedBreak;
@@ -50,8 +50,8 @@ fn start(
         tries: 0,
         breaks: carried(alloc, oldest, owed)?,
     };
-    let message = spell_call(alloc, boot, node, known(&calls.callees, node), &call)?;
-    calls.sent.push(message)?;
+    let known = known(&calls.callees, node);
+    send_call(alloc, boot, node, known, &call, &mut calls.sent)?;
     calls.last = number;
     set_call(&mut calls.callees, node, Some(call))?;
     Ok(())

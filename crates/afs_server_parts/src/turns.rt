@@ -10,7 +10,7 @@ ghost use Rattle.afs_server_parts.specs.Called.{call_seen, AreGoodCalls, IsGoodC
 ghost use Rattle.afs_server_parts.specs.Turning.{backs_with, breaks_left, IsBreakToNode, IsFresh, IsTurn};
 
 use crate::callees::{BackCall, Callee, copy_callees, end_call, known, set_call, set_known};
-use crate::calling::spell_call;
+use crate::calling::send_call;
 use crate::held::{HeldReply, copy_replies};
 use crate::owed::{end_breaks, still_owed};
 use crate::spelled::Sent;
@@ -99,8 +99,7 @@ impl Turn {
         ensures owed { OnOk result (All IsBreakToNode self.old.owed.items → All IsBreakToNode self.new.owed.items) }
     {
         set_known(alloc, &mut self.calls.callees, node, known)?;
-        let message = spell_call(alloc, boot, node, known, call)?;
-        self.calls.sent.push(message)?;
+        send_call(alloc, boot, node, known, call, &mut self.calls.sent)?;
         Ok(())
     }
 
@@ -115,8 +114,7 @@ impl Turn {
         ensures owed { OnOk result (All IsBreakToNode self.old.owed.items → All IsBreakToNode self.new.owed.items) }
     {
         let known = known(&self.calls.callees, node);
-        let message = spell_call(alloc, boot, node, known, call)?;
-        self.calls.sent.push(message)?;
+        send_call(alloc, boot, node, known, call, &mut self.calls.sent)?;
         tell_timeout(
             &mut self.lines,
             call.server,

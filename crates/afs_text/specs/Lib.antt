@@ -5,3 +5,5 @@ pub mod RunText
 pub mod Telling
 pub mod KeptText
 pub mod Laying
+pub mod Whole
+pub mod Shown

@@ -11,6 +11,7 @@ mod acts;
 mod bodies;
 mod bytes;
 pub mod histories;
+pub mod laws;
 mod laying;
 mod lines;
 mod numbers;

@@ -2,7 +2,7 @@ use Rattle.std.proofs.Common.{◌∙◌, ap, rules}
 use Rattle.afs_num.specs.declared.volumes.VolumeHead.{VolumeHead}
 use Rattle.afs_vnode.specs.Stores.{Held}
 use Rattle.afs_patch.specs.Changing.{CantBeLeft}
-use Rattle.afs_patch.proofs.Changed.{cant_be_changed, is_remade, isnt_remade, AreLeft}
+use Rattle.afs_patch.proofs.Left.{cant_be_changed, is_remade, isnt_remade, AreLeft}
 use Rattle.afs_patch.proofs.altering.remade.Goals as goal
 
 pub returns-in_err-after-clause-bad : goal.returns-in_err-after-clause-bad

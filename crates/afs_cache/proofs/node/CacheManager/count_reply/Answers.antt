@@ -14,8 +14,8 @@ returns-in-Some c =
     takes_same _ (λ (place : ℕ). by_act old.state place (λ (act : Going). counts_reply old.node old.state c.args.now place act c.args.reply) old.state.running) old c.hear_reply.new.self c.hear_reply.result
     (λ place. ap (λ (x : Reply). by_act old.state place (λ (act : Going). counts_reply old.node old.state c.args.now place act x) old.state.running) (sym (reply_is c.args.reply _ (sym c.into_file.ensures ∙ c.in-Some.is)))) c.hear_reply.ensures
 
-pub returns : goal.returns
-returns c =
+pub returns-in-None : goal.returns-in-None
+returns-in-None c =
     let old = c.args.self.now in
     ignored_taken old.state (λ (place : ℕ) (act : Going). counts_reply old.node old.state c.args.now place act c.args.reply) old old c.ignore.result
     (λ place act. ignored_else old.node old.state c.args.now place act c.args.reply (sym c.into_file.ensures ∙ c.in-None.is)) c.ignore.ensures.takes

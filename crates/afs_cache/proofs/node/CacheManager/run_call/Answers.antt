@@ -16,8 +16,8 @@ returns-in-Some c =
     takes_same _ (λ (place : ℕ). runs_asking old.node old.state place c.args.head.now (askings.Call c.args.call)) old c.serve.new.self c.serve.result
     (λ place. ap (λ (x : Call). runs_asking old.node old.state place c.args.head.now (askings.Call x)) (sym (call_is c.args.call _ (sym c.into_file.ensures ∙ c.in-Some.is)))) c.serve.ensures
 
-pub returns : goal.returns
-returns c =
+pub returns-in-None : goal.returns-in-None
+returns-in-None c =
     let old = c.args.self.now in
     takes_same _ (λ (place : ℕ). runs_asking old.node old.state place c.args.head.now (askings.Call c.args.call)) old c.refuse_call.new.self c.refuse_call.result
     (λ place. refused_else old.node old.state place c.args.head.now c.args.call (sym c.into_file.ensures ∙ c.in-None.is)) c.refuse_call.ensures

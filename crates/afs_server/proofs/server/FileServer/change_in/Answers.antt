@@ -1,4 +1,5 @@
-use Rattle.std.proofs.Common.{◌≡◌, rules, subst}
+use Rattle.std.proofs.Common.{◌≡◌, subst}
+use Rattle.afs_num.specs.declared.volumes.VolumeHead.{VolumeHead}
 use Rattle.afs_ideal.specs.Operations.{the_user}
 use Rattle.afs_server.specs.Deciding.{ChangesAs}
 use Rattle.afs_server.specs.Handling.{server_seen}
@@ -10,18 +11,15 @@ apply_ready-applied-requires-clause-on g c = is_on c.args.call.now c.args.volume
 
 pub returns-clause-decides : goal.returns-clause-decides
 returns-clause-decides g c =
-    let decided = c.in_ok-decided.ensures in
-    let is : ChangesAs c.args.volume.now.head.id c.apply_ready-applied.result c.in_ok-decided.decided = search (rules, decided) in
+    let is : ChangesAs c.args.volume.now.head.id c.apply_ready-applied.result c.in_ok-decided.decided = subst (λ (h : VolumeHead). ChangesAs h.id c.apply_ready-applied.result c.in_ok-decided.decided) c.head.ensures.value c.in_ok-decided.ensures in
     change_decides (server_seen c.args.self.now c.args.store.now) c.args.now c.args.head.now (the_user c.args.user.now) c.args.volume.now c.args.call.now c.apply_ready-applied.result c.in_ok-decided.decided c.requires.on c.requires.there c.apply_ready-applied.ensures.applies is
 
 pub returns-clause-told : goal.returns-clause-told
 returns-clause-told g c =
-    let decided = c.in_ok-decided.ensures in
-    let is : ChangesAs c.args.volume.now.head.id c.apply_ready-applied.result c.in_ok-decided.decided = search (rules, decided) in
+    let is : ChangesAs c.args.volume.now.head.id c.apply_ready-applied.result c.in_ok-decided.decided = subst (λ (h : VolumeHead). ChangesAs h.id c.apply_ready-applied.result c.in_ok-decided.decided) c.head.ensures.value c.in_ok-decided.ensures in
     change_can_be_told c.args.head.now.opcode c.args.now (the_user c.args.user.now) c.args.volume.now c.args.call.now c.apply_ready-applied.result c.in_ok-decided.decided c.requires.opcode c.apply_ready-applied.ensures.applies c.apply_ready-applied.ensures.reply is
 
 pub returns-clause-fits : goal.returns-clause-fits
 returns-clause-fits g c =
-    let decided = c.in_ok-decided.ensures in
-    let is : ChangesAs c.args.volume.now.head.id c.apply_ready-applied.result c.in_ok-decided.decided = search (rules, decided) in
+    let is : ChangesAs c.args.volume.now.head.id c.apply_ready-applied.result c.in_ok-decided.decided = subst (λ (h : VolumeHead). ChangesAs h.id c.apply_ready-applied.result c.in_ok-decided.decided) c.head.ensures.value c.in_ok-decided.ensures in
     change_fits c.args.now (the_user c.args.user.now) c.args.volume.now c.args.call.now c.apply_ready-applied.result c.in_ok-decided.decided c.requires.on c.apply_ready-applied.ensures.applies c.apply_ready-applied.ensures.fits is

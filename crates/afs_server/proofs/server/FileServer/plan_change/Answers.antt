@@ -1,13 +1,14 @@
 use Rattle.std.proofs.Common.{◌≡◌, ◌<◌, ◌^◌, ◌+◌, ◌++◌, ◌∷◌, ℕ, List, [], false, length, map, ap, sym, subst, ◌∙◌}
+use Rattle.afs_num.specs.declared.types.Fid.{Fid}
 use Rattle.afs_history.specs.declared.lines.Line.TheVariants as lines
-use Rattle.afs_breaks.specs.Promises.{lasting_breaks}
+use Rattle.afs_breaks.specs.Promises.{lasting, lasting_breaks}
 use Rattle.afs_breaks.specs.declared.types.OwedBreak.{OwedBreak}
 use Rattle.afs_rows.specs.Callbacks.{alls, numbers, owe_line, pumped}
 use Rattle.afs_rows.specs.ServerRow.{key_of, versioned}
 use Rattle.afs_server_parts.specs.Telling.{grant_line}
 use Rattle.afs_server.specs.Answering.{answer_turn, with_lists}
 use Rattle.afs_server.specs.Ending.{Ends}
-use Rattle.afs_server.specs.Saving.{breaks_new, change_kept, change_lines, fids_changed, reply_told}
+use Rattle.afs_server.specs.Saving.{breaks_new, change_kept, change_lines, fids_changed, hits_each, reply_told}
 use Rattle.afs_server.specs.Seen.{backs_seen}
 use Rattle.afs_server.proofs.Short.{reply_short}
 use Rattle.afs_server.proofs.server.FileServer.plan_change.Goals as goal
@@ -24,22 +25,23 @@ returns c =
     let x = c.args.change in
     let m = c.args.self.now in
     let head = c.args.head.now in
-    let lasting = lasting_breaks c.args.now m.lists.owed in
+    let owed = lasting_breaks c.args.now m.lists.owed in
     let breaks = c.in_ok-found.ensures.breaks in
     let told : c.in_ok-saved.saved.ended.outs.lines ≡ change_lines c.args.server head (c.args.now + 7200) x (breaks_new head.from (fids_changed x.versions) c.args.now m.lists) =
     c.in_ok-saved.ensures.lines
     ∙ (λ i. (lines.Change c.args.server (key_of head) (length x.versions) ∷ versioned x.versions []) ++ (map (grant_line c.args.server head.from (c.args.now + 7200)) (c.in_ok-found.ensures.grants i) ++ map (owe_line c.args.server) (breaks i))) in
+    let kept = c.into_kept-changed.ensures in
     record {
       ends = λ l owes.
-          subst (λ (os : List OwedBreak). Ends l (pumped c.args.server c.args.boot (answer_turn (reply_told c.args.boot head (c.args.now + 7200) x) (numbers os ++ alls lasting) false (with_lists l (backs_seen m c.args.last)))) c.in_ok-saved.saved.ended) breaks
-          (c.in_ok-saved.ensures.ends l (owes ∙ ap (λ (os : List OwedBreak). lasting ++ os) (sym breaks)));
+          subst (λ (os : List OwedBreak). Ends l (pumped c.args.server c.args.boot (answer_turn (reply_told c.args.boot head (c.args.now + 7200) x) (numbers os ++ alls owed) false (with_lists l (backs_seen m c.args.last)))) c.in_ok-saved.saved.ended) breaks
+          (c.in_ok-saved.ensures.ends l (owes ∙ ap (λ (os : List OwedBreak). owed ++ os) (sym breaks)));
       lines = told;
       drawn = c.in_ok-saved.ensures.drawn;
       good = c.in_ok-saved.ensures.good;
       kept = c.in_ok-saved.ensures.kept;
       rec = c.change_record-rec.ensures.record ∙ ap (change_kept head c.args.id x) c.in_ok-copy.ensures;
       fits = c.change_record-rec.ensures.fits;
-      changed = c.in_ok-found.ensures.changed;
-      withdrawn = c.in_ok-found.ensures.withdrawn;
-      granted = c.in_ok-found.ensures.granted;
+      changed = kept.changed ∙ c.in_ok-found.ensures.changed;
+      withdrawn = kept.withdrawn ∙ (c.in_ok-found.ensures.withdrawn ∙ ap (λ (fs : List Fid). hits_each head.from fs (lasting c.args.now m.lists.promises)) (sym kept.changed));
+      granted = kept.granted ∙ c.in_ok-found.ensures.granted;
     }

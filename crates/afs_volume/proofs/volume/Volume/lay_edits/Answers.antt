@@ -30,7 +30,7 @@ take-requires-clause-fits c = rw c.in_ok-vnodes.ensures (each_fits c.in_ok-draft
 pub take-requires-clause-names : goal.take-requires-clause-names
 take-requires-clause-names c = c.into_vec.ensures ∙ (c.in_ok-draft.ensures.names ∙ (sym (listed_first c.in_ok-draft.draft.vnodes) ∙ ap (map listed_as) (sym c.in_ok-vnodes.ensures)))
 
-kept : (c : goal.After-drop-draft-2) → Some (stored_between 0 (edits_seen c.args.edits.now) (at_once c.args.self.now.head.id (edits_seen c.args.edits.now) (volume_of c.args.self.now)) (stored_of c.args.self.now)) ≡ Some (stored_of c.take.new.self)
+kept : (c : goal.After-take) → Some (stored_between 0 (edits_seen c.args.edits.now) (at_once c.args.self.now.head.id (edits_seen c.args.edits.now) (volume_of c.args.self.now)) (stored_of c.args.self.now)) ≡ Some (stored_of c.take.new.self)
 kept c =
     sym (laid_now c.args.self.now c.make_room.new.self (edits_seen c.args.edits.now) c.in_ok-draft.draft c.unique_left-unique.result c.in_ok-vnodes.vnodes c.requires
     (record { time = c.in_ok-draft.ensures.time; versions = c.in_ok-draft.ensures.versions; vnodes = c.in_ok-draft.ensures.vnodes; removed = c.in_ok-draft.ensures.removed; images = c.in_ok-draft.ensures.images })
