@@ -12,7 +12,7 @@ use Rattle.afs_disk.specs.Fuses.{Fused}
 use Rattle.afs_journal.specs.Records.{whole_records}
 use Rattle.afs_model.specs.Messages.{messages_spelled, parcels_read}
 use Rattle.afs_records.specs.Durable.{first_bad, Durable, StandFor}
-use Rattle.afs_rows.specs.Runs.{at_rest, comes_up, fails_midway, in_boot, is_full, settled, unarmed, Fall, Host, Outcome}
+use Rattle.afs_rows.specs.Runs.{at_rest, comes_up, fails_midway, in_boot, is_full, settled, unarmed, Fall, Host, MayFind, Outcome}
 use Rattle.afs_rows.specs.ServerRow.{Begun}
 use Rattle.afs_rows.specs.ServerSteps.{start_row}
 use Rattle.afs_volstore.specs.Stores.{Store}
@@ -30,10 +30,11 @@ disk_started {D} (starts.Down s ls) = s.disk
 disk_started {D} (starts.Unchanged s) = s.disk
 disk_started {D} (starts.Lost s) = s.disk
 
--- One of the two that the disk may hold was found, and the restart ended so; the step of the host is this. Where the disk failed,
--- its count rose.
+-- One of the two that the disk may hold was found, as the blow that ended the step allows it, and the restart ended so; the step of the
+-- host is this. Where the disk failed, its count rose.
 pub record HasStarted (me : Node) (h : Host) (clock count : ℕ) (fall : Fall) (Is : HostStep → Type 0) (rose : Type 0) : Type 0 where
   pub after : Bool
+  pub may : MayFind fall after
   pub outcome : Outcome
   pub is : Is (restarted me h clock count after outcome fall)
   pub blame : Fails outcome → rose
