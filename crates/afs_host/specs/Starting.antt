@@ -64,8 +64,8 @@ BootsOver {D} faults d front me clock count disk (starts.Up r outs) =
 BootsOver {D} faults d front me clock count disk (starts.Down s ls) =
     ((settled (begun_state d) is_full ≡ is_full) × (ls ≡ front ++ lines.Full me ∷ []))
     ⊎ ((settled (begun_state d) fails_midway ≡ fails_midway) × ((ls ≡ front ++ lines.Fault me ∷ []) × Rose (faults disk) (faults s.disk)))
-BootsOver {D} faults d front me clock count disk (starts.Unchanged s) = Unit {0}
-BootsOver {D} faults d front me clock count disk (starts.Lost s) = Unit {0}
+BootsOver {D} faults d front me clock count disk (starts.Unchanged s) = faults s.disk ≡ faults disk
+BootsOver {D} faults d front me clock count disk (starts.Lost s) = (settled (begun_state d) is_full ≡ is_full → ⊥) × (faults s.disk ≡ faults disk)
 
 -- The disk failed before anything was found, or a record of this number can't be taken; that the server stays down is all that is told.
 pub record IsRefusedOver {D : Type 0} (seen : D → Option (List ℕ)) (faults limit : D → ℕ) (me : Node) (old new : Resting D) (told : List Line) : Type 0 where
@@ -143,7 +143,7 @@ Stays {D} s front last (starts.Lost d) = d.disk ≡ s.disk.disk
 abbrev pub IsRefused : {D : Type 0} → StoreFault → Resting D → Node → Start (Running D) (Resting D) → Type 0
 IsRefused {D} refusal old me (starts.Up r outs) = ⊥
 IsRefused {D} refusal old me (starts.Down d ls) = (refusal ≡ refusals.OutOfMemory → ⊥) × ((d ≡ old) × (ls ≡ lines.Fault me ∷ []))
-IsRefused {D} refusal old me (starts.Unchanged d) = d ≡ old
+IsRefused {D} refusal old me (starts.Unchanged d) = (refusal ≡ refusals.OutOfMemory) × (d ≡ old)
 IsRefused {D} refusal old me (starts.Lost d) = ⊥
 
 -- The record of the boot was put on the disk, and the server is up; or it didn't fit, or the disk failed, and the server stays down; or memory was
