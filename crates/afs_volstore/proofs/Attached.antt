@@ -116,7 +116,7 @@ fault_without setting last before now own_before own_now (faults.BadRecord n) is
 fault_without setting last before now own_before own_now faults.OutOfMemory is same = same
 
 -- a refusal comes from what the device calls did
-pub caused_so : {T : Type 0} (setting : Setting) (first last before now own_before own_now : ℕ) (e : StoreFault) → Served {T} setting first last before now own_before own_now (Err e) → IsCaused setting last before now own_before own_now e
+pub caused_so : {T : Type 0} (setting : Setting) (first last before now own_before own_now : ℕ) (e : StoreFault) → Served {T = T} setting first last before now own_before own_now (Err e) → IsCaused setting last before now own_before own_now e
 caused_so {T} setting first last before now own_before own_now (faults.Full used capacity) served = served.quiet (λ z. absurd cc)
 caused_so {T} setting first last before now own_before own_now faults.Failed served = served.failed refl
 caused_so {T} setting first last before now own_before own_now faults.Closed served = served.quiet (λ z. absurd cc)
