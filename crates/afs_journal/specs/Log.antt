@@ -55,7 +55,7 @@ pub record IsJournal (bodies : List (List ℕ)) (seen : Option (List ℕ)) (may_
 -- A refusal but for Full and Closed, after device calls up to this number, and where it comes from.
 abbrev pub IsCaused : Setting → ℕ → ℕ → ℕ → ℕ → ℕ → JournalFault → Type 0
 IsCaused setting last before now own_before own_now Failed = Rose before now × (Trips setting last ⊎ Rose own_before own_now)
-IsCaused setting last before now own_before own_now OutOfMemory = Unit {0}
+IsCaused setting last before now own_before own_now OutOfMemory = (now ≡ before) × (own_now ≡ own_before)
 IsCaused setting last before now own_before own_now (Full length capacity) = ⊥
 IsCaused setting last before now own_before own_now Closed = ⊥
 

@@ -18,7 +18,7 @@ use Rattle.afs_volstore.specs.Stores.{IsCaused, IsCounted, IsKept}
 use Rattle.afs_memory.specs.Telling.{in_words}
 use Rattle.afs_volstore.proofs.FoldsOn.{journal_length}
 
-some_is : (x y : List ℕ) → Some x ≡ Some y → x ≡ y
+pub some_is : (x y : List ℕ) → Some x ≡ Some y → x ≡ y
 some_is x y q = cc
 
 pub some_bytes : (o : Option (List ℕ)) → is_some o ≡ true → (b : List ℕ) × (o ≡ Some b)

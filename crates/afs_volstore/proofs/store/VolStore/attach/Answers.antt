@@ -1,7 +1,8 @@
-use Rattle.std.proofs.Common.{◌∙◌, sym, subst}
+use Rattle.std.proofs.Common.{◌∙◌, ap, sym, subst}
+use Rattle.afs_journal.specs.Records.{journal_bytes, whole_records}
 use Rattle.afs_journal.specs.Log.{Taken}
 use Rattle.afs_memory.specs.States.{parts_of}
-use Rattle.afs_volstore.proofs.Attached.{fault_at_attach, fault_without, kept_taken_up}
+use Rattle.afs_volstore.proofs.Attached.{fault_at_attach, fault_without, kept_taken_up, some_is}
 use Rattle.afs_volstore.proofs.store.VolStore.attach.Goals as goal
 
 pub of-requires-clause-kept : goal.of-requires-clause-kept
@@ -19,3 +20,10 @@ returns-in-Err-clause-err g c = (
 
 pub returns-in-Err-clause-refusals : goal.returns-in-Err-clause-refusals
 returns-in-Err-clause-refusals g c = fault_at_attach c.in-Err.fault c.in-Err.ensures.refusals
+
+-- what a read gives of a journal at rest are its records
+pub returns-in-Err-clause-reads : goal.returns-in-Err-clause-reads
+returns-in-Err-clause-reads g c = λ bytes now told held.
+    let rest = c.in_ok-journal.ensures.at_rest bytes told in
+    let is = some_is now (journal_bytes (whole_records bytes)) (sym held ∙ (ap g.D.Disk.seen c.into_disk.ensures ∙ rest.now)) in
+    ap whole_records is ∙ rest.stands
