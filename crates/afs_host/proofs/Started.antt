@@ -60,7 +60,6 @@ pub record TakenUp {D : Type 0} (seen : D → Option (List ℕ)) (may_leave : D 
 record Taken {D : Type 0} (seen : D → Option (List ℕ)) (me : Node) (h : Host) (fall : Fall) (mark : Mark) (front : List Line) (s : Store (Fused D)) (bytes : List ℕ) : Type 0 where
   lies : LiesFound me h.state fall mark (whole_records bytes)
   what : Finds me h.state fall s.durable front
-  may : MayFind fall what.after
   found : IsFound seen (begun_by_disk me h.state what.after fall) (whole_records bytes) front s
 
 taken : {D : Type 0} (seen : D → Option (List ℕ)) (may_leave : D → List ℕ → Type 0) (faults limit : D → ℕ) (me : Node) (clock count : ℕ) (old : Resting D) (s : Store (Fused D)) (front : List Line) (result : Start (Running D) (Resting D)) →
@@ -68,13 +67,11 @@ taken : {D : Type 0} (seen : D → Option (List ℕ)) (may_leave : D → List �
 taken {D} seen may_leave faults limit me clock count old s front result t told h was =
     let bytes = some_of (seen old.disk) told in
     let lies = was.found bytes.0 bytes.1 in
-    let finds = finds_found me h.state was.fall old.mark (whole_records bytes.0) s.durable front (limit old.disk) t.capacity was.capacity (t.stands bytes.0 bytes.1) (t.lines_are bytes.0 bytes.1) lies in
-    let what = finds.0 in
+    let what = finds_found me h.state was.fall old.mark (whole_records bytes.0) s.durable front (limit old.disk) t.capacity was.capacity (t.stands bytes.0 bytes.1) (t.lines_are bytes.0 bytes.1) lies in
     let rests = t.rests bytes.0 bytes.1 in
     record {
       lies = lies;
       what = what;
-      may = finds.1;
       found = record {
         read = what.read;
         before = what.before;
@@ -123,11 +120,11 @@ pub taken_up : {D : Type 0} (seen : D → Option (List ℕ)) (may_leave : D → 
 taken_up {D} seen may_leave faults limit me clock count old s front (starts.Up r outs) t told = λ h was.
     let k = taken seen may_leave faults limit me clock count old s front (starts.Up r outs) t told h was in
     let boots = subst (λ (n : Node). BootsFrom seen may_leave faults limit (begun_by_disk me h.state k.what.after was.fall) (whole_records (some_of (seen old.disk) told).0) n clock count s.disk.disk (starts.Up r outs)) t.node (t.boots (begun_by_disk me h.state k.what.after was.fall) (whole_records (some_of (seen old.disk) told).0) k.found) in
-    started_up seen may_leave faults limit me clock count h was.fall k.what.after k.may (whole_records (some_of (seen old.disk) told).0) s.disk.disk (Rose (faults old.disk) (faults (disk_of r))) r outs boots
+    started_up seen may_leave faults limit me clock count h was.fall k.what.after k.what.may (whole_records (some_of (seen old.disk) told).0) s.disk.disk (Rose (faults old.disk) (faults (disk_of r))) r outs boots
 taken_up {D} seen may_leave faults limit me clock count old s front (starts.Down d ls) t told = λ h was.
     let k = taken seen may_leave faults limit me clock count old s front (starts.Down d ls) t told h was in
     let boots = subst (λ (n : Node). BootsFrom seen may_leave faults limit (begun_by_disk me h.state k.what.after was.fall) (whole_records (some_of (seen old.disk) told).0) n clock count s.disk.disk (starts.Down d ls)) t.node (t.boots (begun_by_disk me h.state k.what.after was.fall) (whole_records (some_of (seen old.disk) told).0) k.found) in
-    started_down seen may_leave faults limit me clock count h was.fall k.what.after k.may (whole_records (some_of (seen old.disk) told).0) s.disk.disk (Rose (faults old.disk) (faults d.disk)) d ls (subst (λ (n : ℕ). Rose n (faults d.disk)) t.quiet) boots
+    started_down seen may_leave faults limit me clock count h was.fall k.what.after k.what.may (whole_records (some_of (seen old.disk) told).0) s.disk.disk (Rose (faults old.disk) (faults d.disk)) d ls (subst (λ (n : ℕ). Rose n (faults d.disk)) t.quiet) boots
 taken_up {D} seen may_leave faults limit me clock count old s front (starts.Unchanged d) t told = λ h was.
     let bytes = some_of (seen old.disk) told in
     let k = taken seen may_leave faults limit me clock count old s front (starts.Unchanged d) t told h was in
@@ -142,7 +139,7 @@ taken_up {D} seen may_leave faults limit me clock count old s front (starts.Unch
     }
 taken_up {D} seen may_leave faults limit me clock count old s front (starts.Lost d) t told = λ h was.
     let k = taken seen may_leave faults limit me clock count old s front (starts.Lost d) t told h was in
-    (k.what.after, (k.may, t.boots (begun_by_disk me h.state k.what.after was.fall) (whole_records (some_of (seen old.disk) told).0) k.found))
+    (k.what.after, (k.what.may, t.boots (begun_by_disk me h.state k.what.after was.fall) (whole_records (some_of (seen old.disk) told).0) k.found))
 
 -- ---- the disk wasn't taken up
 
