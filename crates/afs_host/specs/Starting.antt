@@ -57,7 +57,7 @@ IsStarted {D} seen may_leave faults limit me clock count old (starts.Lost s) =
 abbrev pub begun_with : Durable → List Line → Begun
 begun_with d front = record { state = begun_state d; before = λ ls. front ++ ls }
 
--- The record of the boot was put behind what was found, and the server is up in that boot; or it didn't fit, or the disk failed while
+-- The record of the boot was put after what was found, and the server is up in that boot; or it didn't fit, or the disk failed while
 -- it was written, and the server stays down. Or memory ran out before the record was begun, or once it was on the disk. Where it isn't
 -- told that the disk failed, its count is what it was before.
 abbrev pub BootsOver : {D : Type 0} → (D → ℕ) → Durable → List Line → Node → ℕ → ℕ → ℕ → Start (Running D) (Resting D) → Type 0
@@ -134,7 +134,7 @@ Rises {D} s front count clock (starts.Down d ls) = ⊥
 Rises {D} s front count clock (starts.Unchanged d) = ⊥
 Rises {D} s front count clock (starts.Lost d) = d.disk ≡ s.disk.disk
 
--- the server stays down, with its store's mark and these lines, and one behind them
+-- the server stays down, with its store's mark and these lines, and one more
 abbrev pub Stays : {D : Type 0} → Store (Fused D) → List Line → Line → Start (Running D) (Resting D) → Type 0
 Stays {D} s front last (starts.Up r outs) = ⊥
 Stays {D} s front last (starts.Down d ls) = (d ≡ record { disk = s.disk.disk; mark = count_mark s.count }) × (ls ≡ front ++ last ∷ [])

@@ -21,7 +21,7 @@ use afs_volstore::VolStore;
 use std::alloc::{AllocError, Global};
 
 /// How a server began again: it is up, and gives this out; or it stays down, with these lines. Or memory ran out: before anything was
-/// told or kept; or behind the record of its boot, when nothing can be told of that any more.
+/// told or kept; or after the record of its boot, when nothing can be told of that any more.
 #[derive(Drop)]
 pub enum Start<U, R> {
     Up(U, Outs),
@@ -39,7 +39,7 @@ fn fault_alone(alloc: Global, node: Node) -> Mem<Lines>
     Ok(lines)
 }
 
-/// These lines, with room for one behind them.
+/// These lines, with room for one more.
 fn with_room(lines: Lines) -> Mem<Vec<Line>>
     ensures items { IfOk result (λ ls. ls.items ≡ lines) }
     ensures room { IfOk result (λ ls. vec_len ls < vec_capacity ls) }
@@ -49,7 +49,7 @@ fn with_room(lines: Lines) -> Mem<Vec<Line>>
     Ok(lines)
 }
 
-/// These lines, and one behind them, for which there is room.
+/// These lines, and one more, for which there is room.
 fn with_line(lines: Vec<Line>, last: Line) -> Lines
     requires { vec_len lines < vec_capacity lines }
     ensures { result ≡ lines.items ++ last ∷ [] }
@@ -108,7 +108,7 @@ fn rise<D: Disk>(
     }
 }
 
-/// The server stays down, and tells this behind the lines with which the restart began: what these told is told, so its mark is
+/// The server stays down, and tells this after the lines with which the restart began: what these told is told, so its mark is
 /// that of the store.
 fn stay<D: Disk>(
     store: VolStore<Fuse<D>>,
