@@ -37,7 +37,7 @@ chosen t a b e = ap (λ (x : Bool). if x then a else b) e
 in_four : (b : Blow) → b.call ≤ 4 → within 4 (Some b) ≡ Some b
 in_four b small = chosen (nat_lt 4 b.call) None (Some b) (le-ltb 4 b.call small)
 
--- What is known of a step that its disk ended, its calls numbered from behind `first` up to `last`. `came` tells whether a stop came.
+-- What is known of a step that its disk ended, its calls numbered from the one after `first` up to `last`. `came` tells whether a stop came.
 pub record IsEnded (armed : Armed) (setting : Setting) (first last : ℕ) (came : Bool) (rose : Type 0) : Type 0 where
   pub stop : setting.stop ≡ option_map (λ (s : ℕ × ℕ). first + s.0) armed.stop
   pub fail : setting.fail ≡ option_map (λ (k : ℕ). first + k) armed.fail

@@ -48,7 +48,7 @@ saves_calls boot clock (refuses head code) some = absurd (some refl)
 saves_calls boot clock (shows head r) some = absurd (some refl)
 saves_calls boot clock (saves head c) some = refl
 
--- What is known of a step that its disk ended, and of what a crash leaves behind it.
+-- What is known of a step that its disk ended, and of what a crash leaves after it.
 pub record Ended {D : Type 0} (seen : D → Option (List ℕ)) (may_leave : D → List ℕ → Type 0) (moment : D → ℕ) (left_since : D → ℕ → List ℕ → Type 0) (clock : ℕ) (found : Received) (old : Running D) (before after : D) : Type 0 where
   pub kept : IsKept old.store.durable (seen before) (may_leave before)
   pub counted : IsCounted old.store.count (seen before)

@@ -68,7 +68,7 @@ left_image seen before now image told c left =
 pub bind_is : {A B : Type 0} (o : Option A) (x : A) (f : A → Option B) (y : B) → o ≡ Some x → (o >>= f) ≡ Some y → f x ≡ Some y
 bind_is {A} {B} o x f y e h = subst (λ (p : Option A). (p >>= f) ≡ Some y) e h
 
--- records that stand for something with this one behind them: it was taken
+-- records that stand for something with this one after them: it was taken
 more_from : (bs : List (List ℕ)) (bytes : List ℕ) (r : StoreRecord) (c d e : Durable) → fold_from bs c ≡ Some d → record_at bytes ≡ Some r → fold_from (bs ++ bytes ∷ []) c ≡ Some e → folded r d ≡ Some e
 more_from [] bytes r c d e h is stands =
     let p = bind_is (record_at bytes) r (λ q. (folded q c >>= fold_from [])) e is stands in
