@@ -120,9 +120,14 @@ left_by_stop b n pick is stop fail false e =
 -- what a set blow left, of a disk from which this pick leaves these bytes
 set_found : (me : Node) (s : ServerState) (m : Message) (clock : ℕ) (b : Blow) (mark other : Mark) (bytes : List ℕ) (n pick : ℕ) → other ≡ mark → n ≡ b.call → (b.stops ≡ true → pick ≡ b.pick) → (b.stops ≡ false → pick ≡ 1) →
     LiesAs me s (in_step m clock b) mark (is_left_whole n pick) (whole_records bytes) → LiesFound me s (in_step m clock b) other (whole_records bytes)
-set_found me s m clock b mark other bytes n pick marked is stop fail lies =
-    (leaves_after b, ((λ set. refl), subst (λ (k : Mark). LiesAs me s (in_step m clock b) k (leaves_after b) (whole_records bytes)) (sym marked)
-    (subst (λ (t : Bool). LiesAs me s (in_step m clock b) mark t (whole_records bytes)) (left_by_stop b n pick is stop fail b.stops refl) lies)))
+set_found me s m clock b mark other bytes n pick marked is stop fail lies = (
+  leaves_after b,
+  (
+    (λ set. refl),
+    subst (λ (k : Mark). LiesAs me s (in_step m clock b) k (leaves_after b) (whole_records bytes)) (sym marked)
+        (subst (λ (t : Bool). LiesAs me s (in_step m clock b) mark t (whole_records bytes)) (left_by_stop b n pick is stop fail b.stops refl) lies),
+  ),
+)
 
 -- of a disk that failed by itself it isn't known which
 own_found : (me : Node) (s : ServerState) (m : Message) (clock : ℕ) (b : Blow) (mark : Mark) (records : List (List ℕ)) → b.is_set ≡ false → LiesIn me s (in_step m clock b) mark records → LiesFound me s (in_step m clock b) mark records
