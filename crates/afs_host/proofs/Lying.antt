@@ -28,7 +28,7 @@ pub is_told : (o : Option (List ℕ)) (bytes : List ℕ) → o ≡ Some bytes �
 is_told o bytes at = subst (λ (p : Option (List ℕ)). IsSome p) (sym at) refl
 
 pub if_some : {A : Type 0} (o : Option A) (P : A → Type 0) (x : A) → o ≡ Some x → IfSome o P → P x
-if_some {A} o P x e if = subst (λ (p : Option A). IfSome p P) e if
+if_some {A} o P x e has = subst (λ (p : Option A). IfSome p P) e has
 
 -- ---- a disk at rest
 
