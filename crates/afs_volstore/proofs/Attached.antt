@@ -107,13 +107,13 @@ are_begun node told c count records found b ls is counted mark tells =
 
 -- ---- faults
 
--- a fault that isn't the disk's has no cause there
-pub fault_without : (setting : Setting) (last before now own_before own_now : ℕ) (e : StoreFault) → IsFoldFault e → IsCaused setting last before now own_before own_now e
-fault_without setting last before now own_before own_now (faults.Full used capacity) is = tt
-fault_without setting last before now own_before own_now faults.Failed is = absurd is
-fault_without setting last before now own_before own_now faults.Closed is = tt
-fault_without setting last before now own_before own_now (faults.BadRecord n) is = tt
-fault_without setting last before now own_before own_now faults.OutOfMemory is = tt
+-- a fault that isn't the disk's, where no count rose
+pub fault_without : (setting : Setting) (last before now own_before own_now : ℕ) (e : StoreFault) → IsFoldFault e → (now ≡ before) × (own_now ≡ own_before) → IsCaused setting last before now own_before own_now e
+fault_without setting last before now own_before own_now (faults.Full used capacity) is same = same
+fault_without setting last before now own_before own_now faults.Failed is same = absurd is
+fault_without setting last before now own_before own_now faults.Closed is same = same
+fault_without setting last before now own_before own_now (faults.BadRecord n) is same = same
+fault_without setting last before now own_before own_now faults.OutOfMemory is same = same
 
 pub fault_at_attach : (e : StoreFault) → IsFoldFault e → IsAttachFault e
 fault_at_attach (faults.Full used capacity) is = is
