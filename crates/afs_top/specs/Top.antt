@@ -27,7 +27,7 @@ use Rattle.afs_cell.specs.Steps.{MayBeRead}
 use Rattle.afs_cell.specs.Worlds.{most_entries, own_falls}
 use Rattle.afs_lending.specs.Lending.{lends, AreLent, AreUnused, GivesBackBut}
 use Rattle.afs_top.specs.Forms.{Asks, HaveForm}
-use Rattle.afs_top.specs.Outside.{IsUnchanged, Outside, RoseBy, SoManyFailed, Span, Writes, WritesAll}
+use Rattle.afs_top.specs.Outside.{DidNotRise, IsUnchanged, Outside, RoseBy, SoManyFailed, Span, Writes, WritesAll}
 use Rattle.afs_top.specs.declared.statuses.Form.TheVariants.{Replay}
 use Rattle.afs_top.specs.declared.statuses.Status.{Status}
 use Rattle.afs_top.specs.declared.statuses.Status.TheVariants as statuses
@@ -271,7 +271,7 @@ pub record RunsOutOfMemory (s : Script) (wire : Bool) (tells : Type 0) (o : Outs
 
 -- memory ran out while the disks were set up, of which none failed: what that leaves comes back
 pub record SettingUpStops (left : Type 0) (o : Outside) : Type 0 where
-  pub quiet : IsUnchanged o.disk_faults
+  pub quiet : DidNotRise o.disk_faults
   pub written : IsUnchanged o.sink
   pub only_set_up : left
 
