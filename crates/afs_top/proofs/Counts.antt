@@ -156,14 +156,18 @@ none_fell {D} faults n i (l ∷ ls) (b ∷ back) fell (inr (quiet, there)) = eit
   either (inl many) = inl (omega (arith, many))
   either (inr full) = inr (inr full)
 
+no_more : (a b c : ℕ) → a ≤ b → b ≤ c → a ≤ c
+no_more a b c first second = omega (arith, first, second)
+
 -- where none of them fails, and none had failed, their sum doesn't rise
 pub none_rose : {D : Type 0} (faults : D → ℕ) (ls back : List (Lent D)) (sum : ℕ) → AreUnused faults ls → NoneRose faults ls back → with_faults (faults_of faults back) sum ≤ sum
 none_rose {D} faults [] [] sum unused none = omega (arith)
 none_rose {D} faults [] (b ∷ back) sum unused none = absurd none
 none_rose {D} faults (l ∷ ls) [] sum unused none = absurd none
 none_rose {D} faults (l ∷ ls) (b ∷ back) sum unused none =
-    let more = none_rose faults ls back (min (sum + faults b.disk) last_count) unused.1 none.1 in
-    omega (arith, more, none.0, unused.0)
+    let quiet : faults b.disk ≡ 0 = omega (arith, none.0, unused.0) in
+    let here : min (sum + faults b.disk) last_count ≤ sum = omega (arith, quiet) in
+    no_more _ _ sum (none_rose faults ls back (min (sum + faults b.disk) last_count) unused.1 none.1) here
 
 -- ---- one count
 
