@@ -29,6 +29,10 @@ abbrev pub RoseAt : {D : Type 0} → (D → ℕ) → Node → ℕ → List (Lent
 RoseAt {D} faults n i (a ∷ olds) (b ∷ news) = ((n ≡ Server i) × (Rose (faults a.disk) (faults b.disk) × NoneRose faults olds news)) ⊎ ((faults b.disk ≤ faults a.disk) × RoseAt faults n (i + 1) olds news)
 RoseAt {D} faults n i olds news = ⊥
 
+-- one of them failed, and no other; or none did
+abbrev pub OneRoseAtMost : {D : Type 0} → (D → ℕ) → List (Lent D) → List (Lent D) → Type 0
+OneRoseAtMost {D} faults olds news = ((n : Node) × RoseAt faults n 1 olds news) ⊎ NoneRose faults olds news
+
 -- the disk that a refusal names failed, and no other; or memory ran out, and none did
 abbrev pub IsRefusedBy : {D : Type 0} → (D → ℕ) → List (Lent D) → SetupFault → List (Lent D) → Type 0
 IsRefusedBy {D} faults disks (setup.Disk n) back = RoseAt faults n 1 disks back

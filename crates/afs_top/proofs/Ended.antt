@@ -255,13 +255,13 @@ not_set_up {D} seen may_leave faults s wire tells disks (setup.Disk n, back) o u
     inl (record {
       rose = rose_by 1 _ o.disk_faults gone.counts (none_fell faults n 1 disks back refused.0 refused.1);
       written = unwritten;
-      only_set_up = record { lent = disks; unused = unused; back = back; counted = whose.1; are = whose.0; left = left; given = missed_of seen faults back o gone };
+      only_set_up = record { lent = disks; unused = unused; back = back; counted = whose.1; are = whose.0; failed = inl (n, refused.1); left = left; given = missed_of seen faults back o gone };
     })
 not_set_up {D} seen may_leave faults s wire tells disks (setup.OutOfMemory, back) o unused refused left whose unwritten gone =
     inl (record {
       quiet = subst (λ (n : ℕ). n ≤ o.disk_faults.before) (sym gone.counts) (none_rose faults disks back o.disk_faults.before unused refused.1);
       written = unwritten;
-      only_set_up = record { lent = disks; unused = unused; back = back; counted = whose.1; are = whose.0; left = left; given = missed_of seen faults back o gone };
+      only_set_up = record { lent = disks; unused = unused; back = back; counted = whose.1; are = whose.0; failed = inr refused.1; left = left; given = missed_of seen faults back o gone };
     })
 
 -- ---- seen from before
@@ -442,6 +442,7 @@ left_since {D} seen may_leave faults s o earlier since l = record {
   back = l.back;
   counted = l.counted;
   are = l.are;
+  failed = l.failed;
   left = l.left;
   given = lent_since seen l.back o earlier since l.given;
 }
