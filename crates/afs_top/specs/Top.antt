@@ -201,8 +201,8 @@ AreOfServers {D} i [] = Unit {0}
 AreOfServers {D} i (l ∷ ls) = (l.node ≡ i) × AreOfServers (i + 1) ls
 
 -- What comes back of disks that were lent and set up, but not played: one for each server, in order of number. No disk had failed when it
--- was lent, and since then one at most has. Where it told its bytes, and there were none, it comes back with the record of the script's set-up, or with none. A bank need
--- not lend empty disks.
+-- was lent, and since then one at most has. Where a disk told its bytes, and there were none, it comes back with the record of the script's
+-- set-up, or with none. A bank need not lend empty disks.
 pub record SetUpLeaves {D : Type 0} (seen : D → Option (List ℕ)) (may_leave : D → List ℕ → Type 0) (faults : D → ℕ) (s : Script) (o : Outside) : Type 0 where
   pub lent : List (Lent D)
   pub unused : AreUnused faults lent
