@@ -29,7 +29,7 @@ use Rattle.afs_host.specs.Seats.{count_mark, disk_of, CanRun, IsStepDown, IsUp, 
 use Rattle.afs_host.specs.Serving.{HasFallen, HasServed, IsBroken}
 use Rattle.afs_host.specs.Setting.{pick_of, stops_now}
 use Rattle.afs_host.specs.Standing.{Lies, LiesAs, LiesFound, LiesIn}
-use Rattle.afs_host.proofs.Blows.{explained, IsSetBlow}
+use Rattle.afs_host.proofs.Blows.{explained, neither, IsSetBlow}
 use Rattle.afs_host.proofs.Lying.{begun_as, begun_lies, found_free, is_told, some_of, Begins}
 use Rattle.afs_host.proofs.Stepping.{as_up, same_row}
 
@@ -110,9 +110,6 @@ ended_left {D} seen left_by may_leave moment left_since now leaves clock found o
 
 -- ---- the server is down
 
-no_both : (t : Bool) → t ≡ true → t ≡ false → ⊥
-no_both t yes no = absurd cc
-
 -- which call of the step wasn't made, and which pick the disk was left with: that is what the blow leaves
 left_by_stop : (b : Blow) (n pick : ℕ) → n ≡ b.call → (b.stops ≡ true → pick ≡ b.pick) → (b.stops ≡ false → pick ≡ 1) → (t : Bool) → b.stops ≡ t → is_left_whole n pick ≡ leaves_after b
 left_by_stop b n pick is stop fail true e =
@@ -129,7 +126,7 @@ set_found me s m clock b mark other bytes n pick marked is stop fail lies =
 
 -- of a disk that failed by itself it isn't known which
 own_found : (me : Node) (s : ServerState) (m : Message) (clock : ℕ) (b : Blow) (mark : Mark) (records : List (List ℕ)) → b.is_set ≡ false → LiesIn me s (in_step m clock b) mark records → LiesFound me s (in_step m clock b) mark records
-own_found me s m clock b mark records own lies = found_free me s (in_step m clock b) mark records (λ after set. absurd (no_both b.is_set set own)) lies
+own_found me s m clock b mark records own lies = found_free me s (in_step m clock b) mark records (λ after set. absurd (neither b.is_set set own)) lies
 
 -- what a read gives then is what a restart may find
 fallen_found : {D : Type 0} (seen : D → Option (List ℕ)) (left_by : D → ℕ → Option (List ℕ)) (may_leave : D → List ℕ → Type 0) (leaves : (disk : D) (pick : ℕ) (c : List ℕ) → left_by disk pick ≡ Some c → may_leave disk c) (shows : (disk : D) → left_by disk 1 ≡ seen disk) (faults limit : D → ℕ) (old new : Running D)
@@ -145,13 +142,13 @@ fallen_found {D} seen left_by may_leave leaves shows faults limit old new clock 
     let line_is : line ≡ lines.Crash new.store.node = fallen.line_is ∙ ap (fall_line new.store.node) (ap (stops_now fallen.came) broken.armed ∙ (sym stops_is ∙ e)) in
     let left = sym (fallen.picked line_is) ∙ at in
     set_found old.store.node (server_seen old.memory old.store) m clock b (count_mark old.store.count) s.mark bytes (new.store.disk.calls - old.store.disk.calls) (pick_of new.armed) mark_is (omega (arith, t.counted))
-    (λ stops. ap pick_of broken.armed ∙ sym (t.pick stops)) (λ no. absurd (no_both b.stops e no)) (broken.left m b whole (fallen.told.0 some) t.trips (pick_of new.armed) bytes left)
+    (λ stops. ap pick_of broken.armed ∙ sym (t.pick stops)) (λ no. absurd (neither b.stops e no)) (broken.left m b whole (fallen.told.0 some) t.trips (pick_of new.armed) bytes left)
 fallen_found {D} seen left_by may_leave leaves shows faults limit old new clock found broken s line fallen m whole b stops_is mark_is told bytes at some true set false e =
     let t = told set in
     let line_is : line ≡ lines.Fault new.store.node = fallen.line_is ∙ ap (fall_line new.store.node) (ap (stops_now fallen.came) broken.armed ∙ (sym stops_is ∙ e)) in
     let left = shows (disk_of new) ∙ (ap seen (sym (fallen.stays line_is)) ∙ at) in
     set_found old.store.node (server_seen old.memory old.store) m clock b (count_mark old.store.count) s.mark bytes (new.store.disk.calls - old.store.disk.calls) 1 mark_is (omega (arith, t.counted))
-    (λ yes. absurd (no_both b.stops yes e)) (λ no. refl) (broken.left m b whole (fallen.told.0 some) t.trips 1 bytes left)
+    (λ yes. absurd (neither b.stops yes e)) (λ no. refl) (broken.left m b whole (fallen.told.0 some) t.trips 1 bytes left)
 
 -- the host fell with some luck, and as the line tells
 pub down_step : {D : Type 0} (seen : D → Option (List ℕ)) (left_by : D → ℕ → Option (List ℕ)) (may_leave : D → List ℕ → Type 0) (leaves : (disk : D) (pick : ℕ) (c : List ℕ) → left_by disk pick ≡ Some c → may_leave disk c) (shows : (disk : D) → left_by disk 1 ≡ seen disk) (faults limit : D → ℕ) (old new : Running D) (clock : ℕ) (found : Received) → CanRun old → IsBroken seen left_by may_leave faults limit old clock found new →

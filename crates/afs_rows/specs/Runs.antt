@@ -259,9 +259,9 @@ begun_by_disk me s true (in_step m clock b) = begun_after me s clock (decides me
 begun_by_disk me s false in_boot = begun_before s
 begun_by_disk me s true in_boot = begun_before (revived s)
 
--- What a blow leaves on the disk, to which that was set. The step's record is whole there only where the last of its four calls, the
--- sync of the opened gate, is the one that wasn't made, and the disk failed at it, so that what was written stays, or stopped with
--- the pick that leaves what was written.
+-- What is left by a blow to which the disk was set. The step's record is whole on the disk only where the last of its four calls, the
+-- sync of the opened gate, is the one that wasn't made. And the disk failed at that call, so that what was written stays; or it stopped
+-- there, with the pick that leaves what was written.
 abbrev pub leaves_after : Blow → Bool
 leaves_after b = nat_eq b.call 4 && (not b.stops || nat_eq b.pick 1)
 
