@@ -14,7 +14,7 @@ use Rattle.afs_volstore.specs.Stands.{Stands}
 use Rattle.afs_volstore.specs.Folds.{places_length, wanted_lines, TellsLast}
 use Rattle.afs_volstore.specs.Opening.{last_effect, lines_begun, same_mark, IsAttachFault, IsFoldFault}
 use Rattle.afs_memory.specs.States.{placed}
-use Rattle.afs_volstore.specs.Stores.{IsCaused, IsCounted, IsKept, Served}
+use Rattle.afs_volstore.specs.Stores.{IsCaused, IsCounted, IsKept}
 use Rattle.afs_memory.specs.Telling.{in_words}
 use Rattle.afs_volstore.proofs.FoldsOn.{journal_length}
 
@@ -114,14 +114,6 @@ fault_without setting last before now own_before own_now faults.Failed is same =
 fault_without setting last before now own_before own_now faults.Closed is same = same
 fault_without setting last before now own_before own_now (faults.BadRecord n) is same = same
 fault_without setting last before now own_before own_now faults.OutOfMemory is same = same
-
--- a refusal comes from what the device calls did
-pub caused_so : {T : Type 0} (setting : Setting) (first last before now own_before own_now : ℕ) (e : StoreFault) → Served {T = T} setting first last before now own_before own_now (Err e) → IsCaused setting last before now own_before own_now e
-caused_so {T} setting first last before now own_before own_now (faults.Full used capacity) served = served.quiet (λ z. absurd cc)
-caused_so {T} setting first last before now own_before own_now faults.Failed served = served.failed refl
-caused_so {T} setting first last before now own_before own_now faults.Closed served = served.quiet (λ z. absurd cc)
-caused_so {T} setting first last before now own_before own_now (faults.BadRecord n) served = served.quiet (λ z. absurd cc)
-caused_so {T} setting first last before now own_before own_now faults.OutOfMemory served = served.quiet (λ z. absurd cc)
 
 pub fault_at_attach : (e : StoreFault) → IsFoldFault e → IsAttachFault e
 fault_at_attach (faults.Full used capacity) is = is

@@ -64,14 +64,14 @@ returns-in_err-write_at-2-clause-left g c = λ count body bytes spells told sett
     let set : g.D.Disk.setting c.sync.new.self ≡ g.D.Disk.setting c.args.disk.now = c.sync.ensures.setting ∙ c.write_at.ensures.setting in
     left_shut g.D.Disk.left_by g.D.Disk.calls g.D.Disk.setting (whole_records bytes) body g.D.Disk.may_leave g.met.D.Disk.leaves c.args.disk.now c.write_at-2.new.self 3 (omega (arith, c.write_at.ensures.calls, c.sync.ensures.calls, c.write_at-2.ensures.calls)) refl
     (λ trips b left. let untouched = c.write_at-2.ensures.stopped (subst (λ (s : Setting). Trips s (g.D.Disk.calls c.write_at-2.new.self)) (sym set) trips) in
-        still_shut g.D.Disk.seen g.D.Disk.may_leave g.D.Disk.moment g.D.Disk.left_since g.met.D.Disk.just_now count c.args.gate body bytes c.args.place.now spells c.args.disk.now told settled c.write_at.new.self c.write_at.ensures.time c.write_at.ensures.crash b (c.sync.ensures.crash b (untouched.same.leaves b left)))
+    still_shut g.D.Disk.seen g.D.Disk.may_leave g.D.Disk.moment g.D.Disk.left_since g.met.D.Disk.just_now count c.args.gate body bytes c.args.place.now spells c.args.disk.now told settled c.write_at.new.self c.write_at.ensures.time c.write_at.ensures.crash b (c.sync.ensures.crash b (untouched.same.leaves b left)))
 
 pub returns-in_err-sync-2-clause-left : goal.returns-in_err-sync-2-clause-left
 returns-in_err-sync-2-clause-left g c = λ count body bytes spells told settled.
     let set : g.D.Disk.setting c.write_at-2.new.self ≡ g.D.Disk.setting c.args.disk.now = c.write_at-2.ensures.setting ∙ (c.sync.ensures.setting ∙ c.write_at.ensures.setting) in
     left_picked g.D.Disk.left_by g.D.Disk.calls g.D.Disk.setting (whole_records bytes) body c.args.disk.now c.sync-2.new.self (omega (arith, c.write_at.ensures.calls, c.sync.ensures.calls, c.write_at-2.ensures.calls, c.sync-2.ensures.calls))
     (λ trips pick b left. let untouched = c.sync-2.ensures.stopped (subst (λ (s : Setting). Trips s (g.D.Disk.calls c.sync-2.new.self)) (sym set) trips) in
-        picked g.D.Disk.seen g.D.Disk.may_leave g.D.Disk.moment g.D.Disk.left_since g.met.D.Disk.just_now count c.args.gate body bytes c.args.place.now spells c.args.disk.now told settled c.write_at.new.self c.write_at.ensures.time c.write_at.ensures.crash c.sync.new.self c.sync.ensures.time c.sync.ensures.crash c.in_ok-write_at.ensures.written c.sync.ensures.seen c.in_ok-sync.ensures.durable c.write_at-2.new.self c.write_at-2.ensures.time c.write_at-2.ensures.crash g.D.Disk.left_by c.in_ok-sync.ensures.picks c.in_ok-write_at-2.ensures.picks pick b (sym (untouched.same.same_picks pick) ∙ left))
+    picked g.D.Disk.seen g.D.Disk.may_leave g.D.Disk.moment g.D.Disk.left_since g.met.D.Disk.just_now count c.args.gate body bytes c.args.place.now spells c.args.disk.now told settled c.write_at.new.self c.write_at.ensures.time c.write_at.ensures.crash c.sync.new.self c.sync.ensures.time c.sync.ensures.crash c.in_ok-write_at.ensures.written c.sync.ensures.seen c.in_ok-sync.ensures.durable c.write_at-2.new.self c.write_at-2.ensures.time c.write_at-2.ensures.crash g.D.Disk.left_by c.in_ok-sync.ensures.picks c.in_ok-write_at-2.ensures.picks pick b (sym (untouched.same.same_picks pick) ∙ left))
 
 pub returns-clause-reached : goal.returns-clause-reached
 returns-clause-reached g c =

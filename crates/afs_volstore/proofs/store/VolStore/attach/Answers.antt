@@ -16,7 +16,7 @@ pub returns-in-Err-clause-err : goal.returns-in-Err-clause-err
 returns-in-Err-clause-err g c = (
   subst (Taken g.D.Disk.faults g.D.Disk.own_faults g.D.Disk.calls g.D.Disk.setting c.args.disk) (sym c.into_disk.ensures) c.in_ok-journal.ensures.ok.0,
   fault_without (g.D.Disk.setting c.args.disk) (g.D.Disk.calls c.into_disk.result) (g.D.Disk.faults c.args.disk) (g.D.Disk.faults c.into_disk.result) (g.D.Disk.own_faults c.args.disk) (g.D.Disk.own_faults c.into_disk.result) c.in-Err.fault c.in-Err.ensures.refusals
-  (subst (λ (d : g.row.D.Denot). (g.D.Disk.faults d ≡ g.D.Disk.faults c.args.disk) × (g.D.Disk.own_faults d ≡ g.D.Disk.own_faults c.args.disk)) (sym c.into_disk.ensures) c.in_ok-journal.ensures.quiet),
+      (subst (λ (d : g.row.D.Denot). (g.D.Disk.faults d ≡ g.D.Disk.faults c.args.disk) × (g.D.Disk.own_faults d ≡ g.D.Disk.own_faults c.args.disk)) (sym c.into_disk.ensures) c.in_ok-journal.ensures.quiet),
 )
 
 pub returns-in-Err-clause-refusals : goal.returns-in-Err-clause-refusals
