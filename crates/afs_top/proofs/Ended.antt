@@ -170,34 +170,34 @@ reading_stops {D} seen may_leave faults limit s w fs wire o is found written bac
       given = found_come (MissedByTheBank o) seen faults limit s.servers w.servers fs o.given.before o.given.after is.world.safe.server_count p.0 found (missed seen faults (kept_disks 1 fs) o back);
     }
 
-pub ended : {D : Type 0} (seen : D → Option (List ℕ)) (may_leave : D → List ℕ → Type 0) (faults limit : D → ℕ) (s : Script) (w : WorldState D) (fs : List (Left (Store D) D)) (wire : Bool) (o : Outside) (status : Status) (taken : Result (Unit {0}) Failed)
-    → HasEnded seen may_leave faults limit s w → AreFound seen faults limit (lent_from 1 w.servers) fs → TellsLeft (kept_history_text wire w.wire w.history) (final_text (map part fs)) (fault_in fs) o.sink o.passed o.sink_faults status
+pub ended : {D : Type 0} (seen : D → Option (List ℕ)) (may_leave : D → List ℕ → Type 0) (faults limit : D → ℕ) (s : Script) (w : WorldState D) (fs : List (Left (Store D) D)) (wire : Bool) (o : Outside) {T E : Type 0} (written : Result T E) (status : Status) (taken : Result (Unit {0}) Failed)
+    → HasEnded seen may_leave faults limit s w → AreFound seen faults limit (lent_from 1 w.servers) fs → TellsLeft written (kept_history_text wire w.wire w.history) (final_text (map part fs)) (fault_in fs) o.sink o.passed o.sink_faults status
     → OnOk taken (GivesBackBut seen 0 (kept_disks 1 fs) o.given.before o.given.after) → OnOk taken (o.bank_faults.after ≡ o.bank_faults.before) → OnErr taken (Rose o.bank_faults.before o.bank_faults.after) → GoesBack seen faults (kept_disks 1 fs) o → EndsRun s wire (All seen may_leave faults limit s w) ⊥ o (returned status taken)
-ended {D} seen may_leave faults limit s w fs wire o statuses.Done (Ok u) is found tells all quiet cause back =
+ended {D} seen may_leave faults limit s w fs wire o written statuses.Done (Ok u) is found tells all quiet cause back =
     record {
       quiet = quiet;
       written = run_of seen may_leave faults limit s w fs wire (WritesAll o) is.world found tells.1;
       told = λ p. replays seen may_leave faults limit s w fs wire (WritesAll o) NoneIsMissing o is found tells.0 tells.1 back (0, (all, refl)) p;
     }
-ended {D} seen may_leave faults limit s w fs wire o statuses.Done (Err f) is found tells all quiet cause back =
+ended {D} seen may_leave faults limit s w fs wire o written statuses.Done (Err f) is found tells all quiet cause back =
     let rose = rose_once o.bank_faults.before o.bank_faults.after cause back.never_falls in
     inr (inr (record {
       rose = rose;
       written = run_of seen may_leave faults limit s w fs wire (WritesAll o) is.world found tells.1;
       told = λ p. replays seen may_leave faults limit s w fs wire (WritesAll o) (MissedByTheBank o) o is found tells.0 tells.1 back (missed seen faults (kept_disks 1 fs) o back) p;
     }))
-ended {D} seen may_leave faults limit s w fs wire o statuses.WriteFault taken is found tells all quiet cause back =
+ended {D} seen may_leave faults limit s w fs wire o written statuses.WriteFault taken is found tells all quiet cause back =
     record {
       rose = tells.1.1;
       written = run_of seen may_leave faults limit s w fs wire (AppendsFront o.sink.before o.sink.after) is.world found tells.1.0;
       told = λ p. replays seen may_leave faults limit s w fs wire (AppendsFront o.sink.before o.sink.after) (MissedByTheBank o) o is found tells.0 tells.1.0 back (missed seen faults (kept_disks 1 fs) o back) p;
     }
-ended {D} seen may_leave faults limit s w fs wire o statuses.BankFault taken is found tells all quiet cause back = inr (inl (reading_fails seen may_leave faults limit s w fs wire o is found tells.0 tells.1 back))
-ended {D} seen may_leave faults limit s w fs wire o statuses.OutOfMemory taken is found tells all quiet cause back = inr (record { written = entries_of seen may_leave faults limit s w IsFew wire o is.world is.world.safe.entries tells.1; told = λ p. reading_stops seen may_leave faults limit s w fs wire o is found tells.1 back p })
-ended {D} seen may_leave faults limit s w fs wire o statuses.Usage taken is found tells all quiet cause back = absurd tells
-ended {D} seen may_leave faults limit s w fs wire o (statuses.Script line reason) taken is found tells all quiet cause back = absurd tells
-ended {D} seen may_leave faults limit s w fs wire o statuses.ReadFault taken is found tells all quiet cause back = absurd tells
-ended {D} seen may_leave faults limit s w fs wire o statuses.Limit taken is found tells all quiet cause back = absurd tells
+ended {D} seen may_leave faults limit s w fs wire o written statuses.BankFault taken is found tells all quiet cause back = inr (inl (reading_fails seen may_leave faults limit s w fs wire o is found tells.0 tells.1 back))
+ended {D} seen may_leave faults limit s w fs wire o written statuses.OutOfMemory taken is found tells all quiet cause back = inr (record { written = entries_of seen may_leave faults limit s w IsFew wire o is.world is.world.safe.entries tells.1; told = λ p. reading_stops seen may_leave faults limit s w fs wire o is found tells.1 back p })
+ended {D} seen may_leave faults limit s w fs wire o written statuses.Usage taken is found tells all quiet cause back = absurd tells
+ended {D} seen may_leave faults limit s w fs wire o written (statuses.Script line reason) taken is found tells all quiet cause back = absurd tells
+ended {D} seen may_leave faults limit s w fs wire o written statuses.ReadFault taken is found tells all quiet cause back = absurd tells
+ended {D} seen may_leave faults limit s w fs wire o written statuses.Limit taken is found tells all quiet cause back = absurd tells
 
 -- ---- memory ran out in the run, or for the disks
 

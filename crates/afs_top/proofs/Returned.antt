@@ -58,7 +58,7 @@ module _ {D : Type 0} (seen : D → Option (List ℕ)) (may_leave : D → List �
     (told : IsWritten seen may_leave faults limit wire start count gone w now counted written) where
   -- played to its end, and what its disks keep was read
   pub end_of : (fs : List (Left (Store D) D)) (status result : Status) (taken : Result (Unit {0}) bank.Failed) → w.is_lost ≡ false → IsOver seen may_leave limit w disks → AreFound seen faults limit disks fs
-      → TellsLeft (world_text wire (whole gone w)) (final_text (map part fs)) (fault_in fs) o.sink o.passed o.sink_faults status
+      → TellsLeft written (world_text wire (whole gone w)) (final_text (map part fs)) (fault_in fs) o.sink o.passed o.sink_faults status
       → OnOk taken (GivesBackBut seen 0 (kept_disks 1 fs) o.given.before o.given.after) → OnOk taken (o.bank_faults.after ≡ o.bank_faults.before) → OnErr taken (Rose o.bank_faults.before o.bank_faults.after)
       → GoBack seen (kept_disks 1 fs) o.given.before o.given.after o.bank_faults.before o.bank_faults.after
       → o.disk_faults.after ≡ with_faults (faults_of faults (kept_disks 1 fs)) o.disk_faults.before → o.bank_faults.before ≤ o.bank_faults.after → result ≡ returned status taken
@@ -67,7 +67,7 @@ module _ {D : Type 0} (seen : D → Option (List ℕ)) (may_leave : D → List �
       let is = has_ended seen may_leave faults limit wire start count gone w now counted written disks law in_cell going told over in
       let found_here = subst (λ (ls : List (Lent D)). AreFound seen faults limit ls fs) over.are found in
       let back : GoesBack seen faults (kept_disks 1 fs) o = record { back = goes; counts = counts; never_falls = never_falls } in
-      subst (λ (x : Status). EndsRun w.script wire (AllTell seen w.servers × HasPlayedAll seen may_leave faults limit w.script (whole gone w)) ⊥ o x) (sym are) (ended seen may_leave faults limit w.script (whole gone w) fs wire o status taken is found_here tells all quiet cause back)
+      subst (λ (x : Status). EndsRun w.script wire (AllTell seen w.servers × HasPlayedAll seen may_leave faults limit w.script (whole gone w)) ⊥ o x) (sym are) (ended seen may_leave faults limit w.script (whole gone w) fs wire o written status taken is found_here tells all quiet cause back)
 
   -- what was written stands there, and the disks go back
   module _ (goes : GoBack seen disks o.given.before o.given.after o.bank_faults.before o.bank_faults.after) (counts : o.disk_faults.after ≡ with_faults (faults_of faults disks) o.disk_faults.before)

@@ -1,5 +1,5 @@
 -- The parts of a call of the program.
-use Rattle.std.specs.Prelude.{◌≡◌, ◌⊎◌, ℕ, List, ◌++◌, Option, Some, None, Result, Ok, Err}
+use Rattle.std.specs.Prelude.{◌≡◌, ◌⊎◌, ℕ, List, ◌++◌, Option, Some, None, Result, Ok, Err, IsOk}
 use Rattle.afs_num.specs.declared.devices.Failed.{Failed}
 use Rattle.afs_cell.specs.declared.faults.SetupFault.{SetupFault}
 use Rattle.afs_cell.specs.declared.faults.SetupFault.TheVariants as setup
@@ -46,15 +46,11 @@ returned status taken = status
 
 -- ---- the text
 
--- The final part was written after the history, or a beginning of both, where the disks could be read. Else nothing was written after the
--- history, nor where memory ran out; and that isn't told where a disk failed.
-abbrev pub TellsLeft : List ℕ → List ℕ → Option LendFault → Span (Option (List ℕ)) → Option (List ℕ) → Span ℕ → Status → Type 0
-TellsLeft history final fault sink passed faults statuses.Done = (fault ≡ None) × WritesWhole sink passed faults (history ++ final)
-TellsLeft history final fault sink passed faults statuses.WriteFault = (fault ≡ None) × (AppendsFront sink.before sink.after (history ++ final) × RoseBy 1 faults)
-TellsLeft history final fault sink passed faults statuses.BankFault = (fault ≡ Some lending.Failed) × WritesText sink passed faults history
-TellsLeft history final fault sink passed faults statuses.OutOfMemory = (fault ≡ Some lending.Failed → ⊥) × WritesText sink passed faults history
-TellsLeft history final fault sink passed faults status = ⊥
-
--- why what the disks keep can't be told: one couldn't be read; or each could, and memory ran out
-abbrev pub IsUntold : Option LendFault → LendFault → Type 0
-IsUntold fault why = (fault ≡ Some why) ⊎ ((fault ≡ None) × (why ≡ lending.OutOfMemory))
+-- The final part was written after the history, or a beginning of both, where the disks could be read. Where one failed, nothing was
+-- written after the history. So it is where memory ran out, for a disk; or for what they keep, where the history was written.
+abbrev pub TellsLeft : {T E : Type 0} → Result T E → List ℕ → List ℕ → Option LendFault → Span (Option (List ℕ)) → Option (List ℕ) → Span ℕ → Status → Type 0
+TellsLeft {T} {E} written history final fault sink passed faults statuses.Done = (fault ≡ None) × WritesWhole sink passed faults (history ++ final)
+TellsLeft {T} {E} written history final fault sink passed faults statuses.WriteFault = (fault ≡ None) × (AppendsFront sink.before sink.after (history ++ final) × RoseBy 1 faults)
+TellsLeft {T} {E} written history final fault sink passed faults statuses.BankFault = (fault ≡ Some lending.Failed) × WritesText sink passed faults history
+TellsLeft {T} {E} written history final fault sink passed faults statuses.OutOfMemory = ((fault ≡ Some lending.OutOfMemory) ⊎ ((fault ≡ None) × IsOk written)) × WritesText sink passed faults history
+TellsLeft {T} {E} written history final fault sink passed faults status = ⊥

@@ -12,7 +12,7 @@ ghost use Rattle.afs_final.specs.Telling.{final_of};
 ghost use Rattle.afs_lending.specs.Lending.{faults_of, with_faults, AreUnused, GoBack};
 ghost use Rattle.afs_text.specs.FinalText.{final_text};
 ghost use Rattle.afs_top.specs.Outside.{span, WritesText};
-ghost use Rattle.afs_top.specs.Parts.{lend_status, returned, set_up_status, IsUntold, TellsLeft};
+ghost use Rattle.afs_top.specs.Parts.{lend_status, returned, set_up_status, TellsLeft};
 ghost use Rattle.afs_top.specs.Playing.{IsWritten, PutsBehind};
 ghost use Rattle.afs_top.specs.Top.{EndsReplay, EndsRun, LendingLeaves, SetUpLeaves};
 
@@ -96,22 +96,6 @@ fn put_no_more<K: Sink>(sink: &mut K, written: Result<(), Failed>) -> Result<(),
     pass_on(sink)
 }
 
-/// What the disks keep, as it is told, or why it can't be.
-fn told_or_why<'a, D: Disk>(
-    alloc: Global,
-    left: &'a [Left<VolStore<D>, D>],
-) -> Result<Vec<Kept<'a>>, LendFault>
-    requires few { length left.now ≤ 8 }
-    ensures found { IfOk result (λ kept. read.fault_in left.now ≡ None) }
-    ensures told { IfOk result (λ kept. final_of kept.items ≡ final_text (map part left.now)) }
-    ensures why { IfErr result (IsUntold (read.fault_in left.now)) }
-{
-    if let Some(fault) = fault_in(left) {
-        return Err(fault);
-    }
-    Ok(told_of(alloc, left)?)
-}
-
 /// What the disks keep can't be told: the history is passed on.
 fn tell_none<K: Sink>(sink: &mut K, written: Result<(), Failed>, why: LendFault) -> Status
     ensures status { result ≡ lend_status why }
@@ -122,7 +106,7 @@ fn tell_none<K: Sink>(sink: &mut K, written: Result<(), Failed>, why: LendFault)
     status_of_lend(why)
 }
 
-/// What was found on the disks is told after the history, where that can be.
+/// What was found on the disks is told after the history, where that can be. Where the history wasn't written, nothing is made of it.
 fn tell_left<K: Sink, D: Disk>(
     alloc: Global,
     sink: &mut K,
@@ -130,11 +114,16 @@ fn tell_left<K: Sink, D: Disk>(
     written: Result<(), Failed>,
 ) -> Status
     requires few { length left.now ≤ 8 }
-    ensures { (text : List ℕ) (start : Option (List ℕ)) (count : ℕ) → Puts text start (K.held sink.old) count (K.faults sink.old) written → TellsLeft text (final_text (map part left.now)) (read.fault_in left.now) (span start (K.held sink.new)) (K.passed sink.new) (span count (K.faults sink.new)) result }
+    ensures { (text : List ℕ) (start : Option (List ℕ)) (count : ℕ) → Puts text start (K.held sink.old) count (K.faults sink.old) written → TellsLeft written text (final_text (map part left.now)) (read.fault_in left.now) (span start (K.held sink.new)) (K.passed sink.new) (span count (K.faults sink.new)) result }
 {
-    let kept = match told_or_why(alloc, left) {
-        Ok(kept) => kept,
-        Err(why) => return tell_none(sink, written, why),
+    if let Some(why) = fault_in(left) {
+        return tell_none(sink, written, why);
+    }
+    if written.is_err() {
+        return Status::WriteFault;
+    }
+    let Ok(kept) = told_of(alloc, left) else {
+        return tell_none(sink, written, LendFault::OutOfMemory);
     };
     match put_rest(sink, kept.as_slice(), written) {
         Ok(()) => Status::Done,
