@@ -1,6 +1,6 @@
 //! Rename: a name is moved, in one directory or to another, and may take the place of a name that is there.
 
-ghost use Rattle.std.specs.Prelude.{◌≡◌, ◌==◌, ◌≤◌, ◌<◌, ◌&&◌, ◌||◌, nat_lt, ◌∷◌, ◌++◌, [], Some, true, is_some, length, IfOk, OnOk};
+ghost use Rattle.std.specs.Prelude.{◌≡◌, ◌==◌, ◌<◌, ◌&&◌, ◌||◌, nat_lt, ◌∷◌, ◌++◌, [], Some, true, is_some, length, IfOk, OnOk};
 ghost use Rattle.std.specs.Option.{option_copied, option_map};
 ghost use Rattle.afs_num.specs.Names.{name_ok};
 ghost use Rattle.afs_num.specs.declared.calls.FsCall.TheVariants as calls;

@@ -1,17 +1,15 @@
 //! Whether vnodes make a sound volume.
 
-ghost use Rattle.std.specs.Prelude.{◌≡◌, ◌<◌, ◌^◌, ◌==◌, ◌&&◌, ◌||◌, nat_eq, not, true, length, slice_get, Some};
+ghost use Rattle.std.specs.Prelude.{◌≡◌, ◌<◌, ◌==◌, ◌&&◌, ◌||◌, nat_eq, true, slice_get, Some};
 ghost use Rattle.std.specs.List.{list_all};
 ghost use Rattle.std.specs.Option.{option_copied, option_map};
 ghost use Rattle.indexmap.specs.IndexMap as maps;
-ghost use Rattle.afs_ideal.specs.Operations.{is_below, is_kind};
-ghost use Rattle.afs_ideal.specs.Soundness.{names_directory, names_it, names_of, subdirectories};
+ghost use Rattle.afs_ideal.specs.Operations.{is_below};
 ghost use Rattle.afs_ideal.specs.Tables.{get, AscendsFrom};
-ghost use Rattle.afs_ideal.specs.Volumes.{a_directory};
-ghost use Rattle.afs_records.specs.Sound.{ascends_from, gives_held, gives_one, has_by_kind, has_names, is_held_by, is_named_in, is_placed, is_root, is_sound, is_sound_vnode, kind_is_right};
+ghost use Rattle.afs_records.specs.Sound.{ascends_from, gives_one, is_named_in, is_placed, is_sound, is_sound_vnode};
 ghost use Rattle.afs_volume.specs.Assembling.{is_sound_pair, passes_at};
 ghost use Rattle.afs_volume.specs.Listed.{names_in, Lists};
-ghost use Rattle.afs_volume.specs.Seen.{all_seen, kind_seen, seen, volume_seen};
+ghost use Rattle.afs_volume.specs.Seen.{all_seen, seen, volume_seen};
 
 use crate::directories::Directories;
 use crate::finding::is_directory;
