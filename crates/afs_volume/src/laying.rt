@@ -30,7 +30,7 @@ use afs_num::calls::{AfsStoreStatus, FsCall};
 use afs_num::sequences::Octets;
 use afs_num::types::{Code, Fid, Mem};
 use afs_num::vnodes::{Vnode, Vnodes};
-use std::alloc::{AllocError, Global};
+use std::alloc::Global;
 
 /// A status of which nothing is set.
 pub(crate) fn nothing_set() -> AfsStoreStatus

@@ -286,10 +286,10 @@ impl Volume {
         requires kinds { (is_kind (seen from.now.vnode.now).kind a_directory ≡ true) × (is_kind (seen to.now.vnode.now).kind a_directory ≡ true) }
         ensures { Plans (by_tests (first_failing (move_tests (caller_seen caller.now) from.now.fid.now from.now.name.now to.now.fid.now to.now.name.now (volume_of self.now))) (effect (caller_seen caller.now) (calls.Rename from.now.fid.now from.now.name.now to.now.fid.now to.now.name.now) (volume_of self.now))) result }
     {
-        let may_move = self.may_move(from, to);
+        let is_good = name_ok(to.name) && !is_same_name(from, to) && self.may_move(from, to);
         check_all(&[
             (self.may_rename(caller, from, to), 13),
-            (name_ok(to.name) && !is_same_name(from, to) && may_move, 22),
+            (is_good, 22),
             (has_name(from.names, from.name), 2),
             (self.is_empty(self.named(to.names, to.name)), 39),
             (has_room_for(from, to), 27),
