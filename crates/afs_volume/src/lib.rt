@@ -35,7 +35,6 @@ pub mod standing;
 mod taking;
 mod volume;
 
-pub use assembling::can_be_read;
 pub use finding::is_directory;
 pub use listed::ReadyNames;
 pub use ready::ReadyChange;
