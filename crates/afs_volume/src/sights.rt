@@ -11,7 +11,7 @@ ghost use Rattle.afs_ideal.specs.VnodeImage.{FitsImage};
 ghost use Rattle.afs_ideal.specs.Volumes.{fid_of};
 ghost use Rattle.afs_volume.specs.Drafts.{numbers_shown, volume_drafted, IsLeftIn};
 ghost use Rattle.afs_volume.specs.Drawing.{shown_by, IsLeft};
-ghost use Rattle.afs_volume.specs.Giving.{caller_seen, is_changing};
+ghost use Rattle.afs_volume.specs.Giving.{caller_seen, is_changing, tells_two};
 ghost use Rattle.afs_volume.specs.Seen.{seen, IsReadable};
 
 use crate::Volume;
@@ -131,36 +131,16 @@ impl<'a> Sight<'a> {
         }
     }
 
-    /// The reply to a change. Promises to call back are left for the server to fill.
-    pub fn reply(&self, caller: &Caller, shown: u32, call: &FsCall) -> Mem<FsReply>
-        requires changing { is_changing call.now ≡ true }
+    /// The reply to a change that tells the status of two vnodes.
+    fn reply_of_two(&self, caller: &Caller, shown: u32, call: &FsCall) -> FsReply
+        requires two { tells_two call.now ≡ true }
         requires images { AllByRecursion (IsLeft self.now.draft.now.time) self.now.draft.now.vnodes }
         requires left { AllByRecursion (IsLeftIn (shown_by self.now.draft.now.vnodes)) (numbers_shown shown call.now) }
-        ensures { IfOk result (λ r. change_reply self.now.volume.now.head.id (caller_seen caller.now) (λ f. self.now.draft.now.time) (volume_drafted self.now.draft.now self.now.volume.now) shown call.now ≡ Some r) }
+        ensures { change_reply self.now.volume.now.head.id (caller_seen caller.now) (λ f. self.now.draft.now.time) (volume_drafted self.now.draft.now self.now.volume.now) shown call.now ≡ Some result }
     {
         let sync = self.volume.sync();
         let callback = no_callback();
-        Ok(match call {
-            FsCall::StoreData { fid, .. } => FsReply::StoreData {
-                status: self.status_at(caller, fid.vnode),
-                sync,
-            },
-            FsCall::StoreAcl { fid, .. } => FsReply::StoreAcl {
-                status: self.status_at(caller, fid.vnode),
-                sync,
-            },
-            FsCall::StoreStatus { fid, .. } => FsReply::StoreStatus {
-                status: self.status_at(caller, fid.vnode),
-                sync,
-            },
-            FsCall::RemoveFile { directory, .. } => FsReply::RemoveFile {
-                directory: self.status_at(caller, directory.vnode),
-                sync,
-            },
-            FsCall::RemoveDir { directory, .. } => FsReply::RemoveDir {
-                directory: self.status_at(caller, directory.vnode),
-                sync,
-            },
+        match call {
             FsCall::CreateFile { directory, .. } => FsReply::CreateFile {
                 fid: self.fid_at(shown),
                 status: self.status_at(caller, shown),
@@ -200,6 +180,39 @@ impl<'a> Sight<'a> {
                 sync,
             },
             _ => unreachable!(),
+        }
+    }
+
+    /// The reply to a change. Promises to call back are left for the server to fill.
+    pub fn reply(&self, caller: &Caller, shown: u32, call: &FsCall) -> Mem<FsReply>
+        requires changing { is_changing call.now ≡ true }
+        requires images { AllByRecursion (IsLeft self.now.draft.now.time) self.now.draft.now.vnodes }
+        requires left { AllByRecursion (IsLeftIn (shown_by self.now.draft.now.vnodes)) (numbers_shown shown call.now) }
+        ensures { IfOk result (λ r. change_reply self.now.volume.now.head.id (caller_seen caller.now) (λ f. self.now.draft.now.time) (volume_drafted self.now.draft.now self.now.volume.now) shown call.now ≡ Some r) }
+    {
+        let sync = self.volume.sync();
+        Ok(match call {
+            FsCall::StoreData { fid, .. } => FsReply::StoreData {
+                status: self.status_at(caller, fid.vnode),
+                sync,
+            },
+            FsCall::StoreAcl { fid, .. } => FsReply::StoreAcl {
+                status: self.status_at(caller, fid.vnode),
+                sync,
+            },
+            FsCall::StoreStatus { fid, .. } => FsReply::StoreStatus {
+                status: self.status_at(caller, fid.vnode),
+                sync,
+            },
+            FsCall::RemoveFile { directory, .. } => FsReply::RemoveFile {
+                directory: self.status_at(caller, directory.vnode),
+                sync,
+            },
+            FsCall::RemoveDir { directory, .. } => FsReply::RemoveDir {
+                directory: self.status_at(caller, directory.vnode),
+                sync,
+            },
+            _ => self.reply_of_two(caller, shown, call),
         })
     }
 }
