@@ -79,7 +79,7 @@ impl Volume {
             volume: self,
             draft: &draft,
         };
-        let reply = sight.reply(caller, plan.shown, call)?;
+        let reply = sight.reply(caller, plan.shown, call);
         let Draft {
             versions,
             vnodes,
