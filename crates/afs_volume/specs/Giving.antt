@@ -192,15 +192,6 @@ is_changing (calls.MakeDir d name status) = true
 is_changing (calls.RemoveDir d name) = true
 is_changing call = false
 
--- its reply tells the status of two vnodes
-abbrev pub tells_two : FsCall → Bool
-tells_two (calls.CreateFile d name status) = true
-tells_two (calls.Rename d old e new) = true
-tells_two (calls.Symlink d name target status) = true
-tells_two (calls.Link d name f) = true
-tells_two (calls.MakeDir d name status) = true
-tells_two call = false
-
 -- at most so many fids in a list
 abbrev pub most_fids : ℕ
 most_fids = 50

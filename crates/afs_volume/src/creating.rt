@@ -1,9 +1,9 @@
 //! Operations that make a vnode or a further name: CreateFile, Symlink, MakeDir, Link.
 
-ghost use Rattle.std.specs.Prelude.{◌≡◌, ◌≤◌, ◌∷◌, [], Some, None, true, length, IfOk};
+ghost use Rattle.std.specs.Prelude.{◌≡◌, ◌≤◌, ◌∷◌, [], Some, None, true, length, IfOk, OnOk};
 ghost use Rattle.afs_num.specs.declared.calls.FsCall.TheVariants as calls;
 ghost use Rattle.afs_ideal.specs.Directories.{add_refused};
-ghost use Rattle.afs_ideal.specs.Operations.{create_tests, creating, first_failing, free_number, is_kind, linking, no_amend};
+ghost use Rattle.afs_ideal.specs.Operations.{adds_name, create_tests, creating, first_failing, free_number, has_right, is_kind, is_read_write, link_tests, linking, no_amend};
 ghost use Rattle.afs_ideal.specs.Tables.{get};
 ghost use Rattle.afs_ideal.specs.VnodeImage.{most_contents, FitsImage};
 ghost use Rattle.afs_ideal.specs.Volumes.{a_directory, amends, ascending, makes, vnode_of};
@@ -52,8 +52,33 @@ fn plan_made(
 }
 
 impl Volume {
-    /// A directory in which a caller may put a new name: 102, 20, 30, 13, 22, 17, 27.
+    /// A caller may add a name to a directory: 30, 13, 22 where it is none or something else is bad, 17, 27.
     #[tactic(auto, using(crate::proofs::Spelled::may_be_added))]
+    fn may_add(
+        &self,
+        caller: &Caller,
+        number: u32,
+        d: &Vnode,
+        name: &[u8],
+        good: bool,
+    ) -> Result<(), OpFault>
+        requires there { get number self.now.vnodes.table ≡ Some d.now }
+        requires directory { is_kind (seen d.now).kind a_directory ≡ true }
+        ensures answer { Passes (first_failing (is_read_write (volume_of self.now) ∷ has_right (caller_seen caller.now) 4 (volume_of self.now) (Some (seen d.now)) ∷ adds_name name.now (seen d.now).names good)) result }
+        ensures added { OnOk result (add_refused name.now (seen d.now).names ≡ None) }
+    {
+        let names = self.names(number, d);
+        let is_good = good && name_ok(name);
+        check_all(&[
+            (self.is_writable(), 30),
+            (self.may(caller, 4, d), 13),
+            (is_good, 22),
+            (!has_name(names, name), 17),
+            (names.len() < MOST_NAMES, 27),
+        ])
+    }
+
+    /// A directory in which a caller may put a new name: 102, 20, 30, 13, 22, 17, 27.
     fn may_create(
         &self,
         caller: &Caller,
@@ -71,14 +96,7 @@ impl Volume {
     {
         let d = self.found(fid)?;
         check(is_directory(d), 20)?;
-        let names = self.names(fid.vnode, d);
-        check_all(&[
-            (self.is_writable(), 30),
-            (self.may(caller, 4, d), 13),
-            (is_mask(status) && name_ok(name), 22),
-            (!has_name(names, name), 17),
-            (names.len() < MOST_NAMES, 27),
-        ])?;
+        self.may_add(caller, fid.vnode, d, name, is_mask(status))?;
         Ok(d)
     }
 
@@ -185,8 +203,30 @@ impl Volume {
         })
     }
 
+    /// A directory in which a caller may give a vnode a further name: 102, 20, 30, 13, 22, 17, 27.
+    fn may_name(
+        &self,
+        caller: &Caller,
+        fid: &Fid,
+        name: &[u8],
+        existing: &Fid,
+    ) -> Result<&Vnode, OpFault>
+        ensures answer { Passes (first_failing (link_tests (caller_seen caller.now) fid.now name.now existing.now (volume_of self.now))) result }
+        ensures found { IfOk result (λ d. vnode_of fid.now (volume_of self.now) ≡ Some (seen d.now)) }
+        ensures there { IfOk result (λ d. get fid.now.vnode self.now.vnodes.table ≡ Some d.now) }
+        ensures directory { IfOk result (λ d. is_kind (seen d.now).kind a_directory ≡ true) }
+        ensures added { IfOk result (λ d. add_refused name.now (seen d.now).names ≡ None) }
+    {
+        let d = self.found(fid)?;
+        let is_here = existing.volume == fid.volume;
+        let x = self.vnode(existing);
+        check(!is_here || x.is_some(), 102)?;
+        check(is_directory(d), 20)?;
+        self.may_add(caller, fid.vnode, d, name, is_here && may_link(fid, x))?;
+        Ok(d)
+    }
+
     /// Link: a further name of a file.
-    #[tactic(auto, using(crate::proofs::Spelled::may_be_added))]
     pub(crate) fn link(
         &self,
         caller: &Caller,
@@ -196,20 +236,7 @@ impl Volume {
     ) -> Result<Plan, OpFault>
         ensures { Plans (planned (caller_seen caller.now) (calls.Link fid.now name.now existing.now) (volume_of self.now)) result }
     {
-        let d = self.found(fid)?;
-        let name = name.as_slice();
-        let is_here = existing.volume == fid.volume;
-        let x = self.vnode(existing);
-        check(!is_here || x.is_some(), 102)?;
-        check(is_directory(d), 20)?;
-        let names = self.names(fid.vnode, d);
-        check_all(&[
-            (self.is_writable(), 30),
-            (self.may(caller, 4, d), 13),
-            (is_here && may_link(fid, x) && name_ok(name), 22),
-            (!has_name(names, name), 17),
-            (names.len() < MOST_NAMES, 27),
-        ])?;
-        Ok(self.links(fid, d, name, existing)?)
+        let d = self.may_name(caller, fid, name.as_slice(), existing)?;
+        Ok(self.links(fid, d, name.as_slice(), existing)?)
     }
 }

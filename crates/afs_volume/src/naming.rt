@@ -17,7 +17,7 @@ use afs_dir::{Dir, Listing};
 use afs_num::sequences::Octets;
 use afs_num::types::Mem;
 use afs_num::vnodes::Vnode;
-use std::alloc::{AllocError, Global};
+use std::alloc::Global;
 
 /// How many names a directory has at most.
 pub const MOST_NAMES: usize = 1_024;
@@ -84,10 +84,8 @@ fn put_in_place(edits: &mut Vec<Edit>, edit: Edit) -> Mem<()>
     ensures { OnOk result (edits_seen edits.new.items ≡ placed (edit_seen edit) (edits_seen edits.old.items)) }
 {
     let place = place_of(edits, edit.number());
-    match edits.insert(place, edit) {
-        Ok(()) => Ok(()),
-        Err(_) => Err(AllocError),
-    }
+    edits.insert(place, edit)?;
+    Ok(())
 }
 
 /// The edits by ascending vnode.

@@ -1,6 +1,6 @@
 //! Statuses and replies by the vnodes that a change leaves.
 
-ghost use Rattle.std.specs.Prelude.{◌≡◌, ◌==◌, true, Some, find, IfSome};
+ghost use Rattle.std.specs.Prelude.{◌≡◌, ◌==◌, true, Some, find, length, IfSome};
 ghost use Rattle.std.specs.List.{list_any, AllByRecursion};
 ghost use Rattle.std.specs.Option.{option_copied, option_map};
 ghost use Rattle.afs_ideal.specs.AccessLists.{anyuser, rights_of};
@@ -11,7 +11,7 @@ ghost use Rattle.afs_ideal.specs.VnodeImage.{FitsImage};
 ghost use Rattle.afs_ideal.specs.Volumes.{fid_of};
 ghost use Rattle.afs_volume.specs.Drafts.{numbers_shown, volume_drafted, IsLeftIn};
 ghost use Rattle.afs_volume.specs.Drawing.{shown_by, IsLeft};
-ghost use Rattle.afs_volume.specs.Giving.{caller_seen, is_changing, tells_two};
+ghost use Rattle.afs_volume.specs.Giving.{caller_seen, is_changing};
 ghost use Rattle.afs_volume.specs.Seen.{seen, IsReadable};
 
 use crate::Volume;
@@ -133,7 +133,7 @@ impl<'a> Sight<'a> {
 
     /// The reply to a change that tells the status of two vnodes.
     fn reply_of_two(&self, caller: &Caller, shown: u32, call: &FsCall) -> FsReply
-        requires two { tells_two call.now ≡ true }
+        requires two { length (numbers_shown shown call.now) ≡ 2 }
         requires images { AllByRecursion (IsLeft self.now.draft.now.time) self.now.draft.now.vnodes }
         requires left { AllByRecursion (IsLeftIn (shown_by self.now.draft.now.vnodes)) (numbers_shown shown call.now) }
         ensures { change_reply self.now.volume.now.head.id (caller_seen caller.now) (λ f. self.now.draft.now.time) (volume_drafted self.now.draft.now self.now.volume.now) shown call.now ≡ Some result }
