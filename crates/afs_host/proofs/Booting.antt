@@ -31,11 +31,11 @@ use Rattle.afs_volstore.specs.Stores.{IsCounted, IsKept, LeftAround, SameBut, St
 use Rattle.afs_server.specs.Seen.{begun_state, begun_step, lasting_of}
 use Rattle.afs_host.specs.Hosts.{goes, stays}
 use Rattle.afs_host.specs.Seats.{count_mark, IsStepDown, IsStepUp, Resting, Running}
-use Rattle.afs_host.specs.Standing.{Lies}
+use Rattle.afs_host.specs.Standing.{Lies, LiesFound}
 use Rattle.afs_host.specs.Starting.{begun_with, BootsFrom, BootsOver, HasRisen, IsFound, Rises, Stays}
 use Rattle.afs_host.specs.declared.starting.Start.{Start}
 use Rattle.afs_host.specs.declared.starting.Start.TheVariants as starts
-use Rattle.afs_host.proofs.Lying.{begun_lies, kept_before, some_of}
+use Rattle.afs_host.proofs.Lying.{begun_lies, found_free, kept_before, kept_there, some_of}
 
 left_true : (a b : Bool) → (a && b) ≡ true → a ≡ true
 left_true true b h = refl
@@ -98,6 +98,7 @@ full_boots {D} seen may_leave faults limit begun records front s t clock count f
           armed = refl;
           capacity = ap (λ (l : Lasting). l.capacity) (sym read) ∙ capacity;
           lies = λ told c left. inl (kept_before t.durable t.count (seen t.disk.disk) (may_leave t.disk.disk) begun.state read kept counted told c left);
+          found = λ bytes at. (false, (tt, kept_there t.durable t.count (seen t.disk.disk) (may_leave t.disk.disk) begun.state read kept counted bytes at));
         };
         lines = stays_so.1 ∙ sym (found.before (lines.Full s.node ∷ []));
         sent = refl;
@@ -141,10 +142,10 @@ failed_lies {D} seen may_leave moment left_since now kept_law faults limit begun
     }) c is around.1
 
 pub failed_boots : {D : Type 0} (seen : D → Option (List ℕ)) (may_leave : D → List ℕ → Type 0) (moment : D → ℕ) (left_since : D → ℕ → List ℕ → Type 0) (now : (disk : D) (t : ℕ) (c : List ℕ) → t ≤ moment disk → may_leave disk c → left_since disk t c) (kept_law : StartsAreKept) (faults limit : D → ℕ)
-    (begun : Begun) (records : List (List ℕ)) (front : List Line) (s t : Store (Fused D)) (clock count : ℕ) → IsFound seen begun records front s → BootFails seen moment left_since faults limit s t → (result : Start (Running D) (Resting D)) → Stays t front (lines.Fault s.node) result →
+    (begun : Begun) (records : List (List ℕ)) (front : List Line) (s t : Store (Fused D)) (clock count : ℕ) → IsFound seen begun records front s → BootFails seen moment left_since faults limit s t → ((bytes : List ℕ) → seen t.disk.disk ≡ Some bytes → may_leave t.disk.disk bytes) → (result : Start (Running D) (Resting D)) → Stays t front (lines.Fault s.node) result →
     BootsFrom seen may_leave faults limit begun records s.node clock count s.disk.disk result
-failed_boots {D} seen may_leave moment left_since now kept_law faults limit begun records front s t clock count found fails (starts.Up r outs) stays_so = absurd stays_so
-failed_boots {D} seen may_leave moment left_since now kept_law faults limit begun records front s t clock count found fails (starts.Down d ls) stays_so =
+failed_boots {D} seen may_leave moment left_since now kept_law faults limit begun records front s t clock count found fails shows (starts.Up r outs) stays_so = absurd stays_so
+failed_boots {D} seen may_leave moment left_since now kept_law faults limit begun records front s t clock count found fails shows (starts.Down d ls) stays_so =
     let durable : t.durable ≡ s.durable = ap (λ (x : Store (Fused D)). x.durable) fails.store in
     let number : t.count ≡ s.count = ap (λ (x : Store (Fused D)). x.count) fails.store in
     inr (
@@ -157,6 +158,8 @@ failed_boots {D} seen may_leave moment left_since now kept_law faults limit begu
             armed = refl;
             capacity = ap (λ (l : Lasting). l.capacity) (sym (ap lasting_of durable ∙ found.read)) ∙ fails.capacity;
             lies = λ told c left. subst (λ (n : ℕ). Lies s.node begun.state in_boot (count_mark n) c) (sym number) (failed_lies seen may_leave moment left_since now kept_law faults limit begun records front s.node s t found fails c left);
+            found = λ bytes at. subst (λ (n : ℕ). LiesFound s.node begun.state in_boot (count_mark n) (whole_records bytes)) (sym number)
+                (found_free s.node begun.state in_boot (count_mark s.count) (whole_records bytes) (λ after. tt) (failed_lies seen may_leave moment left_since now kept_law faults limit begun records front s.node s t found fails bytes (shows bytes at)));
           };
           lines = stays_so.1 ∙ sym (found.before (lines.Fault s.node ∷ []));
           sent = refl;
@@ -164,8 +167,8 @@ failed_boots {D} seen may_leave moment left_since now kept_law faults limit begu
         subst (λ (x : Resting D). Rose (faults s.disk.disk) (faults x.disk)) (sym stays_so.0) fails.rose,
       ),
     )
-failed_boots {D} seen may_leave moment left_since now kept_law faults limit begun records front s t clock count found fails (starts.Unchanged d) stays_so = absurd stays_so
-failed_boots {D} seen may_leave moment left_since now kept_law faults limit begun records front s t clock count found fails (starts.Lost d) stays_so = tt
+failed_boots {D} seen may_leave moment left_since now kept_law faults limit begun records front s t clock count found fails shows (starts.Unchanged d) stays_so = absurd stays_so
+failed_boots {D} seen may_leave moment left_since now kept_law faults limit begun records front s t clock count found fails shows (starts.Lost d) stays_so = tt
 
 -- ---- memory was wanting
 

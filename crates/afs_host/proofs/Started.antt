@@ -15,20 +15,20 @@ use Rattle.afs_journal.specs.Log.{IsJournal, StandsAsBefore}
 use Rattle.afs_journal.specs.Records.{journal_bytes, whole_records}
 use Rattle.afs_records.specs.Durable.{first_bad, StandFor}
 use Rattle.afs_volstore.specs.Stands.{Stands}
-use Rattle.afs_rows.specs.Runs.{at_rest, begun_by_disk, comes_up, fails_early, fails_midway, in_boot, is_full, settled, Fall, Host, Outcome}
+use Rattle.afs_rows.specs.Runs.{at_rest, begun_by_disk, comes_up, fails_early, fails_midway, in_boot, is_full, settled, Fall, Host, MayFind, Outcome}
 use Rattle.afs_rows.specs.ServerRow.{Begun}
 use Rattle.afs_volstore.specs.Opening.{lines_begun, IsAttachFault}
 use Rattle.afs_volstore.specs.Stores.{IsCaused, Store}
 use Rattle.afs_server.specs.Seen.{lasting_of}
 use Rattle.afs_host.specs.Hosts.{ends, falls, restarted, HostStep}
 use Rattle.afs_host.specs.Seats.{disk_of, IsDown, IsStepDown, IsStepUp, Resting, Running}
-use Rattle.afs_host.specs.Standing.{Lies, LiesIn}
+use Rattle.afs_host.specs.Standing.{Lies, LiesFound, LiesIn}
 use Rattle.afs_host.specs.Starting.{disk_started, BootsFrom, BootsOver, GoesOnBooted, HasStarted, IsFound, IsRefused, IsStarted, StartsOver}
 use Rattle.afs_host.specs.declared.starting.Start.{Start}
 use Rattle.afs_host.specs.declared.starting.Start.TheVariants as starts
 use Rattle.afs_host.proofs.Blows.{none_cause}
-use Rattle.afs_host.proofs.Finding.{finds, lies_good, Finds}
-use Rattle.afs_host.proofs.Lying.{some_of}
+use Rattle.afs_host.proofs.Finding.{finds_found, lies_good, Finds}
+use Rattle.afs_host.proofs.Lying.{is_told, some_of}
 
 -- ---- counts
 
@@ -51,7 +51,7 @@ own_cause setting last a b c d refusal stop fail caused is =
 -- what is known of a store that was made of the disk of a server that was down, and of what became of its boot
 pub record TakenUp {D : Type 0} (seen : D → Option (List ℕ)) (may_leave : D → List ℕ → Type 0) (faults limit : D → ℕ) (me : Node) (clock count : ℕ) (old : Resting D) (s : Store (Fused D)) (front : List Line) (result : Start (Running D) (Resting D)) : Type 0 where
   pub node : s.node ≡ me
-  pub shows : (bytes : List ℕ) → seen old.disk ≡ Some bytes → may_leave old.disk bytes
+  pub shows : (disk : D) (bytes : List ℕ) → seen disk ≡ Some bytes → may_leave disk bytes
   pub stands : (bytes : List ℕ) → seen old.disk ≡ Some bytes → Stands bytes s.durable
   pub lines_are : (bytes : List ℕ) → seen old.disk ≡ Some bytes → lines_begun me old.mark (limit old.disk) (whole_records bytes) ≡ Some front
   pub rests : (bytes : List ℕ) → seen old.disk ≡ Some bytes → IsJournal (whole_records bytes) (seen s.disk.disk) (may_leave s.disk.disk)
@@ -65,20 +65,23 @@ pub record TakenUp {D : Type 0} (seen : D → Option (List ℕ)) (may_leave : D 
 
 -- what was found of the host
 record Taken {D : Type 0} (seen : D → Option (List ℕ)) (me : Node) (h : Host) (fall : Fall) (mark : Mark) (front : List Line) (s : Store (Fused D)) (bytes : List ℕ) : Type 0 where
-  lies : Lies me h.state fall mark bytes
+  lies : LiesFound me h.state fall mark (whole_records bytes)
   what : Finds me h.state fall s.durable front
+  may : MayFind fall what.after
   found : IsFound seen (begun_by_disk me h.state what.after fall) (whole_records bytes) front s
 
 taken : {D : Type 0} (seen : D → Option (List ℕ)) (may_leave : D → List ℕ → Type 0) (faults limit : D → ℕ) (me : Node) (clock count : ℕ) (old : Resting D) (s : Store (Fused D)) (front : List Line) (result : Start (Running D) (Resting D)) →
     TakenUp seen may_leave faults limit me clock count old s front result → (told : IsSome (seen old.disk)) → (h : Host) (was : IsDown seen may_leave limit me old h) → Taken seen me h was.fall old.mark front s (some_of (seen old.disk) told).0
 taken {D} seen may_leave faults limit me clock count old s front result t told h was =
     let bytes = some_of (seen old.disk) told in
-    let lies = was.lies told bytes.0 (t.shows bytes.0 bytes.1) in
-    let what = finds me h.state was.fall old.mark (whole_records bytes.0) s.durable front (limit old.disk) t.capacity was.capacity (t.stands bytes.0 bytes.1) (t.lines_are bytes.0 bytes.1) lies in
+    let lies = was.found bytes.0 bytes.1 in
+    let finds = finds_found me h.state was.fall old.mark (whole_records bytes.0) s.durable front (limit old.disk) t.capacity was.capacity (t.stands bytes.0 bytes.1) (t.lines_are bytes.0 bytes.1) lies in
+    let what = finds.0 in
     let rests = t.rests bytes.0 bytes.1 in
     record {
       lies = lies;
       what = what;
+      may = finds.1;
       found = record {
         read = what.read;
         before = what.before;
@@ -88,25 +91,28 @@ taken {D} seen may_leave faults limit me clock count old s front result t told h
       };
     }
 
-started_up : {D : Type 0} (seen : D → Option (List ℕ)) (may_leave : D → List ℕ → Type 0) (faults limit : D → ℕ) (me : Node) (clock count : ℕ) (h : Host) (fall : Fall) (after : Bool) (records : List (List ℕ)) (disk : D) (rose : Type 0) (r : Running D) (outs : Outs) →
+started_up : {D : Type 0} (seen : D → Option (List ℕ)) (may_leave : D → List ℕ → Type 0) (faults limit : D → ℕ) (me : Node) (clock count : ℕ) (h : Host) (fall : Fall) (after : Bool) → MayFind fall after → (records : List (List ℕ)) (disk : D) (rose : Type 0) (r : Running D) (outs : Outs) →
     BootsFrom seen may_leave faults limit (begun_by_disk me h.state after fall) records me clock count disk (starts.Up r outs) → HasStarted me h clock count fall (IsStepUp r [] outs) rose
-started_up {D} seen may_leave faults limit me clock count h fall after records disk rose r outs b = record {
+started_up {D} seen may_leave faults limit me clock count h fall after may records disk rose r outs b = record {
   after = after;
+  may = may;
   outcome = comes_up;
   is = subst (λ (o : Outcome). IsStepUp r [] outs (ends me h clock count (begun_by_disk me h.state after fall) fall o)) (sym b.0) b.1;
   blame = λ impossible. absurd impossible;
 }
 
-started_down : {D : Type 0} (seen : D → Option (List ℕ)) (may_leave : D → List ℕ → Type 0) (faults limit : D → ℕ) (me : Node) (clock count : ℕ) (h : Host) (fall : Fall) (after : Bool) (records : List (List ℕ)) (disk : D) (rose : Type 0) (d : Resting D) (ls : List Line) → (Rose (faults disk) (faults d.disk) → rose) →
+started_down : {D : Type 0} (seen : D → Option (List ℕ)) (may_leave : D → List ℕ → Type 0) (faults limit : D → ℕ) (me : Node) (clock count : ℕ) (h : Host) (fall : Fall) (after : Bool) → MayFind fall after → (records : List (List ℕ)) (disk : D) (rose : Type 0) (d : Resting D) (ls : List Line) → (Rose (faults disk) (faults d.disk) → rose) →
     BootsFrom seen may_leave faults limit (begun_by_disk me h.state after fall) records me clock count disk (starts.Down d ls) → HasStarted me h clock count fall (IsStepDown seen may_leave limit me d ls) rose
-started_down {D} seen may_leave faults limit me clock count h fall after records disk rose d ls since (inl full) = record {
+started_down {D} seen may_leave faults limit me clock count h fall after may records disk rose d ls since (inl full) = record {
   after = after;
+  may = may;
   outcome = is_full;
   is = subst (λ (o : Outcome). IsStepDown seen may_leave limit me d ls (ends me h clock count (begun_by_disk me h.state after fall) fall o)) (sym full.0) full.1;
   blame = λ impossible. absurd impossible;
 }
-started_down {D} seen may_leave faults limit me clock count h fall after records disk rose d ls since (inr failed) = record {
+started_down {D} seen may_leave faults limit me clock count h fall after may records disk rose d ls since (inr failed) = record {
   after = after;
+  may = may;
   outcome = fails_midway;
   is = subst (λ (o : Outcome). IsStepDown seen may_leave limit me d ls (ends me h clock count (begun_by_disk me h.state after fall) fall o)) (sym failed.0) failed.1.0;
   blame = λ own. since failed.1.1;
@@ -116,16 +122,19 @@ started_down {D} seen may_leave faults limit me clock count h fall after records
 same_lies : (me : Node) (h : Host) (fall : Fall) (mark : Mark) (bytes c : List ℕ) → whole_records c ≡ whole_records bytes → Lies me h.state fall mark bytes → Lies me h.state fall mark c
 same_lies me h fall mark bytes c same lies = subst (LiesIn me h.state fall mark) (sym same) lies
 
+same_found : (me : Node) (h : Host) (fall : Fall) (mark : Mark) (bytes c : List ℕ) → whole_records c ≡ whole_records bytes → LiesFound me h.state fall mark (whole_records bytes) → LiesFound me h.state fall mark (whole_records c)
+same_found me h fall mark bytes c same lies = subst (LiesFound me h.state fall mark) (sym same) lies
+
 pub taken_up : {D : Type 0} (seen : D → Option (List ℕ)) (may_leave : D → List ℕ → Type 0) (faults limit : D → ℕ) (me : Node) (clock count : ℕ) (old : Resting D) (s : Store (Fused D)) (front : List Line) (result : Start (Running D) (Resting D)) →
     TakenUp seen may_leave faults limit me clock count old s front result → IsSome (seen old.disk) → IsStarted seen may_leave faults limit me clock count old result
 taken_up {D} seen may_leave faults limit me clock count old s front (starts.Up r outs) t told = λ h was.
     let k = taken seen may_leave faults limit me clock count old s front (starts.Up r outs) t told h was in
     let boots = subst (λ (n : Node). BootsFrom seen may_leave faults limit (begun_by_disk me h.state k.what.after was.fall) (whole_records (some_of (seen old.disk) told).0) n clock count s.disk.disk (starts.Up r outs)) t.node (t.boots (begun_by_disk me h.state k.what.after was.fall) (whole_records (some_of (seen old.disk) told).0) k.found) in
-    started_up seen may_leave faults limit me clock count h was.fall k.what.after (whole_records (some_of (seen old.disk) told).0) s.disk.disk (Rose (faults old.disk) (faults (disk_of r))) r outs boots
+    started_up seen may_leave faults limit me clock count h was.fall k.what.after k.may (whole_records (some_of (seen old.disk) told).0) s.disk.disk (Rose (faults old.disk) (faults (disk_of r))) r outs boots
 taken_up {D} seen may_leave faults limit me clock count old s front (starts.Down d ls) t told = λ h was.
     let k = taken seen may_leave faults limit me clock count old s front (starts.Down d ls) t told h was in
     let boots = subst (λ (n : Node). BootsFrom seen may_leave faults limit (begun_by_disk me h.state k.what.after was.fall) (whole_records (some_of (seen old.disk) told).0) n clock count s.disk.disk (starts.Down d ls)) t.node (t.boots (begun_by_disk me h.state k.what.after was.fall) (whole_records (some_of (seen old.disk) told).0) k.found) in
-    started_down seen may_leave faults limit me clock count h was.fall k.what.after (whole_records (some_of (seen old.disk) told).0) s.disk.disk (Rose (faults old.disk) (faults d.disk)) d ls (rose_since (faults old.disk) (faults s.disk.disk) (faults d.disk) t.no_less t.falls_not) boots
+    started_down seen may_leave faults limit me clock count h was.fall k.what.after k.may (whole_records (some_of (seen old.disk) told).0) s.disk.disk (Rose (faults old.disk) (faults d.disk)) d ls (rose_since (faults old.disk) (faults s.disk.disk) (faults d.disk) t.no_less t.falls_not) boots
 taken_up {D} seen may_leave faults limit me clock count old s front (starts.Unchanged d) t told = λ h was.
     let bytes = some_of (seen old.disk) told in
     let k = taken seen may_leave faults limit me clock count old s front (starts.Unchanged d) t told h was in
@@ -135,7 +144,8 @@ taken_up {D} seen may_leave faults limit me clock count old s front (starts.Unch
       down = was.down;
       armed = was.armed;
       capacity = was.capacity ∙ sym t.same_limit;
-      lies = λ now c left. subst (λ (m : Mark). Lies me h.state was.fall m c) (sym t.goes_on) (same_lies me h was.fall old.mark bytes.0 c (still now c left) k.lies);
+      lies = λ now c left. subst (λ (m : Mark). Lies me h.state was.fall m c) (sym t.goes_on) (same_lies me h was.fall old.mark bytes.0 c (still now c left) (was.lies told bytes.0 (t.shows old.disk bytes.0 bytes.1)));
+      found = λ c at. subst (λ (m : Mark). LiesFound me h.state was.fall m (whole_records c)) (sym t.goes_on) (same_found me h was.fall old.mark bytes.0 c (still (is_told (seen d.disk) c at) c (t.shows d.disk c at)) k.lies);
     }
 taken_up {D} seen may_leave faults limit me clock count old s front (starts.Lost d) t told = tt
 
@@ -144,6 +154,7 @@ taken_up {D} seen may_leave faults limit me clock count old s front (starts.Lost
 -- what is known of a disk that was refused
 pub record Refused {D : Type 0} (seen : D → Option (List ℕ)) (may_leave : D → List ℕ → Type 0) (moment : D → ℕ) (left_since : D → ℕ → List ℕ → Type 0) (faults limit : D → ℕ) (refusal : StoreFault) (old new : Resting D) : Type 0 where
   pub shows : (bytes : List ℕ) → seen old.disk ≡ Some bytes → may_leave old.disk bytes
+  pub reads : (bytes now : List ℕ) → seen old.disk ≡ Some bytes → seen new.disk ≡ Some now → whole_records now ≡ whole_records bytes
   pub mark : new.mark ≡ old.mark
   pub same_limit : limit new.disk ≡ limit old.disk
   pub told : IsSome (seen new.disk) → IsSome (seen old.disk)
@@ -165,6 +176,9 @@ still_down {D} seen may_leave moment left_since now faults limit refusal me old 
       let only = r.leaves bytes.0 bytes.1 in
       let d = only.each c (now new.disk (moment old.disk) c only.later left) in
       subst (λ (m : Mark). Lies me h.state was.fall m c) (sym r.mark) (same_lies me h was.fall old.mark d.0 c d.2 (was.lies before d.0 d.1));
+  found = λ c at.
+      let bytes = some_of (seen old.disk) (r.told (is_told (seen new.disk) c at)) in
+      subst (λ (m : Mark). LiesFound me h.state was.fall m (whole_records c)) (sym r.mark) (same_found me h was.fall old.mark bytes.0 c (r.reads bytes.0 c bytes.1 at) (was.found bytes.0 bytes.1));
 }
 
 -- a disk that tells has no record that can't be taken
@@ -184,11 +198,14 @@ refused_so {D} seen may_leave moment left_since now faults limit refusal me cloc
 refused_so {D} seen may_leave moment left_since now faults limit refusal me clock count old new r (starts.Down d ls) so told = λ h was.
     let down = still_down seen may_leave moment left_since now faults limit refusal me old new r h was in
     let rose = why_refused seen may_leave moment left_since faults limit refusal me old new r told h was refusal refl r.refusals_are so.0 in
+    let bytes = some_of (seen old.disk) told in
+    let lies = was.found bytes.0 bytes.1 in
     record {
-      after = false;
+      after = lies.0;
+      may = lies.1.0;
       outcome = fails_early;
       is = subst (λ (x : Resting D). IsStepDown seen may_leave limit me x ls (falls h (lines.Fault me ∷ []) was.fall)) (sym so.1.0) (record {
-        host = record { fall = was.fall; down = refl; armed = refl; capacity = down.capacity; lies = down.lies };
+        host = record { fall = was.fall; down = refl; armed = refl; capacity = down.capacity; lies = down.lies; found = down.found };
         lines = so.1.1;
         sent = refl;
       });

@@ -12,7 +12,7 @@ use Rattle.afs_disk.specs.Fuses.{Fused}
 use Rattle.afs_journal.specs.Records.{whole_records}
 use Rattle.afs_model.specs.Messages.{messages_spelled, parcels_read}
 use Rattle.afs_records.specs.Durable.{first_bad, Durable, StandFor}
-use Rattle.afs_rows.specs.Runs.{at_rest, comes_up, fails_midway, in_boot, is_full, settled, unarmed, Fall, Host, Outcome}
+use Rattle.afs_rows.specs.Runs.{at_rest, comes_up, fails_midway, in_boot, is_full, settled, unarmed, Fall, Host, MayFind, Outcome}
 use Rattle.afs_rows.specs.ServerRow.{Begun}
 use Rattle.afs_rows.specs.ServerSteps.{start_row}
 use Rattle.afs_volstore.specs.Stores.{Store}
@@ -30,10 +30,11 @@ disk_started {D} (starts.Down s ls) = s.disk
 disk_started {D} (starts.Unchanged s) = s.disk
 disk_started {D} (starts.Lost s) = s.disk
 
--- One of the two that the disk may hold was found, and the restart ended so; the step of the host is this. Where the disk failed,
--- its count rose.
+-- One of the two that the disk may hold was found, as the blow that ended the step allows it, and the restart ended so; the step of the
+-- host is this. Where the disk failed, its count rose.
 pub record HasStarted (me : Node) (h : Host) (clock count : ℕ) (fall : Fall) (Is : HostStep → Type 0) (rose : Type 0) : Type 0 where
   pub after : Bool
+  pub may : MayFind fall after
   pub outcome : Outcome
   pub is : Is (restarted me h clock count after outcome fall)
   pub blame : Fails outcome → rose
@@ -63,8 +64,8 @@ BootsOver {D} faults d front me clock count disk (starts.Up r outs) =
 BootsOver {D} faults d front me clock count disk (starts.Down s ls) =
     ((settled (begun_state d) is_full ≡ is_full) × (ls ≡ front ++ lines.Full me ∷ []))
     ⊎ ((settled (begun_state d) fails_midway ≡ fails_midway) × ((ls ≡ front ++ lines.Fault me ∷ []) × Rose (faults disk) (faults s.disk)))
-BootsOver {D} faults d front me clock count disk (starts.Unchanged s) = Unit {0}
-BootsOver {D} faults d front me clock count disk (starts.Lost s) = Unit {0}
+BootsOver {D} faults d front me clock count disk (starts.Unchanged s) = faults s.disk ≡ faults disk
+BootsOver {D} faults d front me clock count disk (starts.Lost s) = (settled (begun_state d) is_full ≡ is_full → ⊥) × (faults s.disk ≡ faults disk)
 
 -- The disk failed before anything was found, or a record of this number can't be taken; that the server stays down is all that is told.
 pub record IsRefusedOver {D : Type 0} (seen : D → Option (List ℕ)) (faults limit : D → ℕ) (me : Node) (old new : Resting D) (told : List Line) : Type 0 where
@@ -142,7 +143,7 @@ Stays {D} s front last (starts.Lost d) = d.disk ≡ s.disk.disk
 abbrev pub IsRefused : {D : Type 0} → StoreFault → Resting D → Node → Start (Running D) (Resting D) → Type 0
 IsRefused {D} refusal old me (starts.Up r outs) = ⊥
 IsRefused {D} refusal old me (starts.Down d ls) = (refusal ≡ refusals.OutOfMemory → ⊥) × ((d ≡ old) × (ls ≡ lines.Fault me ∷ []))
-IsRefused {D} refusal old me (starts.Unchanged d) = d ≡ old
+IsRefused {D} refusal old me (starts.Unchanged d) = (refusal ≡ refusals.OutOfMemory) × (d ≡ old)
 IsRefused {D} refusal old me (starts.Lost d) = ⊥
 
 -- The record of the boot was put on the disk, and the server is up; or it didn't fit, or the disk failed, and the server stays down; or memory was

@@ -243,7 +243,7 @@ abbrev pub IsChanged : Fid → List Version → Type 0
 IsChanged f [] = ⊥
 IsChanged f (v ∷ vs) = (v.fid ≡ f) ⊎ IsChanged f vs
 
--- among these lines, which stand behind in an entry, the server begins again, or its disk fails or has no room for that: the entry is a restart
+-- among these lines, which come later in an entry, the server begins again, or its disk fails or has no room for that: the entry is a restart
 abbrev pub EndsBoot : Node → List Line → Type 0
 EndsBoot s [] = ⊥
 EndsBoot s (lines.Restart n boot ∷ next) = (n ≡ s) ⊎ EndsBoot s next
@@ -280,7 +280,7 @@ pub record RanBefore (server : Node) (k : Key) (past : List Entry) (own next : L
   pub since : AreFailed server newer
 
 -- A change runs a key for the first time, at a server that accepts stores of the volume, is the only one of its entry, and is later than
--- what the server changed before for the same node. Its entry ran the key's call, or is the restart behind the one that was interrupted
+-- what the server changed before for the same node. Its entry ran the key's call, or is the restart after the one that was interrupted
 -- in that. The call was sent by its node, for its user, and is that of the act that ran there, with the act's own bytes. The versions
 -- that follow are just those of the ideal operation on the ideal volume
 pub record IdealChange (s : Script) (server : Node) (k : Key) (count : ℕ) (past : List Entry) (own next : List Line) : Type 0 where
@@ -309,7 +309,7 @@ pub record IdealChange (s : Script) (server : Node) (k : Key) (count : ℕ) (pas
 
 -- A change is the ideal one, and the only one of its act. `once`: while any act runs at the key's node, this server changed nothing before under
 -- a key of that act. `alone`: no server changed anything before under another key of the act to which this key belongs, were that long over.
--- `owed`: behind the change stands a break for each other client whose last promise on one of the fids that change lasts, and isn't broken already
+-- `owed`: after the change stands a break for each other client whose last promise on one of the fids that change lasts, and isn't broken already
 pub record GoodChange (s : Script) (server : Node) (k : Key) (count : ℕ) (past : List Entry) (own next : List Line) : Type 0 where
   pub ideal : IdealChange s server k count past own next
   pub once : (a : Going) → running s k.node (lines_of past) ≡ Some a → (l : Key) → HasChangeBy server l (lines_of past) → is_of_act k.node l past ≡ true → ⊥
@@ -449,7 +449,7 @@ abbrev pub GoodReadBy : Script → Bool → Node → Fid → ℕ → ReadSource 
 GoodReadBy s true c f index source body past own = GoodRead s c f index source body past own
 GoodReadBy s false c f index source body past own = GoodRights s c f index source body past own
 
--- the act ends with what it needs next: where the reply to that has code 0, so has the act. What it reads it goes on behind
+-- the act ends with what it needs next: where the reply to that has code 0, so has the act. After what it reads it goes on
 abbrev pub EndsAct : Need → Type 0
 EndsAct (asks_for call) = ⊤
 EndsAct gives_back = ⊤
@@ -632,7 +632,7 @@ abbrev pub IsPresent : List Entry → Message → Type 0
 IsPresent past m =
     (i j : ℕ) → IsReply m → m.head.from ≡ Server i → m.head.to ≡ Client j → (server_boot m.head.from (lines_of past) ≡ Some m.head.boot) ⊎ (HasChangeBy m.head.from (answered_key m.head) (lines_of past) × (code_told m.carried ≡ Some (pos 0)))
 
--- the node is in this boot; that of a client is its epoch
+-- the node is in this boot; that of a client is its epoch. Of other nodes nothing is asked
 abbrev pub IsInBoot : Node → ℕ → List Line → Type 0
 IsInBoot (Client j) boot ls = epoch_after (Client j) ls ≡ boot
 IsInBoot (Server i) boot ls = server_boot (Server i) ls ≡ Some boot
@@ -873,7 +873,8 @@ pub record HearsOfAct (s : Script) (c : Node) (past : List Entry) (ls : List Lin
   pub runs : running s c (lines_of past) ≡ Some act
   pub called : CalledSince (answered_key heard.message.head) heard.its.user heard.its.call past
 
--- a client that is so given the reply to a call which may change something, or its refusal, answers its act with that code in that entry
+-- A client that is so given the reply to a call which may change something, or its refusal, answers its act with that code in that entry. (No volume is
+-- busy or out of service yet; of such a refusal, 110 or 106, this can't be asked.)
 abbrev pub TakesReply : Script → Actor → List Entry → List Line → Type 0
 TakesReply s (actors.Node (Client j)) past ls = (given : HearsOfAct s (Client j) past ls) (id : ℕ) → volume_changed given.heard.its.call ≡ Some id → HasAnswer (Client j) given.heard.code ls
 TakesReply s who past ls = ⊤

@@ -48,7 +48,7 @@ returns-in-Err-Failed-clause-boots g c = λ begun records found.
           record { later = only.later; each = only.each; before = only.before };
       rose = none_cause (record { stop = store.disk.stop; fail = store.disk.fail }) c.boot.new.self.disk.calls _ c.requires.unset.0 c.requires.unset.1 (e.served.failed err).1;
       capacity = c.stay-in-Err-Failed.ensures.capacity;
-    }) c.stay-in-Err-Failed.result (subst (λ (n : Node). Stays c.boot.new.self c.args.front (lines.Fault n) c.stay-in-Err-Failed.result) c.node-node.ensures c.stay-in-Err-Failed.ensures.stays)
+    }) (λ bytes told. g.met.D.Disk.leaves c.boot.new.self.disk.disk 1 bytes (g.met.D.Disk.shows c.boot.new.self.disk.disk ∙ told)) c.stay-in-Err-Failed.result (subst (λ (n : Node). Stays c.boot.new.self c.args.front (lines.Fault n) c.stay-in-Err-Failed.result) c.node-node.ensures c.stay-in-Err-Failed.ensures.stays)
 
 pub returns-in-Err-OutOfMemory-clause-boots : goal.returns-in-Err-OutOfMemory-clause-boots
 returns-in-Err-OutOfMemory-clause-boots g c = λ begun records found.

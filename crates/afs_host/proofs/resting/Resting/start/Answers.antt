@@ -22,7 +22,7 @@ returns-in-Ok-clause-started g c =
     subst (λ (x : Resting g.row.D.Denot). IsSome (g.D.Disk.seen x.disk) → IsStarted g.D.Disk.seen g.D.Disk.may_leave g.D.Disk.faults g.D.Disk.limit (Server c.args.server) c.args.now c.args.clients x c.boot.result) is
     (taken_up g.D.Disk.seen g.D.Disk.may_leave g.D.Disk.faults g.D.Disk.limit (Server c.args.server) c.args.now c.args.clients old s c.in-Ok.front c.boot.result (record {
       node = ap (λ (t : Store (Fused g.row.D.Denot)). t.node) e.rest;
-      shows = λ bytes told. g.met.D.Disk.leaves old.disk 1 bytes (g.met.D.Disk.shows old.disk ∙ told);
+      shows = λ d bytes told. g.met.D.Disk.leaves d 1 bytes (g.met.D.Disk.shows d ∙ told);
       stands = λ bytes told. e.stands bytes told;
       lines_are = λ bytes told. e.lines bytes told;
       rests = λ bytes told. let r = e.at_rest bytes told in record { now = r.now; stands = r.stands; fit = r.fit; durable = r.durable };
@@ -47,6 +47,7 @@ returns-in-Err-clause-started g c =
     (refused_so g.D.Disk.seen g.D.Disk.may_leave g.D.Disk.moment g.D.Disk.left_since g.met.D.Disk.counts_now g.D.Disk.faults g.D.Disk.limit c.in-Err.refusal (Server c.args.server) c.args.now c.args.clients old new
     (subst (λ (d : g.row.D.Denot). Refused g.D.Disk.seen g.D.Disk.may_leave g.D.Disk.moment g.D.Disk.left_since g.D.Disk.faults g.D.Disk.limit c.in-Err.refusal old (record { disk = d; mark = c.self.inside.mark })) (sym inner) (record {
       shows = λ bytes told. g.met.D.Disk.leaves old.disk 1 bytes (g.met.D.Disk.shows old.disk ∙ told);
+      reads = λ bytes now told held. e.reads bytes now told held;
       mark = refl;
       same_limit = e.limit;
       told = e.told.0;
