@@ -84,13 +84,7 @@ fn volumes_of(alloc: Global, given: StoredVolumes) -> Result<Sequence<Volume>, U
 }
 
 /// A change of which nothing is told: it has no versions, and its reply isn't looked at.
-fn untold(
-    alloc: Global,
-    counter: u32,
-    unique: u32,
-    vnodes: Vnodes,
-    removed: VnodeNumbers,
-) -> Change
+fn untold(alloc: Global, counter: u32, unique: u32, vnodes: Vnodes, removed: VnodeNumbers) -> Change
     ensures counts { (result.counter ≡ counter) × (result.unique ≡ unique) }
     ensures left { (result.vnodes ≡ vnodes) × (result.removed ≡ removed) }
 {

@@ -19,9 +19,7 @@ use afs_num::directories::Name;
 use afs_num::types::Mem;
 use afs_num::vnodes::Vnode;
 use afs_num::volumes::Change;
-use afs_volume::standing::{
-    gives_held, has_links, has_names, is_root, kind_is_right, names_of,
-};
+use afs_volume::standing::{gives_held, has_links, has_names, is_root, kind_is_right, names_of};
 use afs_volume::{ReadyChange, Volume, is_directory};
 use std::alloc::Global;
 

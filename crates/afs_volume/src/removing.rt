@@ -22,13 +22,7 @@ use afs_num::vnodes::Vnode;
 
 impl Volume {
     /// A name less, in a directory that has it, and the vnode that it named without that name.
-    fn removes_name(
-        &self,
-        fid: &Fid,
-        d: &Vnode,
-        name: &[u8],
-        links: Option<u64>,
-    ) -> Mem<Plan>
+    fn removes_name(&self, fid: &Fid, d: &Vnode, name: &[u8], links: Option<u64>) -> Mem<Plan>
         requires found { vnode_of fid.now (volume_of self.now) ≡ Some (seen d.now) }
         requires there { get fid.now.vnode self.now.vnodes.table ≡ Some d.now }
         requires directory { is_kind (seen d.now).kind a_directory ≡ true }
