@@ -1,4 +1,4 @@
-use Rattle.std.proofs.Common.{◌≡◌, nat_eq, sym, ◌∙◌, rules}
+use Rattle.std.proofs.Common.{nat_eq, sym, ◌∙◌, rules}
 use Rattle.indexmap.specs.IndexMap as maps
 use Rattle.afs_volume.specs.Assembling.{reads_pair}
 use Rattle.afs_volume.proofs.Listing.{none_yet}
