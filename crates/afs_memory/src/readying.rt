@@ -83,21 +83,6 @@ fn volumes_of(alloc: Global, given: StoredVolumes) -> Result<Sequence<Volume>, U
     Ok(volumes)
 }
 
-/// A change of which nothing is told: it has no versions, and its reply isn't looked at.
-fn untold(alloc: Global, counter: u32, unique: u32, vnodes: Vnodes, removed: VnodeNumbers) -> Change
-    ensures counts { (result.counter ≡ counter) × (result.unique ≡ unique) }
-    ensures left { (result.vnodes ≡ vnodes) × (result.removed ≡ removed) }
-{
-    Change {
-        versions: Versions::new(alloc),
-        vnodes,
-        removed,
-        counter,
-        unique,
-        reply: FsReply::GiveUpCallBacks,
-    }
-}
-
 /// A change as a record tells it.
 fn change_of(
     alloc: Global,
@@ -110,7 +95,14 @@ fn change_of(
     ensures read { IfOk result (λ c. AllByRecursion IsReadable c.vnodes) }
     ensures bad { result ≡ Err Bad → list_all can_be_read vnodes ≡ false }
 {
-    let change = untold(alloc, counter, unique, vnodes, removed);
+    let change = Change {
+        versions: Versions::new(alloc),
+        vnodes,
+        removed,
+        counter,
+        unique,
+        reply: FsReply::GiveUpCallBacks,
+    };
     match ReadyChange::of(alloc, change) {
         Ok(ready) => Ok(ready),
         Err(AssembleFault::NotSound) => Err(Unfit::Bad),
@@ -181,9 +173,14 @@ fn change_named(
     ensures told { IfOk result (λ c. (c.counter ≡ counter) × ((c.unique ≡ unique) × ((c.vnodes ≡ vnodes.now) × (c.removed ≡ removed.now)))) }
     ensures read { IfOk result (λ c. AllByRecursion IsReadable c.vnodes) }
 {
-    let vnodes = copy_vnodes(alloc, vnodes)?;
-    let removed = copy_numbers(alloc, removed)?;
-    let change = untold(alloc, counter, unique, vnodes, removed);
+    let change = Change {
+        versions: Versions::new(alloc),
+        vnodes: copy_vnodes(alloc, vnodes)?,
+        removed: copy_numbers(alloc, removed)?,
+        counter,
+        unique,
+        reply: FsReply::GiveUpCallBacks,
+    };
     Ok(ReadyChange::named(change, names))
 }
 

@@ -30,7 +30,7 @@ ghost use Rattle.afs_server.specs.Saving.{breaks_new, fids_changed, fids_granted
 ghost use Rattle.afs_server.specs.Seen.{backs_seen, IsPromiseToNode, IsToNodes};
 ghost use Rattle.afs_server.specs.declared.faults.NodeFault.TheVariants as faults;
 
-use crate::answering::reply_told;
+use crate::answering::{Replied, reply_told};
 use crate::ending::{Ended, end};
 use crate::faults::NodeFault;
 use crate::server::FileServer;
@@ -75,7 +75,6 @@ impl Drop for Planned {
             withdrawn: _,
             granted: _,
         } = self;
-        // (The end of the scope would be a drop for each kind of record; the others are lists.)
         drop(rec);
     }
 }
@@ -111,7 +110,6 @@ pub struct Found {
     pub breaks: Vec<OwedBreak>,
 }
 
-/// It ends by a drop of its own: each exit of a function that has it has one drop to prove, and not one for each list.
 impl Drop for Found {
     fn drop(self) {
         let Found {
@@ -140,15 +138,6 @@ impl Found {
         } = self;
         (changed, withdrawn, granted)
     }
-}
-
-/// What a step gives out and leaves in memory that tells of a change, and the bytes of its reply twice: for memory and for the
-/// record.
-#[derive(Drop)]
-struct Saved {
-    pub ended: Ended,
-    pub kept: Octets,
-    pub recorded: Octets,
 }
 
 /// A promise on a new vnode.
@@ -484,7 +473,7 @@ impl FileServer {
         told: FsReply,
         breaks: &[OwedBreak],
         now: u32,
-    ) -> Mem<Saved>
+    ) -> Mem<Replied>
         requires nodes { IsToNodes server self.now }
         requires clients { All IsBreakToNode breaks.now }
         requires head { IsSoundHead head.now }
@@ -494,18 +483,12 @@ impl FileServer {
         ensures ends { IfOk result (λ r. (l : Lists) → l.owed ≡ lasting_breaks now self.now.lists.owed ++ breaks.now → Ends l (pumped server boot (answer_turn (replied boot head.now (carried.Reply (tell.File (promised_in (now + 7200) told)))) (numbers breaks.now ++ alls (lasting_breaks now self.now.lists.owed)) false (with_lists l (backs_seen self.now last)))) r.ended) }
         ensures drawn { IfOk result (λ r. last ≤ r.ended.last) }
         ensures good { IfOk result (λ r. AreGoodCalls server r.ended.callees.items) }
-        ensures recorded { IfOk result (λ r. r.recorded ≡ r.kept) }
         ensures kept { IfOk result (λ r. Spells (replied boot head.now (carried.Reply (tell.File (promised_in (now + 7200) told)))) r.kept) }
     {
         let reply = reply_told(self.alloc, boot, head, told, now + PROMISE_TICKS)?;
         let kept = reply.bytes().copy(self.alloc)?;
-        let recorded = kept.copy(self.alloc)?;
         let ended = self.plan_held(server, boot, last, reply, breaks, now)?;
-        Ok(Saved {
-            ended,
-            kept,
-            recorded,
-        })
+        Ok(Replied { ended, kept })
     }
 
     /// What a change by this node withdraws and grants.
@@ -544,7 +527,7 @@ impl FileServer {
         told: FsReply,
         found: &Found,
         now: u32,
-    ) -> Mem<Saved>
+    ) -> Mem<Replied>
         requires nodes { IsToNodes server self.now }
         requires clients { All IsBreakToNode found.now.breaks.items }
         requires head { IsSoundHead head.now }
@@ -556,13 +539,11 @@ impl FileServer {
         ensures lines { IfOk result (λ r. r.ended.outs.lines ≡ (lines.Change server (key_of head.now) (length versions) ∷ versioned versions []) ++ (map (grant_line server head.now.from (now + 7200)) found.now.grants ++ map (owe_line server) found.now.breaks.items)) }
         ensures drawn { IfOk result (λ r. last ≤ r.ended.last) }
         ensures good { IfOk result (λ r. AreGoodCalls server r.ended.callees.items) }
-        ensures recorded { IfOk result (λ r. r.recorded ≡ r.kept) }
         ensures kept { IfOk result (λ r. Spells (replied boot head.now (carried.Reply (tell.File (promised_in (now + 7200) told)))) r.kept) }
     {
         let expiry = now + PROMISE_TICKS;
-        let mut saved = self.plan_saved(server, boot, last, head, told, &found.breaks, now)?;
         let grants = found.grants.as_slice();
-        match saved_lines(
+        let lines = saved_lines(
             self.alloc,
             server,
             head,
@@ -570,16 +551,10 @@ impl FileServer {
             grants,
             expiry,
             &found.breaks,
-        ) {
-            Ok(lines) => {
-                saved.ended.outs.lines = lines;
-                Ok(saved)
-            }
-            Err(error) => {
-                drop(saved);
-                Err(error)
-            }
-        }
+        )?;
+        let mut saved = self.plan_saved(server, boot, last, head, told, &found.breaks, now)?;
+        saved.ended.outs.lines = lines;
+        Ok(saved)
     }
 
     /// What a change of the volume of this number comes to.
@@ -604,14 +579,7 @@ impl FileServer {
         requires now { now ≤ 1000000000 }
         ensures { IfOk result (λ p. IsPlanned server boot last now head.now id change self.now p) }
     {
-        let found = match self.found(head.from, &change, now) {
-            Ok(found) => found,
-            Err(error) => {
-                // (The end of the scope would be a drop for each kind of reply.)
-                drop(change);
-                return Err(error);
-            }
-        };
+        let found = self.found(head.from, &change, now)?;
         let Change {
             versions,
             vnodes,
@@ -621,12 +589,9 @@ impl FileServer {
             reply,
         } = change;
         let saved = self.plan_told(server, boot, last, head, versions, reply, &found, now)?;
-        let Saved {
-            ended,
-            kept,
-            recorded,
-        } = saved;
-        let rec = change_record(head, recorded, id, counter, unique, vnodes, removed);
+        let Replied { ended, kept } = saved;
+        let copy = kept.copy(self.alloc)?;
+        let rec = change_record(head, copy, id, counter, unique, vnodes, removed);
         let (changed, withdrawn, granted) = found.into_kept();
         Ok(Planned {
             ended,

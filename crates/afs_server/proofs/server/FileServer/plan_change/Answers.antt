@@ -14,11 +14,11 @@ use Rattle.afs_server.proofs.Short.{reply_short}
 use Rattle.afs_server.proofs.server.FileServer.plan_change.Goals as goal
 
 pub plan_told-requires-clause-clients : goal.plan_told-requires-clause-clients
-plan_told-requires-clause-clients c = c.in-Ok.ensures.nodes
+plan_told-requires-clause-clients c = c.in_ok-found.ensures.nodes
 
 pub change_record-rec-requires-clause-short : goal.change_record-rec-requires-clause-short
 change_record-rec-requires-clause-short c =
-    subst (λ (bytes : List ℕ). length bytes < 2 ^ 32) (sym (c.in_ok-saved.ensures.recorded ∙ c.in_ok-saved.ensures.kept.spelled)) (reply_short c.args.boot c.args.head.now (c.args.now + 7200) c.args.change.reply c.requires.written.reply)
+    subst (λ (bytes : List ℕ). length bytes < 2 ^ 32) (sym (c.in_ok-copy.ensures ∙ c.in_ok-saved.ensures.kept.spelled)) (reply_short c.args.boot c.args.head.now (c.args.now + 7200) c.args.change.reply c.requires.written.reply)
 
 pub returns : goal.returns
 returns c =
@@ -26,10 +26,10 @@ returns c =
     let m = c.args.self.now in
     let head = c.args.head.now in
     let owed = lasting_breaks c.args.now m.lists.owed in
-    let breaks = c.in-Ok.ensures.breaks in
+    let breaks = c.in_ok-found.ensures.breaks in
     let told : c.in_ok-saved.saved.ended.outs.lines ≡ change_lines c.args.server head (c.args.now + 7200) x (breaks_new head.from (fids_changed x.versions) c.args.now m.lists) =
     c.in_ok-saved.ensures.lines
-    ∙ (λ i. (lines.Change c.args.server (key_of head) (length x.versions) ∷ versioned x.versions []) ++ (map (grant_line c.args.server head.from (c.args.now + 7200)) (c.in-Ok.ensures.grants i) ++ map (owe_line c.args.server) (breaks i))) in
+    ∙ (λ i. (lines.Change c.args.server (key_of head) (length x.versions) ∷ versioned x.versions []) ++ (map (grant_line c.args.server head.from (c.args.now + 7200)) (c.in_ok-found.ensures.grants i) ++ map (owe_line c.args.server) (breaks i))) in
     let kept = c.into_kept-changed.ensures in
     record {
       ends = λ l owes.
@@ -39,9 +39,9 @@ returns c =
       drawn = c.in_ok-saved.ensures.drawn;
       good = c.in_ok-saved.ensures.good;
       kept = c.in_ok-saved.ensures.kept;
-      rec = c.change_record-rec.ensures.record ∙ ap (change_kept head c.args.id x) c.in_ok-saved.ensures.recorded;
+      rec = c.change_record-rec.ensures.record ∙ ap (change_kept head c.args.id x) c.in_ok-copy.ensures;
       fits = c.change_record-rec.ensures.fits;
-      changed = kept.changed ∙ c.in-Ok.ensures.changed;
-      withdrawn = kept.withdrawn ∙ (c.in-Ok.ensures.withdrawn ∙ ap (λ (fs : List Fid). hits_each head.from fs (lasting c.args.now m.lists.promises)) (sym kept.changed));
-      granted = kept.granted ∙ c.in-Ok.ensures.granted;
+      changed = kept.changed ∙ c.in_ok-found.ensures.changed;
+      withdrawn = kept.withdrawn ∙ (c.in_ok-found.ensures.withdrawn ∙ ap (λ (fs : List Fid). hits_each head.from fs (lasting c.args.now m.lists.promises)) (sym kept.changed));
+      granted = kept.granted ∙ c.in_ok-found.ensures.granted;
     }

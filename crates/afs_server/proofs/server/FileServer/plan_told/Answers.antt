@@ -15,21 +15,21 @@ use Rattle.afs_server.specs.Seen.{backs_seen}
 use Rattle.afs_server.proofs.server.FileServer.plan_told.Goals as goal
 
 pub plan_saved-requires-clause-clients : goal.plan_saved-requires-clause-clients
-plan_saved-requires-clause-clients c = subst (All IsBreakToNode) (sym c.deref.ensures.value) c.requires.clients
+plan_saved-requires-clause-clients c = subst (All IsBreakToNode) (sym c.deref-2.ensures.value) c.requires.clients
 
-pub returns-in-Ok-clause-ends : goal.returns-in-Ok-clause-ends
-returns-in-Ok-clause-ends c l owes =
+pub returns-clause-ends : goal.returns-clause-ends
+returns-clause-ends c l owes =
     let m = c.args.self.now in
     let lasting = lasting_breaks c.args.now m.lists.owed in
-    let given = c.deref.ensures.value in
+    let given = c.deref-2.ensures.value in
     let reply = replied c.args.boot c.args.head.now (carried.Reply (tell.File (promised_in (c.args.now + 7200) c.args.told))) in
     let e = c.in_ok-saved.ensures.ends l (owes ∙ ap (λ (os : List OwedBreak). lasting ++ os) (sym given)) in
     let t = subst (λ (os : List OwedBreak). Ends l (pumped c.args.server c.args.boot (answer_turn reply (numbers os ++ alls lasting) false (with_lists l (backs_seen m c.args.last)))) c.in_ok-saved.saved.ended) given e in
     record { backs = t.backs; sent = t.sent }
 
-pub returns-in-Ok-clause-lines : goal.returns-in-Ok-clause-lines
-returns-in-Ok-clause-lines c =
+pub returns-clause-lines : goal.returns-clause-lines
+returns-clause-lines c =
     let head = c.args.head.now in
     let versions = c.args.versions in
-    c.in-Ok.ensures
-    ∙ (λ i. (lines.Change c.args.server (key_of head) (length versions) ∷ versioned versions []) ++ (map (grant_line c.args.server head.from (c.args.now + 7200)) (c.as_slice-grants.ensures i) ++ map (owe_line c.args.server) (c.deref-2.ensures.value i)))
+    c.in_ok-lines.ensures
+    ∙ (λ i. (lines.Change c.args.server (key_of head) (length versions) ∷ versioned versions []) ++ (map (grant_line c.args.server head.from (c.args.now + 7200)) (c.as_slice-grants.ensures i) ++ map (owe_line c.args.server) (c.deref.ensures.value i)))
