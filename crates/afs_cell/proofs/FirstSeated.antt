@@ -1,5 +1,5 @@
 -- The servers at set-up, one after the other, and the disks that are handed back.
-use Rattle.std.proofs.Common.{refl, append_assoc, arith, ap, sym, subst, ◌∙◌, ◌≡◌, ◌+◌, inl, inr, ℕ, suc, List, [], ◌∷◌, ◌++◌, length, Option}
+use Rattle.std.proofs.Common.{refl, append_assoc, arith, ap, sym, subst, ◌∙◌, ◌≡◌, ◌≤◌, ◌+◌, inl, inr, ℕ, suc, List, [], ◌∷◌, ◌++◌, length, Option}
 use Rattle.afs_num.specs.declared.types.Node.{Node}
 use Rattle.afs_num.specs.declared.types.Node.TheVariants.{Server}
 use Rattle.afs_history.specs.declared.scripts.Script.{Script}
@@ -7,7 +7,7 @@ use Rattle.afs_disk.specs.Disk.{Rose}
 use Rattle.afs_disk.specs.declared.disks.Lent.{Lent}
 use Rattle.afs_host.specs.Seats.{Running}
 use Rattle.afs_host.specs.declared.seats.Seat.TheVariants.{Down, Up}
-use Rattle.afs_cell.specs.Ends.{AreLeft, IsRefused, IsRefusedBy, NoneFell, RoseAt}
+use Rattle.afs_cell.specs.Ends.{AreLeft, IsRefused, IsRefusedBy, NoneFell, NoneRose, RoseAt}
 use Rattle.afs_cell.specs.FirstSeats.{AreBack, AreFirstSeats, IsBack, IsFirstSeat, IsFirstServer, IsRefusedAt}
 use Rattle.afs_cell.specs.Steps.{lent_from, AreLent}
 use Rattle.afs_cell.specs.Worlds.{seat_disk, ServerSeat}
@@ -81,7 +81,7 @@ module _ {D : Type 0} (seen : D → Option (List ℕ)) (may_leave : D → List �
   all_same i (l ∷ ls) = (refl, (same_back seen may_leave faults limit s i l.disk, all_same (i + 1) ls))
 
   seat_back : (i : ℕ) (old : D) (seat : ServerSeat D) → IsFirstSeat seen may_leave faults limit s i old seat → IsBack seen may_leave faults limit s i old (seat_disk seat)
-  seat_back i old (Up r) h = record { same_limit = h.same_limit; no_fewer = h.no_fewer; left = h.left }
+  seat_back i old (Up r) h = record { same_limit = h.same_limit; no_fewer = (let quiet = h.quiet in omega (arith, quiet)); left = h.left }
   seat_back i old (Down r) h = absurd h
 
   -- those of the servers that were set up, the one that was refused, and the rest
@@ -93,18 +93,34 @@ module _ {D : Type 0} (seen : D → Option (List ℕ)) (may_leave : D → List �
   seats_back capacity i j [] (seat ∷ seats) l rest d lent h at back = absurd h
   seats_back capacity i j (k ∷ ls) (seat ∷ seats) l rest d lent h at back = (sym lent.0, (seat_back i k.disk seat h.0, seats_back capacity (i + 1) j ls seats l rest d lent.1.1 h.1 (omega (arith, at)) back))
 
+  -- the disks of the servers that were set up didn't fail, nor the one that was refused where it didn't, and the rest is untouched
+  pub none_rose : (ls : List (Lent D)) → NoneRose faults ls ls
+  none_rose [] = tt
+  none_rose (l ∷ ls) = (omega (arith), none_rose ls)
+
+  seat_quiet : (i : ℕ) (old : D) (seat : ServerSeat D) → IsFirstSeat seen may_leave faults limit s i old seat → faults (seat_disk seat) ≤ faults old
+  seat_quiet i old (Up r) h =
+      let quiet = h.quiet in
+      omega (arith, quiet)
+  seat_quiet i old (Down r) h = absurd h
+
+  none_rose_at : (i : ℕ) (ls : List (Lent D)) (seats : List (ServerSeat D)) (l : Lent D) (rest : List (Lent D)) (d : D) → AreFirstSeats seen may_leave faults limit s i ls seats (l ∷ rest) → faults d ≡ faults l.disk → NoneRose faults ls (lent_from i seats ++ (handed l d ∷ rest))
+  none_rose_at i ls [] l rest d e quiet = subst (λ (xs : List (Lent D)). NoneRose faults xs (handed l d ∷ rest)) (sym e) (omega (arith, quiet), none_rose rest)
+  none_rose_at i [] (seat ∷ seats) l rest d h quiet = absurd h
+  none_rose_at i (k ∷ ls) (seat ∷ seats) l rest d h quiet = (seat_quiet i k.disk seat h.0, none_rose_at (i + 1) ls seats l rest d h.1 quiet)
+
   rose_at : (i j : ℕ) (ls : List (Lent D)) (seats : List (ServerSeat D)) (l : Lent D) (rest : List (Lent D)) (n : Node) (d : D) → AreFirstSeats seen may_leave faults limit s i ls seats (l ∷ rest) → j ≡ i + length seats → n ≡ Server j → Rose (faults l.disk) (faults d)
       → RoseAt faults n i ls (lent_from i seats ++ (handed l d ∷ rest))
   rose_at i j ls [] l rest n d e at named rose =
       let here : j ≡ i = omega (arith, at) in
-      subst (λ (xs : List (Lent D)). RoseAt faults n i xs (handed l d ∷ rest)) (sym e) (inl (subst (λ (k : ℕ). n ≡ Server k) here named, rose))
+      subst (λ (xs : List (Lent D)). RoseAt faults n i xs (handed l d ∷ rest)) (sym e) (inl (subst (λ (k : ℕ). n ≡ Server k) here named, (rose, none_rose rest)))
   rose_at i j [] (seat ∷ seats) l rest n d h at named rose = absurd h
-  rose_at i j (k ∷ ls) (seat ∷ seats) l rest n d h at named rose = inr (rose_at (i + 1) j ls seats l rest n d h.1 (omega (arith, at)) named rose)
+  rose_at i j (k ∷ ls) (seat ∷ seats) l rest n d h at named rose = inr (seat_quiet i k.disk seat h.0, rose_at (i + 1) j ls seats l rest n d h.1 (omega (arith, at)) named rose)
 
   cause_by : (fault : SetupFault) (j : ℕ) (ls : List (Lent D)) (seats : List (ServerSeat D)) (l : Lent D) (rest : List (Lent D)) (d : D) → AreFirstSeats seen may_leave faults limit s 1 ls seats (l ∷ rest) → j ≡ 1 + length seats → IsRefusedAt seen may_leave faults limit s j l.disk (fault, d)
       → IsRefusedBy faults ls fault (lent_from 1 seats ++ (handed l d ∷ rest))
   cause_by (setup.Disk n) j ls seats l rest d h at refused = rose_at 1 j ls seats l rest n d h at refused.cause.0 refused.cause.1
-  cause_by setup.OutOfMemory j ls seats l rest d h at refused = tt
+  cause_by setup.OutOfMemory j ls seats l rest d h at refused = none_rose_at 1 ls seats l rest d h refused.cause
 
   pub refused_set_up : (capacity j : ℕ) (ls : List (Lent D)) (seats : List (ServerSeat D)) (l : Lent D) (rest : List (Lent D)) (fault : SetupFault) (d : D) → AreLent limit capacity 1 ls → AreFirstSeats seen may_leave faults limit s 1 ls seats (l ∷ rest) → j ≡ 1 + length seats
       → IsRefusedAt seen may_leave faults limit s j l.disk (fault, d) → IsRefusedSetUp seen may_leave faults limit s ls (fault, lent_from 1 seats ++ (handed l d ∷ rest))

@@ -50,9 +50,9 @@ module _ {D : Type 0} (seen : D → Option (List ℕ)) (may_leave : D → List �
 
   pub first_store : SetUpsAreFirst → NumbersAscend → (t : Store (Fused D)) → ls ≡ volumes_at i s.volumes → limit old ≡ s.capacity → set_up (limit old) ls ≡ Some t.durable
       → t ≡ record { durable = t.durable; disk = t.disk; node = Server i; prepared = None; closed = false; count = 1; drawn = 0 }
-      → setting_of t.disk ≡ unset → t.disk.calls ≤ 12 → limit t.disk.disk ≡ limit old → faults old ≤ faults t.disk.disk → (IsSome (seen t.disk.disk) ↔ IsSome (seen old)) → IsKept t.durable (seen t.disk.disk) (may_leave t.disk.disk)
+      → setting_of t.disk ≡ unset → t.disk.calls ≤ 12 → limit t.disk.disk ≡ limit old → faults t.disk.disk ≡ faults old → (IsSome (seen t.disk.disk) ↔ IsSome (seen old)) → IsKept t.durable (seen t.disk.disk) (may_leave t.disk.disk)
       → IsFirstStore seen may_leave faults limit s i old t
-  first_store first ascend t lines capacity made rest set few same no_fewer told kept =
+  first_store first ascend t lines capacity made rest set few same quiet told kept =
       let is = set_up_is t.durable lines capacity made in
       record {
         durable_is = first s.capacity i s.volumes t.durable (ascend s h) is;
@@ -60,7 +60,7 @@ module _ {D : Type 0} (seen : D → Option (List ℕ)) (may_leave : D → List �
         unset = (ap (λ (x : Setting). x.stop) set, ap (λ (x : Setting). x.fail) set);
         few = few;
         same_limit = same;
-        no_fewer = no_fewer;
+        quiet = quiet;
         left = record { told = told; holds = λ none just bytes sees. inr (t.durable, (is, kept.stands bytes sees)) };
       }
 
@@ -73,7 +73,7 @@ module _ {D : Type 0} (seen : D → Option (List ℕ)) (may_leave : D → List �
   caused accepted store.Failed new last before now lines same setup full cause = (refl, own_rose last before now (faults old) (faults new) cause)
   caused accepted store.Closed new last before now lines same setup full cause = absurd setup
   caused accepted (store.BadRecord n) new last before now lines same setup full cause = absurd setup
-  caused accepted store.OutOfMemory new last before now lines same setup full cause = tt
+  caused accepted store.OutOfMemory new last before now lines same setup full cause = cause.1
 
   pub refused_store : SetUpsAreAccepted → (fault : StoreFault) (new : D) (last before now : ℕ) → ls ≡ volumes_at i s.volumes → limit old ≡ s.capacity → IsSetUpFault fault → ((used capacity : ℕ) → fault ≡ store.Full used capacity → set_up (limit old) ls ≡ None)
       → IsCaused unset last before now (faults old) (faults new) fault → limit new ≡ limit old → faults old ≤ faults new → (IsSome (seen new) ↔ IsSome (seen old))
@@ -144,6 +144,6 @@ module _ {D : Type 0} (seen : D → Option (List ℕ)) (may_leave : D → List �
           armed = sym (ap (λ (x : Running D). x.armed) value);
         };
         same_limit = ap (λ (x : Store (Fused D)). limit x.disk.disk) stored ∙ first.same_limit;
-        no_fewer = subst (λ (x : Store (Fused D)). faults old ≤ faults x.disk.disk) (sym stored) first.no_fewer;
+        quiet = ap (λ (x : Store (Fused D)). faults x.disk.disk) stored ∙ first.quiet;
         left = subst (λ (x : Store (Fused D)). IsLeftAt seen may_leave s i old x.disk.disk) (sym stored) first.left;
       }

@@ -1,6 +1,6 @@
 -- The disks at the end of a cell's run.
-use Rattle.std.proofs.Common.{refl, arith, append_assoc, ap, sym, subst, ◌∙◌, ◌≡◌, ◌+◌, inl, inr, ℕ, zero, suc, List, [], ◌∷◌, ◌++◌, length, true, false, Option, Some}
-use Rattle.std.specs.Prelude.{IsSome}
+use Rattle.std.proofs.Common.{refl, arith, append_assoc, ap, sym, subst, ◌∙◌, ◌≡◌, ◌+◌, ℕ, zero, suc, List, [], ◌∷◌, ◌++◌, length, true, false, Option, Some}
+use Rattle.std.specs.Prelude.{Bool}
 use Rattle.afs_num.specs.Places.{at_place}
 use Rattle.afs_num.specs.declared.messages.Received.TheVariants.{Whole}
 use Rattle.afs_num.specs.declared.types.Node.{Node}
@@ -10,11 +10,11 @@ use Rattle.afs_disk.specs.declared.disks.Lent.{Lent}
 use Rattle.afs_journal.specs.Records.{whole_records}
 use Rattle.afs_records.specs.Durable.{Durable}
 use Rattle.afs_volstore.specs.Stands.{Stands}
-use Rattle.afs_rows.specs.Runs.{at_rest, begun_by_disk, in_boot, in_step, Cell, Fall}
+use Rattle.afs_rows.specs.Runs.{at_rest, begun_by_disk, in_boot, in_step, Cell, Fall, MayBegin, MayFind}
 use Rattle.afs_rows.specs.ServerRow.{begun_after, decides, drops, refuses, repeats, saves, shows, tells_boot, Decision}
 use Rattle.afs_rows.specs.States.{Lasting, ServerState}
 use Rattle.afs_host.specs.Seats.{IsDown, Resting}
-use Rattle.afs_host.specs.Standing.{LiesIn}
+use Rattle.afs_host.specs.Standing.{LiesAs}
 use Rattle.afs_host.specs.declared.seats.Seat.TheVariants.{Down, Up}
 use Rattle.afs_cell.specs.FirstSeats.{AreKeptSeats, IsKeptSeat}
 use Rattle.afs_cell.specs.Steps.{lent_from, AreLent, AreStanding, IsReadAfter, MayBeRead}
@@ -55,7 +55,7 @@ gives_on {D} n back new all seat seats rest d are given is so_far =
     ∙ (ap (λ (x : D). back ++ record { node = n + 1; disk = x } ∷ lent_from ((n + 1) + 1) rest) is
     ∙ (ap (λ (ss : List (ServerSeat D)). back ++ lent_from (n + 1) ss) (sym are) ∙ so_far)))
 
-module _ {D : Type 0} (seen : D → Option (List ℕ)) (left_by : D → ℕ → Option (List ℕ)) (may_leave : D → List ℕ → Type 0) (limit : D → ℕ) (leaves : (disk : D) (pick : ℕ) (bytes : List ℕ) → left_by disk pick ≡ Some bytes → may_leave disk bytes) (shows_now : (disk : D) → left_by disk 1 ≡ seen disk) where
+module _ {D : Type 0} (seen : D → Option (List ℕ)) (may_leave : D → List ℕ → Type 0) (limit : D → ℕ) where
   pub lent_all : (capacity i : ℕ) (ss : List (ServerSeat D)) → AllHold limit capacity ss → AreLent limit capacity i (lent_from i ss)
   lent_all capacity i [] h = tt
   lent_all capacity i (s ∷ ss) h = (refl, (h 1 s refl, lent_all capacity (i + 1) ss (each_tail (λ (x : ServerSeat D). limit (seat_disk x) ≡ capacity) s ss h)))
@@ -80,28 +80,29 @@ module _ {D : Type 0} (seen : D → Option (List ℕ)) (left_by : D → ℕ → 
   abbrev StandsFor : Cell → ℕ → D → List ℕ → Type 0
   StandsFor c i disk bytes = (d : Durable) × (MayBeRead c i d × (Stands bytes d × (d.capacity ≡ limit disk)))
 
-  lies_so : (c : Cell) (i : ℕ) (x : Resting D) (down : IsDown seen may_leave limit (Server i) x (c.hosts i)) (bytes : List ℕ) → LiesIn (Server i) (c.hosts i).state down.fall x.mark (whole_records bytes) → StandsFor c i x.disk bytes
-  lies_so c i x down bytes (inl before) =
+  may_begin : (c : Cell) (i : ℕ) (x : Resting D) (down : IsDown seen may_leave limit (Server i) x (c.hosts i)) (after : Bool) → MayFind down.fall after → MayBegin (c.hosts i).down after
+  may_begin c i x down after may = subst (λ (o : Option Fall). MayBegin o after) (sym down.down) may
+
+  lies_so : (c : Cell) (i : ℕ) (x : Resting D) (down : IsDown seen may_leave limit (Server i) x (c.hosts i)) (bytes : List ℕ) (after : Bool) → MayFind down.fall after → LiesAs (Server i) (c.hosts i).state down.fall x.mark after (whole_records bytes) → StandsFor c i x.disk bytes
+  lies_so c i x down bytes false may before =
       let d = before.before.durable in
-      (d, (inl before.before.read, (before.before.stands, ap (λ (l : Lasting). l.capacity) before.before.read ∙ down.capacity)))
-  lies_so c i x down bytes (inr after) =
+      (d, ((false, (may_begin c i x down false may, before.before.read)), (before.before.stands, ap (λ (l : Lasting). l.capacity) before.before.read ∙ down.capacity)))
+  lies_so c i x down bytes true may after =
       let d = after.after.durable in (
         d,
         (
-          inr (subst (λ (o : Option Fall). IsReadAfter (Server i) (c.hosts i).state o d) (sym down.down) after.after.read),
+          (true, (may_begin c i x down true may, subst (λ (o : Option Fall). IsReadAfter (Server i) (c.hosts i).state o d) (sym down.down) after.after.read)),
           (after.after.stands, ap (λ (l : Lasting). l.capacity) after.after.read ∙ (capacity_after (Server i) (c.hosts i).state down.fall ∙ down.capacity)),
         ),
       )
 
-  told_some : (disk : D) (bytes : List ℕ) → seen disk ≡ Some bytes → IsSome (seen disk)
-  told_some disk bytes e = subst (λ (o : Option (List ℕ)). IsSome o) (sym e) refl
-
   seat_stands : (c : Cell) (i entries : ℕ) (seat : ServerSeat D) → IsHost seen may_leave limit i seat (c.hosts i) → IsReadySeat i entries seat → IsKeptSeat seen may_leave limit seat → (bytes : List ℕ) → seen (seat_disk seat) ≡ Some bytes → StandsFor c i (seat_disk seat) bytes
   seat_stands c i entries (Up r) up ready kept bytes e =
       let stands = kept.0 ready.can_run.up in
-      (r.store.durable, (inl (sym (ap (λ (x : ServerState). x.lasting) up.state)), (stands.stands bytes e, kept.1)))
+      (r.store.durable, ((false, (subst (λ (o : Option Fall). MayBegin o false) (sym up.down) tt, sym (ap (λ (x : ServerState). x.lasting) up.state))), (stands.stands bytes e, kept.1)))
   seat_stands c i entries (Down x) down ready kept bytes e =
-      lies_so c i x down bytes (down.lies (told_some x.disk bytes e) bytes (leaves x.disk 1 bytes (shows_now x.disk ∙ e)))
+      let found = down.found bytes e in
+      lies_so c i x down bytes found.0 found.1.0 found.1.1
 
   pub standing : (s : Script) (w : WorldState D) → IsSafe limit s w → w.is_lost ≡ false → AreKeptSeats seen may_leave limit w.servers → (c : Cell) → IsCell seen may_leave limit w c → AreStanding seen limit c (lent_from 1 w.servers)
   standing s w safe going kept c cell n l found bytes e =

@@ -175,22 +175,22 @@ up_void : (c : Cell) (i : ℕ) (after : Bool) (outcome : Outcome) → (has_host 
 up_void c i after outcome (inl e) = inl e
 up_void c i after outcome (inr up) = inr (ap (server_restarted c i after outcome) up)
 
+void_restart : (c : Cell) (i : ℕ) (after : Bool) → (has_host c i ≡ false) ⊎ ((c.hosts i).down ≡ None) → moved c (starts_again i after comes_up) ≡ voided c
+unfolding moved
+void_restart c i after none = gone c i (server_restarted c i after comes_up (c.hosts i).down) (up_void c i after comes_up none)
+
 void_input : (c : Cell) (i : ℕ) (input : ServerInput) → (has_host c i ≡ false) ⊎ IsVoidServer input (c.hosts i) → moved c (steady_input i input) ≡ voided c
 unfolding moved
 void_input c i (server.TimeOut callee) none = gone c i (server_timed c i callee (c.hosts i).down) (timed_void c i callee none)
 void_input c i server.Wake none = gone c i (server_wakes c i (c.hosts i).down) (either c i (server_wakes c i) (λ fall. refl) none)
 void_input c i (server.Crash pick) none = gone c i (server_stopped c i (c.hosts i).down) (either c i (server_stopped c i) (λ fall. refl) none)
-void_input c i server.Restart none = gone c i (server_restarted c i false comes_up (c.hosts i).down) (up_void c i false comes_up none)
+void_input c i server.Restart none = void_restart c i false none
 void_input c i (server.Stop calls pick) none =
     gone c i (server_armed c i (lines.Stop (Server i) calls pick) (record (c.hosts i).armed { stop = Some (calls, pick) }) (c.hosts i).down)
     (either c i (server_armed c i (lines.Stop (Server i) calls pick) (record (c.hosts i).armed { stop = Some (calls, pick) })) (λ fall. refl) none)
 void_input c i (server.Fail call) none =
     gone c i (server_armed c i (lines.Fail (Server i) call) (record (c.hosts i).armed { fail = Some call }) (c.hosts i).down)
     (either c i (server_armed c i (lines.Fail (Server i) call) (record (c.hosts i).armed { fail = Some call })) (λ fall. refl) none)
-
-void_restart : (c : Cell) (i : ℕ) (after : Bool) → (has_host c i ≡ false) ⊎ ((c.hosts i).down ≡ None) → moved c (starts_again i after comes_up) ≡ voided c
-unfolding moved
-void_restart c i after none = gone c i (server_restarted c i after comes_up (c.hosts i).down) (up_void c i after comes_up none)
 
 -- a restart may always begin in some way
 some_begin : (d : Option Fall) → (after : Bool) × MayBegin d after

@@ -18,15 +18,25 @@ NoneFell {D} faults [] news = Unit {0}
 NoneFell {D} faults (a ∷ olds) [] = ⊥
 NoneFell {D} faults (a ∷ olds) (b ∷ news) = (faults a.disk ≤ faults b.disk) × NoneFell faults olds news
 
--- of these disks, those of the servers from this number on, that of this node failed
+-- none rose
+abbrev pub NoneRose : {D : Type 0} → (D → ℕ) → List (Lent D) → List (Lent D) → Type 0
+NoneRose {D} faults [] [] = Unit {0}
+NoneRose {D} faults (a ∷ olds) (b ∷ news) = (faults b.disk ≤ faults a.disk) × NoneRose faults olds news
+NoneRose {D} faults olds news = ⊥
+
+-- of these disks, those of the servers from this number on, that of this node failed, and no other
 abbrev pub RoseAt : {D : Type 0} → (D → ℕ) → Node → ℕ → List (Lent D) → List (Lent D) → Type 0
-RoseAt {D} faults n i (a ∷ olds) (b ∷ news) = ((n ≡ Server i) × Rose (faults a.disk) (faults b.disk)) ⊎ RoseAt faults n (i + 1) olds news
+RoseAt {D} faults n i (a ∷ olds) (b ∷ news) = ((n ≡ Server i) × (Rose (faults a.disk) (faults b.disk) × NoneRose faults olds news)) ⊎ ((faults b.disk ≤ faults a.disk) × RoseAt faults n (i + 1) olds news)
 RoseAt {D} faults n i olds news = ⊥
 
--- the disk that a refusal names is one that failed
+-- one of them failed, and no other; or none did
+abbrev pub OneRoseAtMost : {D : Type 0} → (D → ℕ) → List (Lent D) → List (Lent D) → Type 0
+OneRoseAtMost {D} faults olds news = ((n : Node) × RoseAt faults n 1 olds news) ⊎ NoneRose faults olds news
+
+-- the disk that a refusal names failed, and no other; or memory ran out, and none did
 abbrev pub IsRefusedBy : {D : Type 0} → (D → ℕ) → List (Lent D) → SetupFault → List (Lent D) → Type 0
 IsRefusedBy {D} faults disks (setup.Disk n) back = RoseAt faults n 1 disks back
-IsRefusedBy {D} faults disks setup.OutOfMemory back = NoneFell faults back disks
+IsRefusedBy {D} faults disks setup.OutOfMemory back = NoneRose faults disks back
 
 abbrev pub IsRefused : {D : Type 0} → (D → ℕ) → List (Lent D) → SetupFault × List (Lent D) → Type 0
 IsRefused {D} faults disks e = NoneFell faults disks e.1 × IsRefusedBy faults disks e.0 e.1

@@ -24,7 +24,7 @@ pub record IsFirstStore {D : Type 0} (seen : D → Option (List ℕ)) (may_leave
   pub unset : (t.disk.stop ≡ None) × (t.disk.fail ≡ None)
   pub few : t.disk.calls ≤ 12
   pub same_limit : limit t.disk.disk ≡ limit old
-  pub no_fewer : faults old ≤ faults t.disk.disk
+  pub quiet : faults t.disk.disk ≡ faults old
   pub left : IsLeftAt seen may_leave s i old t.disk.disk
 
 -- A server at set-up, over that disk.
@@ -32,10 +32,10 @@ pub record IsFirstServer {D : Type 0} (seen : D → Option (List ℕ)) (may_leav
   pub ready : IsReady i 0 r
   pub host : IsUp r (first_host s i)
   pub same_limit : limit (disk_of r) ≡ limit old
-  pub no_fewer : faults old ≤ faults (disk_of r)
+  pub quiet : faults (disk_of r) ≡ faults old
   pub left : IsLeftAt seen may_leave s i old (disk_of r)
 
--- why a server's disk couldn't be set up: it failed, or memory ran out
+-- why a server's disk couldn't be set up: it failed; or memory ran out, and it didn't
 abbrev pub IsCausedAt : {D : Type 0} → (D → ℕ) → ℕ → SetupFault → D → D → Type 0
 IsCausedAt {D} faults i (setup.Disk n) old new = (n ≡ Server i) × Rose (faults old) (faults new)
 IsCausedAt {D} faults i setup.OutOfMemory old new = faults new ≡ faults old

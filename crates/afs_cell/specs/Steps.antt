@@ -1,11 +1,11 @@
 -- What the calls of a world promise.
-use Rattle.std.specs.Prelude.{◌≡◌, ◌+◌, ◌⊎◌, ◌↔◌, ℕ, List, [], ◌∷◌, ◌++◌, length, true, false, Option, Some, None, Result, Ok, Err, IsSome}
+use Rattle.std.specs.Prelude.{◌≡◌, ◌+◌, ◌⊎◌, ◌↔◌, ℕ, List, [], ◌∷◌, ◌++◌, length, Bool, true, false, Option, Some, None, Result, Ok, Err, IsSome}
 use Rattle.afs_history.specs.declared.acts.Act.{Act}
 use Rattle.afs_history.specs.declared.scripts.Script.{Script}
 use Rattle.afs_disk.specs.declared.disks.Lent.{Lent}
 use Rattle.afs_num.specs.declared.types.Node.{Node}
 use Rattle.afs_num.specs.declared.types.Node.TheVariants.{Server}
-use Rattle.afs_rows.specs.Runs.{begun_by_disk, moved, start, Cell, Fall, Input}
+use Rattle.afs_rows.specs.Runs.{begun_by_disk, moved, start, Cell, Fall, Input, MayBegin}
 use Rattle.afs_rows.specs.States.{ServerState}
 use Rattle.afs_server.specs.Seen.{lasting_of}
 use Rattle.afs_records.specs.Durable.{Durable}
@@ -101,9 +101,15 @@ abbrev pub IsReadAfter : Node → ServerState → Option Fall → Durable → Ty
 IsReadAfter me s None d = lasting_of d ≡ s.lasting
 IsReadAfter me s (Some fall) d = lasting_of d ≡ (begun_by_disk me s true fall).state.lasting
 
--- A server reads from this part what it keeps in the cell; or, while it is down, what it keeps there after the interrupted step.
+-- before that step, or after it
+abbrev pub IsReadAs : Node → ServerState → Option Fall → Bool → Durable → Type 0
+IsReadAs me s down false d = lasting_of d ≡ s.lasting
+IsReadAs me s down true d = IsReadAfter me s down d
+
+-- A server reads from this part what it keeps in the cell; or, while it is down, what it keeps there before the interrupted step or after
+-- it, as a restart might begin.
 abbrev pub MayBeRead : Cell → ℕ → Durable → Type 0
-MayBeRead c i d = (lasting_of d ≡ (c.hosts i).state.lasting) ⊎ IsReadAfter (Server i) (c.hosts i).state (c.hosts i).down d
+MayBeRead c i d = (after : Bool) × (MayBegin (c.hosts i).down after × IsReadAs (Server i) (c.hosts i).state (c.hosts i).down after d)
 
 -- each server's disk stands for such a part, of the capacity that the disk has
 abbrev pub AreStanding : {D : Type 0} → (D → Option (List ℕ)) → (D → ℕ) → Cell → List (Lent D) → Type 0

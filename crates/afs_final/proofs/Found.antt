@@ -48,8 +48,8 @@ refused_so {D} seen faults limit disk d setting last own_before own_now (store.F
 refused_so {D} seen faults limit disk d setting last own_before own_now store.Failed is falls told caused bad = record { is = caused.0; never_falls = falls; told = told }
 refused_so {D} seen faults limit disk d setting last own_before own_now store.Closed is falls told caused bad = absurd is
 refused_so {D} seen faults limit disk d setting last own_before own_now (store.BadRecord n) is falls told caused bad = record {
-  is = λ bytes at p same stands. stands_for_none (limit disk) n bytes p (bad n refl bytes at) same stands;
+  is = (caused.0, λ bytes at p same stands. stands_for_none (limit disk) n bytes p (bad n refl bytes at) same stands);
   never_falls = falls;
   told = told;
 }
-refused_so {D} seen faults limit disk d setting last own_before own_now store.OutOfMemory is falls told caused bad = record { is = tt; never_falls = falls; told = told }
+refused_so {D} seen faults limit disk d setting last own_before own_now store.OutOfMemory is falls told caused bad = record { is = caused.0; never_falls = falls; told = told }

@@ -34,17 +34,18 @@ refused {S} {D} (store.Full used capacity) disk = left.Failed disk
 refused {S} {D} store.Failed disk = left.Failed disk
 refused {S} {D} store.Closed disk = left.Failed disk
 
--- The bytes that the disk told stand for this, and its bytes stand for it still.
-pub record IsOfDisk {D : Type 0} (seen : D → Option (List ℕ)) (limit : D → ℕ) (disk : D) (s : Store D) : Type 0 where
+-- The bytes that the disk told stand for this, and its bytes stand for it still. It didn't fail.
+pub record IsOfDisk {D : Type 0} (seen : D → Option (List ℕ)) (faults limit : D → ℕ) (disk : D) (s : Store D) : Type 0 where
   pub before : (bytes : List ℕ) → seen disk ≡ Some bytes → Stands bytes s.durable
   pub after : (bytes : List ℕ) → seen s.disk ≡ Some bytes → Stands bytes s.durable
   pub capacity : s.durable.capacity ≡ limit disk
+  pub quiet : faults s.disk ≡ faults disk
 
--- What the disk keeps was found; or it has a record that can't be taken, which a disk that stands for something has not; or it failed,
--- and its count of faults rose; or memory ran out, and it didn't.
+-- What the disk keeps was found; or it has a record that can't be taken, which a disk that stands for something has not; or it failed; or
+-- memory ran out. Where it failed its count of faults rose, and else it didn't.
 abbrev pub IsFound : {D : Type 0} → (D → Option (List ℕ)) → (D → ℕ) → (D → ℕ) → D → Left (Store D) D → Type 0
-IsFound {D} seen faults limit disk (left.Kept s) = IsOfDisk seen limit disk s
-IsFound {D} seen faults limit disk (left.Bad d) = (bytes : List ℕ) → seen disk ≡ Some bytes → (p : Durable) → p.capacity ≡ limit disk → Stands bytes p → ⊥
+IsFound {D} seen faults limit disk (left.Kept s) = IsOfDisk seen faults limit disk s
+IsFound {D} seen faults limit disk (left.Bad d) = (faults d ≡ faults disk) × ((bytes : List ℕ) → seen disk ≡ Some bytes → (p : Durable) → p.capacity ≡ limit disk → Stands bytes p → ⊥)
 IsFound {D} seen faults limit disk (left.Failed d) = Rose (faults disk) (faults d)
 IsFound {D} seen faults limit disk (left.Unread d) = faults d ≡ faults disk
 

@@ -37,7 +37,7 @@ chosen t a b e = ap (λ (x : Bool). if x then a else b) e
 in_four : (b : Blow) → b.call ≤ 4 → within 4 (Some b) ≡ Some b
 in_four b small = chosen (nat_lt 4 b.call) None (Some b) (le-ltb 4 b.call small)
 
--- What is known of a step that its disk ended, its calls numbered from behind `first` up to `last`. `came` tells whether a stop came.
+-- What is known of a step that its disk ended, its calls numbered from the one after `first` up to `last`. `came` tells whether a stop came.
 pub record IsEnded (armed : Armed) (setting : Setting) (first last : ℕ) (came : Bool) (rose : Type 0) : Type 0 where
   pub stop : setting.stop ≡ option_map (λ (s : ℕ × ℕ). first + s.0) armed.stop
   pub fail : setting.fail ≡ option_map (λ (k : ℕ). first + k) armed.fail
@@ -65,7 +65,7 @@ at_none setting last e b = subst (λ (o : Option ℕ). IsAt o last) e b
 at_some : (setting : Option ℕ) (last x : ℕ) → setting ≡ Some x → IsAt setting last → last ≡ x
 at_some setting last x e b = subst (λ (o : Option ℕ). IsAt o last) e b
 
-neither : (t : Bool) → t ≡ true → t ≡ false → ⊥
+pub neither : (t : Bool) → t ≡ true → t ≡ false → ⊥
 neither t e f = absurd cc
 
 pub none_cause : (setting : Setting) (last : ℕ) (rose : Type 0) → setting.stop ≡ None → setting.fail ≡ None → Trips setting last ⊎ rose → rose
@@ -75,9 +75,6 @@ none_cause setting last rose stop fail (inr did) = did
 
 is_at : (setting : Option ℕ) (last x : ℕ) → setting ≡ Some x → last ≡ x → IsAt setting last
 is_at setting last x e b = subst (λ (o : Option ℕ). IsAt o last) (sym e) b
-
-not_came : (came : Bool) → came ≡ true → came ≡ false → ⊥
-not_came came yes no = neither came yes no
 
 -- ---- the call at which it was set is the last that came
 
@@ -98,12 +95,12 @@ fail_last : (setting : Setting) (first last k : ℕ) → setting.fail ≡ Some (
 fail_last setting first last k fail due reached = fail_last_by setting first last k fail due reached (nat_lt (first + k) last) refl
 
 stays_by : (setting : Setting) (first last s : ℕ) (came : Bool) → setting.stop ≡ Some (first + s) → (IsBeyond setting.stop last → came ≡ true) → came ≡ false → (t : Bool) → nat_lt (first + s) last ≡ t → last ≤ first + s
-stays_by setting first last s came stop came_so no true e = absurd (not_came came (came_so (is_beyond setting.stop last (first + s) stop (ltb-true (first + s) last e))) no)
-stays_by setting first last s came stop came_so no false e = omega (arith, ltb-false (first + s) last e)
+stays_by setting first last s came stop came_so not_so true e = absurd (neither came (came_so (is_beyond setting.stop last (first + s) stop (ltb-true (first + s) last e))) not_so)
+stays_by setting first last s came stop came_so not_so false e = omega (arith, ltb-false (first + s) last e)
 
 -- no stop came: so many calls were to pass
 stays : (setting : Setting) (first last s : ℕ) (came : Bool) → setting.stop ≡ Some (first + s) → (IsBeyond setting.stop last → came ≡ true) → came ≡ false → last ≤ first + s
-stays setting first last s came stop came_so no = stays_by setting first last s came stop came_so no (nat_lt (first + s) last) refl
+stays setting first last s came stop came_so not_so = stays_by setting first last s came stop came_so not_so (nat_lt (first + s) last) refl
 
 -- ---- the cases, by what comes first
 
@@ -187,9 +184,9 @@ fail_cause setting first last k rose none fail (inr did) = inr did
 
 -- no stop came, and no failure was due yet
 own_by : (setting : Setting) (last : ℕ) (came : Bool) (rose : Type 0) → (IsAt setting.fail last → came ≡ true) → (IsBeyond setting.stop last → came ≡ true) → Trips setting last ⊎ rose → came ≡ false → rose
-own_by setting last came rose at_so came_so (inl (inl b)) no = absurd (not_came came (came_so b) no)
-own_by setting last came rose at_so came_so (inl (inr at)) no = absurd (not_came came (at_so at) no)
-own_by setting last came rose at_so came_so (inr did) no = did
+own_by setting last came rose at_so came_so (inl (inl b)) not_so = absurd (neither came (came_so b) not_so)
+own_by setting last came rose at_so came_so (inl (inr at)) not_so = absurd (neither came (at_so at) not_so)
+own_by setting last came rose at_so came_so (inr did) not_so = did
 
 abbrev both : ℕ → ℕ → ℕ → Armed
 both s pick k = record { stop = Some (s, pick); fail = Some k }

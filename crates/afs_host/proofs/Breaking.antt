@@ -29,7 +29,7 @@ use Rattle.afs_host.specs.Seats.{count_mark, disk_of, CanRun, IsStepDown, IsUp, 
 use Rattle.afs_host.specs.Serving.{HasFallen, HasServed, IsBroken}
 use Rattle.afs_host.specs.Setting.{pick_of, stops_now}
 use Rattle.afs_host.specs.Standing.{Lies, LiesAs, LiesFound, LiesIn}
-use Rattle.afs_host.proofs.Blows.{explained, IsSetBlow}
+use Rattle.afs_host.proofs.Blows.{explained, neither, IsSetBlow}
 use Rattle.afs_host.proofs.Lying.{begun_as, begun_lies, found_free, is_told, some_of, Begins}
 use Rattle.afs_host.proofs.Stepping.{as_up, same_row}
 
@@ -48,7 +48,7 @@ saves_calls boot clock (refuses head code) some = absurd (some refl)
 saves_calls boot clock (shows head r) some = absurd (some refl)
 saves_calls boot clock (saves head c) some = refl
 
--- What is known of a step that its disk ended, and of what a crash leaves behind it.
+-- What is known of a step that its disk ended, and of what a crash leaves after it.
 pub record Ended {D : Type 0} (seen : D → Option (List ℕ)) (may_leave : D → List ℕ → Type 0) (moment : D → ℕ) (left_since : D → ℕ → List ℕ → Type 0) (clock : ℕ) (found : Received) (old : Running D) (before after : D) : Type 0 where
   pub kept : IsKept old.store.durable (seen before) (may_leave before)
   pub counted : IsCounted old.store.count (seen before)
@@ -110,9 +110,6 @@ ended_left {D} seen left_by may_leave moment left_since now leaves clock found o
 
 -- ---- the server is down
 
-no_both : (t : Bool) → t ≡ true → t ≡ false → ⊥
-no_both t yes no = absurd cc
-
 -- which call of the step wasn't made, and which pick the disk was left with: that is what the blow leaves
 left_by_stop : (b : Blow) (n pick : ℕ) → n ≡ b.call → (b.stops ≡ true → pick ≡ b.pick) → (b.stops ≡ false → pick ≡ 1) → (t : Bool) → b.stops ≡ t → is_left_whole n pick ≡ leaves_after b
 left_by_stop b n pick is stop fail true e =
@@ -123,41 +120,46 @@ left_by_stop b n pick is stop fail false e =
 -- what a set blow left, of a disk from which this pick leaves these bytes
 set_found : (me : Node) (s : ServerState) (m : Message) (clock : ℕ) (b : Blow) (mark other : Mark) (bytes : List ℕ) (n pick : ℕ) → other ≡ mark → n ≡ b.call → (b.stops ≡ true → pick ≡ b.pick) → (b.stops ≡ false → pick ≡ 1) →
     LiesAs me s (in_step m clock b) mark (is_left_whole n pick) (whole_records bytes) → LiesFound me s (in_step m clock b) other (whole_records bytes)
-set_found me s m clock b mark other bytes n pick marked is stop fail lies =
-    (leaves_after b, ((λ set. refl), subst (λ (k : Mark). LiesAs me s (in_step m clock b) k (leaves_after b) (whole_records bytes)) (sym marked)
-    (subst (λ (t : Bool). LiesAs me s (in_step m clock b) mark t (whole_records bytes)) (left_by_stop b n pick is stop fail b.stops refl) lies)))
+set_found me s m clock b mark other bytes n pick marked is stop fail lies = (
+  leaves_after b,
+  (
+    (λ set. refl),
+    subst (λ (k : Mark). LiesAs me s (in_step m clock b) k (leaves_after b) (whole_records bytes)) (sym marked)
+        (subst (λ (t : Bool). LiesAs me s (in_step m clock b) mark t (whole_records bytes)) (left_by_stop b n pick is stop fail b.stops refl) lies),
+  ),
+)
 
 -- of a disk that failed by itself it isn't known which
 own_found : (me : Node) (s : ServerState) (m : Message) (clock : ℕ) (b : Blow) (mark : Mark) (records : List (List ℕ)) → b.is_set ≡ false → LiesIn me s (in_step m clock b) mark records → LiesFound me s (in_step m clock b) mark records
-own_found me s m clock b mark records own lies = found_free me s (in_step m clock b) mark records (λ after set. absurd (no_both b.is_set set own)) lies
+own_found me s m clock b mark records own lies = found_free me s (in_step m clock b) mark records (λ after set. absurd (neither b.is_set set own)) lies
 
 -- what a read gives then is what a restart may find
-fallen_found : {D : Type 0} (seen : D → Option (List ℕ)) (left_by : D → ℕ → Option (List ℕ)) (may_leave : D → List ℕ → Type 0) (leaves : (disk : D) (pick : ℕ) (c : List ℕ) → left_by disk pick ≡ Some c → may_leave disk c) (shows : (disk : D) → left_by disk 1 ≡ seen disk) (faults limit : D → ℕ) (old new : Running D)
+fallen_found : {D : Type 0} (seen : D → Option (List ℕ)) (left_by : D → ℕ → Option (List ℕ)) (may_leave : D → List ℕ → Type 0) (leaves : (disk : D) (pick : ℕ) (c : List ℕ) → left_by disk pick ≡ Some c → may_leave disk c) (reads : (disk : D) → left_by disk 1 ≡ seen disk) (faults limit : D → ℕ) (old new : Running D)
     (clock : ℕ) (found : Received) → IsBroken seen left_by may_leave faults limit old clock found new → (s : Resting D) (line : Line) → (fallen : HasFallen seen left_by may_leave faults limit new s line) → (m : Message) → found ≡ Whole m → (b : Blow) → b.stops ≡ stops_now fallen.came old.armed → s.mark ≡ count_mark old.store.count →
     (b.is_set ≡ true → IsSetBlow old.armed (record { stop = old.store.disk.stop; fail = old.store.disk.fail }) old.store.disk.calls new.store.disk.calls b) → (bytes : List ℕ) → seen s.disk ≡ Some bytes → IsSome (seen s.disk) → (set : Bool) → b.is_set ≡ set → (stops : Bool) → b.stops ≡ stops →
     LiesFound old.store.node (server_seen old.memory old.store) (in_step m clock b) s.mark (whole_records bytes)
-fallen_found {D} seen left_by may_leave leaves shows faults limit old new clock found broken s line fallen m whole b stops_is mark_is told bytes at some false own stops e =
+fallen_found {D} seen left_by may_leave leaves reads faults limit old new clock found broken s line fallen m whole b stops_is mark_is told bytes at some false own stops e =
     let state = server_seen old.memory old.store in
     own_found old.store.node state m clock b s.mark (whole_records bytes) own
-    (subst (λ (k : Mark). LiesIn old.store.node state (in_step m clock b) k (whole_records bytes)) (sym mark_is) (broken.lies m b whole (fallen.told.0 some) bytes (fallen.image some bytes (leaves s.disk 1 bytes (shows s.disk ∙ at)))))
-fallen_found {D} seen left_by may_leave leaves shows faults limit old new clock found broken s line fallen m whole b stops_is mark_is told bytes at some true set true e =
+    (subst (λ (k : Mark). LiesIn old.store.node state (in_step m clock b) k (whole_records bytes)) (sym mark_is) (broken.lies m b whole (fallen.told.0 some) bytes (fallen.image some bytes (leaves s.disk 1 bytes (reads s.disk ∙ at)))))
+fallen_found {D} seen left_by may_leave leaves reads faults limit old new clock found broken s line fallen m whole b stops_is mark_is told bytes at some true set true e =
     let t = told set in
     let line_is : line ≡ lines.Crash new.store.node = fallen.line_is ∙ ap (fall_line new.store.node) (ap (stops_now fallen.came) broken.armed ∙ (sym stops_is ∙ e)) in
     let left = sym (fallen.picked line_is) ∙ at in
     set_found old.store.node (server_seen old.memory old.store) m clock b (count_mark old.store.count) s.mark bytes (new.store.disk.calls - old.store.disk.calls) (pick_of new.armed) mark_is (omega (arith, t.counted))
-    (λ stops. ap pick_of broken.armed ∙ sym (t.pick stops)) (λ no. absurd (no_both b.stops e no)) (broken.left m b whole (fallen.told.0 some) t.trips (pick_of new.armed) bytes left)
-fallen_found {D} seen left_by may_leave leaves shows faults limit old new clock found broken s line fallen m whole b stops_is mark_is told bytes at some true set false e =
+    (λ stops. ap pick_of broken.armed ∙ sym (t.pick stops)) (λ no. absurd (neither b.stops e no)) (broken.left m b whole (fallen.told.0 some) t.trips (pick_of new.armed) bytes left)
+fallen_found {D} seen left_by may_leave leaves reads faults limit old new clock found broken s line fallen m whole b stops_is mark_is told bytes at some true set false e =
     let t = told set in
     let line_is : line ≡ lines.Fault new.store.node = fallen.line_is ∙ ap (fall_line new.store.node) (ap (stops_now fallen.came) broken.armed ∙ (sym stops_is ∙ e)) in
-    let left = shows (disk_of new) ∙ (ap seen (sym (fallen.stays line_is)) ∙ at) in
+    let left = reads (disk_of new) ∙ (ap seen (sym (fallen.stays line_is)) ∙ at) in
     set_found old.store.node (server_seen old.memory old.store) m clock b (count_mark old.store.count) s.mark bytes (new.store.disk.calls - old.store.disk.calls) 1 mark_is (omega (arith, t.counted))
-    (λ yes. absurd (no_both b.stops yes e)) (λ no. refl) (broken.left m b whole (fallen.told.0 some) t.trips 1 bytes left)
+    (λ yes. absurd (neither b.stops yes e)) (λ no. refl) (broken.left m b whole (fallen.told.0 some) t.trips 1 bytes left)
 
 -- the host fell with some luck, and as the line tells
-pub down_step : {D : Type 0} (seen : D → Option (List ℕ)) (left_by : D → ℕ → Option (List ℕ)) (may_leave : D → List ℕ → Type 0) (leaves : (disk : D) (pick : ℕ) (c : List ℕ) → left_by disk pick ≡ Some c → may_leave disk c) (shows : (disk : D) → left_by disk 1 ≡ seen disk) (faults limit : D → ℕ) (old new : Running D) (clock : ℕ) (found : Received) → CanRun old → IsBroken seen left_by may_leave faults limit old clock found new →
+pub down_step : {D : Type 0} (seen : D → Option (List ℕ)) (left_by : D → ℕ → Option (List ℕ)) (may_leave : D → List ℕ → Type 0) (leaves : (disk : D) (pick : ℕ) (c : List ℕ) → left_by disk pick ≡ Some c → may_leave disk c) (reads : (disk : D) → left_by disk 1 ≡ seen disk) (faults limit : D → ℕ) (old new : Running D) (clock : ℕ) (found : Received) → CanRun old → IsBroken seen left_by may_leave faults limit old clock found new →
     (s : Resting D) (line : Line) → HasFallen seen left_by may_leave faults limit new s line → (h : Host) → IsUp old h → (m : Message) → found ≡ Whole m → (place : ℕ) →
     HasServed old.store.node h clock place m (IsStepDown seen may_leave limit old.store.node s (lines.Given place ∷ line ∷ [])) (Rose (faults (disk_of old)) (faults s.disk))
-down_step {D} seen left_by may_leave leaves shows faults limit old new clock found can broken s line fallen h up m whole place =
+down_step {D} seen left_by may_leave leaves reads faults limit old new clock found can broken s line fallen h up m whole place =
     let me = old.store.node in
     let state = server_seen old.memory old.store in
     let x = explained old.armed (record { stop = old.store.disk.stop; fail = old.store.disk.fail }) old.store.disk.calls new.store.disk.calls fallen.came (Rose (faults (disk_of old)) (faults (disk_of new))) (record {
@@ -184,7 +186,7 @@ down_step {D} seen left_by may_leave leaves shows faults limit old new clock fou
               armed = refl;
               capacity = broken.capacity ∙ sym fallen.same_limit;
               lies = λ told c left. subst (λ (k : Mark). Lies me state (in_step m clock x.blow) k c) (sym mark_is) (broken.lies m x.blow whole (fallen.told.0 told) c (fallen.image told c left));
-              found = λ bytes at. fallen_found seen left_by may_leave leaves shows faults limit old new clock found broken s line fallen m whole x.blow x.stops_is mark_is x.told bytes at (is_told (seen s.disk) bytes at) x.blow.is_set refl x.blow.stops refl;
+              found = λ bytes at. fallen_found seen left_by may_leave leaves reads faults limit old new clock found broken s line fallen m whole x.blow x.stops_is mark_is x.told bytes at (is_told (seen s.disk) bytes at) x.blow.is_set refl x.blow.stops refl;
             };
             lines = ap (λ (l : Line). lines.Given place ∷ l ∷ []) line_is;
             sent = refl;

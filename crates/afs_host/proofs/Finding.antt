@@ -107,27 +107,29 @@ capacity_after me s at_rest = refl
 capacity_after me s (in_step m clock b) = decided_capacity me s clock (decides me s clock (Whole m))
 capacity_after me s in_boot = refl
 
--- which of the two it is, and with which lines the restart begins
+-- which of the two it is, as the blow allows it, and with which lines the restart begins
 pub record Finds (me : Node) (s : ServerState) (fall : Fall) (durable : Durable) (front : List Line) : Type 0 where
   pub after : Bool
+  pub may : MayFind fall after
   pub read : lasting_of durable ≡ (begun_by_disk me s after fall).state.lasting
   pub before : (ls : List Line) → (begun_by_disk me s after fall).before ls ≡ front ++ ls
 
 finds_before : (me : Node) (s : ServerState) (fall : Fall) (mark : Mark) (records : List (List ℕ)) (durable : Durable) (front : List Line) (capacity : ℕ) → durable.capacity ≡ capacity → s.lasting.capacity ≡ capacity →
-    StandFor records durable → lines_begun me mark capacity records ≡ Some front → LiesBefore s mark records → Finds me s fall durable front
-finds_before me s fall mark records durable front capacity dc sc stands lines b =
+    StandFor records durable → lines_begun me mark capacity records ≡ Some front → MayFind fall false → LiesBefore s mark records → Finds me s fall durable front
+finds_before me s fall mark records durable front capacity dc sc stands lines may b =
     let d = b.before.durable in
     let same = same_durable records durable d (dc ∙ (sym sc ∙ sym (ap (λ (l : Lasting). l.capacity) b.before.read))) stands b.before.stands in
     let none = none_told mark records (last_effect me capacity records) front (same_mark_is (mark_of records) mark b.marked) lines in
     record {
       after = false;
+      may = may;
       read = ap lasting_of same ∙ (b.before.read ∙ ap (λ (x : Begun). x.state.lasting) (sym (state_before me s fall)));
       before = λ ls. ap (λ (x : Begun). x.before ls) (state_before me s fall) ∙ ap (λ (f : List Line). f ++ ls) (sym none);
     }
 
 finds_after : (me : Node) (s : ServerState) (fall : Fall) (mark : Mark) (records : List (List ℕ)) (durable : Durable) (front : List Line) (capacity : ℕ) → durable.capacity ≡ capacity → s.lasting.capacity ≡ capacity →
-    StandFor records durable → lines_begun me mark capacity records ≡ Some front → LiesAfter me s fall mark records → Finds me s fall durable front
-finds_after me s fall mark records durable front capacity dc sc stands lines a =
+    StandFor records durable → lines_begun me mark capacity records ≡ Some front → MayFind fall true → LiesAfter me s fall mark records → Finds me s fall durable front
+finds_after me s fall mark records durable front capacity dc sc stands lines may a =
     let d = a.before.before.durable in
     let e = a.after.durable in
     let d_capacity : d.capacity ≡ capacity = ap (λ (l : Lasting). l.capacity) a.before.before.read ∙ sc in
@@ -141,18 +143,18 @@ finds_after me s fall mark records durable front capacity dc sc stands lines a =
     let told = last_told mark (a.first ++ record_bytes a.last ∷ []) (last_effect me capacity (a.first ++ record_bytes a.last ∷ [])) (effect_of me a.last d) front (other_mark a.first (record_bytes a.last) mark a.before.marked) effect begun in
     record {
       after = true;
+      may = may;
       read = ap lasting_of same ∙ a.after.read;
       before = λ ls. a.told ls ∙ ap (λ (f : List Line). f ++ ls) (sym told);
     }
 
 finds_by : (me : Node) (s : ServerState) (fall : Fall) (mark : Mark) (records : List (List ℕ)) (durable : Durable) (front : List Line) (capacity : ℕ) → durable.capacity ≡ capacity → s.lasting.capacity ≡ capacity →
-    StandFor records durable → lines_begun me mark capacity records ≡ Some front → (after : Bool) → MayFind fall after → LiesAs me s fall mark after records → (f : Finds me s fall durable front) × MayFind fall f.after
-finds_by me s fall mark records durable front capacity dc sc stands lines false may b = (finds_before me s fall mark records durable front capacity dc sc stands lines b, may)
-finds_by me s fall mark records durable front capacity dc sc stands lines true may a = (finds_after me s fall mark records durable front capacity dc sc stands lines a, may)
+    StandFor records durable → lines_begun me mark capacity records ≡ Some front → (after : Bool) → MayFind fall after → LiesAs me s fall mark after records → Finds me s fall durable front
+finds_by me s fall mark records durable front capacity dc sc stands lines false may b = finds_before me s fall mark records durable front capacity dc sc stands lines may b
+finds_by me s fall mark records durable front capacity dc sc stands lines true may a = finds_after me s fall mark records durable front capacity dc sc stands lines may a
 
--- it is one that a restart may find
 pub finds_found : (me : Node) (s : ServerState) (fall : Fall) (mark : Mark) (records : List (List ℕ)) (durable : Durable) (front : List Line) (capacity : ℕ) → durable.capacity ≡ capacity → s.lasting.capacity ≡ capacity →
-    StandFor records durable → lines_begun me mark capacity records ≡ Some front → LiesFound me s fall mark records → (f : Finds me s fall durable front) × MayFind fall f.after
+    StandFor records durable → lines_begun me mark capacity records ≡ Some front → LiesFound me s fall mark records → Finds me s fall durable front
 finds_found me s fall mark records durable front capacity dc sc stands lines found = finds_by me s fall mark records durable front capacity dc sc stands lines found.0 found.1.0 found.1.1
 
 -- both stand for something

@@ -28,7 +28,7 @@ pub is_told : (o : Option (List ℕ)) (bytes : List ℕ) → o ≡ Some bytes �
 is_told o bytes at = subst (λ (p : Option (List ℕ)). IsSome p) (sym at) refl
 
 pub if_some : {A : Type 0} (o : Option A) (P : A → Type 0) (x : A) → o ≡ Some x → IfSome o P → P x
-if_some {A} o P x e if = subst (λ (p : Option A). IfSome p P) e if
+if_some {A} o P x e has = subst (λ (p : Option A). IfSome p P) e has
 
 -- ---- a disk at rest
 
@@ -68,7 +68,7 @@ left_image seen before now image told c left =
 pub bind_is : {A B : Type 0} (o : Option A) (x : A) (f : A → Option B) (y : B) → o ≡ Some x → (o >>= f) ≡ Some y → f x ≡ Some y
 bind_is {A} {B} o x f y e h = subst (λ (p : Option A). (p >>= f) ≡ Some y) e h
 
--- records that stand for something with this one behind them: it was taken
+-- records that stand for something with this one after them: it was taken
 more_from : (bs : List (List ℕ)) (bytes : List ℕ) (r : StoreRecord) (c d e : Durable) → fold_from bs c ≡ Some d → record_at bytes ≡ Some r → fold_from (bs ++ bytes ∷ []) c ≡ Some e → folded r d ≡ Some e
 more_from [] bytes r c d e h is stands =
     let p = bind_is (record_at bytes) r (λ q. (folded q c >>= fold_from [])) e is stands in

@@ -21,8 +21,8 @@ use Rattle.afs_host.specs.Seats.{count_mark, disk_of, GoesOn, IsSame, IsStepDown
 use Rattle.afs_host.specs.Setting.{pick_of, stops_now}
 use Rattle.afs_host.specs.Standing.{Lies, LiesAs}
 
--- What became of a server that was given a message: it is up, and gave this out; or it went down, as this line tells. Memory may
--- have been wanting, and then nothing was done.
+-- What became of a server that was given a message: it is up, and gave this out; or it went down, as this line tells. Or memory
+-- ran out, and then nothing was done.
 pub data Served (D : Type 0) : Type 0 where
   is_up : Running D → Outs → Served D
   is_down : Resting D → Line → Served D
@@ -42,7 +42,7 @@ pub record HasServed (me : Node) (h : Host) (clock place : ℕ) (m : Message) (I
   pub blame : GivesOut luck → rose
 
 -- So it is of each host that the server stands for, and of the message that was found, at any place: the server is up, and gave
--- this out behind the line of the place; or it went down, and that line and this are all. Or memory was wanting, and it is as it was.
+-- this out after the line of the place; or it went down, and that line and this are all. Or memory ran out, and it is as it was.
 abbrev pub IsServed : {D : Type 0} → (D → Option (List ℕ)) → (D → ℕ → Option (List ℕ)) → (D → ℕ) → (D → List ℕ → Type 0) → (D → ℕ) → (D → ℕ → List ℕ → Type 0) → (D → ℕ) → (D → ℕ) →
     Running D → ℕ → Received → Served D → Type 0
 IsServed {D} seen left_by size may_leave moment left_since faults limit old clock found (is_up r outs) =

@@ -20,6 +20,7 @@ use Rattle.afs_server.specs.Handling.{lines_behind, record_decided, server_seen,
 use Rattle.afs_server.specs.Seen.{lasting_of, Memory, Serves}
 use Rattle.afs_server.specs.declared.faults.NodeFault.{NodeFault}
 use Rattle.afs_server.specs.declared.faults.NodeFault.TheVariants as faults
+use Rattle.afs_server.specs.declared.faults.NodeFault.TheVariants.{Down}
 
 -- ---- the disk
 
@@ -37,8 +38,8 @@ pub record OnDisk {D T : Type 0} (seen : D → Option (List ℕ)) (left_by : D �
   pub told : IsSome (seen new) ↔ IsSome (seen old)
   pub quiet : IsQuiet decided result → SameDisk seen left_by size may_leave moment left_since old new × SameCounts faults own_faults calls setting limit old new
   pub any_moment : (r : StoreRecord) → IsWritten r decided result → (bytes : List ℕ) → seen old ≡ Some bytes → LeavesOnly moment left_since old new (LeftAround (whole_records bytes) r d)
-  pub reached : IsErrOf result faults.Down → ReachesCall (setting old) (calls old) (calls new)
-  pub left : IsErrOf result faults.Down → (r : StoreRecord) → decided ≡ Some r → (bytes : List ℕ) → seen old ≡ Some bytes → LeavesByPick left_by calls setting (whole_records bytes) (record_bytes r) old new
+  pub reached : IsErrOf result Down → ReachesCall (setting old) (calls old) (calls new)
+  pub left : IsErrOf result Down → (r : StoreRecord) → decided ≡ Some r → (bytes : List ℕ) → seen old ≡ Some bytes → LeavesByPick left_by calls setting (whole_records bytes) (record_bytes r) old new
   pub fits : (r : StoreRecord) → IsWritten r decided result → FitsRecord r
   pub most : (calls old ≤ calls new) × (calls new ≤ calls old + 4)
   pub limited : limit new ≡ limit old

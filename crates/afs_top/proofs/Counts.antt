@@ -10,13 +10,13 @@ use Rattle.afs_disk.specs.declared.bank.LendFault.{LendFault}
 use Rattle.afs_disk.specs.declared.bank.LendFault.TheVariants as lending
 use Rattle.afs_disk.specs.declared.disks.Lent.{Lent}
 use Rattle.afs_volstore.specs.Stores.{Store}
-use Rattle.afs_cell.specs.Ends.{NoneFell, RoseAt}
+use Rattle.afs_cell.specs.Ends.{NoneFell, NoneRose, RoseAt}
 use Rattle.afs_cell.specs.Steps.{lent_from}
 use Rattle.afs_cell.specs.Worlds.{all_faults, seat_disk, Counts, OneIsFull, ServerSeat}
 use Rattle.afs_final.specs.Reading.{fault_in, kept_disk, AreFound}
 use Rattle.afs_final.specs.declared.reading.Left.{Left}
 use Rattle.afs_final.specs.declared.reading.Left.TheVariants as left
-use Rattle.afs_lending.specs.Lending.{faults_of, kept_disks, with_faults}
+use Rattle.afs_lending.specs.Lending.{faults_of, kept_disks, with_faults, AreUnused}
 use Rattle.afs_outside.specs.Outside as outside
 use Rattle.afs_top.specs.Outside.{span, RoseBy}
 
@@ -149,12 +149,25 @@ found_failed {D} seen faults limit i (l ∷ ls) (left.Unread d ∷ fs) found fai
 pub none_fell : {D : Type 0} (faults : D → ℕ) (n : Node) (i : ℕ) (ls back : List (Lent D)) → NoneFell faults ls back → RoseAt faults n i ls back → AtLeast 1 (faults_of faults back)
 none_fell {D} faults n i [] back fell rose = absurd rose
 none_fell {D} faults n i (l ∷ ls) [] fell rose = absurd fell
-none_fell {D} faults n i (l ∷ ls) (b ∷ back) fell (inl (named, inl here)) = inl (omega (arith, here))
-none_fell {D} faults n i (l ∷ ls) (b ∷ back) fell (inl (named, inr full)) = inr (inl (omega (arith, full, fell.0)))
-none_fell {D} faults n i (l ∷ ls) (b ∷ back) fell (inr there) = either (none_fell faults n (i + 1) ls back fell.1 there) where
+none_fell {D} faults n i (l ∷ ls) (b ∷ back) fell (inl (named, (inl here, others))) = inl (omega (arith, here))
+none_fell {D} faults n i (l ∷ ls) (b ∷ back) fell (inl (named, (inr full, others))) = inr (inl (omega (arith, full, fell.0)))
+none_fell {D} faults n i (l ∷ ls) (b ∷ back) fell (inr (quiet, there)) = either (none_fell faults n (i + 1) ls back fell.1 there) where
   either : AtLeast 1 (faults_of faults back) → AtLeast 1 (faults b.disk ∷ faults_of faults back)
   either (inl many) = inl (omega (arith, many))
   either (inr full) = inr (inr full)
+
+no_more : (a b c : ℕ) → a ≤ b → b ≤ c → a ≤ c
+no_more a b c first second = omega (arith, first, second)
+
+-- where none of them fails, and none had failed, their sum doesn't rise
+pub none_rose : {D : Type 0} (faults : D → ℕ) (ls back : List (Lent D)) (sum : ℕ) → AreUnused faults ls → NoneRose faults ls back → with_faults (faults_of faults back) sum ≤ sum
+none_rose {D} faults [] [] sum unused none = omega (arith)
+none_rose {D} faults [] (b ∷ back) sum unused none = absurd none
+none_rose {D} faults (l ∷ ls) [] sum unused none = absurd none
+none_rose {D} faults (l ∷ ls) (b ∷ back) sum unused none =
+    let quiet : faults b.disk ≡ 0 = omega (arith, none.0, unused.0) in
+    let here : min (sum + faults b.disk) last_count ≤ sum = omega (arith, quiet) in
+    no_more _ _ sum (none_rose faults ls back (min (sum + faults b.disk) last_count) unused.1 none.1) here
 
 -- ---- one count
 

@@ -31,12 +31,12 @@ use Rattle.afs_final.specs.Reading.{fault_in, part, AreFound}
 use Rattle.afs_final.specs.declared.reading.Left.{Left}
 use Rattle.afs_disk.specs.Fuses.{last_count}
 use Rattle.afs_lending.specs.Lending.{faults_of, kept_disks, lends, with_faults, AreLent, AreUnused, GivesBackBut, GoBack, HasFailed}
-use Rattle.afs_top.specs.Outside.{span, IsUnchanged, Outside, RoseBy, SoManyFailed, Span, Writes, WritesAll, WritesText, WritesWhole}
+use Rattle.afs_top.specs.Outside.{span, DidNotRise, IsUnchanged, Outside, RoseBy, SoManyFailed, Span, Writes, WritesAll, WritesText, WritesWhole}
 use Rattle.afs_top.specs.Parts.{lend_status, returned, set_up_status, TellsLeft}
 use Rattle.afs_top.specs.Top.{lends_of, AreAllBut, AreOfServers, AtBankFault, EndsReplay, EndsRun, GivesBack, GivesBackLent, GivesBackThose, IsFew, IsFull, IsLegalRun, LendingLeaves, MissedByTheBank, NoneIsMissing, NotToItsEnd, ReadingFails, Replays, ReplaysFirst, ReplaysSome, ReplaysUnread, SetUpLeaves, SomeOfIt, ToItsEnd, WritesEntries, WritesRun}
 use Rattle.afs_top.specs.declared.statuses.Status.{Status}
 use Rattle.afs_top.specs.declared.statuses.Status.TheVariants as statuses
-use Rattle.afs_top.proofs.Counts.{counted, counts_lent, found_failed, found_no_less, grown, none_fell, one_grown, rose_once, AtLeast}
+use Rattle.afs_top.proofs.Counts.{counted, counts_lent, found_failed, found_no_less, grown, none_fell, none_rose, one_grown, rose_once, AtLeast}
 use Rattle.afs_top.proofs.Ending.{found_come, given_so, left_so, legal_run, length_told, lent_come, lent_length, no_others, read_so, Missing}
 
 -- ---- the disks go back
@@ -193,7 +193,7 @@ ended {D} seen may_leave faults limit s w fs wire o statuses.WriteFault taken is
       told = λ p. replays seen may_leave faults limit s w fs wire (AppendsFront o.sink.before o.sink.after) (MissedByTheBank o) o is found tells.0 tells.1.0 back (missed seen faults (kept_disks 1 fs) o back) p;
     }
 ended {D} seen may_leave faults limit s w fs wire o statuses.BankFault taken is found tells all quiet cause back = inr (inl (reading_fails seen may_leave faults limit s w fs wire o is found tells.0 tells.1 back))
-ended {D} seen may_leave faults limit s w fs wire o statuses.OutOfMemory taken is found tells all quiet cause back = inr (record { written = entries_of seen may_leave faults limit s w IsFew wire o is.world is.world.safe.entries tells; told = λ p. reading_stops seen may_leave faults limit s w fs wire o is found tells back p })
+ended {D} seen may_leave faults limit s w fs wire o statuses.OutOfMemory taken is found tells all quiet cause back = inr (record { written = entries_of seen may_leave faults limit s w IsFew wire o is.world is.world.safe.entries tells.1; told = λ p. reading_stops seen may_leave faults limit s w fs wire o is found tells.1 back p })
 ended {D} seen may_leave faults limit s w fs wire o statuses.Usage taken is found tells all quiet cause back = absurd tells
 ended {D} seen may_leave faults limit s w fs wire o (statuses.Script line reason) taken is found tells all quiet cause back = absurd tells
 ended {D} seen may_leave faults limit s w fs wire o statuses.ReadFault taken is found tells all quiet cause back = absurd tells
@@ -255,12 +255,13 @@ not_set_up {D} seen may_leave faults s wire tells disks (setup.Disk n, back) o u
     inl (record {
       rose = rose_by 1 _ o.disk_faults gone.counts (none_fell faults n 1 disks back refused.0 refused.1);
       written = unwritten;
-      only_set_up = record { lent = disks; unused = unused; back = back; counted = whose.1; are = whose.0; left = left; given = missed_of seen faults back o gone };
+      only_set_up = record { lent = disks; unused = unused; back = back; counted = whose.1; are = whose.0; failed = inl (n, refused.1); left = left; given = missed_of seen faults back o gone };
     })
 not_set_up {D} seen may_leave faults s wire tells disks (setup.OutOfMemory, back) o unused refused left whose unwritten gone =
     inl (record {
+      quiet = subst (λ (n : ℕ). n ≤ o.disk_faults.before) (sym gone.counts) (none_rose faults disks back o.disk_faults.before unused refused.1);
       written = unwritten;
-      only_set_up = record { lent = disks; unused = unused; back = back; counted = whose.1; are = whose.0; left = left; given = missed_of seen faults back o gone };
+      only_set_up = record { lent = disks; unused = unused; back = back; counted = whose.1; are = whose.0; failed = inr refused.1; left = left; given = missed_of seen faults back o gone };
     })
 
 -- ---- seen from before
@@ -386,6 +387,9 @@ unwritten_since o earlier since w = subst (λ (x : Span (Option (List ℕ))). Is
 disks_since : (n : ℕ) (o earlier : Outside) → Since o earlier → RoseBy n o.disk_faults → RoseBy n earlier.disk_faults
 disks_since n o earlier since rose = subst (λ (x : Span ℕ). RoseBy n x) (sym since.disk_faults) rose
 
+still_since : (o earlier : Outside) → Since o earlier → DidNotRise o.disk_faults → DidNotRise earlier.disk_faults
+still_since o earlier since still = subst (λ (x : Span ℕ). DidNotRise x) (sym since.disk_faults) still
+
 unread_since : (s : Script) (wire : Bool) (o earlier : Outside) → Since o earlier → ReplaysUnread s wire o → ReplaysUnread s wire earlier
 unread_since s wire o earlier since r = record {
   history = r.history;
@@ -421,7 +425,7 @@ ends_since s wire tells tells_too left left_too o earlier statuses.WriteFault si
       told = λ x. replays_since s wire _ _ _ _ o earlier since (front_since o earlier since) (missed_since o earlier since) (h.told (t x));
     }
 ends_since s wire tells tells_too left left_too o earlier statuses.BankFault since t l h = bank_fault_since s wire tells tells_too left left_too o earlier since t l h
-ends_since s wire tells tells_too left left_too o earlier statuses.OutOfMemory since t l (inl h) = inl (record { written = unwritten_since o earlier since h.written; only_set_up = l h.only_set_up })
+ends_since s wire tells tells_too left left_too o earlier statuses.OutOfMemory since t l (inl h) = inl (record { quiet = still_since o earlier since h.quiet; written = unwritten_since o earlier since h.written; only_set_up = l h.only_set_up })
 ends_since s wire tells tells_too left left_too o earlier statuses.OutOfMemory since t l (inr h) = inr (record { written = entries_since _ wire o earlier since h.written; told = λ x. some_since s wire o earlier since (h.told (t x)) })
 ends_since s wire tells tells_too left left_too o earlier statuses.Limit since t l h = record { written = entries_since _ wire o earlier since h.written; told = λ x. first_since s wire o earlier since (h.told (t x)) }
 ends_since s wire tells tells_too left left_too o earlier statuses.Usage since t l h = absurd h
@@ -438,6 +442,7 @@ left_since {D} seen may_leave faults s o earlier since l = record {
   back = l.back;
   counted = l.counted;
   are = l.are;
+  failed = l.failed;
   left = l.left;
   given = lent_since seen l.back o earlier since l.given;
 }

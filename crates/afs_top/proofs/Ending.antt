@@ -82,7 +82,7 @@ one_left {D} seen faults limit c i l (left.Kept s) fs stand tells read none =
 one_left {D} seen faults limit c i l (left.Bad d) fs stand tells read none =
     let bytes = some_of (seen l.disk) tells in
     let p = stand bytes.0 bytes.1 in
-    absurd (read.is bytes.0 bytes.1 p.0 p.1.1.1 p.1.1.0)
+    absurd (read.is.1 bytes.0 bytes.1 p.0 p.1.1.1 p.1.1.0)
 one_left {D} seen faults limit c i l (left.Failed d) fs stand tells read none = absurd (no_fault _ none)
 one_left {D} seen faults limit c i l (left.Unread d) fs stand tells read none = absurd (no_fault _ none)
 
@@ -151,7 +151,7 @@ one_stands {D} seen faults limit c i l (left.Kept s) fs stand tells read none = 
 one_stands {D} seen faults limit c i l (left.Bad d) fs stand tells read none =
     let bytes = some_of (seen l.disk) tells in
     let p = stand bytes.0 bytes.1 in
-    absurd (read.is bytes.0 bytes.1 p.0 p.1.1.1 p.1.1.0)
+    absurd (read.is.1 bytes.0 bytes.1 p.0 p.1.1.1 p.1.1.0)
 one_stands {D} seen faults limit c i l (left.Failed d) fs stand tells read none = absurd (no_fault _ none)
 one_stands {D} seen faults limit c i l (left.Unread d) fs stand tells read none = absurd (no_fault _ none)
 

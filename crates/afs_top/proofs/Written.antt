@@ -21,11 +21,18 @@ written_by x a b passed f g (Err e) all p = inr (rose_outside f g p.cause.cause,
 pub passed_by : {T : Type 0} (x : List ℕ) (a b passed : Option (List ℕ)) (f g : ℕ) (r : Result T Failed) → OnOk r (passed ≡ b) → Puts (x ++ []) a b f g r → WritesText (span a b) passed (span f g) x
 passed_by x a b passed f g r all p = written_by x a b passed f g r all (subst (λ (t : List ℕ). Puts t a b f g r) (append-nil x) p)
 
+not_both : (fault : Option LendFault) → fault ≡ Some lending.OutOfMemory → fault ≡ Some lending.Failed → ⊥
+not_both fault memory failed = absurd cc
+
+not_none : (fault : Option LendFault) → fault ≡ None → fault ≡ Some lending.Failed → ⊥
+not_none fault none failed = absurd cc
+
 -- the disks couldn't be read
 untold_so : (history final : List ℕ) (fault : Option LendFault) (why : LendFault) (sink : Span (Option (List ℕ))) (passed : Option (List ℕ)) (faults : Span ℕ) → IsUntold fault why → WritesText sink passed faults history → TellsLeft history final fault sink passed faults (lend_status why)
 untold_so history final fault lending.Failed sink passed faults (inl e) written = (e, written)
-untold_so history final fault lending.Failed sink passed faults (inr e) written = absurd cc
-untold_so history final fault lending.OutOfMemory sink passed faults e written = written
+untold_so history final fault lending.Failed sink passed faults (inr (none, e)) written = absurd cc
+untold_so history final fault lending.OutOfMemory sink passed faults (inl e) written = (λ failed. not_both fault e failed, written)
+untold_so history final fault lending.OutOfMemory sink passed faults (inr (none, e)) written = (λ failed. not_none fault none failed, written)
 
 pub untold : (history final : List ℕ) (fault : Option LendFault) (why : LendFault) (sink : Span (Option (List ℕ))) (passed : Option (List ℕ)) (faults : Span ℕ) (status : Status) → status ≡ lend_status why → IsUntold fault why → WritesText sink passed faults history → TellsLeft history final fault sink passed faults status
 untold history final fault why sink passed faults status is reason written = subst (λ (x : Status). TellsLeft history final fault sink passed faults x) (sym is) (untold_so history final fault why sink passed faults reason written)

@@ -33,6 +33,9 @@ pub record Outside : Type 0 where
 abbrev pub RoseBy : ℕ → Span ℕ → Type 0
 RoseBy n count = (count.before + n ≤ count.after) ⊎ (last_count ≤ count.after)
 
+abbrev pub DidNotRise : Span ℕ → Type 0
+DidNotRise count = count.after ≤ count.before
+
 -- So many failed: the count rose so, and where none failed it stands.
 abbrev pub SoManyFailed : ℕ → Span ℕ → Type 0
 SoManyFailed n count = HasFailed n count.before count.after

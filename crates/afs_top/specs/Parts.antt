@@ -47,14 +47,14 @@ returned status taken = status
 -- ---- the text
 
 -- The final part was written after the history, or a beginning of both, where the disks could be read. Else nothing was written after the
--- history, nor where memory ran out.
+-- history, nor where memory ran out; and that isn't told where a disk failed.
 abbrev pub TellsLeft : List ℕ → List ℕ → Option LendFault → Span (Option (List ℕ)) → Option (List ℕ) → Span ℕ → Status → Type 0
 TellsLeft history final fault sink passed faults statuses.Done = (fault ≡ None) × WritesWhole sink passed faults (history ++ final)
 TellsLeft history final fault sink passed faults statuses.WriteFault = (fault ≡ None) × (AppendsFront sink.before sink.after (history ++ final) × RoseBy 1 faults)
 TellsLeft history final fault sink passed faults statuses.BankFault = (fault ≡ Some lending.Failed) × WritesText sink passed faults history
-TellsLeft history final fault sink passed faults statuses.OutOfMemory = WritesText sink passed faults history
+TellsLeft history final fault sink passed faults statuses.OutOfMemory = (fault ≡ Some lending.Failed → ⊥) × WritesText sink passed faults history
 TellsLeft history final fault sink passed faults status = ⊥
 
--- why what the disks keep can't be told: one couldn't be read, or memory ran out
+-- why what the disks keep can't be told: one couldn't be read; or each could, and memory ran out
 abbrev pub IsUntold : Option LendFault → LendFault → Type 0
-IsUntold fault why = (fault ≡ Some why) ⊎ (why ≡ lending.OutOfMemory)
+IsUntold fault why = (fault ≡ Some why) ⊎ ((fault ≡ None) × (why ≡ lending.OutOfMemory))

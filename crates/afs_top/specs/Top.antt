@@ -22,12 +22,12 @@ use Rattle.afs_text.specs.HistoryText.{history_text, text}
 use Rattle.afs_text.specs.KeptText.{kept_history_text}
 use Rattle.afs_text.specs.Telling.{sent_by}
 use Rattle.afs_schedule.specs.Schedules.{events_of, first_turn, AreFirst, AreInputs}
-use Rattle.afs_cell.specs.Ends.{AreLeft}
+use Rattle.afs_cell.specs.Ends.{AreLeft, OneRoseAtMost}
 use Rattle.afs_cell.specs.Steps.{MayBeRead}
 use Rattle.afs_cell.specs.Worlds.{most_entries, own_falls}
 use Rattle.afs_lending.specs.Lending.{lends, AreLent, AreUnused, GivesBackBut}
 use Rattle.afs_top.specs.Forms.{Asks, HaveForm}
-use Rattle.afs_top.specs.Outside.{IsUnchanged, Outside, RoseBy, SoManyFailed, Span, Writes, WritesAll}
+use Rattle.afs_top.specs.Outside.{DidNotRise, IsUnchanged, Outside, RoseBy, SoManyFailed, Span, Writes, WritesAll}
 use Rattle.afs_top.specs.declared.statuses.Form.TheVariants.{Replay}
 use Rattle.afs_top.specs.declared.statuses.Status.{Status}
 use Rattle.afs_top.specs.declared.statuses.Status.TheVariants as statuses
@@ -201,14 +201,15 @@ AreOfServers {D} i [] = Unit {0}
 AreOfServers {D} i (l ∷ ls) = (l.node ≡ i) × AreOfServers (i + 1) ls
 
 -- What comes back of disks that were lent and set up, but not played: one for each server, in order of number. No disk had failed when it
--- was lent. Where it told its bytes, and there were none, it comes back with the record of the script's set-up, or with none. A bank need
--- not lend empty disks.
+-- was lent, and since then one at most has. Where a disk told its bytes, and there were none, it comes back with the record of the script's
+-- set-up, or with none. A bank need not lend empty disks.
 pub record SetUpLeaves {D : Type 0} (seen : D → Option (List ℕ)) (may_leave : D → List ℕ → Type 0) (faults : D → ℕ) (s : Script) (o : Outside) : Type 0 where
   pub lent : List (Lent D)
   pub unused : AreUnused faults lent
   pub back : List (Lent D)
   pub counted : length back ≡ s.servers
   pub are : AreOfServers 1 back
+  pub failed : OneRoseAtMost faults lent back
   pub left : AreLeft seen may_leave s 1 lent back
   pub given : GivesBackLent seen 0 back o
 
@@ -271,7 +272,7 @@ pub record RunsOutOfMemory (s : Script) (wire : Bool) (tells : Type 0) (o : Outs
 
 -- memory ran out while the disks were set up, of which none failed: what that leaves comes back
 pub record SettingUpStops (left : Type 0) (o : Outside) : Type 0 where
-  pub quiet : IsUnchanged o.disk_faults
+  pub quiet : DidNotRise o.disk_faults
   pub written : IsUnchanged o.sink
   pub only_set_up : left
 

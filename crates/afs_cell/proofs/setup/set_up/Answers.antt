@@ -1,14 +1,14 @@
 use Rattle.std.proofs.Common.{ap, subst, sym, ◌↔◌, ℕ, List}
 use Rattle.afs_cell.specs.Steps.{LentTell}
 use Rattle.afs_cell.specs.Worlds.{none_gone, AllTell, ServerSeat}
-use Rattle.afs_cell.proofs.FirstSeated.{all_same, are_left, none_fell}
+use Rattle.afs_cell.proofs.FirstSeated.{all_same, are_left, none_fell, none_rose}
 use Rattle.afs_cell.proofs.FirstWorlds.{first_made, tell_so, world_made}
 use Rattle.afs_cell.proofs.setup.set_up.Goals as goal
 
 pub returns-in_default-clause-cause : goal.returns-in_default-clause-cause
 returns-in_default-clause-cause g c = (
   none_fell g.D.Disk.seen g.D.Disk.may_leave g.D.Disk.faults g.D.Disk.limit c.args.script.now 1 c.args.disks c.args.disks (all_same g.D.Disk.seen g.D.Disk.may_leave g.D.Disk.faults g.D.Disk.limit c.args.script.now 1 c.args.disks),
-  tt,
+  none_rose g.D.Disk.seen g.D.Disk.may_leave g.D.Disk.faults g.D.Disk.limit c.args.script.now c.args.disks,
 )
 
 pub returns-in_default-clause-left : goal.returns-in_default-clause-left
@@ -18,7 +18,7 @@ returns-in_default-clause-left g c =
 pub returns-in_default-with_room-clause-cause : goal.returns-in_default-with_room-clause-cause
 returns-in_default-with_room-clause-cause g c = (
   none_fell g.D.Disk.seen g.D.Disk.may_leave g.D.Disk.faults g.D.Disk.limit c.args.script.now 1 c.args.disks c.args.disks (all_same g.D.Disk.seen g.D.Disk.may_leave g.D.Disk.faults g.D.Disk.limit c.args.script.now 1 c.args.disks),
-  tt,
+  none_rose g.D.Disk.seen g.D.Disk.may_leave g.D.Disk.faults g.D.Disk.limit c.args.script.now c.args.disks,
 )
 
 pub returns-in_default-with_room-clause-left : goal.returns-in_default-with_room-clause-left

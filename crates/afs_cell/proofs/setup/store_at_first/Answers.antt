@@ -1,4 +1,4 @@
-use Rattle.std.proofs.Common.{◌∙◌, ◌≡◌, ◌≤◌, ◌+◌, ◌↔◌, [], Some, None, ap, arith, map, min, subst, sym, ℕ, List}
+use Rattle.std.proofs.Common.{◌∙◌, ◌≡◌, ◌≤◌, ◌+◌, ◌↔◌, [], Some, None, ap, arith, map, min, refl, subst, sym, ℕ, List}
 use Rattle.std.specs.Prelude.{IsSome}
 use Rattle.std.specs.Borrow.{Bor}
 use Rattle.afs_num.specs.declared.types.Node.TheVariants.{Server}
@@ -16,7 +16,7 @@ use Rattle.afs_cell.proofs.FirstStores.{first_store, refused_store, same_back, s
 use Rattle.afs_cell.proofs.setup.store_at_first.Goals as goal
 
 pub returns-in_default-clause-err : goal.returns-in_default-clause-err
-returns-in_default-clause-err g c = record { cause = tt; back = same_back g.D.Disk.seen g.D.Disk.may_leave g.D.Disk.faults g.D.Disk.limit c.args.script.now c.args.server c.args.disk }
+returns-in_default-clause-err g c = record { cause = refl; back = same_back g.D.Disk.seen g.D.Disk.may_leave g.D.Disk.faults g.D.Disk.limit c.args.script.now c.args.server c.args.disk }
 
 pub returns-in-Ok-create-clause-ok : goal.returns-in-Ok-create-clause-ok
 returns-in-Ok-create-clause-ok g c =
@@ -30,7 +30,7 @@ returns-in-Ok-create-clause-ok g c =
     let most : store.disk.calls ≤ c.new.result.calls + 12 = m.few in
     first_store g.D.Disk.seen g.D.Disk.may_leave g.D.Disk.faults g.D.Disk.limit c.args.script.now c.requires.script c.args.server c.args.disk ls c.set_ups_are_first.ensures c.numbers_ascend.ensures store lines c.requires.capacity
     (subst (λ (d : g.row.D.Denot). set_up (g.D.Disk.limit d) ls ≡ Some store.durable) disk e.made) e.rest (m.same_setting ∙ ap (λ (f : Fused g.row.D.Denot). setting_of f) c.new.ensures) (omega (arith, most, none)) (m.same_limit ∙ ap g.D.Disk.limit disk)
-    (subst (λ (d : g.row.D.Denot). g.D.Disk.faults d ≤ g.D.Disk.faults store.disk.disk) disk m.own_never_falls) (subst (λ (d : g.row.D.Denot). IsSome (g.D.Disk.seen store.disk.disk) ↔ IsSome (g.D.Disk.seen d)) disk e.told) e.kept
+    (subst (λ (d : g.row.D.Denot). g.D.Disk.faults store.disk.disk ≡ g.D.Disk.faults d) disk e.quiet.1) (subst (λ (d : g.row.D.Denot). IsSome (g.D.Disk.seen store.disk.disk) ↔ IsSome (g.D.Disk.seen d)) disk e.told) e.kept
 
 pub returns-clause-err : goal.returns-clause-err
 returns-clause-err g c =

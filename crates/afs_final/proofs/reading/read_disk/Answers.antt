@@ -9,7 +9,7 @@ pub returns-in-Ok : goal.returns-in-Ok
 returns-in-Ok g c =
     let e = c.in-Ok.ensures in
     record {
-      is = record { before = e.stands; after = λ bytes at. (e.kept (e.told.0 (ap is_some at))).stands bytes at; capacity = e.capacity };
+      is = record { before = e.stands; after = λ bytes at. (e.kept (e.told.0 (ap is_some at))).stands bytes at; capacity = e.capacity; quiet = e.quiet.0 };
       never_falls = e.ok.0.never_falls;
       told = e.told;
     }

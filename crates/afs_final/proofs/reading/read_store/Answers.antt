@@ -9,7 +9,8 @@ pub returns-in-Ok-clause-read : goal.returns-in-Ok-clause-read
 returns-in-Ok-clause-read g c =
     let up = c.in-Ok.ensures.disk in
     let is = c.in-Ok.ensures.attached in
-    record { is = record { before = is.stands; after = is.kept.stands; capacity = is.capacity }; never_falls = up.taken.never_falls; told = up.told }
+    let quiet = c.in-Ok.ensures.quiet in
+    record { is = record { before = is.stands; after = is.kept.stands; capacity = is.capacity; quiet = quiet.0 }; never_falls = up.taken.never_falls; told = up.told }
 
 pub returns-in-Err-clause-read : goal.returns-in-Err-clause-read
 returns-in-Err-clause-read g c =

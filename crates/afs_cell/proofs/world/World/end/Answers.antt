@@ -13,7 +13,7 @@ returns-clause-lent g c =
     let all : c.from_vec.result ≡ lent_from 1 c.args.self.servers =
     c.from_vec.ensures ∙ (c.give_back.ensures.items ∙ ap₂ (λ (ls : List (Lent g.row.D.Denot)) (ss : List (ServerSeat g.row.D.Denot)). ls ++ lent_from 1 ss) c.self.invariant.empty servers) in
     subst (λ (ls : List (Lent g.row.D.Denot)). AreLent g.D.Disk.limit c.args.self.script.capacity 1 ls) (sym all)
-    (lent_all g.D.Disk.seen g.D.Disk.left_by g.D.Disk.may_leave g.D.Disk.limit g.met.D.Disk.leaves g.met.D.Disk.shows c.args.self.script.capacity 1 c.args.self.servers c.requires.world.world.safe.disks)
+    (lent_all g.D.Disk.seen g.D.Disk.may_leave g.D.Disk.limit c.args.self.script.capacity 1 c.args.self.servers c.requires.world.world.safe.disks)
 
 pub returns-clause-standing : goal.returns-clause-standing
 returns-clause-standing g c =
@@ -22,4 +22,4 @@ returns-clause-standing g c =
     c.from_vec.ensures ∙ (c.give_back.ensures.items ∙ ap₂ (λ (ls : List (Lent g.row.D.Denot)) (ss : List (ServerSeat g.row.D.Denot)). ls ++ lent_from 1 ss) c.self.invariant.empty servers) in
     let kept = subst (λ (ss : List (ServerSeat g.row.D.Denot)). AreKeptSeats g.D.Disk.seen g.D.Disk.may_leave g.D.Disk.limit ss) servers c.give_back.ensures.kept in
     λ going before is safe end cell. subst (λ (ls : List (Lent g.row.D.Denot)). AreStanding g.D.Disk.seen g.D.Disk.limit end ls) (sym all)
-    (standing g.D.Disk.seen g.D.Disk.left_by g.D.Disk.may_leave g.D.Disk.limit g.met.D.Disk.leaves g.met.D.Disk.shows c.args.self.script (whole before c.args.self) safe going kept end cell)
+    (standing g.D.Disk.seen g.D.Disk.may_leave g.D.Disk.limit c.args.self.script (whole before c.args.self) safe going kept end cell)

@@ -31,7 +31,7 @@ pub returns-in-Ok-clause-standing : goal.returns-in-Ok-clause-standing
 returns-in-Ok-clause-standing g c =
     let servers : c.into_vec.result.items ≡ c.args.self.servers = c.into_vec.ensures ∙ ap (λ (w : WorldState g.row.D.Denot). w.servers) c.self.view_is in
     let kept = subst (λ (ss : List (ServerSeat g.row.D.Denot)). AreKeptSeats g.D.Disk.seen g.D.Disk.may_leave g.D.Disk.limit ss) servers c.in-Ok.ensures.kept in
-    λ going before is safe end cell. standing g.D.Disk.seen g.D.Disk.left_by g.D.Disk.may_leave g.D.Disk.limit g.met.D.Disk.leaves g.met.D.Disk.shows c.args.self.script (whole before c.args.self) safe going kept end cell
+    λ going before is safe end cell. standing g.D.Disk.seen g.D.Disk.may_leave g.D.Disk.limit c.args.self.script (whole before c.args.self) safe going kept end cell
 
 pub returns-clause-back : goal.returns-clause-back
 returns-clause-back g c =
@@ -44,4 +44,4 @@ returns-clause-standing g c =
     let servers : c.into_vec.result.items ≡ c.args.self.servers = c.into_vec.ensures ∙ ap (λ (w : WorldState g.row.D.Denot). w.servers) c.self.view_is in
     let seats : c.in-Err.seats.items ≡ c.args.self.servers = c.in-Err.ensures.back ∙ servers in
     let kept = subst (λ (ss : List (ServerSeat g.row.D.Denot)). AreKeptSeats g.D.Disk.seen g.D.Disk.may_leave g.D.Disk.limit ss) seats c.give_back.ensures.kept in
-    λ going before is safe end cell. standing g.D.Disk.seen g.D.Disk.left_by g.D.Disk.may_leave g.D.Disk.limit g.met.D.Disk.leaves g.met.D.Disk.shows c.args.self.script (whole before c.args.self) safe going kept end cell
+    λ going before is safe end cell. standing g.D.Disk.seen g.D.Disk.may_leave g.D.Disk.limit c.args.self.script (whole before c.args.self) safe going kept end cell

@@ -28,9 +28,9 @@ returns-clause-step g c = λ h up.
         (
           tt,
           subst (λ (mark : Mark). LiesBefore h.state mark (whole_records b)) (sym left.mark)
-          (kept_before self.store.durable self.store.count (g.D.Disk.seen self.store.disk.disk) (g.D.Disk.may_leave self.store.disk.disk) h.state (sym (ap (λ (s : ServerState). s.lasting) up.state))
-          (left.kept c.requires.up) (left.counted c.requires.up) (left.told.0 (is_told (g.D.Disk.seen c.left_by.result.disk) b at)) b
-          (if_some (g.D.Disk.seen c.left_by.result.disk) (λ (bytes : List ℕ). g.D.Disk.may_leave self.store.disk.disk bytes × LeavesJust bytes (g.D.Disk.may_leave c.left_by.result.disk)) b at left.image).0),
+              (kept_before self.store.durable self.store.count (g.D.Disk.seen self.store.disk.disk) (g.D.Disk.may_leave self.store.disk.disk) h.state (sym (ap (λ (s : ServerState). s.lasting) up.state))
+              (left.kept c.requires.up) (left.counted c.requires.up) (left.told.0 (is_told (g.D.Disk.seen c.left_by.result.disk) b at)) b
+              (if_some (g.D.Disk.seen c.left_by.result.disk) (λ (bytes : List ℕ). g.D.Disk.may_leave self.store.disk.disk bytes × LeavesJust bytes (g.D.Disk.may_leave c.left_by.result.disk)) b at left.image).0),
         ),
       );
     }
