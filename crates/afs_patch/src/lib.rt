@@ -3,6 +3,5 @@
 
 mod altering;
 mod patching;
-mod standing;
 
 pub use altering::changed;

@@ -15,14 +15,12 @@ ghost use Rattle.afs_volume.specs.Taking.{is_among, CanTakeIn};
 ghost use Rattle.afs_patch.specs.Changing.{is_in};
 ghost use Rattle.afs_patch.specs.Patching.{after, before, behind_same, gives_touched, image_left, is_right, is_unmoved, keeps_place, may_stand, new_among, others_named, passes, passes_by, reaches, same_others, same_parent, table_left, AreTouched, BeginsWithOther, IsPatch, KeepsOthers, StaysNamed};
 
-use crate::standing::{
-    gives_held, has_links, has_names, is_directory, is_root, kind_is_right, names_of,
-};
 use afs_num::directories::Name;
 use afs_num::types::Mem;
 use afs_num::vnodes::Vnode;
 use afs_num::volumes::Change;
-use afs_volume::{ReadyChange, Volume};
+use afs_volume::standing::{gives_held, has_links, has_names, is_root, kind_is_right, names_of};
+use afs_volume::{ReadyChange, Volume, is_directory};
 use std::alloc::Global;
 
 /// How many vnodes a volume has at most.

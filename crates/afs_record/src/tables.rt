@@ -1,8 +1,10 @@
 //! The kinds of records: for each its number, and its fields in order, each of its form.
 
-ghost use Rattle.std.specs.Prelude.{◌≡◌, ◌++◌, [], false, OnOk};
+ghost use Rattle.std.specs.Prelude.{◌≡◌, ◌<◌, ◌^◌, ◌++◌, [], false, length, OnOk};
 ghost use Rattle.afs_num.specs.declared.records.RecordBody.TheVariants as bodies;
+ghost use Rattle.afs_records.specs.Forms.{image_form, list_form, word_form};
 ghost use Rattle.afs_records.specs.Records.{body_at, row};
+ghost use Rattle.afs_xdr.specs.Words.{opaque, words};
 ghost use Rattle.afs_record.specs.Reading.{GivesForm, MakesAtEnd};
 
 use crate::faults::RecordFault;
@@ -12,7 +14,9 @@ use crate::forms::{
 use crate::lists::ListOf;
 use crate::volumes::{MOST_NAME, Volume};
 use afs_num::records::RecordBody;
+use afs_num::sequences::Octets;
 use afs_num::types::Mem;
+use afs_num::vnodes::{VnodeNumbers, Vnodes};
 use afs_xdr::reading::Reader;
 use afs_xdr::writing::Writer;
 use std::alloc::Global;
@@ -38,6 +42,27 @@ pub(crate) fn number_of(body: &RecordBody) -> u32
     }
 }
 
+/// Appends words, a text, and further words.
+fn write_around(before: &[u32], text: &Octets, after: &[u32], w: &mut Writer) -> Mem<()>
+    requires { length text.now < 2 ^ 32 }
+    ensures { OnOk result (w.new ≡ w.old ++ (words before.now ++ (opaque text.now ++ words after.now))) }
+{
+    w.words(before)?;
+    w.opaque(text.as_slice())?;
+    w.words(after)
+}
+
+/// Appends words, the images of vnodes, and numbers.
+fn write_left(numbers: &[u32], vnodes: &Vnodes, removed: &VnodeNumbers, w: &mut Writer) -> Mem<()>
+    requires vnodes { (list_form image_form).Fits vnodes.now }
+    requires removed { (list_form word_form).Fits removed.now }
+    ensures { OnOk result (w.new ≡ w.old ++ (words numbers.now ++ ((list_form image_form).spelled vnodes.now ++ (list_form word_form).spelled removed.now))) }
+{
+    w.words(numbers)?;
+    ListOf::<Image>::write(vnodes, w)?;
+    ListOf::<Word>::write(removed, w)
+}
+
 /// Appends the fields of a body.
 pub(crate) fn write_body(body: &RecordBody, w: &mut Writer) -> Mem<()>
     requires { (row body.now).Fits }
@@ -51,11 +76,7 @@ pub(crate) fn write_body(body: &RecordBody, w: &mut Writer) -> Mem<()>
             unique,
             vnodes,
             removed,
-        } => {
-            w.words(&[*id, *counter, *unique])?;
-            ListOf::<Image>::write(vnodes, w)?;
-            ListOf::<Word>::write(removed, w)
-        }
+        } => write_left(&[*id, *counter, *unique], vnodes, removed, w),
         RecordBody::Boot { boot } => w.word(*boot),
         RecordBody::Create {
             id,
@@ -66,9 +87,8 @@ pub(crate) fn write_body(body: &RecordBody, w: &mut Writer) -> Mem<()>
             quota,
             is_new,
         } => {
-            w.words(&[*id, *family])?;
-            w.opaque(name.as_slice())?;
-            w.words(&[*kind, *flags, *quota, flag_number(*is_new)])
+            let after = [*kind, *flags, *quota, flag_number(*is_new)];
+            write_around(&[*id, *family], name, &after, w)
         }
         RecordBody::Delete { id } => w.word(*id),
         RecordBody::Clone {
@@ -77,15 +97,8 @@ pub(crate) fn write_body(body: &RecordBody, w: &mut Writer) -> Mem<()>
             name,
             kind,
             release,
-        } => {
-            w.words(&[*source, *id])?;
-            w.opaque(name.as_slice())?;
-            w.words(&[*kind, *release])
-        }
-        RecordBody::Restore { id, dump } => {
-            w.word(*id)?;
-            w.opaque(dump.as_slice())
-        }
+        } => write_around(&[*source, *id], name, &[*kind, *release], w),
+        RecordBody::Restore { id, dump } => write_around(&[*id], dump, &[], w),
         RecordBody::Flags { id, flags } => w.words(&[*id, *flags]),
         RecordBody::Forward { id, server } => w.words(&[*id, *server]),
         RecordBody::Stamp => Ok(()),

@@ -1,5 +1,5 @@
 -- What set-up lays by one operation.
-use Rattle.std.proofs.Common.{◌≡◌, ℕ, ◌≤◌, ℤ, Bool, true, false, cond, nat_lt, pos, List, length, Option, Some, None, Result, Ok, Err, refl, ap, ◌∙◌, sym, subst}
+use Rattle.std.proofs.Common.{◌≡◌, ℕ, ◌≤◌, ℤ, Bool, true, false, cond, nat_lt, pos, List, length, Some, Result, Ok, Err, ap, sym, subst}
 use Rattle.std.specs.Option.{option_map}
 use Rattle.std.specs.Prelude.{IfErr}
 use Rattle.afs_num.specs.declared.calls.FsCall.{FsCall}

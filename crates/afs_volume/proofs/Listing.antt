@@ -1,5 +1,5 @@
 -- The names of a volume's directories, listed place by place.
-use Rattle.std.proofs.Common.{◌≡◌, ℕ, zero, suc, ◌+◌, ◌≤◌, ◌<◌, Bool, true, false, List, [], ◌∷◌, take, Option, Some, None, Result, Ok, Err, OnOk, nat_eq, slice_get, if◌then◌else◌, refl, sym, ap, subst, ◌∙◌, arith, eq-eqb}
+use Rattle.std.proofs.Common.{◌≡◌, ℕ, zero, suc, ◌+◌, ◌≤◌, ◌<◌, Bool, true, false, List, [], ◌∷◌, take, Option, Some, None, nat_eq, slice_get, if◌then◌else◌, refl, sym, ap, subst, ◌∙◌, arith, eq-eqb}
 use Rattle.std.specs.Option.{option_map}
 use Rattle.std.proofs.lemmas.Bool.Decides.{nat_tests}
 use Rattle.afs_num.specs.declared.directories.Name.{Name}
@@ -60,10 +60,9 @@ one_more old new t i x up there is all =
     listed new (take (i + 1) t) (λ n. is n ∙ (ap (λ (o : Option (List Name)). if nat_eq x.vnode n then listed_as x else o) (found old (take i t) all n)
     ∙ (sym (chosen (nat_eq x.vnode n) x (get n (take i t))) ∙ ap names_of (sym (taken_gets 0 n t i (x.vnode, x) up there)))))
 
-pub one_more_if : {E : Type 0} (old new : ℕ → Option (List Name)) (t : Table image.Vnode) (i : ℕ) (x : image.Vnode) (names : Option (List Name)) (r : Result (Unit {0}) E) → AscendsFrom 0 t → Some (x.vnode, x) ≡ slice_get t i → names ≡ listed_as x
-    → OnOk r ((n : ℕ) → new n ≡ (if nat_eq x.vnode n then names else old n)) → Lists old (all_seen (take i t)) → OnOk r (Lists new (all_seen (take (i + 1) t)))
-one_more_if {E} old new t i x names (Ok done) up there is h all = one_more old new t i x up (sym there) (λ n. h n ∙ ap (λ (o : Option (List Name)). if nat_eq x.vnode n then o else old n) is) all
-one_more_if {E} old new t i x names (Err e) up there is h all = tt
+pub one_more_as : (old new : ℕ → Option (List Name)) (t : Table image.Vnode) (i : ℕ) (x : image.Vnode) (names : Option (List Name)) → AscendsFrom 0 t → Some (x.vnode, x) ≡ slice_get t i → names ≡ listed_as x
+    → ((n : ℕ) → new n ≡ (if nat_eq x.vnode n then names else old n)) → Lists old (all_seen (take i t)) → Lists new (all_seen (take (i + 1) t))
+one_more_as old new t i x names up there is h all = one_more old new t i x up (sym there) (λ n. h n ∙ ap (λ (o : Option (List Name)). if nat_eq x.vnode n then o else old n) is) all
 
 ended : (t : Table image.Vnode) (i : ℕ) → slice_get t i ≡ None → take (i + 1) t ≡ take i t
 ended [] i e = nothing_taken (i + 1) ∙ sym (nothing_taken i)

@@ -143,6 +143,9 @@ reads_all m (p ∷ ps) up all =
     rw (readable_kind (kind_seen p.1.kind) p.1 refl (all p.0 p.1 (grind (arith, nat_tests))))
     (reads_all (p.0 + 1) ps up.1 (λ n x e. all n x (later_by n x p ps (nat_eq p.0 n) refl up.1 e)))
 
+pub not_unread : (t : Table image.Vnode) → AscendsFrom 0 t → AreReadable t → are_read t ≡ false → ⊥
+not_unread t up all unread = let z : true ≡ false = sym (reads_all 0 t up all) ∙ unread in cc
+
 pub parts_make : (v : volumes.Volume) → make_volume v.head v.vnodes.table ≡ true
 parts_make v = rw (all_read v.vnodes.table, reads_all 1 v.vnodes.table (in_order v.head v.vnodes.table v.readable v.sound) v.readable) v.sound
 

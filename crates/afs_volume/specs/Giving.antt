@@ -41,6 +41,10 @@ Passes {A} refusal (Ok x) = refusal ≡ None
 Passes {A} refusal (Err (faults.Code code)) = option_map pos refusal ≡ Some code.0
 Passes {A} refusal (Err faults.OutOfMemory) = Unit {0}
 
+-- a test and its code: it has passed
+abbrev pub HasPassed : Bool × ℕ → Type 0
+HasPassed t = t.0 ≡ true
+
 -- ---- edits
 
 -- an access list by its text

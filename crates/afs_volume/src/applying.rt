@@ -79,7 +79,7 @@ impl Volume {
             volume: self,
             draft: &draft,
         };
-        let reply = sight.reply(caller, plan.shown, call)?;
+        let reply = sight.reply(caller, plan.shown, call);
         let Draft {
             versions,
             vnodes,
@@ -96,26 +96,6 @@ impl Volume {
             reply,
         };
         Ok((change, names))
-    }
-
-    /// The change that a call makes for a caller.
-    pub(crate) fn change(
-        &self,
-        caller: &Caller,
-        call: &FsCall,
-        now: u32,
-    ) -> Result<ReadyChange, OpFault>
-        requires changing { is_changing call.now ≡ true }
-        requires fits { FitsCall call.now }
-        requires on { IsOn self.now.head.id call.now }
-        requires sound { IsSound (volume_of self.now) }
-        ensures applies { Applies self.now (caller_seen caller.now) call.now now (op self.now.head.id (caller_seen caller.now) call.now (volume_of self.now)) result }
-        ensures reply { IfOk result (λ c. FitsReply c.reply) }
-        ensures fits { IfOk result (λ c. CanTakeIn self.now c) }
-    {
-        let plan = self.plan_within(caller, call)?;
-        let (change, names) = self.changed_by(caller, call, &plan, now)?;
-        Ok(ReadyChange::named(change, names))
     }
 
     /// The change that a call of a user makes at this time, 133 to 142, within the limits of a volume: what is told, the
@@ -143,6 +123,9 @@ impl Volume {
         ensures reply { IfOk result (λ c. FitsReply c.reply) }
         ensures fits { IfOk result (λ c. CanTakeIn self.now c) }
     {
-        self.change(&Caller::User(user), call, now)
+        let caller = Caller::User(user);
+        let plan = self.plan_within(&caller, call)?;
+        let (change, names) = self.changed_by(&caller, call, &plan, now)?;
+        Ok(ReadyChange::named(change, names))
     }
 }

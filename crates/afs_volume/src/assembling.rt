@@ -1,79 +1,22 @@
 //! A volume made of its parts.
 
-ghost use Rattle.std.specs.Prelude.{◌≡◌, ◌≤◌, ◌<◌, ◌*◌, ◌^◌, true, false, length, nat_eq, slice_get, is_ok, Err, IfOk, OnOk};
-ghost use Rattle.std.specs.List.{list_all};
+ghost use Rattle.std.specs.Prelude.{◌≡◌, ◌≤◌, true, false, nat_eq, slice_get, Err, IfOk, OnOk};
 ghost use Rattle.indexmap.specs.IndexMap as maps;
-ghost use Rattle.afs_ideal.specs.Directories.{directory_bytes, directory_of};
 ghost use Rattle.afs_ideal.specs.Volumes.{blocks_in};
 ghost use Rattle.afs_records.specs.Sound.{is_sound};
-ghost use Rattle.afs_volume.specs.Assembling.{are_read, blocks_in_place, can_be_read, make_volume, passes_at, reads_pair, IsReadablePlace};
+ghost use Rattle.afs_volume.specs.Assembling.{blocks_in_place, make_volume, IsReadablePlace};
 ghost use Rattle.afs_volume.specs.Listed.{Lists};
-ghost use Rattle.afs_volume.specs.Seen.{all_seen, names_spelled, volume_seen, AreReadable, FitsHead, IsReadable};
+ghost use Rattle.afs_volume.specs.Seen.{all_seen, volume_seen, AreReadable, FitsHead};
 ghost use Rattle.afs_volume.specs.declared.faults.AssembleFault.TheVariants.{NotSound};
 
 use crate::Volume;
 use crate::directories::Directories;
 use crate::faults::AssembleFault;
-use crate::finding::{DIRECTORY, FILE, LINK};
 use crate::limits::blocks_of;
-use crate::operations::is_acl;
 use crate::soundness::Parts;
-use afs_dir::{Dir, DirFault};
-use afs_num::types::Mem;
-use afs_num::vnodes::Vnode;
 use afs_num::volumes::VolumeHead;
 use afs_vnode::store::VnodeStore;
-use std::alloc::{AllocError, Global};
-
-/// Whether the bytes spell a directory.
-#[tactic(auto, unfolding(crate::specs::Seen::names_spelled))]
-fn is_spelled(alloc: Global, bytes: &[u8]) -> Mem<bool>
-    ensures value { IfOk result (λ b. b ≡ is_ok (directory_of bytes.now)) }
-    ensures spelled { IfOk result (λ b. b ≡ true → directory_bytes (names_spelled bytes.now) ≡ bytes.now) }
-{
-    match Dir::from_bytes(alloc, bytes) {
-        Ok(_) => Ok(true),
-        Err(DirFault::OutOfMemory) => Err(AllocError),
-        Err(_) => Ok(false),
-    }
-}
-
-/// Whether a vnode can be read: a directory's contents and access list, and what is no directory has no access list.
-#[tactic(auto, using(crate::proofs::Readable::directory_read, crate::proofs::Readable::other_read, crate::proofs::Readable::readable_directory, crate::proofs::Readable::readable_other))]
-pub fn can_be_read(alloc: Global, x: &Vnode) -> Mem<bool>
-    ensures value { IfOk result (λ b. b ≡ can_be_read x.now) }
-    ensures readable { IfOk result (λ b. b ≡ true → IsReadable x.now) }
-{
-    if x.kind == DIRECTORY {
-        Ok(is_spelled(alloc, x.contents.as_slice())? && is_acl(alloc, x.acl.as_slice())?)
-    } else {
-        Ok((x.kind == FILE || x.kind == LINK) && x.acl.is_empty())
-    }
-}
-
-/// Whether the vnode in a place can be read, where there is one.
-fn can_be_read_at(alloc: Global, vnodes: &VnodeStore, place: u32) -> Mem<bool>
-    ensures value { IfOk result (λ b. b ≡ passes_at reads_pair (slice_get vnodes.now.table place)) }
-    ensures readable { IfOk result (λ b. b ≡ true → IsReadablePlace (slice_get vnodes.now.table place)) }
-{
-    match vnodes.at(place) {
-        Some(x) => can_be_read(alloc, x),
-        None => Ok(true),
-    }
-}
-
-/// Whether all vnodes can be read.
-fn are_read(alloc: Global, vnodes: &VnodeStore) -> Mem<bool>
-    ensures value { IfOk result (λ b. b ≡ are_read vnodes.now.table) }
-    ensures readable { IfOk result (λ b. b ≡ true → AreReadable vnodes.now.table) }
-{
-    for place in 0..vnodes.len() as u32 {
-        if !can_be_read_at(alloc, vnodes, place)? {
-            return Ok(false);
-        }
-    }
-    Ok(true)
-}
+use std::alloc::Global;
 
 /// How many blocks the vnode in a place takes.
 fn blocks_in_place(vnodes: &VnodeStore, place: u32) -> u64
@@ -111,10 +54,7 @@ fn sound_names(
     ensures whole { OnOk result (make_volume head.now vnodes.now.table ≡ true) }
     ensures not_sound { result ≡ Err NotSound → make_volume head.now vnodes.now.table ≡ false }
 {
-    if !are_read(alloc, vnodes)? {
-        return Err(AssembleFault::NotSound);
-    }
-    let dirs = Directories::of(alloc, vnodes)?;
+    let dirs = Directories::read(alloc, vnodes)?;
     let parts = Parts {
         head,
         vnodes,

@@ -1,27 +1,28 @@
 //! Operations that make a vnode or a further name: CreateFile, Symlink, MakeDir, Link.
 
-ghost use Rattle.std.specs.Prelude.{◌≡◌, ◌≤◌, ◌+◌, ◌&&◌, ◌∷◌, [], Some, None, true, length, nat_eq, IfErr, IfOk};
+ghost use Rattle.std.specs.Prelude.{◌≡◌, ◌≤◌, ◌∷◌, [], Some, None, true, length, IfOk, OnOk};
 ghost use Rattle.afs_num.specs.declared.calls.FsCall.TheVariants as calls;
-ghost use Rattle.afs_ideal.specs.Operations.{adds_name, by_tests, changes, creates, first_failing, is_kind, is_mask, linking, may_link, names_in, no_amend};
+ghost use Rattle.afs_ideal.specs.Directories.{add_refused};
+ghost use Rattle.afs_ideal.specs.Operations.{adds_name, create_tests, creating, first_failing, free_number, has_right, is_kind, is_read_write, link_tests, linking, no_amend};
 ghost use Rattle.afs_ideal.specs.Tables.{get};
 ghost use Rattle.afs_ideal.specs.VnodeImage.{most_contents, FitsImage};
 ghost use Rattle.afs_ideal.specs.Volumes.{a_directory, amends, ascending, makes, vnode_of};
-ghost use Rattle.afs_volume.specs.Giving.{caller_seen, edits_seen, planned, volume_of, Plans};
+ghost use Rattle.afs_volume.specs.Giving.{caller_seen, edits_seen, planned, volume_of, Passes, Plans};
 ghost use Rattle.afs_volume.specs.Seen.{names_spelled, seen, IsReadable, SpellsNames};
-ghost use Rattle.afs_volume.specs.declared.faults.OpFault.TheVariants.{OutOfMemory};
 
 use crate::Volume;
 use crate::callers::Caller;
-use crate::checks::check;
+use crate::checks::{check, check_all};
 use crate::edits::{Amend, Edit, Edits, New, Plan};
 use crate::faults::OpFault;
-use crate::finding::{is_directory, links_of, links_there, list_of, may_link};
+use crate::finding::{has_name, is_directory, links_of, links_there, list_of, may_link};
 use crate::making::{new_directory, new_file, new_link, set_status};
-use crate::naming::{ascending, push_spelled, spelled_with};
+use crate::naming::{MOST_NAMES, ascending, push_spelled, spelled_with};
 use crate::operations::is_mask;
 use afs_num::calls::AfsStoreStatus;
+use afs_num::names::name_ok;
 use afs_num::sequences::Octets;
-use afs_num::types::Fid;
+use afs_num::types::{Fid, Mem};
 use afs_num::vnodes::Vnode;
 use std::alloc::Global;
 
@@ -33,14 +34,13 @@ fn plan_made(
     links: Option<u64>,
     number: u32,
     made: Vnode,
-) -> Result<Plan, OpFault>
+) -> Mem<Plan>
     requires spelled { SpellsNames (Some names) }
     requires short { length names ≤ most_contents }
     requires readable { IsReadable made }
     requires fits { FitsImage made }
     ensures edits { IfOk result (λ p. edits_seen p.edits ≡ ascending (amends d (record no_amend { names = Some (names_spelled names); links = links }) ∷ makes number (seen made) ∷ [])) }
     ensures shown { IfOk result (λ p. p.shown ≡ number) }
-    ensures err { IfErr result (λ e. e ≡ OutOfMemory) }
 {
     let mut edits = Edits::new(alloc);
     push_spelled(&mut edits, d, names, links)?;
@@ -52,7 +52,55 @@ fn plan_made(
 }
 
 impl Volume {
-    /// A new vnode and its name, in a directory that the caller may change: 22, 17, 27.
+    /// A caller may add a name to a directory: 30, 13, 22 where it is none or something else is bad, 17, 27.
+    #[tactic(auto, using(crate::proofs::Spelled::may_be_added))]
+    fn may_add(
+        &self,
+        caller: &Caller,
+        number: u32,
+        d: &Vnode,
+        name: &[u8],
+        good: bool,
+    ) -> Result<(), OpFault>
+        requires there { get number self.now.vnodes.table ≡ Some d.now }
+        requires directory { is_kind (seen d.now).kind a_directory ≡ true }
+        ensures answer { Passes (first_failing (is_read_write (volume_of self.now) ∷ has_right (caller_seen caller.now) 4 (volume_of self.now) (Some (seen d.now)) ∷ adds_name name.now (seen d.now).names good)) result }
+        ensures added { OnOk result (add_refused name.now (seen d.now).names ≡ None) }
+    {
+        let names = self.names(number, d);
+        let is_good = good && name_ok(name);
+        check_all(&[
+            (self.is_writable(), 30),
+            (self.may(caller, 4, d), 13),
+            (is_good, 22),
+            (!has_name(names, name), 17),
+            (names.len() < MOST_NAMES, 27),
+        ])
+    }
+
+    /// A directory in which a caller may put a new name: 102, 20, 30, 13, 22, 17, 27.
+    fn may_create(
+        &self,
+        caller: &Caller,
+        fid: &Fid,
+        name: &[u8],
+        status: &AfsStoreStatus,
+    ) -> Result<&Vnode, OpFault>
+        ensures answer { Passes (first_failing (create_tests (caller_seen caller.now) fid.now name.now status.now (volume_of self.now))) result }
+        ensures found { IfOk result (λ d. vnode_of fid.now (volume_of self.now) ≡ Some (seen d.now)) }
+        ensures there { IfOk result (λ d. get fid.now.vnode self.now.vnodes.table ≡ Some d.now) }
+        ensures directory { IfOk result (λ d. is_kind (seen d.now).kind a_directory ≡ true) }
+        ensures added { IfOk result (λ d. add_refused name.now (seen d.now).names ≡ None) }
+        ensures fits { IfOk result (λ d. FitsImage d.now) }
+        ensures readable { IfOk result (λ d. IsReadable d.now) }
+    {
+        let d = self.found(fid)?;
+        check(is_directory(d), 20)?;
+        self.may_add(caller, fid.vnode, d, name, is_mask(status))?;
+        Ok(d)
+    }
+
+    /// A new vnode and its name, in a directory to which the name may be added.
     pub(crate) fn creates(
         &self,
         fid: &Fid,
@@ -61,29 +109,23 @@ impl Volume {
         status: &AfsStoreStatus,
         links: Option<u64>,
         made: Vnode,
-    ) -> Result<Plan, OpFault>
+    ) -> Mem<Plan>
         requires found { vnode_of fid.now (volume_of self.now) ≡ Some (seen d.now) }
         requires there { get fid.now.vnode self.now.vnodes.table ≡ Some d.now }
         requires directory { is_kind (seen d.now).kind a_directory ≡ true }
+        requires added { add_refused name.now (seen d.now).names ≡ None }
         requires readable { IsReadable made }
         requires fits { FitsImage made }
-        ensures { Plans (by_tests (first_failing (adds_name name.now (names_in (Some (seen d.now))) (is_mask status.now))) (creates fid.now name.now status.now links (seen made) (volume_of self.now))) result }
+        ensures edits { IfOk result (λ p. edits_seen p.edits ≡ ascending (creating fid.now name.now status.now links (seen made) (volume_of self.now))) }
+        ensures shown { IfOk result (λ p. p.shown ≡ free_number (seen made).kind (volume_of self.now)) }
     {
         let number = self.free_number(&made);
         let names = self.names(fid.vnode, d);
         let bytes = d.contents.as_slice();
-        let names = spelled_with(
-            self.alloc,
-            names,
-            bytes,
-            name,
-            number,
-            self.head.unique,
-            is_mask(status),
-        )?;
+        let names = spelled_with(self.alloc, names, bytes, name, number, self.head.unique)?;
         let mut made = made;
         set_status(&mut made, status);
-        Ok(plan_made(self.alloc, fid.vnode, names, links, number, made)?)
+        plan_made(self.alloc, fid.vnode, names, links, number, made)
     }
 
     /// CreateFile: a file of mode 644, in octal, and its name.
@@ -96,18 +138,9 @@ impl Volume {
     ) -> Result<Plan, OpFault>
         ensures { Plans (planned (caller_seen caller.now) (calls.CreateFile fid.now name.now status.now) (volume_of self.now)) result }
     {
-        let d = self.found(fid)?;
-        check(is_directory(d), 20)?;
-        check(self.is_writable(), 30)?;
-        check(self.may(caller, 4, d), 13)?;
-        self.creates(
-            fid,
-            d,
-            name.as_slice(),
-            status,
-            None,
-            new_file(self.alloc, fid),
-        )
+        let d = self.may_create(caller, fid, name.as_slice(), status)?;
+        let made = new_file(self.alloc, fid);
+        Ok(self.creates(fid, d, name.as_slice(), status, None, made)?)
     }
 
     /// Symlink: a link of mode 777 with this text, and its name.
@@ -122,12 +155,9 @@ impl Volume {
         requires { length target.now ≤ most_contents }
         ensures { Plans (planned (caller_seen caller.now) (calls.Symlink fid.now name.now target.now status.now) (volume_of self.now)) result }
     {
-        let d = self.found(fid)?;
-        check(is_directory(d), 20)?;
-        check(self.is_writable(), 30)?;
-        check(self.may(caller, 4, d), 13)?;
+        let d = self.may_create(caller, fid, name.as_slice(), status)?;
         let made = new_link(self.alloc, fid, target)?;
-        self.creates(fid, d, name.as_slice(), status, None, made)
+        Ok(self.creates(fid, d, name.as_slice(), status, None, made)?)
     }
 
     /// MakeDir: a directory of mode 755 with its parent's access list, and its name.
@@ -140,23 +170,21 @@ impl Volume {
     ) -> Result<Plan, OpFault>
         ensures { Plans (planned (caller_seen caller.now) (calls.MakeDir fid.now name.now status.now) (volume_of self.now)) result }
     {
-        let d = self.found(fid)?;
-        check(is_directory(d), 20)?;
-        check(self.is_writable(), 30)?;
-        check(self.may(caller, 4, d), 13)?;
+        let d = self.may_create(caller, fid, name.as_slice(), status)?;
         let made = new_directory(self.alloc, fid, list_of(d))?;
-        self.creates(fid, d, name.as_slice(), status, Some(links_of(d) + 1), made)
+        let links = Some(links_of(d) + 1);
+        Ok(self.creates(fid, d, name.as_slice(), status, links, made)?)
     }
 
-    /// A further name of a file, in a directory that the caller may change: 22, 17, 27.
-    fn links(&self, fid: &Fid, d: &Vnode, name: &[u8], existing: &Fid) -> Result<Plan, OpFault>
+    /// A further name of a file, in a directory to which the name may be added.
+    fn links(&self, fid: &Fid, d: &Vnode, name: &[u8], existing: &Fid) -> Mem<Plan>
         requires found { vnode_of fid.now (volume_of self.now) ≡ Some (seen d.now) }
         requires there { get fid.now.vnode self.now.vnodes.table ≡ Some d.now }
         requires directory { is_kind (seen d.now).kind a_directory ≡ true }
-        ensures { Plans (by_tests (first_failing (adds_name name.now (names_in (Some (seen d.now))) (nat_eq existing.now.volume fid.now.volume && may_link fid.now (vnode_of existing.now (volume_of self.now))))) (changes (ascending (linking fid.now name.now existing.now (volume_of self.now))) existing.now.vnode)) result }
+        requires added { add_refused name.now (seen d.now).names ≡ None }
+        ensures edits { IfOk result (λ p. edits_seen p.edits ≡ ascending (linking fid.now name.now existing.now (volume_of self.now))) }
+        ensures shown { IfOk result (λ p. p.shown ≡ existing.now.vnode) }
     {
-        let x = self.vnode(existing);
-        let good = existing.volume == fid.volume && may_link(fid, x);
         let names = spelled_with(
             self.alloc,
             self.names(fid.vnode, d),
@@ -164,9 +192,8 @@ impl Volume {
             name,
             existing.vnode,
             existing.unique,
-            good,
         )?;
-        let links = links_there(x) + 1;
+        let links = links_there(self.vnode(existing)) + 1;
         let mut edits = Edits::new(self.alloc);
         push_spelled(&mut edits, fid.vnode, names, None)?;
         edits.push(Edit::Amends(existing.vnode, Amend::with_links(links)))?;
@@ -174,6 +201,29 @@ impl Volume {
             edits: ascending(self.alloc, edits)?,
             shown: existing.vnode,
         })
+    }
+
+    /// A directory in which a caller may give a vnode a further name: 102, 20, 30, 13, 22, 17, 27.
+    fn may_name(
+        &self,
+        caller: &Caller,
+        fid: &Fid,
+        name: &[u8],
+        existing: &Fid,
+    ) -> Result<&Vnode, OpFault>
+        ensures answer { Passes (first_failing (link_tests (caller_seen caller.now) fid.now name.now existing.now (volume_of self.now))) result }
+        ensures found { IfOk result (λ d. vnode_of fid.now (volume_of self.now) ≡ Some (seen d.now)) }
+        ensures there { IfOk result (λ d. get fid.now.vnode self.now.vnodes.table ≡ Some d.now) }
+        ensures directory { IfOk result (λ d. is_kind (seen d.now).kind a_directory ≡ true) }
+        ensures added { IfOk result (λ d. add_refused name.now (seen d.now).names ≡ None) }
+    {
+        let d = self.found(fid)?;
+        let is_here = existing.volume == fid.volume;
+        let x = self.vnode(existing);
+        check(!is_here || x.is_some(), 102)?;
+        check(is_directory(d), 20)?;
+        self.may_add(caller, fid.vnode, d, name, is_here && may_link(fid, x))?;
+        Ok(d)
     }
 
     /// Link: a further name of a file.
@@ -186,13 +236,7 @@ impl Volume {
     ) -> Result<Plan, OpFault>
         ensures { Plans (planned (caller_seen caller.now) (calls.Link fid.now name.now existing.now) (volume_of self.now)) result }
     {
-        let d = self.found(fid)?;
-        let is_here = existing.volume == fid.volume;
-        let x = self.vnode(existing);
-        check(!is_here || x.is_some(), 102)?;
-        check(is_directory(d), 20)?;
-        check(self.is_writable(), 30)?;
-        check(self.may(caller, 4, d), 13)?;
-        self.links(fid, d, name.as_slice(), existing)
+        let d = self.may_name(caller, fid, name.as_slice(), existing)?;
+        Ok(self.links(fid, d, name.as_slice(), existing)?)
     }
 }

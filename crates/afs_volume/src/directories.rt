@@ -1,13 +1,17 @@
 //! The names of the directories of a volume, by the numbers of their vnodes.
 
-ghost use Rattle.std.specs.Prelude.{◌≡◌, ◌≤◌, ◌<◌, ◌+◌, ℕ, Some, None, nat_eq, take, IfOk, IsOk, OnOk, if◌then◌else◌};
+ghost use Rattle.std.specs.Prelude.{◌≡◌, ◌≤◌, ◌<◌, ◌+◌, ℕ, Some, None, Err, true, false, nat_eq, slice_get, take, IfOk, IsOk, OnOk, if◌then◌else◌};
 ghost use Rattle.std.specs.Option.{option_copied};
 ghost use Rattle.indexmap.specs.IndexMap as maps;
 ghost use Rattle.afs_ideal.specs.Tables.{AscendsFrom};
+ghost use Rattle.afs_volume.specs.Assembling.{are_read, passes_at, reads_pair, IsReadablePlace};
 ghost use Rattle.afs_volume.specs.Listed.{listed_as, Lists};
-ghost use Rattle.afs_volume.specs.Seen.{all_seen};
+ghost use Rattle.afs_volume.specs.Seen.{all_seen, AreReadable};
+ghost use Rattle.afs_volume.specs.declared.faults.AssembleFault.TheVariants.{NotSound};
 
+use crate::faults::AssembleFault;
 use crate::finding::{is_directory, names_of};
+use crate::ready::read_vnode;
 use afs_dir::Listing;
 use afs_num::types::Mem;
 use afs_num::vnodes::Vnode;
@@ -106,25 +110,41 @@ impl Directories {
         }
     }
 
-    /// The names of the vnode in a place besides.
-    fn list_place(&mut self, alloc: Global, vnodes: &VnodeStore, place: u32) -> Mem<()>
+    /// The names of the vnode in a place besides, where it can be read.
+    fn read_place(
+        &mut self,
+        alloc: Global,
+        vnodes: &VnodeStore,
+        place: u32,
+    ) -> Result<(), AssembleFault>
         requires ordered { AscendsFrom 0 vnodes.now.table }
         requires listed { Lists (maps.get nat_eq self.old.dirs) (all_seen (take place vnodes.now.table)) }
-        ensures { OnOk result (Lists (maps.get nat_eq self.new.dirs) (all_seen (take (place + 1) vnodes.now.table))) }
+        ensures listed { OnOk result (Lists (maps.get nat_eq self.new.dirs) (all_seen (take (place + 1) vnodes.now.table))) }
+        ensures read { OnOk result (passes_at reads_pair (slice_get vnodes.now.table place) ≡ true) }
+        ensures readable { OnOk result (IsReadablePlace (slice_get vnodes.now.table place)) }
+        ensures not_sound { result ≡ Err NotSound → passes_at reads_pair (slice_get vnodes.now.table place) ≡ false }
     {
         match vnodes.at(place) {
-            Some(x) => self.set(x.vnode, listed_as(alloc, x)?),
+            Some(x) => {
+                let names = read_vnode(alloc, x)?;
+                self.set(x.vnode, names)?;
+                Ok(())
+            }
             None => Ok(()),
         }
     }
 
-    /// The names of all directories among vnodes. Each is read once.
-    pub fn of(alloc: Global, vnodes: &VnodeStore) -> Mem<Directories>
-        ensures { IfOk result (λ d. Lists (maps.get nat_eq d.dirs) (all_seen vnodes.now.table)) }
+    /// The names of all directories among vnodes, each of which is read once. `NotSound` where a vnode can't be read.
+    pub fn read(alloc: Global, vnodes: &VnodeStore) -> Result<Directories, AssembleFault>
+        ensures listed { IfOk result (λ d. Lists (maps.get nat_eq d.dirs) (all_seen vnodes.now.table)) }
+        ensures read { OnOk result (are_read vnodes.now.table ≡ true) }
+        ensures readable { OnOk result (AreReadable vnodes.now.table) }
+        ensures ordered { AscendsFrom 0 vnodes.now.table }
+        ensures not_sound { result ≡ Err NotSound → are_read vnodes.now.table ≡ false }
     {
         let mut dirs = Directories::new(alloc);
         for place in 0..vnodes.len() as u32 {
-            dirs.list_place(alloc, vnodes, place)?;
+            dirs.read_place(alloc, vnodes, place)?;
         }
         Ok(dirs)
     }

@@ -7,33 +7,18 @@ ghost use Rattle.afs_ideal.specs.VnodeImage.{FitsImage};
 ghost use Rattle.afs_ideal.specs.Volumes.{amended, fresh, or_old, up_if, with_status};
 ghost use Rattle.afs_volume.specs.Drawing.{HasOwn, IsLeft};
 ghost use Rattle.afs_volume.specs.Giving.{amend_seen, KeepsBody};
-ghost use Rattle.afs_volume.specs.Images.{body_left, image_amended, image_made, list_left};
+ghost use Rattle.afs_volume.specs.Images.{image_amended, image_made, list_left};
 ghost use Rattle.afs_volume.specs.Seen.{seen, kind_seen, IsReadable};
 
 use crate::edits::Amend;
 use crate::finding::is_directory;
-use crate::limits::has_body;
+use crate::limits::{body_left, has_body};
 use crate::making::set_status;
 use afs_num::calls::AfsStoreStatus;
 use afs_num::sequences::Octets;
 use afs_num::types::Mem;
 use afs_num::vnodes::Vnode;
 use std::alloc::Global;
-
-/// The bytes of a vnode after an edit; a directory's spell its names.
-fn body_left<'a>(x: &'a Vnode, amend: &'a Amend) -> &'a Octets
-    ensures { result.now ≡ body_left (kind_seen x.now.kind) amend.now x.now.contents }
-{
-    let new = if is_directory(x) {
-        &amend.names
-    } else {
-        &amend.contents
-    };
-    match new {
-        Some(bytes) => bytes,
-        None => &x.contents,
-    }
-}
 
 /// The text of the access list of a vnode after an edit; a directory alone has one.
 fn list_left<'a>(x: &'a Vnode, amend: &'a Amend) -> &'a Octets

@@ -30,7 +30,7 @@ use afs_num::calls::{AfsStoreStatus, FsCall};
 use afs_num::sequences::Octets;
 use afs_num::types::{Code, Fid, Mem};
 use afs_num::vnodes::{Vnode, Vnodes};
-use std::alloc::{AllocError, Global};
+use std::alloc::Global;
 
 /// A status of which nothing is set.
 pub(crate) fn nothing_set() -> AfsStoreStatus
@@ -136,6 +136,7 @@ impl Volume {
     }
 
     /// The edits that make a file, in a directory where one may be made.
+    #[tactic(auto, using(crate::proofs::Spelled::may_be_added))]
     fn filled_edits(&self, d: &Fid, x: &Vnode, name: &Octets, file: Vnode) -> Mem<Edits>
         requires found { vnode_of d.now (volume_of self.now) ≡ Some (seen x.now) }
         requires there { get d.now.vnode self.now.vnodes.table ≡ Some x.now }
@@ -145,11 +146,8 @@ impl Volume {
         requires passes { first_failing (adds_name name.now (names_in (Some (seen x.now))) true) ≡ None }
         ensures { IfOk result (λ es. edits_seen es ≡ ascending (creating d.now name.now nothing_set None (seen file) (volume_of self.now))) }
     {
-        match self.creates(d, x, name.as_slice(), &nothing_set(), None, file) {
-            Ok(plan) => Ok(plan.edits),
-            Err(OpFault::OutOfMemory) => Err(AllocError),
-            Err(_) => unreachable!(),
-        }
+        let plan = self.creates(d, x, name.as_slice(), &nothing_set(), None, file)?;
+        Ok(plan.edits)
     }
 
     /// The edits that make a file with these bytes, where CreateFile makes one without.

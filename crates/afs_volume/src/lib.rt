@@ -31,10 +31,11 @@ mod replies;
 mod rights;
 mod sights;
 mod soundness;
+pub mod standing;
 mod taking;
 mod volume;
 
-pub use assembling::can_be_read;
+pub use finding::is_directory;
 pub use listed::ReadyNames;
 pub use ready::ReadyChange;
 pub use volume::Volume;

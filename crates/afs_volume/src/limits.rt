@@ -9,7 +9,8 @@ ghost use Rattle.afs_ideal.specs.Volumes.{amended, blocks_in, blocks_of, bytes_b
 ghost use Rattle.afs_ideal.proofs.Looks.{Distinct};
 ghost use Rattle.afs_volume.specs.Counting.{blocks_after, blocks_at, blocks_before, made_of};
 ghost use Rattle.afs_volume.specs.Giving.{amend_seen, edit_seen, edits_seen, volume_of, Passes};
-ghost use Rattle.afs_volume.specs.Seen.{seen, IsReadable};
+ghost use Rattle.afs_volume.specs.Images.{body_left};
+ghost use Rattle.afs_volume.specs.Seen.{kind_seen, seen, IsReadable};
 
 use crate::Volume;
 use crate::checks::check;
@@ -40,11 +41,11 @@ pub fn blocks_of(x: &Vnode) -> u64
     blocks(bytes_of(x))
 }
 
-/// The bytes of a vnode after an edit.
+/// The bytes of a vnode after an edit; a directory's spell its names.
 #[tactic(auto, unfolding(crate::specs::Seen::seen))]
-fn bytes_after<'a>(x: &'a Vnode, amend: &'a Amend) -> &'a Octets
-    requires { IsReadable x.now }
-    ensures { result.now ≡ bytes_by (seen x.now).kind (amended 0 (amend_seen amend.now) (seen x.now)) }
+pub fn body_left<'a>(x: &'a Vnode, amend: &'a Amend) -> &'a Octets
+    ensures image { result.now ≡ body_left (kind_seen x.now.kind) amend.now x.now.contents }
+    ensures seen { IsReadable x.now → result.now ≡ bytes_by (seen x.now).kind (amended 0 (amend_seen amend.now) (seen x.now)) }
 {
     let new = if is_directory(x) {
         &amend.names
@@ -112,7 +113,7 @@ impl Volume {
         ensures small { result < 2 ^ 54 }
     {
         match (edit, self.get(edit.number())) {
-            (Edit::Amends(_, amend), Some(x)) => blocks(bytes_after(x, amend)),
+            (Edit::Amends(_, amend), Some(x)) => blocks(body_left(x, amend)),
             (Edit::Makes(_, made), None) => blocks_of(&made.vnode),
             (Edit::Makes(_, _), Some(x)) => blocks_of(x),
             _ => 0,

@@ -1,23 +1,19 @@
 //! Names that operations add and remove, and the order of their edits.
 
-ghost use Rattle.std.specs.Prelude.{◌≡◌, ◌∷◌, [], Some, None, true, IfOk, IfErr, OnOk, ◌++◌, ◌≤◌, length, is_some, nat_lt, Ok};
+ghost use Rattle.std.specs.Prelude.{◌≡◌, ◌∷◌, [], Some, None, true, IfOk, OnOk, ◌++◌, ◌≤◌, length, is_some, nat_lt, Ok};
 ghost use Rattle.std.specs.List.{prefix_len};
 ghost use Rattle.std.specs.Option.{option_copied, option_map};
-ghost use Rattle.afs_ideal.specs.Directories.{directory_of, named, with_name, without_name};
-ghost use Rattle.afs_ideal.specs.Operations.{adds_name, first_failing, name_of, no_amend, unlinks};
+ghost use Rattle.afs_ideal.specs.Directories.{add_refused, directory_of, named, with_name, without_name};
+ghost use Rattle.afs_ideal.specs.Operations.{name_of, no_amend, unlinks};
 ghost use Rattle.afs_ideal.specs.VnodeImage.{most_contents};
 ghost use Rattle.afs_ideal.specs.Volumes.{amends, ascending, edit_number, placed};
-ghost use Rattle.afs_volume.specs.declared.faults.OpFault.TheVariants.{OutOfMemory};
-ghost use Rattle.afs_volume.specs.Giving.{edit_seen, edits_seen, Passes};
+ghost use Rattle.afs_volume.specs.Giving.{edit_seen, edits_seen};
 ghost use Rattle.afs_volume.specs.Seen.{names_spelled, seen, SpellsNames};
 
-use crate::checks::check;
 use crate::edits::{Amend, Edit, Edits, Plan};
-use crate::faults::OpFault;
-use crate::finding::{has_name, is_directory};
+use crate::finding::is_directory;
 use crate::making::spelled;
 use afs_dir::{Dir, Listing};
-use afs_num::names::name_ok;
 use afs_num::sequences::Octets;
 use afs_num::types::Mem;
 use afs_num::vnodes::Vnode;
@@ -26,19 +22,8 @@ use std::alloc::Global;
 /// How many names a directory has at most.
 pub const MOST_NAMES: usize = 1_024;
 
-/// A name may be added: 22 where it is none or something else is bad, 17 where it is there, 27 where there are too many. It
-/// takes no memory.
-fn may_add(names: &Listing, name: &[u8], good: bool) -> Result<(), OpFault>
-    ensures { Passes (first_failing (adds_name name.now names.now good)) result }
-{
-    check(good && name_ok(name), 22)?;
-    check(!has_name(names, name), 17)?;
-    check(names.len() < MOST_NAMES, 27)
-}
-
-/// The bytes that spell the names and one more: 22 where it is none or something else is bad, 17 where it is there, 27 where
-/// there are too many. `bytes` spell the names as they are.
-#[tactic(auto, unfolding(crate::specs::Seen::names_spelled), using(crate::proofs::Spelled::may_be_added))]
+/// The bytes that spell the names and one more, which may be added. `bytes` spell the names as they are.
+#[tactic(auto, unfolding(crate::specs::Seen::names_spelled))]
 pub fn spelled_with(
     alloc: Global,
     names: &Listing,
@@ -46,16 +31,14 @@ pub fn spelled_with(
     name: &[u8],
     vnode: u32,
     unique: u32,
-    good: bool,
-) -> Result<Octets, OpFault>
-    requires { directory_of bytes.now ≡ Ok names.now }
-    ensures answer { Passes (first_failing (adds_name name.now names.now good)) result }
+) -> Mem<Octets>
+    requires added { add_refused name.now names.now ≡ None }
+    requires read { directory_of bytes.now ≡ Ok names.now }
     ensures read { IfOk result (λ bs. names_spelled bs ≡ with_name (name_of name.now vnode unique) names.now) }
     ensures spelled { IfOk result (λ bs. SpellsNames (Some bs)) }
     ensures short { IfOk result (λ bs. length bs ≤ most_contents) }
 {
-    may_add(names, name, good)?;
-    Ok(names.bytes_with(alloc, bytes, name, vnode, unique)?)
+    names.bytes_with(alloc, bytes, name, vnode, unique)
 }
 
 /// The bytes that spell the names without this one, which is there. `bytes` spell all of them.
@@ -97,9 +80,8 @@ fn place_of(edits: &[Edit], number: u32) -> usize
 
 /// The edit in its place among those that stand by ascending vnode.
 #[tactic(auto, using(crate::proofs::Placed::placed_at))]
-fn put_in_place(edits: &mut Vec<Edit>, edit: Edit) -> Result<(), OpFault>
-    ensures ok { OnOk result (edits_seen edits.new.items ≡ placed (edit_seen edit) (edits_seen edits.old.items)) }
-    ensures err { IfErr result (λ e. e ≡ OutOfMemory) }
+fn put_in_place(edits: &mut Vec<Edit>, edit: Edit) -> Mem<()>
+    ensures { OnOk result (edits_seen edits.new.items ≡ placed (edit_seen edit) (edits_seen edits.old.items)) }
 {
     let place = place_of(edits, edit.number());
     edits.insert(place, edit)?;
@@ -108,9 +90,8 @@ fn put_in_place(edits: &mut Vec<Edit>, edit: Edit) -> Result<(), OpFault>
 
 /// The edits by ascending vnode.
 #[tactic(auto, using(crate::proofs::Placed::placed_none, crate::proofs::Placed::taken_last))]
-pub fn ascending(alloc: Global, edits: Edits) -> Result<Edits, OpFault>
-    ensures ok { IfOk result (λ es. edits_seen es ≡ ascending (edits_seen edits)) }
-    ensures err { IfErr result (λ e. e ≡ OutOfMemory) }
+pub fn ascending(alloc: Global, edits: Edits) -> Mem<Edits>
+    ensures { IfOk result (λ es. edits_seen es ≡ ascending (edits_seen edits)) }
 {
     let mut left = edits.into_vec();
     let mut placed = Vec::new(alloc);
@@ -167,12 +148,11 @@ pub fn removes(
     links: Option<u64>,
     number: u32,
     target: Option<&Vnode>,
-) -> Result<Plan, OpFault>
+) -> Mem<Plan>
     requires spelled { SpellsNames (Some left) }
     requires short { length left ≤ most_contents }
     ensures edits { IfOk result (λ p. edits_seen p.edits ≡ ascending (amends d (record no_amend { names = Some (names_spelled left); links = links }) ∷ unlinks number (option_map seen (option_copied target.entry)))) }
     ensures shown { IfOk result (λ p. p.shown ≡ d) }
-    ensures err { IfErr result (λ e. e ≡ OutOfMemory) }
 {
     let mut edits = Edits::new(alloc);
     push_spelled(&mut edits, d, left, links)?;

@@ -12,6 +12,7 @@ ghost use Rattle.afs_volume.specs.Taking.{times_in, IsAtSetUp};
 
 use crate::Volume;
 use crate::directories::Directories;
+use crate::faults::AssembleFault;
 use crate::finding::DIRECTORY;
 use crate::making::spelled;
 use afs_dir::Dir;
@@ -97,7 +98,11 @@ impl Volume {
         ensures times { IfOk result (λ v. IsAtSetUp v) }
     {
         let vnodes = new_vnodes(alloc)?;
-        let dirs = Directories::of(alloc, &vnodes)?;
+        let dirs = match Directories::read(alloc, &vnodes) {
+            Ok(dirs) => dirs,
+            Err(AssembleFault::OutOfMemory) => return Err(AllocError),
+            Err(AssembleFault::NotSound) => unreachable!(),
+        };
         let head = VolumeHead {
             id,
             family,

@@ -10,7 +10,7 @@ ghost use Rattle.afs_volume.specs.Seen.{seen};
 
 use crate::Volume;
 use crate::callers::Caller;
-use crate::checks::check;
+use crate::checks::check_all;
 use crate::edits::{Amend, Edit, Edits, Plan};
 use crate::faults::OpFault;
 use crate::finding::{is_directory, is_file};
@@ -89,11 +89,13 @@ impl Volume {
         ensures answer { Passes (first_failing ((not (is_kind (seen x.now).kind a_directory), 21) ∷ is_read_write (volume_of self.now) ∷ has_right (caller_seen caller.now) 2 (volume_of self.now) (Some (seen x.now)) ∷ (is_good, 22) ∷ (not (nat_lt most_bytes (length contents.now)), 27) ∷ [])) result }
         ensures short { OnOk result (length contents.now ≤ most_bytes) }
     {
-        check(!is_directory(x), 21)?;
-        check(self.is_writable(), 30)?;
-        check(self.may(caller, 2, x), 13)?;
-        check(is_good, 22)?;
-        check(contents.len() <= MOST_BYTES, 27)
+        check_all(&[
+            (!is_directory(x), 21),
+            (self.is_writable(), 30),
+            (self.may(caller, 2, x), 13),
+            (is_good, 22),
+            (contents.len() <= MOST_BYTES, 27),
+        ])
     }
 
     /// StoreData: a file's bytes, and the words of a status.
@@ -127,10 +129,13 @@ impl Volume {
         ensures { Plans (planned (caller_seen caller.now) (calls.StoreAcl fid.now acl.now) (volume_of self.now)) result }
     {
         let d = self.found(fid)?;
-        check(is_directory(d), 20)?;
-        check(self.is_writable(), 30)?;
-        check(self.may(caller, 64, d), 13)?;
-        check(is_acl(self.alloc, acl.as_slice())?, 22)?;
+        let is_list = is_acl(self.alloc, acl.as_slice())?;
+        check_all(&[
+            (is_directory(d), 20),
+            (self.is_writable(), 30),
+            (self.may(caller, 64, d), 13),
+            (is_list, 22),
+        ])?;
         let acl = acl.copy(self.alloc)?;
         let mut amend = Amend::nothing();
         amend.acl = Some(acl);
@@ -147,9 +152,11 @@ impl Volume {
         ensures { Plans (planned (caller_seen caller.now) (calls.StoreStatus fid.now status.now) (volume_of self.now)) result }
     {
         let x = self.found(fid)?;
-        check(self.is_writable(), 30)?;
-        check(self.may(caller, 2, x), 13)?;
-        check(is_mask(status), 22)?;
+        check_all(&[
+            (self.is_writable(), 30),
+            (self.may(caller, 2, x), 13),
+            (is_mask(status), 22),
+        ])?;
         let mut amend = Amend::nothing();
         amend.status = Some(*status);
         Ok(plan_one(self.alloc, fid.vnode, amend)?)

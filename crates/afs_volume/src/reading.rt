@@ -10,7 +10,7 @@ ghost use Rattle.afs_volume.specs.Seen.{seen, FitsHead, IsReadable};
 
 use crate::Volume;
 use crate::callers::Caller;
-use crate::checks::check;
+use crate::checks::{check, check_all};
 use crate::faults::OpFault;
 use crate::finding::is_directory;
 use crate::replies::{bytes_of, no_callback, status_with};
@@ -77,10 +77,11 @@ impl Volume {
         let x = self.found(fid)?;
         let right = if is_directory(x) { 8 } else { 1 };
         let rights = self.rights(caller, x);
-        check(rights.has(right), 13)?;
-        check(position == 0 && length == 2_147_483_647, 22)?;
+        let is_whole = position == 0 && length == 2_147_483_647;
+        check_all(&[(rights.has(right), 13), (is_whole, 22)])?;
+        let contents = bytes_of(x).copy(self.alloc)?;
         Ok(FsReply::FetchData {
-            contents: bytes_of(x).copy(self.alloc)?,
+            contents,
             status: status_with(x, rights),
             callback: no_callback(),
             sync: self.sync(),
@@ -93,11 +94,11 @@ impl Volume {
         ensures fits { IfOk result (λ r. FitsReply r) }
     {
         let d = self.found(fid)?;
-        check(is_directory(d), 20)?;
         let rights = self.rights(caller, d);
-        check(rights.has(8), 13)?;
+        check_all(&[(is_directory(d), 20), (rights.has(8), 13)])?;
+        let acl = list_text(d).copy(self.alloc)?;
         Ok(FsReply::FetchAcl {
-            acl: list_text(d).copy(self.alloc)?,
+            acl,
             status: status_with(d, rights),
             sync: self.sync(),
         })

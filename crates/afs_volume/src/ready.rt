@@ -80,7 +80,7 @@ fn read_directory(alloc: Global, x: &Vnode) -> Result<Listing, AssembleFault>
 
 /// The names of a vnode that can be read; it has some where it is a directory.
 #[tactic(auto, unfolding(crate::specs::Seen::seen), using(crate::proofs::Readable::other_read, crate::proofs::Readable::readable_other))]
-fn read_vnode(alloc: Global, x: &Vnode) -> Result<Option<Listing>, AssembleFault>
+pub fn read_vnode(alloc: Global, x: &Vnode) -> Result<Option<Listing>, AssembleFault>
     ensures names { IfOk result (λ names. names ≡ listed_as x.now) }
     ensures readable { OnOk result (IsReadable x.now) }
     ensures read { OnOk result (can_be_read x.now ≡ true) }

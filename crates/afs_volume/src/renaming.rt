@@ -1,19 +1,18 @@
 //! Rename: a name is moved, in one directory or to another, and may take the place of a name that is there.
 
-ghost use Rattle.std.specs.Prelude.{◌≡◌, ◌==◌, ◌≤◌, ◌<◌, ◌&&◌, ◌||◌, nat_lt, ◌∷◌, ◌++◌, [], Some, true, is_some, length, IfOk, OnOk};
+ghost use Rattle.std.specs.Prelude.{◌≡◌, ◌==◌, ◌<◌, ◌&&◌, ◌||◌, nat_lt, ◌∷◌, ◌++◌, [], Some, true, is_some, length, IfOk, OnOk};
 ghost use Rattle.std.specs.Option.{option_copied, option_map};
 ghost use Rattle.afs_num.specs.Names.{name_ok};
 ghost use Rattle.afs_num.specs.declared.calls.FsCall.TheVariants as calls;
 ghost use Rattle.afs_ideal.specs.Directories.{named, with_name, without_name};
 ghost use Rattle.afs_ideal.specs.Operations.{by_tests, effect, first_failing, has_room_for, is_below, is_directory, is_kind, is_same_name, linked, may_move, name_of, named_vnode, no_amend, rename_out_tests, rename_rights, renaming, same_vnode, Result};
-ghost use Rattle.afs_ideal.specs.Tables.{get};
 ghost use Rattle.afs_ideal.specs.Volumes.{a_directory, amends, vnode_of};
 ghost use Rattle.afs_volume.specs.Giving.{caller_seen, edits_seen, move_tests, planned, takes_place, volume_of, Plans};
 ghost use Rattle.afs_volume.specs.Seen.{seen};
 
 use crate::Volume;
 use crate::callers::Caller;
-use crate::checks::check;
+use crate::checks::{check, check_all};
 use crate::edits::{Amend, Edit, Edits, Plan};
 use crate::faults::OpFault;
 use crate::finding::{
@@ -27,6 +26,15 @@ use afs_num::types::{Code, Fid, Mem};
 use afs_num::vnodes::Vnode;
 use std::alloc::{AllocError, Global};
 
+/// A name in a directory, whether it is there or not: the directory's fid, its vnode and its names, and the name.
+#[derive(Clone, Copy)]
+pub struct Place<'a> {
+    pub fid: &'a Fid,
+    pub vnode: &'a Vnode,
+    pub names: &'a Listing,
+    pub name: &'a [u8],
+}
+
 /// What takes the place of another is no directory, or that is one too.
 fn takes_place(x: Option<&Vnode>, other: Option<&Vnode>) -> bool
     ensures { result ≡ takes_place (option_map seen (option_copied x.entry)) (option_map seen (option_copied other.entry)) }
@@ -37,17 +45,17 @@ fn takes_place(x: Option<&Vnode>, other: Option<&Vnode>) -> bool
     }
 }
 
-fn is_same_name(d: &Fid, old: &[u8], e: &Fid, new: &[u8]) -> bool
-    ensures { result ≡ is_same_name d.now old.now e.now new.now }
+fn is_same_name(from: &Place, to: &Place) -> bool
+    ensures { result ≡ is_same_name from.now.fid.now from.now.name.now to.now.fid.now to.now.name.now }
 {
-    d.vnode == e.vnode && old == new
+    from.fid.vnode == to.fid.vnode && from.name == to.name
 }
 
 /// Both names are there, and of one vnode.
-fn is_same_vnode(names: &Listing, old: &[u8], others: &Listing, new: &[u8]) -> bool
-    ensures { result ≡ same_vnode (named old.now names.now) (named new.now others.now) }
+fn is_same_vnode(from: &Place, to: &Place) -> bool
+    ensures { result ≡ same_vnode (named from.now.name.now from.now.names.now) (named to.now.name.now to.now.names.now) }
 {
-    match (names.find(old), others.find(new)) {
+    match (from.names.find(from.name), to.names.find(to.name)) {
         (Some((number, unique)), Some(other)) => number == other.0 && unique == other.1,
         _ => false,
     }
@@ -80,23 +88,15 @@ fn put_name(names: &mut Dir, name: &[u8], vnode: u32, unique: u32) -> Mem<()>
     }
 }
 
-/// Takes a name from a directory, which then has so many links.
-fn take_from(
-    alloc: Global,
-    edits: &mut Edits,
-    d: &Fid,
-    x: &Vnode,
-    names: &Listing,
-    old: &[u8],
-    links: u64,
-) -> Mem<()>
-    requires names { names.now ≡ (seen x.now).names }
-    requires directory { is_kind (seen x.now).kind a_directory ≡ true }
-    ensures { OnOk result (edits_seen edits.new ≡ edits_seen edits.old ++ amends d.now.vnode (record no_amend { names = Some (without_name old.now names.now); links = Some links }) ∷ []) }
+/// Takes a name from its directory, which then has so many links.
+fn take_from(alloc: Global, edits: &mut Edits, from: &Place, links: u64) -> Mem<()>
+    requires names { from.now.names.now ≡ (seen from.now.vnode.now).names }
+    requires directory { is_kind (seen from.now.vnode.now).kind a_directory ≡ true }
+    ensures { OnOk result (edits_seen edits.new ≡ edits_seen edits.old ++ amends from.now.fid.now.vnode (record no_amend { names = Some (without_name from.now.name.now from.now.names.now); links = Some links }) ∷ []) }
 {
-    let mut left = names_of(alloc, x)?;
-    take_name(&mut left, old);
-    push_names(edits, d.vnode, &left, Some(links))
+    let mut left = names_of(alloc, from.vnode)?;
+    take_name(&mut left, from.name);
+    push_names(edits, from.fid.vnode, &left, Some(links))
 }
 
 /// Puts a name in a directory, which then has so many links.
@@ -122,23 +122,20 @@ fn put_in(
 fn put_within(
     alloc: Global,
     edits: &mut Edits,
-    d: &Fid,
-    x: &Vnode,
-    names: &Listing,
-    old: &[u8],
+    from: &Place,
     new: &[u8],
     moved: (u32, u32),
     links: u64,
 ) -> Mem<()>
     requires good { name_ok new.now ≡ true }
-    requires names { names.now ≡ (seen x.now).names }
-    requires directory { is_kind (seen x.now).kind a_directory ≡ true }
-    requires there { is_some (named old.now names.now) ≡ true }
-    ensures { OnOk result (edits_seen edits.new ≡ edits_seen edits.old ++ amends d.now.vnode (record no_amend { names = Some (with_name (name_of new.now moved.0 moved.1) (without_name new.now (without_name old.now names.now))); links = Some links }) ∷ []) }
+    requires names { from.now.names.now ≡ (seen from.now.vnode.now).names }
+    requires directory { is_kind (seen from.now.vnode.now).kind a_directory ≡ true }
+    requires there { is_some (named from.now.name.now from.now.names.now) ≡ true }
+    ensures { OnOk result (edits_seen edits.new ≡ edits_seen edits.old ++ amends from.now.fid.now.vnode (record no_amend { names = Some (with_name (name_of new.now moved.0 moved.1) (without_name new.now (without_name from.now.name.now from.now.names.now))); links = Some links }) ∷ []) }
 {
-    let mut left = names_of(alloc, x)?;
-    take_name(&mut left, old);
-    put_in(edits, d, left, new, moved, links)
+    let mut left = names_of(alloc, from.vnode)?;
+    take_name(&mut left, from.name);
+    put_in(edits, from.fid, left, new, moved, links)
 }
 
 /// Puts a name of another directory in one that has room for it, and which then has so many links.
@@ -146,58 +143,49 @@ fn put_within(
 fn put_across(
     alloc: Global,
     edits: &mut Edits,
-    e: &Fid,
-    y: &Vnode,
-    names: &Listing,
-    new: &[u8],
+    to: &Place,
     moved: (u32, u32),
     links: u64,
 ) -> Mem<()>
-    requires good { name_ok new.now ≡ true }
-    requires names { names.now ≡ (seen y.now).names }
-    requires directory { is_kind (seen y.now).kind a_directory ≡ true }
-    requires room { (is_some (named new.now names.now) || nat_lt (length names.now) 1024) ≡ true }
-    ensures { OnOk result (edits_seen edits.new ≡ edits_seen edits.old ++ amends e.now.vnode (record no_amend { names = Some (with_name (name_of new.now moved.0 moved.1) (without_name new.now names.now)); links = Some links }) ∷ []) }
+    requires good { name_ok to.now.name.now ≡ true }
+    requires names { to.now.names.now ≡ (seen to.now.vnode.now).names }
+    requires directory { is_kind (seen to.now.vnode.now).kind a_directory ≡ true }
+    requires room { (is_some (named to.now.name.now to.now.names.now) || nat_lt (length to.now.names.now) 1024) ≡ true }
+    ensures { OnOk result (edits_seen edits.new ≡ edits_seen edits.old ++ amends to.now.fid.now.vnode (record no_amend { names = Some (with_name (name_of to.now.name.now moved.0 moved.1) (without_name to.now.name.now to.now.names.now)); links = Some links }) ∷ []) }
 {
-    let all = names_of(alloc, y)?;
-    put_in(edits, e, all, new, moved, links)
+    let all = names_of(alloc, to.vnode)?;
+    put_in(edits, to.fid, all, to.name, moved, links)
 }
 
 /// Takes a name from a directory and puts it in another, which is then the parent; each has then so many links.
 fn move_across(
     alloc: Global,
     edits: &mut Edits,
-    d: &Fid,
-    x: &Vnode,
-    names: &Listing,
-    old: &[u8],
+    from: &Place,
     left: u64,
-    e: &Fid,
-    y: &Vnode,
-    others: &Listing,
-    new: &[u8],
+    to: &Place,
     moved: (u32, u32),
     links: u64,
 ) -> Mem<()>
-    requires good { name_ok new.now ≡ true }
-    requires names { (names.now ≡ (seen x.now).names) × (others.now ≡ (seen y.now).names) }
-    requires kinds { (is_kind (seen x.now).kind a_directory ≡ true) × (is_kind (seen y.now).kind a_directory ≡ true) }
-    requires room { (is_some (named new.now others.now) || nat_lt (length others.now) 1024) ≡ true }
+    requires good { name_ok to.now.name.now ≡ true }
+    requires names { (from.now.names.now ≡ (seen from.now.vnode.now).names) × (to.now.names.now ≡ (seen to.now.vnode.now).names) }
+    requires kinds { (is_kind (seen from.now.vnode.now).kind a_directory ≡ true) × (is_kind (seen to.now.vnode.now).kind a_directory ≡ true) }
+    requires room { (is_some (named to.now.name.now to.now.names.now) || nat_lt (length to.now.names.now) 1024) ≡ true }
     ensures { OnOk result (edits_seen edits.new ≡ ((edits_seen edits.old
-        ++ amends d.now.vnode (record no_amend { names = Some (without_name old.now names.now); links = Some left }) ∷ [])
-        ++ amends e.now.vnode (record no_amend { names = Some (with_name (name_of new.now moved.0 moved.1) (without_name new.now others.now)); links = Some links }) ∷ [])
-        ++ amends moved.0 (record no_amend { parent = Some (e.now.vnode, e.now.unique) }) ∷ []) }
+        ++ amends from.now.fid.now.vnode (record no_amend { names = Some (without_name from.now.name.now from.now.names.now); links = Some left }) ∷ [])
+        ++ amends to.now.fid.now.vnode (record no_amend { names = Some (with_name (name_of to.now.name.now moved.0 moved.1) (without_name to.now.name.now to.now.names.now)); links = Some links }) ∷ [])
+        ++ amends moved.0 (record no_amend { parent = Some (to.now.fid.now.vnode, to.now.fid.now.unique) }) ∷ []) }
 {
-    take_from(alloc, edits, d, x, names, old, left)?;
-    put_across(alloc, edits, e, y, others, new, moved, links)?;
-    edits.push(Edit::Amends(moved.0, Amend::with_parent(e.vnode, e.unique)))
+    take_from(alloc, edits, from, left)?;
+    put_across(alloc, edits, to, moved, links)?;
+    edits.push(Edit::Amends(moved.0, Amend::with_parent(to.fid.vnode, to.fid.unique)))
 }
 
 /// Nothing is added to a directory, or a name is replaced, or there is room for one more.
-fn has_room_for(d: &Fid, e: &Fid, others: &Listing, new: &[u8]) -> bool
-    ensures { result ≡ (d.now.vnode == e.now.vnode || (is_some (named new.now others.now) || nat_lt (length others.now) 1024)) }
+fn has_room_for(from: &Place, to: &Place) -> bool
+    ensures { result ≡ (from.now.fid.now.vnode == to.now.fid.now.vnode || (is_some (named to.now.name.now to.now.names.now) || nat_lt (length to.now.names.now) 1024)) }
 {
-    d.vnode == e.vnode || has_name(others, new) || others.len() < MOST_NAMES
+    from.fid.vnode == to.fid.vnode || has_name(to.names, to.name) || to.names.len() < MOST_NAMES
 }
 
 impl Volume {
@@ -227,49 +215,32 @@ impl Volume {
         Err(OpFault::Code(Code(22)))
     }
 
-    /// From d a name is taken, and in e one is put and maybe replaced.
-    fn may_rename(
-        &self,
-        caller: &Caller,
-        d: &Fid,
-        x: &Vnode,
-        e: &Fid,
-        y: &Vnode,
-        others: &Listing,
-        new: &[u8],
-    ) -> bool
-        requires from { vnode_of d.now (volume_of self.now) ≡ Some (seen x.now) }
-        requires to { vnode_of e.now (volume_of self.now) ≡ Some (seen y.now) }
-        requires names { others.now ≡ (seen y.now).names }
-        ensures { result ≡ rename_rights (caller_seen caller.now) d.now e.now new.now (volume_of self.now) }
+    /// From one directory a name is taken, and in the other one is put and maybe replaced.
+    fn may_rename(&self, caller: &Caller, from: &Place, to: &Place) -> bool
+        requires from { vnode_of from.now.fid.now (volume_of self.now) ≡ Some (seen from.now.vnode.now) }
+        requires to { vnode_of to.now.fid.now (volume_of self.now) ≡ Some (seen to.now.vnode.now) }
+        requires names { to.now.names.now ≡ (seen to.now.vnode.now).names }
+        ensures { result ≡ rename_rights (caller_seen caller.now) from.now.fid.now to.now.fid.now to.now.name.now (volume_of self.now) }
     {
-        let takes = self.may(caller, 16, x);
-        let puts = self.may(caller, 4, y);
-        let may_replace = self.may(caller, 16, y);
-        takes && puts && (!has_name(others, new) || may_replace)
+        let takes = self.may(caller, 16, from.vnode);
+        let puts = self.may(caller, 4, to.vnode);
+        let may_replace = self.may(caller, 16, to.vnode);
+        takes && puts && (!has_name(to.names, to.name) || may_replace)
     }
 
     /// A directory doesn't move below itself, a file with more than one name stays in its directory, and no name takes
     /// the place of another of the same vnode.
-    fn may_move(
-        &self,
-        d: &Fid,
-        old: &[u8],
-        names: &Listing,
-        e: &Fid,
-        new: &[u8],
-        others: &Listing,
-    ) -> bool
-        ensures { result ≡ may_move d.now e.now (named old.now names.now) (named new.now others.now) (volume_of self.now) (named_vnode (volume_of self.now) (named old.now names.now)) }
+    fn may_move(&self, from: &Place, to: &Place) -> bool
+        ensures { result ≡ may_move from.now.fid.now to.now.fid.now (named from.now.name.now from.now.names.now) (named to.now.name.now to.now.names.now) (volume_of self.now) (named_vnode (volume_of self.now) (named from.now.name.now from.now.names.now)) }
     {
-        match self.named(names, old) {
+        match self.named(from.names, from.name) {
             None => true,
             Some(x) => {
-                !is_same_vnode(names, old, others, new)
+                !is_same_vnode(from, to)
                     && (if is_directory(x) {
-                        !self.is_below(e.vnode, number_named(names, old))
+                        !self.is_below(to.fid.vnode, number_named(from.names, from.name))
                     } else {
-                        d.vnode == e.vnode || links_of(x) < 2
+                        from.fid.vnode == to.fid.vnode || links_of(x) < 2
                     })
             }
         }
@@ -277,110 +248,75 @@ impl Volume {
 
     /// What is done where the tests pass. From one directory to another, which is then the parent, a directory takes its
     /// link along; a directory that is replaced is one link less.
-    fn renames(
-        &self,
-        d: &Fid,
-        x: &Vnode,
-        names: &Listing,
-        old: &[u8],
-        e: &Fid,
-        y: &Vnode,
-        others: &Listing,
-        new: &[u8],
-    ) -> Mem<Edits>
-        requires from { vnode_of d.now (volume_of self.now) ≡ Some (seen x.now) }
-        requires to { vnode_of e.now (volume_of self.now) ≡ Some (seen y.now) }
-        requires names { (names.now ≡ (seen x.now).names) × (others.now ≡ (seen y.now).names) }
-        requires kinds { (is_kind (seen x.now).kind a_directory ≡ true) × (is_kind (seen y.now).kind a_directory ≡ true) }
-        requires good { name_ok new.now ≡ true }
-        requires there { is_some (named old.now names.now) ≡ true }
-        requires room { has_room_for d.now e.now new.now (volume_of self.now) ≡ true }
-        ensures { IfOk result (λ es. edits_seen es ≡ renaming d.now e.now old.now new.now (named old.now names.now) (named new.now others.now) (volume_of self.now)) }
+    fn renames(&self, from: &Place, to: &Place) -> Mem<Edits>
+        requires from { vnode_of from.now.fid.now (volume_of self.now) ≡ Some (seen from.now.vnode.now) }
+        requires to { vnode_of to.now.fid.now (volume_of self.now) ≡ Some (seen to.now.vnode.now) }
+        requires names { (from.now.names.now ≡ (seen from.now.vnode.now).names) × (to.now.names.now ≡ (seen to.now.vnode.now).names) }
+        requires kinds { (is_kind (seen from.now.vnode.now).kind a_directory ≡ true) × (is_kind (seen to.now.vnode.now).kind a_directory ≡ true) }
+        requires good { name_ok to.now.name.now ≡ true }
+        requires there { is_some (named from.now.name.now from.now.names.now) ≡ true }
+        requires room { has_room_for from.now.fid.now to.now.fid.now to.now.name.now (volume_of self.now) ≡ true }
+        ensures { IfOk result (λ es. edits_seen es ≡ renaming from.now.fid.now to.now.fid.now from.now.name.now to.now.name.now (named from.now.name.now from.now.names.now) (named to.now.name.now to.now.names.now) (volume_of self.now)) }
     {
         let mut edits = Edits::new(self.alloc);
-        let Some(moved) = names.find(old) else {
+        let Some(moved) = from.names.find(from.name) else {
             return Ok(edits);
         };
-        let number = number_named(others, new);
-        let target = self.named(others, new);
+        let number = number_named(to.names, to.name);
+        let target = self.named(to.names, to.name);
         let replaced = is_directory_there(target);
-        if d.vnode == e.vnode {
-            let links = linked(false, replaced, links_of(x));
-            put_within(self.alloc, &mut edits, d, x, names, old, new, moved, links)?;
+        if from.fid.vnode == to.fid.vnode {
+            let links = linked(false, replaced, links_of(from.vnode));
+            put_within(self.alloc, &mut edits, from, to.name, moved, links)?;
         } else {
-            let moves = is_directory_there(self.named(names, old));
-            let left = linked(false, moves, links_of(x));
-            let links = linked(moves, replaced, links_of(y));
-            move_across(
-                self.alloc, &mut edits, d, x, names, old, left, e, y, others, new, moved, links,
-            )?;
+            let moves = is_directory_there(self.named(from.names, from.name));
+            let left = linked(false, moves, links_of(from.vnode));
+            let links = linked(moves, replaced, links_of(to.vnode));
+            move_across(self.alloc, &mut edits, from, left, to, moved, links)?;
         }
         push_unlink(&mut edits, number, target)?;
         Ok(edits)
     }
 
-    /// Rename from names to others, behind the tests of kinds: 13, 22, 2, 39, 27.
-    fn moves(
-        &self,
-        caller: &Caller,
-        d: &Fid,
-        x: &Vnode,
-        names: &Listing,
-        old: &[u8],
-        e: &Fid,
-        y: &Vnode,
-        others: &Listing,
-        new: &[u8],
-    ) -> Result<Plan, OpFault>
-        requires from { vnode_of d.now (volume_of self.now) ≡ Some (seen x.now) }
-        requires to { vnode_of e.now (volume_of self.now) ≡ Some (seen y.now) }
-        requires names { (names.now ≡ (seen x.now).names) × (others.now ≡ (seen y.now).names) }
-        requires kinds { (is_kind (seen x.now).kind a_directory ≡ true) × (is_kind (seen y.now).kind a_directory ≡ true) }
-        ensures { Plans (by_tests (first_failing (move_tests (caller_seen caller.now) d.now old.now e.now new.now (volume_of self.now))) (effect (caller_seen caller.now) (calls.Rename d.now old.now e.now new.now) (volume_of self.now))) result }
+    /// Rename from one name to another, after the tests of kinds: 13, 22, 2, 39, 27.
+    fn moves(&self, caller: &Caller, from: &Place, to: &Place) -> Result<Plan, OpFault>
+        requires from { vnode_of from.now.fid.now (volume_of self.now) ≡ Some (seen from.now.vnode.now) }
+        requires to { vnode_of to.now.fid.now (volume_of self.now) ≡ Some (seen to.now.vnode.now) }
+        requires names { (from.now.names.now ≡ (seen from.now.vnode.now).names) × (to.now.names.now ≡ (seen to.now.vnode.now).names) }
+        requires kinds { (is_kind (seen from.now.vnode.now).kind a_directory ≡ true) × (is_kind (seen to.now.vnode.now).kind a_directory ≡ true) }
+        ensures { Plans (by_tests (first_failing (move_tests (caller_seen caller.now) from.now.fid.now from.now.name.now to.now.fid.now to.now.name.now (volume_of self.now))) (effect (caller_seen caller.now) (calls.Rename from.now.fid.now from.now.name.now to.now.fid.now to.now.name.now) (volume_of self.now))) result }
     {
-        check(self.may_rename(caller, d, x, e, y, others, new), 13)?;
-        let may_move = self.may_move(d, old, names, e, new, others);
-        check(
-            name_ok(new) && !is_same_name(d, old, e, new) && may_move,
-            22,
-        )?;
-        check(has_name(names, old), 2)?;
-        check(self.is_empty(self.named(others, new)), 39)?;
-        check(has_room_for(d, e, others, new), 27)?;
-        let edits = self.renames(d, x, names, old, e, y, others, new)?;
+        let is_good = name_ok(to.name) && !is_same_name(from, to) && self.may_move(from, to);
+        check_all(&[
+            (self.may_rename(caller, from, to), 13),
+            (is_good, 22),
+            (has_name(from.names, from.name), 2),
+            (self.is_empty(self.named(to.names, to.name)), 39),
+            (has_room_for(from, to), 27),
+        ])?;
+        let edits = self.renames(from, to)?;
         Ok(Plan {
             edits: ascending(self.alloc, edits)?,
-            shown: e.vnode,
+            shown: to.fid.vnode,
         })
     }
 
     /// Rename within a volume, of two directories.
     #[tactic(auto, using(crate::proofs::Renamed::kinds_tested))]
-    fn rename_in(
-        &self,
-        caller: &Caller,
-        d: &Fid,
-        x: &Vnode,
-        old: &[u8],
-        e: &Fid,
-        y: &Vnode,
-        new: &[u8],
-    ) -> Result<Plan, OpFault>
-        requires from { vnode_of d.now (volume_of self.now) ≡ Some (seen x.now) }
-        requires to { vnode_of e.now (volume_of self.now) ≡ Some (seen y.now) }
-        requires there { (get d.now.vnode self.now.vnodes.table ≡ Some x.now) × (get e.now.vnode self.now.vnodes.table ≡ Some y.now) }
-        requires directories { (is_kind (seen x.now).kind a_directory && is_kind (seen y.now).kind a_directory) ≡ true }
-        requires within { e.now.volume ≡ d.now.volume }
-        ensures { Plans (planned (caller_seen caller.now) (calls.Rename d.now old.now e.now new.now) (volume_of self.now)) result }
+    fn rename_in(&self, caller: &Caller, from: &Place, to: &Place) -> Result<Plan, OpFault>
+        requires from { vnode_of from.now.fid.now (volume_of self.now) ≡ Some (seen from.now.vnode.now) }
+        requires to { vnode_of to.now.fid.now (volume_of self.now) ≡ Some (seen to.now.vnode.now) }
+        requires names { (from.now.names.now ≡ (seen from.now.vnode.now).names) × (to.now.names.now ≡ (seen to.now.vnode.now).names) }
+        requires directories { (is_kind (seen from.now.vnode.now).kind a_directory && is_kind (seen to.now.vnode.now).kind a_directory) ≡ true }
+        requires within { to.now.fid.now.volume ≡ from.now.fid.now.volume }
+        ensures { Plans (planned (caller_seen caller.now) (calls.Rename from.now.fid.now from.now.name.now to.now.fid.now to.now.name.now) (volume_of self.now)) result }
     {
-        let names = self.names(d.vnode, x);
-        let others = self.names(e.vnode, y);
-        let source = self.named(names, old);
-        let target = self.named(others, new);
+        let source = self.named(from.names, from.name);
+        let target = self.named(to.names, to.name);
         check(takes_place(source, target), 20)?;
         check(takes_place(target, source), 21)?;
         check(self.is_writable(), 30)?;
-        self.moves(caller, d, x, names, old, e, y, others, new)
+        self.moves(caller, from, to)
     }
 
     /// Rename.
@@ -400,6 +336,18 @@ impl Volume {
         let x = self.found(d)?;
         let y = self.found(e)?;
         check(is_directory(x) && is_directory(y), 20)?;
-        self.rename_in(caller, d, x, old.as_slice(), e, y, new.as_slice())
+        let from = Place {
+            fid: d,
+            vnode: x,
+            names: self.names(d.vnode, x),
+            name: old.as_slice(),
+        };
+        let to = Place {
+            fid: e,
+            vnode: y,
+            names: self.names(e.vnode, y),
+            name: new.as_slice(),
+        };
+        self.rename_in(caller, &from, &to)
     }
 }

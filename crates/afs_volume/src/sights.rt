@@ -1,6 +1,6 @@
 //! Statuses and replies by the vnodes that a change leaves.
 
-ghost use Rattle.std.specs.Prelude.{◌≡◌, ◌==◌, true, Some, find, IfOk, IfSome};
+ghost use Rattle.std.specs.Prelude.{◌≡◌, ◌==◌, true, Some, find, length, IfSome};
 ghost use Rattle.std.specs.List.{list_any, AllByRecursion};
 ghost use Rattle.std.specs.Option.{option_copied, option_map};
 ghost use Rattle.afs_ideal.specs.AccessLists.{anyuser, rights_of};
@@ -21,7 +21,7 @@ use crate::finding::is_directory;
 use crate::replies::{no_callback, status_with};
 use crate::rights::{Rights, rights_in};
 use afs_num::calls::{AfsFetchStatus, FsCall, FsReply};
-use afs_num::types::{Fid, Mem};
+use afs_num::types::Fid;
 use afs_num::vnodes::Vnode;
 
 /// The vnode of this number among these.
@@ -131,36 +131,16 @@ impl<'a> Sight<'a> {
         }
     }
 
-    /// The reply to a change. Promises to call back are left for the server to fill.
-    pub fn reply(&self, caller: &Caller, shown: u32, call: &FsCall) -> Mem<FsReply>
-        requires changing { is_changing call.now ≡ true }
+    /// The reply to a change that tells the status of two vnodes.
+    fn reply_of_two(&self, caller: &Caller, shown: u32, call: &FsCall) -> FsReply
+        requires two { length (numbers_shown shown call.now) ≡ 2 }
         requires images { AllByRecursion (IsLeft self.now.draft.now.time) self.now.draft.now.vnodes }
         requires left { AllByRecursion (IsLeftIn (shown_by self.now.draft.now.vnodes)) (numbers_shown shown call.now) }
-        ensures { IfOk result (λ r. change_reply self.now.volume.now.head.id (caller_seen caller.now) (λ f. self.now.draft.now.time) (volume_drafted self.now.draft.now self.now.volume.now) shown call.now ≡ Some r) }
+        ensures { change_reply self.now.volume.now.head.id (caller_seen caller.now) (λ f. self.now.draft.now.time) (volume_drafted self.now.draft.now self.now.volume.now) shown call.now ≡ Some result }
     {
         let sync = self.volume.sync();
         let callback = no_callback();
-        Ok(match call {
-            FsCall::StoreData { fid, .. } => FsReply::StoreData {
-                status: self.status_at(caller, fid.vnode),
-                sync,
-            },
-            FsCall::StoreAcl { fid, .. } => FsReply::StoreAcl {
-                status: self.status_at(caller, fid.vnode),
-                sync,
-            },
-            FsCall::StoreStatus { fid, .. } => FsReply::StoreStatus {
-                status: self.status_at(caller, fid.vnode),
-                sync,
-            },
-            FsCall::RemoveFile { directory, .. } => FsReply::RemoveFile {
-                directory: self.status_at(caller, directory.vnode),
-                sync,
-            },
-            FsCall::RemoveDir { directory, .. } => FsReply::RemoveDir {
-                directory: self.status_at(caller, directory.vnode),
-                sync,
-            },
+        match call {
             FsCall::CreateFile { directory, .. } => FsReply::CreateFile {
                 fid: self.fid_at(shown),
                 status: self.status_at(caller, shown),
@@ -200,6 +180,39 @@ impl<'a> Sight<'a> {
                 sync,
             },
             _ => unreachable!(),
-        })
+        }
+    }
+
+    /// The reply to a change. Promises to call back are left for the server to fill.
+    pub fn reply(&self, caller: &Caller, shown: u32, call: &FsCall) -> FsReply
+        requires changing { is_changing call.now ≡ true }
+        requires images { AllByRecursion (IsLeft self.now.draft.now.time) self.now.draft.now.vnodes }
+        requires left { AllByRecursion (IsLeftIn (shown_by self.now.draft.now.vnodes)) (numbers_shown shown call.now) }
+        ensures { change_reply self.now.volume.now.head.id (caller_seen caller.now) (λ f. self.now.draft.now.time) (volume_drafted self.now.draft.now self.now.volume.now) shown call.now ≡ Some result }
+    {
+        let sync = self.volume.sync();
+        match call {
+            FsCall::StoreData { fid, .. } => FsReply::StoreData {
+                status: self.status_at(caller, fid.vnode),
+                sync,
+            },
+            FsCall::StoreAcl { fid, .. } => FsReply::StoreAcl {
+                status: self.status_at(caller, fid.vnode),
+                sync,
+            },
+            FsCall::StoreStatus { fid, .. } => FsReply::StoreStatus {
+                status: self.status_at(caller, fid.vnode),
+                sync,
+            },
+            FsCall::RemoveFile { directory, .. } => FsReply::RemoveFile {
+                directory: self.status_at(caller, directory.vnode),
+                sync,
+            },
+            FsCall::RemoveDir { directory, .. } => FsReply::RemoveDir {
+                directory: self.status_at(caller, directory.vnode),
+                sync,
+            },
+            _ => self.reply_of_two(caller, shown, call),
+        }
     }
 }

@@ -1,20 +1,19 @@
 //! Whether vnodes make a sound volume.
 
-ghost use Rattle.std.specs.Prelude.{◌≡◌, ◌<◌, ◌^◌, ◌==◌, ◌&&◌, ◌||◌, nat_eq, not, true, length, slice_get, Some};
+ghost use Rattle.std.specs.Prelude.{◌≡◌, ◌<◌, ◌==◌, ◌&&◌, ◌||◌, nat_eq, true, slice_get, Some};
 ghost use Rattle.std.specs.List.{list_all};
 ghost use Rattle.std.specs.Option.{option_copied, option_map};
 ghost use Rattle.indexmap.specs.IndexMap as maps;
-ghost use Rattle.afs_ideal.specs.Operations.{is_below, is_kind};
-ghost use Rattle.afs_ideal.specs.Soundness.{names_directory, names_it, names_of, subdirectories};
+ghost use Rattle.afs_ideal.specs.Operations.{is_below};
 ghost use Rattle.afs_ideal.specs.Tables.{get, AscendsFrom};
-ghost use Rattle.afs_ideal.specs.Volumes.{a_directory};
-ghost use Rattle.afs_records.specs.Sound.{ascends_from, gives_held, gives_one, has_by_kind, has_names, is_held_by, is_named_in, is_placed, is_root, is_sound, is_sound_vnode, kind_is_right};
+ghost use Rattle.afs_records.specs.Sound.{ascends_from, gives_one, is_named_in, is_placed, is_sound, is_sound_vnode};
 ghost use Rattle.afs_volume.specs.Assembling.{is_sound_pair, passes_at};
 ghost use Rattle.afs_volume.specs.Listed.{names_in, Lists};
-ghost use Rattle.afs_volume.specs.Seen.{all_seen, kind_seen, seen, volume_seen};
+ghost use Rattle.afs_volume.specs.Seen.{all_seen, seen, volume_seen};
 
 use crate::directories::Directories;
 use crate::finding::is_directory;
+use crate::standing::{gives_held, has_links, has_names, is_root, kind_is_right, names_of};
 use afs_num::directories::Name;
 use afs_num::vnodes::Vnode;
 use afs_num::volumes::VolumeHead;
@@ -27,72 +26,6 @@ pub struct Parts<'a> {
     pub vnodes: &'a VnodeStore,
     pub dirs: &'a Directories,
     ghost listed: { Lists (maps.get nat_eq dirs.now.dirs) (all_seen vnodes.now.table) },
-}
-
-/// How many names are those of directories, which have odd numbers.
-fn subdirectories(names: &[Name]) -> usize
-    ensures value { result ≡ subdirectories names.now }
-    ensures small { result < 2 ^ 63 }
-{
-    names.iter().filter(|name| name.vnode % 2 == 1).count()
-}
-
-/// How many names are the vnode's.
-fn names_of_vnode(vnode: u32, unique: u32, names: &[Name]) -> usize
-    ensures { result ≡ names_of vnode unique names.now }
-{
-    names
-        .iter()
-        .filter(|name| name.vnode == vnode && name.unique == unique)
-        .count()
-}
-
-/// The directory of this number and unique number holds the vnode.
-#[tactic(auto, unfolding(crate::specs::Seen::seen))]
-fn is_held_by(d: u32, unique: u32, x: &Vnode) -> bool
-    ensures { result ≡ is_held_by d unique (seen x.now) }
-{
-    x.parent_vnode == d && x.parent_unique == unique
-}
-
-/// A name gives a vnode that this directory holds, never the root.
-#[tactic(auto, unfolding(crate::specs::Seen::seen))]
-fn gives_held(d: u32, unique: u32, x: Option<&Vnode>, name: &Name) -> bool
-    ensures { result ≡ gives_held d unique name.now.vnode (option_map seen (option_copied x.entry)) name.now }
-{
-    match x {
-        Some(x) => { name.vnode != 1 && x.unique == name.unique && is_held_by(d, unique, x) }
-        None => false,
-    }
-}
-
-/// Directories have odd numbers, files and links even ones.
-#[tactic(auto, unfolding(crate::specs::Seen::seen))]
-fn kind_is_right(x: &Vnode) -> bool
-    ensures { result ≡ kind_is_right x.now.vnode (seen x.now).kind }
-{
-    is_directory(x) == (x.vnode % 2 == 1)
-}
-
-/// So many names a vnode has in its directory: a directory one, a file or link as many as it has links.
-#[tactic(auto, unfolding(crate::specs::Seen::seen))]
-fn has_names(x: &Vnode, count: usize) -> bool
-    ensures { result ≡ has_names (seen x.now).kind (seen x.now).links count }
-{
-    if is_directory(x) {
-        count == 1
-    } else {
-        count == x.link_count as usize && count != 0
-    }
-}
-
-/// A directory has two links, and one for each directory in it; what a file or link has is its contents alone.
-#[tactic(auto, unfolding(crate::specs::Seen::seen))]
-fn has_links(x: &Vnode, names: &[Name]) -> bool
-    requires { names.now ≡ (seen x.now).names }
-    ensures { result ≡ has_by_kind (seen x.now).kind (seen x.now) }
-{
-    !is_directory(x) || x.link_count as usize == 2 + subdirectories(names)
 }
 
 impl<'a> Parts<'a> {
@@ -135,7 +68,7 @@ impl<'a> Parts<'a> {
         match self.get(x.parent_vnode) {
             Some(d) if is_directory(d) && d.unique == x.parent_unique => {
                 let names = self.names(x.parent_vnode);
-                has_names(x, names_of_vnode(x.vnode, x.unique, names))
+                has_names(x, names_of(x.vnode, x.unique, names))
             }
             _ => false,
         }
@@ -171,22 +104,11 @@ impl<'a> Parts<'a> {
         ensures { result ≡ is_sound_vnode (volume_seen self.now.head.now self.now.vnodes.now.table) x.now.vnode (seen x.now) }
     {
         let names = self.names(x.vnode);
-        kind_is_right(x)
+        kind_is_right(x.vnode, x)
             && x.unique < self.head.unique
             && has_links(x, names)
             && self.gives_all(x, names)
             && (x.vnode == 1 || self.is_placed(x))
-    }
-
-    /// The root is a directory with the unique number 1, and nothing holds it.
-    #[tactic(auto, unfolding(crate::specs::Seen::seen))]
-    fn has_root(&self) -> bool
-        ensures { result ≡ is_root (get 1 (volume_seen self.now.head.now self.now.vnodes.now.table).vnodes) }
-    {
-        match self.get(1) {
-            Some(x) => x.unique == 1 && is_directory(x) && is_held_by(0, 0, x),
-            None => false,
-        }
     }
 
     /// The vnode in a place is one of a sound volume, where there is one.
@@ -226,6 +148,6 @@ impl<'a> Parts<'a> {
     pub fn is_sound(&self) -> bool
         ensures { result ≡ is_sound (volume_seen self.now.head.now self.now.vnodes.now.table) }
     {
-        self.has_root() && self.starts_at_one() && self.are_sound()
+        is_root(self.get(1)) && self.starts_at_one() && self.are_sound()
     }
 }

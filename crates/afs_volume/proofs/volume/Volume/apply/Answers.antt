@@ -1,4 +1,4 @@
-use Rattle.std.proofs.Common.{◌≡◌, Ok, sym, subst}
+use Rattle.std.proofs.Common.{Ok, sym, subst}
 use Rattle.afs_num.specs.declared.volumes.Change.{Change}
 use Rattle.afs_ideal.specs.Operations.{op, the_user}
 use Rattle.afs_volume.specs.Changes.{Applies}

@@ -15,8 +15,8 @@ draft-requires c =
     let drawn = drawable w.head.id (caller_seen c.args.caller.now) c.args.call.now (volume_of w) (edits_seen c.args.plan.now.edits) c.args.plan.now.shown c.requires.sound c.requires.on c.requires.planned in
     subst (λ (es : List Edit). AllByRecursion (CanBeDrawn (volume_of w)) (edits_seen es)) (sym c.as_slice-edits.ensures) drawn
 
-pub reply-requires-clause-left : goal.reply-requires-clause-left
-reply-requires-clause-left c =
+pub reply-reply-requires-clause-left : goal.reply-reply-requires-clause-left
+reply-reply-requires-clause-left c =
     let w = c.args.self.now in
     shown_there w.head.id (caller_seen c.args.caller.now) c.args.call.now (volume_of w) (edits_seen c.args.plan.now.edits) c.args.plan.now.shown _ c.requires.sound c.requires.on c.requires.planned
     (c.in_ok-draft.ensures.vnodes ∙ ap (λ (es : List Edit). all_left (volume_of w) (edits_seen es)) c.as_slice-edits.ensures)
@@ -44,19 +44,19 @@ drafted c =
       images = c.in_ok-draft.ensures.images;
     }
 
-changed : (c : goal.After-unique_left) → IsChangeBy c.args.self.now c.args.now (edits_seen c.args.plan.now.edits) c.args.plan.now.shown (change_of c.in_ok-draft.draft (c.args.self.now.head.counter + 1) c.unique_left.result c.in_ok-reply.reply)
+changed : (c : goal.After-unique_left) → IsChangeBy c.args.self.now c.args.now (edits_seen c.args.plan.now.edits) c.args.plan.now.shown (change_of c.in_ok-draft.draft (c.args.self.now.head.counter + 1) c.unique_left.result c.reply-reply.result)
 changed c =
     let w = c.args.self.now in
-    is_change w (caller_seen c.args.caller.now) c.args.call.now c.args.now (edits_seen c.args.plan.now.edits) c.args.plan.now.shown c.unique_left.result c.in_ok-draft.draft c.in_ok-reply.reply c.requires.sound c.requires.on c.requires.planned (drafted c)
+    is_change w (caller_seen c.args.caller.now) c.args.call.now c.args.now (edits_seen c.args.plan.now.edits) c.args.plan.now.shown c.unique_left.result c.in_ok-draft.draft c.reply-reply.result c.requires.sound c.requires.on c.requires.planned (drafted c)
     (c.unique_left.ensures ∙ ap (λ (es : List Edit). if list_any makes_vnode (edits_seen es) then w.head.unique + 1 else w.head.unique) c.as_slice-edits.ensures)
 
 pub returns-clause-change : goal.returns-clause-change
 returns-clause-change c = changed c
 
-kept : (c : goal.After-unique_left) → IsKeptAs c.args.self.now c.args.now (edits_seen c.args.plan.now.edits) (change_of c.in_ok-draft.draft (c.args.self.now.head.counter + 1) c.unique_left.result c.in_ok-reply.reply)
+kept : (c : goal.After-unique_left) → IsKeptAs c.args.self.now c.args.now (edits_seen c.args.plan.now.edits) (change_of c.in_ok-draft.draft (c.args.self.now.head.counter + 1) c.unique_left.result c.reply-reply.result)
 kept c =
     let w = c.args.self.now in
-    is_kept w (caller_seen c.args.caller.now) c.args.call.now c.args.now (edits_seen c.args.plan.now.edits) c.args.plan.now.shown c.in_ok-draft.draft (change_of c.in_ok-draft.draft (w.head.counter + 1) c.unique_left.result c.in_ok-reply.reply) c.requires.sound c.requires.on c.requires.planned c.requires.few (drafted c) (changed c)
+    is_kept w (caller_seen c.args.caller.now) c.args.call.now c.args.now (edits_seen c.args.plan.now.edits) c.args.plan.now.shown c.in_ok-draft.draft (change_of c.in_ok-draft.draft (w.head.counter + 1) c.unique_left.result c.reply-reply.result) c.requires.sound c.requires.on c.requires.planned c.requires.few (drafted c) (changed c)
 
 pub returns-clause-kept : goal.returns-clause-kept
 returns-clause-kept c = kept c
@@ -64,14 +64,14 @@ returns-clause-kept c = kept c
 pub returns-clause-fits : goal.returns-clause-fits
 returns-clause-fits c =
     let w = c.args.self.now in
-    can_take w c.args.now (edits_seen c.args.plan.now.edits) c.in_ok-draft.draft (change_of c.in_ok-draft.draft (w.head.counter + 1) c.unique_left.result c.in_ok-reply.reply) (drafted c) refl (kept c)
+    can_take w c.args.now (edits_seen c.args.plan.now.edits) c.in_ok-draft.draft (change_of c.in_ok-draft.draft (w.head.counter + 1) c.unique_left.result c.reply-reply.result) (drafted c) refl (kept c)
 
 pub returns-clause-reply : goal.returns-clause-reply
 returns-clause-reply c =
     let w = c.args.self.now in
-    replies w (caller_seen c.args.caller.now) c.args.call.now c.args.now (edits_seen c.args.plan.now.edits) c.args.plan.now.shown (w.head.counter + 1) c.unique_left.result c.in_ok-draft.draft c.in_ok-reply.reply c.requires.sound c.requires.on c.requires.planned (drafted c) c.in_ok-reply.ensures
+    replies w (caller_seen c.args.caller.now) c.args.call.now c.args.now (edits_seen c.args.plan.now.edits) c.args.plan.now.shown (w.head.counter + 1) c.unique_left.result c.in_ok-draft.draft c.reply-reply.result c.requires.sound c.requires.on c.requires.planned (drafted c) c.reply-reply.ensures
 
 pub returns-clause-row : goal.returns-clause-row
 returns-clause-row c =
     let w = c.args.self.now in
-    row_fits w (caller_seen c.args.caller.now) c.args.call.now c.args.now (edits_seen c.args.plan.now.edits) c.args.plan.now.shown (change_of c.in_ok-draft.draft (w.head.counter + 1) c.unique_left.result c.in_ok-reply.reply) (returns-clause-reply c)
+    row_fits w (caller_seen c.args.caller.now) c.args.call.now c.args.now (edits_seen c.args.plan.now.edits) c.args.plan.now.shown (change_of c.in_ok-draft.draft (w.head.counter + 1) c.unique_left.result c.reply-reply.result) (returns-clause-reply c)

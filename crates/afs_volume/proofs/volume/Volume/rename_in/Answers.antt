@@ -10,10 +10,10 @@ use Rattle.afs_volume.proofs.volume.Volume.rename_in.Goals as goal
 pub returns : goal.returns
 returns c =
     let v = volume_of c.args.self.now in
-    let d = c.args.d.now in
-    let e = c.args.e.now in
-    let old : List ℕ = c.args.old.now in
-    let new : List ℕ = c.args.new.now in
+    let d = c.args.from.now.fid.now in
+    let e = c.args.to.now.fid.now in
+    let old : List ℕ = c.args.from.now.name.now in
+    let new : List ℕ = c.args.to.now.name.now in
     let caller = caller_seen c.args.caller.now in
     let from : is_some (vnode_of d v) ≡ true = rw c.requires.from refl in
     let to : is_some (vnode_of e v) ≡ true = rw c.requires.to refl in

@@ -2,25 +2,13 @@
 
 ghost use Rattle.std.specs.Prelude.{◌≡◌, ◌<◌, ◌^◌, true, Some};
 ghost use Rattle.std.specs.Option.{option_copied, option_map};
-ghost use Rattle.afs_ideal.specs.Operations.{is_kind};
 ghost use Rattle.afs_ideal.specs.Soundness.{names_it, names_of, subdirectories};
-ghost use Rattle.afs_ideal.specs.Volumes.{a_directory};
 ghost use Rattle.afs_records.specs.Sound.{gives_held, has_by_kind, has_names, is_held_by, is_root, kind_is_right};
 ghost use Rattle.afs_volume.specs.Seen.{seen};
 
+use crate::finding::is_directory;
 use afs_num::directories::Name;
 use afs_num::vnodes::Vnode;
-
-/// The kind of a directory.
-const DIRECTORY: u32 = 2;
-
-/// A vnode is a directory.
-#[tactic(auto, unfolding(afs_volume::specs::Seen::seen))]
-pub(crate) fn is_directory(x: &Vnode) -> bool
-    ensures { result ≡ is_kind (seen x.now).kind a_directory }
-{
-    x.kind == DIRECTORY
-}
 
 /// How many names are those of directories, which have odd numbers.
 fn subdirectories(names: &[Name]) -> usize
@@ -31,7 +19,7 @@ fn subdirectories(names: &[Name]) -> usize
 }
 
 /// How many names are the vnode's.
-pub(crate) fn names_of(vnode: u32, unique: u32, names: &[Name]) -> usize
+pub fn names_of(vnode: u32, unique: u32, names: &[Name]) -> usize
     ensures { result ≡ names_of vnode unique names.now }
 {
     names
@@ -41,7 +29,7 @@ pub(crate) fn names_of(vnode: u32, unique: u32, names: &[Name]) -> usize
 }
 
 /// The directory of this number and unique number holds the vnode.
-#[tactic(auto, unfolding(afs_volume::specs::Seen::seen))]
+#[tactic(auto, unfolding(crate::specs::Seen::seen))]
 fn is_held_by(d: u32, unique: u32, x: &Vnode) -> bool
     ensures { result ≡ is_held_by d unique (seen x.now) }
 {
@@ -49,8 +37,8 @@ fn is_held_by(d: u32, unique: u32, x: &Vnode) -> bool
 }
 
 /// A name gives a vnode that this directory holds, never the root.
-#[tactic(auto, unfolding(afs_volume::specs::Seen::seen))]
-pub(crate) fn gives_held(d: u32, unique: u32, x: Option<&Vnode>, name: &Name) -> bool
+#[tactic(auto, unfolding(crate::specs::Seen::seen))]
+pub fn gives_held(d: u32, unique: u32, x: Option<&Vnode>, name: &Name) -> bool
     ensures { result ≡ gives_held d unique name.now.vnode (option_map seen (option_copied x.entry)) name.now }
 {
     match x {
@@ -60,15 +48,15 @@ pub(crate) fn gives_held(d: u32, unique: u32, x: Option<&Vnode>, name: &Name) ->
 }
 
 /// Directories have odd numbers, files and links even ones.
-pub(crate) fn kind_is_right(number: u32, x: &Vnode) -> bool
+pub fn kind_is_right(number: u32, x: &Vnode) -> bool
     ensures { result ≡ kind_is_right number (seen x.now).kind }
 {
     is_directory(x) == (number % 2 == 1)
 }
 
 /// So many names a vnode has in its directory: a directory one, a file or link as many as it has links.
-#[tactic(auto, unfolding(afs_volume::specs::Seen::seen))]
-pub(crate) fn has_names(x: &Vnode, count: usize) -> bool
+#[tactic(auto, unfolding(crate::specs::Seen::seen))]
+pub fn has_names(x: &Vnode, count: usize) -> bool
     ensures { result ≡ has_names (seen x.now).kind (seen x.now).links count }
 {
     if is_directory(x) {
@@ -79,8 +67,8 @@ pub(crate) fn has_names(x: &Vnode, count: usize) -> bool
 }
 
 /// A directory has two links, and one for each directory in it; what a file or link has is its contents alone.
-#[tactic(auto, unfolding(afs_volume::specs::Seen::seen))]
-pub(crate) fn has_links(x: &Vnode, names: &[Name]) -> bool
+#[tactic(auto, unfolding(crate::specs::Seen::seen))]
+pub fn has_links(x: &Vnode, names: &[Name]) -> bool
     requires { names.now ≡ (seen x.now).names }
     ensures { result ≡ has_by_kind (seen x.now).kind (seen x.now) }
 {
@@ -88,8 +76,8 @@ pub(crate) fn has_links(x: &Vnode, names: &[Name]) -> bool
 }
 
 /// The root is a directory with the unique number 1, and nothing holds it.
-#[tactic(auto, unfolding(afs_volume::specs::Seen::seen))]
-pub(crate) fn is_root(x: Option<&Vnode>) -> bool
+#[tactic(auto, unfolding(crate::specs::Seen::seen))]
+pub fn is_root(x: Option<&Vnode>) -> bool
     ensures { result ≡ is_root (option_map seen (option_copied x.entry)) }
 {
     match x {
