@@ -1,5 +1,6 @@
 //! What an interface's list of messages is made into: the table of their shapes, the parts that one is written from,
-//! and how one is read. A list has a line a row: `136 RemoveFile { directory: Fid, name: Opaque[256] }`.
+//! and how one is read. A list has a line a row: `136 RemoveFile { directory: Fid, name: Opaque[256] }`. A long list stands
+//! in two groups or three, since a function with a line for each row of it would take long to prove.
 
 /// The first eight kinds.
 #[macro_export]
@@ -18,10 +19,10 @@ macro_rules! first_kinds {
 macro_rules! table_of {
     (
         ()
-        [$($opcode:literal $name:ident { $($field:ident: $kind:ident $([$most:expr])?),* }),*]
+        $([$($opcode:literal $name:ident { $($field:ident: $kind:ident $([$most:expr])?),* }),*])*
     ) => {
         $crate::tables::Table {
-            rows: [$($crate::tables::Row {
+            rows: [$($($crate::tables::Row {
                 opcode: $opcode,
                 shape: $crate::first_kinds!(
                     $($crate::kinds::Kind::$kind $(($most))?,)*
@@ -34,7 +35,7 @@ macro_rules! table_of {
                     $crate::kinds::Kind::Nothing,
                     $crate::kinds::Kind::Nothing
                 ),
-            }),*],
+            },)*)*],
         }
     };
 }
@@ -44,11 +45,11 @@ macro_rules! table_of {
 macro_rules! shape_of {
     (
         ($opcode:ident)
-        [$($number:literal $name:ident { $($field:ident: $kind:ident $([$most:expr])?),* }),*]
+        $([$($number:literal $name:ident { $($field:ident: $kind:ident $([$most:expr])?),* }),*])*
     ) => {{
         let nothing = $crate::kinds::Kind::Nothing;
         match $opcode {
-            $($number => Ok($crate::first_kinds!(
+            $($($number => Ok($crate::first_kinds!(
                 $($crate::kinds::Kind::$kind $(($most))?,)*
                 nothing,
                 nothing,
@@ -58,69 +59,68 @@ macro_rules! shape_of {
                 nothing,
                 nothing,
                 nothing
-            )),)*
+            )),)*)*
             _ => Err($crate::faults::ShapeFault::NoRow($opcode)),
         }
     }};
 }
 
-/// A part, by a reference to its value.
+/// This of one group of a list.
 #[macro_export]
-macro_rules! part_of {
-    (Word $value:ident) => { $crate::kinds::Part::Word(*$value) };
-    (Signed $value:ident) => { $crate::kinds::Part::Signed(*$value) };
-    (VolumeKind $value:ident) => { $crate::kinds::Part::VolumeKind(*$value) };
-    (Server $value:ident) => { $crate::kinds::Part::Server(*$value) };
-    (Opaque $value:ident) => { $crate::kinds::Part::Opaque($value.as_slice()) };
-    (Fids $value:ident) => { $crate::kinds::Part::Fids($value.as_slice()) };
-    (CallBacks $value:ident) => { $crate::kinds::Part::CallBacks($value.as_slice()) };
-    (Statuses $value:ident) => { $crate::kinds::Part::Statuses($value.as_slice()) };
-    (Volumes $value:ident) => { $crate::kinds::Part::Volumes($value.as_slice()) };
-    ($kind:ident $value:ident) => { $crate::kinds::Part::$kind($value) };
+macro_rules! of_group {
+    ((first, $arms:ident $value:tt) $first:tt $($more:tt)*) => { $crate::$arms! { $value $first } };
+    ((second, $arms:ident $value:tt) $first:tt $second:tt $($more:tt)*) => { $crate::$arms! { $value $second } };
+    ((third, $arms:ident $value:tt) $first:tt $second:tt $third:tt) => { $crate::$arms! { $value $third } };
 }
 
-/// Appends the fields of a message of this enum.
+/// Appends the fields of a message of this enum. One that has none of these rows is appended as the last word says.
 #[macro_export]
 macro_rules! written_of {
     (
-        ($message:ident, $w:ident, $enum:ident)
+        ($message:ident, $w:ident, $enum:ident $(, $other:expr)?)
         [$($opcode:literal $name:ident { $($field:ident: $kind:ident $([$most:expr])?),* }),*]
     ) => {
         match $message {
-            $($enum::$name { $($field),* } => $crate::tables::write_parts(&[$($crate::part_of!($kind $field)),*], $w),)*
+            $($enum::$name { $($field),* } => $crate::tables::write_parts(&[$($crate::kinds::Part::$kind($field)),*], $w),)*
+            $(_ => $other,)?
         }
     };
 }
 
-/// How many bytes a field takes that lies there, or more.
+/// A field that isn't of a fixed size, where a message is taken apart.
 #[macro_export]
-macro_rules! room_for {
-    (Word $value:ident) => { 4usize };
-    (Signed $value:ident) => { 4usize };
-    (VolumeKind $value:ident) => { 4usize };
-    (Server $value:ident) => { 4usize };
-    (Fid $value:ident) => { 12usize };
-    (StoreStatus $value:ident) => { 24usize };
-    (FetchStatus $value:ident) => { 84usize };
-    (CallBack $value:ident) => { 12usize };
-    (VolSync $value:ident) => { 24usize };
-    (Entry $value:ident) => { 192usize };
-    (Opaque $value:ident) => { $value.len().saturating_add(8) };
-    (Fids $value:ident) => { $value.len().saturating_mul(12).saturating_add(4) };
-    (CallBacks $value:ident) => { $value.len().saturating_mul(12).saturating_add(4) };
-    (Statuses $value:ident) => { $value.len().saturating_mul(84).saturating_add(4) };
-    (Volumes $value:ident) => { $value.len().saturating_mul(16).saturating_add(4) };
+macro_rules! long_field {
+    (Opaque $value:ident) => { $value };
+    (Fids $value:ident) => { $value };
+    (CallBacks $value:ident) => { $value };
+    (Statuses $value:ident) => { $value };
+    (Volumes $value:ident) => { $value };
+    ($kind:ident $value:ident) => { _ };
 }
 
-/// How many bytes the fields of a message of this enum take, or more.
+/// So many bytes, and those of these fields that aren't of a fixed size.
+#[macro_export]
+macro_rules! room_with {
+    ($room:expr;) => { $room };
+    ($room:expr; Entry $value:ident $($more:ident)*) => { $crate::room_with!($room.saturating_add(192); $($more)*) };
+    ($room:expr; Opaque $value:ident $($more:ident)*) => { $crate::room_with!($room.saturating_add($value.len()); $($more)*) };
+    ($room:expr; Fids $value:ident $($more:ident)*) => { $crate::room_with!($room.saturating_add($value.len().saturating_mul(12)); $($more)*) };
+    ($room:expr; CallBacks $value:ident $($more:ident)*) => { $crate::room_with!($room.saturating_add($value.len().saturating_mul(12)); $($more)*) };
+    ($room:expr; Statuses $value:ident $($more:ident)*) => { $crate::room_with!($room.saturating_add($value.len().saturating_mul(84)); $($more)*) };
+    ($room:expr; Volumes $value:ident $($more:ident)*) => { $crate::room_with!($room.saturating_add($value.len().saturating_mul(16)); $($more)*) };
+    ($room:expr; $kind:ident $value:ident $($more:ident)*) => { $crate::room_with!($room; $($more)*) };
+}
+
+/// How many bytes the fields of a message of this enum take, or more. Those of a fixed size, and the lengths of the others, take so
+/// many at most.
 #[macro_export]
 macro_rules! room_of {
     (
-        ($message:ident, $enum:ident)
-        [$($opcode:literal $name:ident { $($field:ident: $kind:ident $([$most:expr])?),* }),*]
+        ($message:ident, $enum:ident, $fixed:expr)
+        $([$($opcode:literal $name:ident { $($field:ident: $kind:ident $([$most:expr])?),* }),*])*
     ) => {
         match $message {
-            $($enum::$name { $($field),* } => 0usize$(.saturating_add($crate::room_for!($kind $field)))*,)*
+            $($($enum::$name { $($field: $crate::long_field!($kind $field)),* } => $crate::room_with!($fixed; $($kind $field)*),)*)*
         }
     };
 }
@@ -134,26 +134,28 @@ macro_rules! slots_of {
     };
 }
 
-/// The values of fields, each beside those behind it.
+/// The message whose fields have these values, each beside those behind it.
 #[macro_export]
-macro_rules! values_of {
-    () => { () };
-    ($first:ident $(, $more:ident)*) => { ($first, $crate::values_of!($($more),*)) };
+macro_rules! message_with {
+    ($enum:ident $name:ident [$($made:tt)*] $values:expr;) => { $enum::$name { $($made)* } };
+    ($enum:ident $name:ident [$($made:tt)*] $values:expr; $first:ident $($more:ident)*) => {
+        $crate::message_with!($enum $name [$($made)* $first: $values.0,] $values.1; $($more)*)
+    };
 }
 
-/// Reads the message of this enum and opcode.
+/// Reads the message of this enum and opcode. One that has none of these rows is read as the last word says.
 #[macro_export]
 macro_rules! message_read {
     (
-        ($opcode:ident, $alloc:ident, $r:ident, $enum:ident)
+        ($opcode:ident, $alloc:ident, $r:ident, $enum:ident, $other:expr)
         [$($number:literal $name:ident { $($field:ident: $kind:ident $([$most:expr])?),* }),*]
     ) => {
         match $opcode {
             $($number => match $crate::taking::read_values::<$crate::slots_of!($($kind $([$most])?),*)>($alloc, $r) {
-                Ok($crate::values_of!($($field),*)) => Ok($enum::$name { $($field),* }),
+                Ok(values) => Ok($crate::message_with!($enum $name [] values; $($field)*)),
                 Err(fault) => Err(fault),
             },)*
-            _ => Err($crate::faults::ShapeFault::NoRow($opcode)),
+            _ => $other,
         }
     };
 }

@@ -16,6 +16,12 @@ use std::alloc::Global;
 /// The name of a volume, in bytes.
 pub const NAME_LIMIT: u32 = 32;
 
+/// The fields of a call that are of a fixed size take so many bytes at most, with the lengths and the filling of the others.
+const CALL_ROOM: usize = 12;
+
+/// The fields of a reply that are of a fixed size take so many bytes at most, with the lengths and the filling of the others.
+const REPLY_ROOM: usize = 12;
+
 /// The calls, with the fields behind the user.
 macro_rules! with_calls {
     ($arms:ident $value:tt) => {
@@ -75,11 +81,11 @@ impl Messages for LocCalls {
     }
 
     fn read(alloc: Global, opcode: u32, r: &mut Reader) -> Result<LocCall, ShapeFault> {
-        with_calls!(message_read(opcode, alloc, r, LocCall))
+        with_calls!(message_read(opcode, alloc, r, LocCall, Err(ShapeFault::NoRow(opcode))))
     }
 
     fn room(call: &LocCall) -> usize {
-        with_calls!(room_of(call, LocCall))
+        with_calls!(room_of(call, LocCall, CALL_ROOM))
     }
 
     #[tactic(auto, using(afs_shape::proofs::Spellable::parts_spellable))]
@@ -103,11 +109,11 @@ impl Messages for LocReplies {
     }
 
     fn read(alloc: Global, opcode: u32, r: &mut Reader) -> Result<LocReply, ShapeFault> {
-        with_replies!(message_read(opcode, alloc, r, LocReply))
+        with_replies!(message_read(opcode, alloc, r, LocReply, Err(ShapeFault::NoRow(opcode))))
     }
 
     fn room(reply: &LocReply) -> usize {
-        with_replies!(room_of(reply, LocReply))
+        with_replies!(room_of(reply, LocReply, REPLY_ROOM))
     }
 
     #[tactic(auto, using(afs_shape::proofs::Spellable::parts_spellable))]
