@@ -262,6 +262,7 @@ if (ulimit -v 1000000) 2> /dev/null; then
     (ulimit -v 12000 && exec "$program" replay < "$work/kept.afs") > "$work/kept" 2> "$work/err" || status=$?
     holds "a run that keeps its messages: status $status, wanted 7" [ "$status" = 7 ]
     head -c "$(wc -c < "$work/kept")" "$work/out" > "$work/beginning"
+    holds 'a run that keeps its messages: something was written' [ -s "$work/kept" ]
     holds 'a run that keeps its messages: a beginning' cmp -s "$work/beginning" "$work/kept"
 else
     echo 'skipped: little memory (the shell sets no limit)'

@@ -164,9 +164,9 @@ same 'what the gate prints' "$work/out" "$all_kept
 crate                proof   tests   edits   wrong
 seconds                  0       0       0       0
 minutes                0.0     0.0     0.0     0.0
-proofs, edits and tests took 0 minutes, with the 1 edits of the crates' must-fail
+proofs, edits and tests took 0 minutes, with 1 edit of the crates' must-fail
 of these, done in this run: 1 of the 3 proofs (of crates and of their tests) and 0 of the 1 must-fail edits; the others are kept from earlier runs of the same files on this machine
-kept from earlier runs: the proofs of 1 crates
+kept from earlier runs: the proofs of 1 crate
 twelve of the 2 other wrong programs took 0 minutes"
 
 echo "$none_kept" > "$work/says"

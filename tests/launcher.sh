@@ -73,7 +73,8 @@ uninstall() {
 
 # The stand-in of the kit writes down how it was called. As the gate it writes down what it finds, and proves all crates but one
 # that has a file refuse, with those that come after it; low was proved by an earlier run. Then it builds the stand-in of the
-# program. A case that it tries has its status, and what is told of it, in its comments.
+# program. Where there is a file never_ends, it says which process it is, does what that file says, and never ends. A case that it
+# tries has its status, and what is told of it, in its comments.
 cat > "$work/kit/rt" << END
 #!/bin/sh
 echo "\${PWD##*/}: \$*" >> '$work/called'
@@ -81,6 +82,11 @@ case \$1 in
 ci)
     find . -type f | LC_ALL=C sort > '$work/copied'
     cat crates.txt >> '$work/copied'
+    if [ -e crates/afs_top/never_ends ]; then
+        echo \$\$ > '$work/process'
+        . crates/afs_top/never_ends
+        exec sleep 100
+    fi
     for crate in low middle afs_top; do
         if [ "\$crate" = low ]; then
             echo 'rt: low is kept: an earlier run proved the same files'
@@ -604,8 +610,13 @@ judge_signal() {
     else
         fail "$1: status $status, wanted $2"
         kill "$process" 2> /dev/null || :
+        rm -rf "$work/tmp"
+        mkdir "$work/tmp"
     fi
 }
+
+# what the launcher does when the signal comes
+doing=replay
 
 # Sends a signal to the launcher alone, once a file is there that is made when it runs what never ends; standard input is
 # the launcher's: end_by SIGNAL STATUS FILE WORDS..
@@ -625,41 +636,74 @@ end_by() {
         status=0
         wait "$running" 2> /dev/null || status=$?
         kill "$guard" 2> /dev/null || :
-        judge_signal "the signal $signal to $1" "$ends"
+        judge_signal "the signal $signal to $doing" "$ends"
     else
-        fail "the signal $signal to $1: nothing runs"
+        fail "the signal $signal to $doing: nothing runs"
+    fi
+}
+
+# who runs these rows may have this signal ignored, as nohup does; then no shell below can take it
+end_by_hup() {
+    case $(sed -n 's/^SigIgn:.*\(.\)$/\1/p' "/proc/$$/status" 2> /dev/null || :) in
+    [13579bdf]) echo "skipped: the signal HUP to $doing (it is ignored here)" ;;
+    *) end_by HUP 129 "$@" ;;
+    esac
+}
+
+# As with ctrl-C, all get the signal at once: what the launcher runs sends it to its group. The shell lets what runs beside it
+# ignore such a signal, so the launcher runs in front, in a group of its own, which timeout makes: end_all SIGNAL STATUS
+end_all() {
+    if ! command -v timeout > /dev/null 2>&1; then
+        echo "skipped: the signal $1 to all of $doing (there is no timeout)"
+        return
+    fi
+    rm -f "$work/process"
+    status=0
+    # (the shell tells that it was a signal)
+    {
+        (ulimit -c 0 && TMPDIR=$work/tmp PATH=$work/kit:$PATH exec timeout --preserve-status 60 "$launcher" replay) < "$work/bad" ||
+            status=$?
+    } > /dev/null 2>&1
+    if [ -e "$work/process" ]; then
+        judge_signal "the signal $1 to all of $doing" "$2"
+    else
+        fail "the signal $1 to all of $doing: nothing runs"
     fi
 }
 exec 9< "$work/bad"
 end_by TERM 143 process replay
-# who runs these rows may have this signal ignored, as nohup does; then no shell below can take it
-case $(sed -n 's/^SigIgn:.*\(.\)$/\1/p' "/proc/$$/status" 2> /dev/null || :) in
-[13579bdf]) echo 'skipped: the signal HUP (it is ignored here)' ;;
-*) end_by HUP 129 process replay ;;
-esac
+end_by_hup process replay
+doing='a look'
 end_by TERM 143 process look "$work/endless"
 # a stream of which nothing comes, so that it is still copied
 mkfifo "$work/pipe"
 exec 9<> "$work/pipe"
+doing='a copy of the input'
 end_by TERM 143 input replay
 exec 9<&-
 
-# As with ctrl-C, all get the signal at once: the program sends it to its group. The shell lets what runs beside it ignore this
-# signal, so the launcher runs in front, in a group of its own, which timeout makes.
+doing=replay
 cat > "$program" << END
 #!/bin/sh
 echo \$\$ > '$work/process'
 kill -s INT 0
 exec sleep 100
 END
-if command -v timeout > /dev/null 2>&1; then
-    rm -f "$work/process"
-    status=0
-    TMPDIR=$work/tmp timeout --preserve-status 60 "$launcher" replay < "$work/bad" > /dev/null 2>&1 || status=$?
-    judge_signal 'the signal INT to all' 130
-else
-    echo 'skipped: the signal INT (there is no timeout)'
-fi
+end_all INT 130
+
+# A build: the kit's gate has to end too, and nothing of the copy may be left.
+uninstall
+doing='a build'
+: > "$home/crates/afs_top/never_ends"
+exec 9< "$work/bad"
+end_by TERM 143 process replay
+end_by_hup process replay
+exec 9<&-
+for it in 'INT 130' 'QUIT 131'; do
+    echo "kill -s ${it% *} 0" > "$home/crates/afs_top/never_ends"
+    end_all "${it% *}" "${it#* }"
+done
+rm -f "$home/crates/afs_top/never_ends"
 
 # ---- proving and building, by the stand-in of the kit
 

@@ -33,7 +33,7 @@ decided_capacity me s clock (saves head change) = refl
 
 capacity_after : (me : Node) (s : ServerState) (fall : Fall) → (begun_by_disk me s true fall).state.lasting.capacity ≡ s.lasting.capacity
 capacity_after me s at_rest = refl
-capacity_after me s (in_step m clock) = decided_capacity me s clock (decides me s clock (Whole m))
+capacity_after me s (in_step m clock b) = decided_capacity me s clock (decides me s clock (Whole m))
 capacity_after me s in_boot = refl
 
 each_tail : {A : Type 0} (P : A → Type 0) (x : A) (xs : List A) → ((n : ℕ) (y : A) → at_place (x ∷ xs) n ≡ Some y → P y) → (n : ℕ) (y : A) → at_place xs n ≡ Some y → P y

@@ -9,7 +9,7 @@ use Rattle.afs_history.specs.declared.lines.Line.TheVariants as lines
 use Rattle.afs_history.specs.declared.lines.Outs.{Outs}
 use Rattle.afs_history.specs.declared.scripts.Event.TheVariants as events
 use Rattle.afs_disk.specs.Disk.{Rose}
-use Rattle.afs_rows.specs.Runs.{back_timed, comes_up, fails_early, fails_midway, given_at, given_to, gives, gives_out, has_host, if_host, is_full, message_at, moved, server_armed, server_given, server_restarted, server_stopped, server_timed, server_waits, server_wakes, sets_fail, sets_stop, starts_again, steady, stops, voided, wakes, Cell, Fall, Input, Luck, Moved, Outcome}
+use Rattle.afs_rows.specs.Runs.{back_timed, comes_up, fails_early, fails_midway, given_at, given_to, gives, gives_out, has_host, if_host, is_full, message_at, moved, server_armed, server_given, server_restarted, server_stopped, server_timed, server_waits, server_wakes, sets_fail, sets_stop, starts_again, steady, stops, voided, wakes, at_rest, in_boot, in_step, leaves_after, Cell, Fall, Input, Luck, MayBegin, Moved, Outcome}
 use Rattle.afs_schedule.specs.Schedules.{left_by, IsInput, IsLuck, Turn}
 use Rattle.afs_host.specs.Hosts as host
 use Rattle.afs_host.specs.Hosts.{crashed, restarted, served, set_to_fail, set_to_stop, timed_out, woken, Fails, GivesOut, HostStep}
@@ -84,7 +84,7 @@ module _ {D : Type 0} (seen : D → Option (List ℕ)) (may_leave : D → List �
   -- what it is given else
   pub link_input : (t : Turn) (w : WorldState D) (i : ℕ) (input : ServerInput) (was now : ServerSeat D) (outs : Outs) → IsCell seen may_leave limit w t.cell → at_place w.servers i ≡ Some was
       → HasStep (Server i) t.cell.clock t.cell.count input (t.cell.hosts i) (IsSeatStep seen may_leave limit i now [] outs) (Rose (faults (seat_disk was)) (faults (seat_disk now)))
-      → Linked seen may_leave faults limit (IsGiven i input) t i was now [] outs
+      → Linked seen may_leave faults limit (IsGiven i input t) t i was now [] outs
   link_input t w i (server.TimeOut callee) was now outs cell here h = record {
     input = server_waits i callee;
     is_one = refl;
@@ -114,7 +114,7 @@ module _ {D : Type 0} (seen : D → Option (List ℕ)) (may_leave : D → List �
   }
   link_input t w i server.Restart was now outs cell here h = record {
     input = starts_again i h.1.1.after h.1.1.outcome;
-    is_one = (h.1.1.after, (h.1.1.outcome, refl));
+    is_one = (h.1.1.after, (h.1.1.outcome, (subst (λ (d : Option Fall). MayBegin d h.1.1.after) (sym h.1.0) h.1.1.may, refl)));
     step = restarted (Server i) (t.cell.hosts i) t.cell.clock t.cell.count h.1.1.after h.1.1.outcome h.0;
     moves = moved_restarted t.cell i h.1.1.after h.1.1.outcome h.0 (host_there w.servers i was t.cell here cell.host_count) h.1.0;
     left = refl;
@@ -188,6 +188,17 @@ void_input c i (server.Fail call) none =
     gone c i (server_armed c i (lines.Fail (Server i) call) (record (c.hosts i).armed { fail = Some call }) (c.hosts i).down)
     (either c i (server_armed c i (lines.Fail (Server i) call) (record (c.hosts i).armed { fail = Some call })) (λ fall. refl) none)
 
+void_restart : (c : Cell) (i : ℕ) (after : Bool) → (has_host c i ≡ false) ⊎ ((c.hosts i).down ≡ None) → moved c (starts_again i after comes_up) ≡ voided c
+unfolding moved
+void_restart c i after none = gone c i (server_restarted c i after comes_up (c.hosts i).down) (up_void c i after comes_up none)
+
+-- a restart may always begin in some way
+some_begin : (d : Option Fall) → (after : Bool) × MayBegin d after
+some_begin None = (false, tt)
+some_begin (Some at_rest) = (false, tt)
+some_begin (Some (in_step m clock b)) = (leaves_after b, λ set. refl)
+some_begin (Some in_boot) = (false, tt)
+
 -- an input that nothing comes of
 pub record Voided (is : Input → Type 0) (t : Turn) : Type 0 where
   pub input : Input
@@ -199,10 +210,12 @@ pub record Voided (is : Input → Type 0) (t : Turn) : Type 0 where
 pub link_void_message : (t : Turn) (i place : ℕ) (m : Message) → message_at t.cell.sent place ≡ Some m → m.head.to ≡ Server i → (has_host t.cell i ≡ false) ⊎ IsFallen (t.cell.hosts i) → Voided (IsInput t (events.Deliver place)) t
 link_void_message t i place m at to none = record { input = gives place steady; is_one = (steady, (refl, tt)); moves = void_message t.cell i place m at to none; left = refl; harmless = refl }
 
-pub link_void : (t : Turn) (i : ℕ) (input : ServerInput) → (has_host t.cell i ≡ false) ⊎ IsVoidServer input (t.cell.hosts i) → Voided (IsGiven i input) t
+pub link_void : (t : Turn) (i : ℕ) (input : ServerInput) → (has_host t.cell i ≡ false) ⊎ IsVoidServer input (t.cell.hosts i) → Voided (IsGiven i input t) t
 link_void t i (server.TimeOut callee) none = record { input = server_waits i callee; is_one = refl; moves = void_input t.cell i (server.TimeOut callee) none; left = refl; harmless = refl }
 link_void t i server.Wake none = record { input = wakes i; is_one = refl; moves = void_input t.cell i server.Wake none; left = refl; harmless = refl }
 link_void t i (server.Crash pick) none = record { input = stops i; is_one = refl; moves = void_input t.cell i (server.Crash pick) none; left = refl; harmless = refl }
-link_void t i server.Restart none = record { input = starts_again i false comes_up; is_one = (false, (comes_up, refl)); moves = void_input t.cell i server.Restart none; left = refl; harmless = refl }
+link_void t i server.Restart none =
+    let a = some_begin (t.cell.hosts i).down in
+    record { input = starts_again i a.0 comes_up; is_one = (a.0, (comes_up, (a.1, refl))); moves = void_restart t.cell i a.0 none; left = refl; harmless = refl }
 link_void t i (server.Stop calls pick) none = record { input = sets_stop i calls pick; is_one = refl; moves = void_input t.cell i (server.Stop calls pick) none; left = refl; harmless = refl }
 link_void t i (server.Fail call) none = record { input = sets_fail i call; is_one = refl; moves = void_input t.cell i (server.Fail call) none; left = refl; harmless = refl }

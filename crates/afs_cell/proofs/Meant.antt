@@ -26,8 +26,8 @@ module _ {D : Type 0} (seen : D → Option (List ℕ)) (may_leave : D → List �
   pub as_client : (n : ℕ) (what : ClientInput) → IsMeant event (given.Client n what) → Stepped seen may_leave faults limit w.script (IsAsked what n) w new result → Played
   as_client n what meant stepped = stepped_as seen may_leave faults limit w.script (IsAsked what n) (λ (t : Turn). IsInput t event) w new result meant.input stepped
 
-  pub as_server : (i : ℕ) (what : ServerInput) → IsMeant event (given.Server i what) → Stepped seen may_leave faults limit w.script (λ (t : Turn). IsGiven i what) w new result → Played
-  as_server i what meant stepped = stepped_as seen may_leave faults limit w.script (λ (t : Turn). IsGiven i what) (λ (t : Turn). IsInput t event) w new result meant.input stepped
+  pub as_server : (i : ℕ) (what : ServerInput) → IsMeant event (given.Server i what) → Stepped seen may_leave faults limit w.script (λ (t : Turn). IsGiven i what t) w new result → Played
+  as_server i what meant stepped = stepped_as seen may_leave faults limit w.script (λ (t : Turn). IsGiven i what t) (λ (t : Turn). IsInput t event) w new result meant.input stepped
 
   pub as_message : (place : ℕ) → IsMeant event (given.Message place) → Stepped seen may_leave faults limit w.script (λ (t : Turn). IsInput t (events.Deliver place)) w new result → Played
   as_message place meant stepped = subst (λ (e : Event). Stepped seen may_leave faults limit w.script (λ (t : Turn). IsInput t e) w new result) (sym meant) stepped

@@ -58,9 +58,9 @@ module _ {D : Type 0} (seen : D → Option (List ℕ)) (may_leave : D → List �
   -- a server was given something that is no message
   pub served : (i : ℕ) (input : ServerInput) (servers : List (ServerSeat D)) (what : Happened)
       → ServersHappened seen may_leave faults limit i [] (IsVoidServer input) (HasStep (Server i) parts.clock parts.script.clients input) parts.servers servers what → Settles (Server i) None what (record parts { servers = servers }) new result
-      → Stepped seen may_leave faults limit w.script (λ (t : Turn). IsGiven i input) w new result
+      → Stepped seen may_leave faults limit w.script (λ (t : Turn). IsGiven i input t) w new result
   served i input servers what happened settled =
-      subst (λ (v : WorldState D). IsSafe limit v.script v → v.is_lost ≡ false → length v.history < most_entries → Stepped seen may_leave faults limit v.script (λ (t : Turn). IsGiven i input) v new result) same
+      subst (λ (v : WorldState D). IsSafe limit v.script v → v.is_lost ≡ false → length v.history < most_entries → Stepped seen may_leave faults limit v.script (λ (t : Turn). IsGiven i input t) v new result) same
       (λ safe going few. input_settles seen may_leave faults limit parts.script parts i input servers what new result safe going few happened settled)
       safe going few
 

@@ -75,11 +75,11 @@ module _ {D : Type 0} (seen : D → Option (List ℕ)) (may_leave : D → List �
       → SeatHappens seen may_leave faults limit i [] (IsVoidServer input.Restart) (HasStep (Server i) clock count input.Restart) (Down old) (Up r) (happened.Step outs)
   started_up i clock count old r outs started = λ tell h was.
       let s = started tell h was in
-      (was.fall, (was.down, record { after = s.after; outcome = s.outcome; is = step_up i r [] outs _ s.is; blame = s.blame }))
+      (was.fall, (was.down, record { after = s.after; may = s.may; outcome = s.outcome; is = step_up i r [] outs _ s.is; blame = s.blame }))
 
   pub started_down : (i clock count : ℕ) (old r : Resting D) (ls : List Line) (outs : Outs) → outs.lines ≡ ls → outs.parcels ≡ []
       → (IsSome (seen old.disk) → (h : Host) (was : IsDown seen may_leave limit (Server i) old h) → HasStarted (Server i) h clock count was.fall (IsStepDown seen may_leave limit (Server i) r ls) (Rose (faults old.disk) (faults r.disk)))
       → SeatHappens seen may_leave faults limit i [] (IsVoidServer input.Restart) (HasStep (Server i) clock count input.Restart) (Down old) (Down r) (happened.Step outs)
   started_down i clock count old r ls outs told none started = λ tell h was.
       let s = started tell h was in
-      (was.fall, (was.down, record { after = s.after; outcome = s.outcome; is = step_down i (Server i) r [] ls outs _ refl told none s.is; blame = s.blame }))
+      (was.fall, (was.down, record { after = s.after; may = s.may; outcome = s.outcome; is = step_down i (Server i) r [] ls outs _ refl told none s.is; blame = s.blame }))

@@ -86,9 +86,9 @@ module _ {D : Type 0} (seen : D → Option (List ℕ)) (may_leave : D → List �
   -- a server was given something
   pub input_settles : (input : ServerInput) (servers : List (ServerSeat D)) (what : Happened) (new : WorldState D) (result : Result (Unit {0}) WorldFault) → IsSafe limit s w → w.is_lost ≡ false → length w.history < most_entries
       → ServersHappened seen may_leave faults limit i [] (IsVoidServer input) (HasStep (Server i) w.clock s.clients input) w.servers servers what → Settles (Server i) None what (with_servers w servers) new result
-      → Stepped seen may_leave faults limit s (λ (t : Turn). IsGiven i input) w new result
+      → Stepped seen may_leave faults limit s (λ (t : Turn). IsGiven i input t) w new result
   input_settles input servers what new result safe going place happens settles =
-      server_settles seen may_leave faults limit s (λ (t : Turn). IsGiven i input) w i None (IsVoidServer input) (HasStep (Server i) w.clock s.clients input) servers what new result safe going place happens
+      server_settles seen may_leave faults limit s (λ (t : Turn). IsGiven i input t) w i None (IsVoidServer input) (HasStep (Server i) w.clock s.clients input) servers what new result safe going place happens
       (λ tell t at none. link_void t i input none)
       (λ tell t at was now outs found has. link_input seen may_leave faults limit t w i input was now outs at.cell found
       (subst (λ (k : ℕ). HasStep (Server i) t.cell.clock k input (t.cell.hosts i) (IsSeatStep seen may_leave limit i now [] outs) (Rose (faults (seat_disk was)) (faults (seat_disk now)))) (sym (at.cell.count ∙ safe.client_count))

@@ -106,7 +106,7 @@ module _ {D : Type 0} (seen : D → Option (List ℕ)) (may_leave : D → List �
     (new : WorldState D) (result : Result (Unit {0}) WorldFault) where
   pub served_since : (i : ℕ) (input : ServerInput) (servers : List (ServerSeat D)) (what : Happened)
       → ServersHappened seen may_leave faults limit i [] (IsVoidServer input) (HasStep (Server i) parts.clock parts.script.clients input) parts.servers servers what → Settles (Server i) None what (record parts { servers = servers }) new result
-      → SteppedSince seen may_leave faults limit (λ (t : Turn). IsGiven i input) w new result
+      → SteppedSince seen may_leave faults limit (λ (t : Turn). IsGiven i input t) w new result
   served_since i input servers what happened settled b before safe =
       served seen may_leave faults limit (whole b parts) (whole b w) (ap (whole b) same) safe going (few_whole b w before few) (whole b new) result i input servers what happened
       (settles_whole b (Server i) None what (record parts { servers = servers }) new result settled)

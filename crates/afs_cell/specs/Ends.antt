@@ -26,7 +26,7 @@ RoseAt {D} faults n i olds news = ⊥
 -- the disk that a refusal names is one that failed
 abbrev pub IsRefusedBy : {D : Type 0} → (D → ℕ) → List (Lent D) → SetupFault → List (Lent D) → Type 0
 IsRefusedBy {D} faults disks (setup.Disk n) back = RoseAt faults n 1 disks back
-IsRefusedBy {D} faults disks setup.OutOfMemory back = Unit {0}
+IsRefusedBy {D} faults disks setup.OutOfMemory back = NoneFell faults back disks
 
 abbrev pub IsRefused : {D : Type 0} → (D → ℕ) → List (Lent D) → SetupFault × List (Lent D) → Type 0
 IsRefused {D} faults disks e = NoneFell faults disks e.1 × IsRefusedBy faults disks e.0 e.1

@@ -38,7 +38,7 @@ pub record IsFirstServer {D : Type 0} (seen : D → Option (List ℕ)) (may_leav
 -- why a server's disk couldn't be set up: it failed, or memory ran out
 abbrev pub IsCausedAt : {D : Type 0} → (D → ℕ) → ℕ → SetupFault → D → D → Type 0
 IsCausedAt {D} faults i (setup.Disk n) old new = (n ≡ Server i) × Rose (faults old) (faults new)
-IsCausedAt {D} faults i setup.OutOfMemory old new = Unit {0}
+IsCausedAt {D} faults i setup.OutOfMemory old new = faults new ≡ faults old
 
 -- a disk that is handed back
 pub record IsBack {D : Type 0} (seen : D → Option (List ℕ)) (may_leave : D → List ℕ → Type 0) (faults limit : D → ℕ) (s : Script) (i : ℕ) (old new : D) : Type 0 where

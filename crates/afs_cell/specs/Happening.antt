@@ -18,7 +18,7 @@ use Rattle.afs_disk.specs.Disk.{Rose}
 use Rattle.afs_model.specs.Messages.{messages_spelled, parcels_read, received}
 use Rattle.afs_rows.specs.ClientRow.{begin_row, client_row, timeout_row, reborn}
 use Rattle.afs_rows.specs.Going.{ClientState, Going}
-use Rattle.afs_rows.specs.Runs.{server_waits, sets_fail, sets_stop, starts_again, stops, wakes, Fall, Host, Input, Outcome}
+use Rattle.afs_rows.specs.Runs.{server_waits, sets_fail, sets_stop, starts_again, stops, wakes, Fall, Host, Input, MayBegin, Outcome}
 use Rattle.afs_rows.specs.States.{BackCall}
 use Rattle.afs_rows.specs.Steps.{Step}
 use Rattle.afs_schedule.specs.Schedules.{IsInput, Turn}
@@ -62,14 +62,14 @@ HasStep me clock count server.Restart h Is rose = (fall : Fall) × ((h.down ≡ 
 HasStep me clock count (server.Stop calls pick) h Is rose = (h.down ≡ None) × Is (set_to_stop me h calls pick)
 HasStep me clock count (server.Fail call) h Is rose = (h.down ≡ None) × Is (set_to_fail me h call)
 
--- which input of the cell it is: a restart leaves open what the disk kept, and whether it fails
-abbrev pub IsGiven : ℕ → ServerInput → Input → Type 0
-IsGiven i (server.TimeOut callee) x = x ≡ server_waits i callee
-IsGiven i server.Wake x = x ≡ wakes i
-IsGiven i (server.Crash pick) x = x ≡ stops i
-IsGiven i server.Restart x = (after : Bool) × ((outcome : Outcome) × (x ≡ starts_again i after outcome))
-IsGiven i (server.Stop calls pick) x = x ≡ sets_stop i calls pick
-IsGiven i (server.Fail call) x = x ≡ sets_fail i call
+-- which input of the cell it is: a restart leaves open whether the disk fails, and what it kept where it had failed by itself
+abbrev pub IsGiven : ℕ → ServerInput → Turn → Input → Type 0
+IsGiven i (server.TimeOut callee) t x = x ≡ server_waits i callee
+IsGiven i server.Wake t x = x ≡ wakes i
+IsGiven i (server.Crash pick) t x = x ≡ stops i
+IsGiven i server.Restart t x = (after : Bool) × ((outcome : Outcome) × (MayBegin (t.cell.hosts i).down after × (x ≡ starts_again i after outcome)))
+IsGiven i (server.Stop calls pick) t x = x ≡ sets_stop i calls pick
+IsGiven i (server.Fail call) t x = x ≡ sets_fail i call
 
 -- the message of a place, by its bytes
 abbrev pub HasHeard : Node → ℕ → ℕ → List ℕ → Host → (HostStep → Type 0) → Type 0 → Type 0

@@ -19,7 +19,7 @@ pub record IsForClient (event : Event) (n : ℕ) (what : ClientInput) : Type 0 w
 
 -- and of a server's, whose failure is due at a call to come
 pub record IsForServer (event : Event) (i : ℕ) (what : ServerInput) : Type 0 where
-  pub input : (t : Turn) (x : Input) → IsGiven i what x → IsInput t event x
+  pub input : (t : Turn) (x : Input) → IsGiven i what t x → IsInput t event x
   pub due : (c : Counts) → FitsEvent c event → IsDue what
 
 abbrev pub IsMeant : Event → Given → Type 0

@@ -158,7 +158,7 @@ impl<'a, D: Disk> World<'a, D> {
         requires going { self.old.is_lost ≡ false }
         requires few { self.old.gone.entries + length self.old.history < most_entries }
         requires due { IsDue given }
-        ensures stepped { SteppedSince D.seen D.may_leave D.faults D.limit (λ t. IsGiven server given) self.old self.new result }
+        ensures stepped { SteppedSince D.seen D.may_leave D.faults D.limit (λ t. IsGiven server given t) self.old self.new result }
         ensures keeps { Keeps self.old self.new }
         ensures clock { self.new.clock ≡ self.old.clock }
         ensures picked { (pick : ℕ) → given ≡ input.Crash pick → IsPicked D.seen D.left_by server pick self.old.servers self.new.servers result }

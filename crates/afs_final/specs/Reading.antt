@@ -41,12 +41,12 @@ pub record IsOfDisk {D : Type 0} (seen : D → Option (List ℕ)) (limit : D →
   pub capacity : s.durable.capacity ≡ limit disk
 
 -- What the disk keeps was found; or it has a record that can't be taken, which a disk that stands for something has not; or it failed,
--- and its count of faults rose.
+-- and its count of faults rose; or memory ran out, and it didn't.
 abbrev pub IsFound : {D : Type 0} → (D → Option (List ℕ)) → (D → ℕ) → (D → ℕ) → D → Left (Store D) D → Type 0
 IsFound {D} seen faults limit disk (left.Kept s) = IsOfDisk seen limit disk s
 IsFound {D} seen faults limit disk (left.Bad d) = (bytes : List ℕ) → seen disk ≡ Some bytes → (p : Durable) → p.capacity ≡ limit disk → Stands bytes p → ⊥
 IsFound {D} seen faults limit disk (left.Failed d) = Rose (faults disk) (faults d)
-IsFound {D} seen faults limit disk (left.Unread d) = Unit {0}
+IsFound {D} seen faults limit disk (left.Unread d) = faults d ≡ faults disk
 
 pub record IsRead {D : Type 0} (seen : D → Option (List ℕ)) (faults limit : D → ℕ) (disk : D) (found : Left (Store D) D) : Type 0 where
   pub is : IsFound seen faults limit disk found

@@ -1,5 +1,5 @@
 -- What became of a server that was given a message, once it has fallen where its disk ended the step.
-use Rattle.std.specs.Prelude.{◌≡◌, ◌≤◌, ◌↔◌, ℕ, List, Option, Err, Ok, Result, IsSome}
+use Rattle.std.specs.Prelude.{◌≡◌, ◌≤◌, ◌↔◌, ℕ, List, Option, Some, Err, Ok, Result, IsSome}
 use Rattle.std.proofs.Common.{ap, sym, subst, ◌∙◌}
 use Rattle.afs_num.specs.declared.messages.Received.{Received}
 use Rattle.afs_num.specs.declared.types.Node.{Node}
@@ -18,11 +18,11 @@ module _ {D : Type 0} (seen : D → Option (List ℕ)) (left_by : D → ℕ → 
   abbrev Handled : ℕ → Received → Result Outs NodeFault → Type 0
   Handled clock found result = IsHandled seen left_by size may_leave moment left_since faults limit old clock found new result
 
-  pub served_so : (clock : ℕ) (found : Received) (result : Result Outs NodeFault) → CanRun old → Handled clock found result
+  pub served_so : ((disk : D) (pick : ℕ) (c : List ℕ) → left_by disk pick ≡ Some c → may_leave disk c) → ((disk : D) → left_by disk 1 ≡ seen disk) → (clock : ℕ) (found : Received) (result : Result Outs NodeFault) → CanRun old → Handled clock found result
       → Becomes seen left_by may_leave faults limit (λ s. IsServed seen left_by size may_leave moment left_since faults limit old clock found s) new result
-  served_so clock found (Ok outs) can handled = λ h up m whole place. record { luck = steady; is_luck = tt; is = handled.0 h up m whole place; blame = λ own. absurd own }
-  served_so clock found (Err nodes.OutOfMemory) can handled = handled.0
-  served_so clock found (Err nodes.Down) can broken = down_step seen left_by may_leave faults limit old new clock found can broken
+  served_so leaves shows clock found (Ok outs) can handled = λ h up m whole place. record { luck = steady; is_luck = tt; is = handled.0 h up m whole place; blame = λ own. absurd own }
+  served_so leaves shows clock found (Err nodes.OutOfMemory) can handled = handled.0
+  served_so leaves shows clock found (Err nodes.Down) can broken = down_step seen left_by may_leave leaves shows faults limit old new clock found can broken
 
   pub row_so : (clock : ℕ) (bytes : List ℕ) (result : Result Outs NodeFault) → RunsRow old clock bytes new result → Becomes seen left_by may_leave faults limit (λ s. MakesRow old clock bytes s) new result
   row_so clock bytes (Ok outs) row = row

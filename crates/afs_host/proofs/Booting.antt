@@ -31,11 +31,11 @@ use Rattle.afs_volstore.specs.Stores.{IsCounted, IsKept, LeftAround, SameBut, St
 use Rattle.afs_server.specs.Seen.{begun_state, begun_step, lasting_of}
 use Rattle.afs_host.specs.Hosts.{goes, stays}
 use Rattle.afs_host.specs.Seats.{count_mark, IsStepDown, IsStepUp, Resting, Running}
-use Rattle.afs_host.specs.Standing.{Lies}
+use Rattle.afs_host.specs.Standing.{Lies, LiesFound}
 use Rattle.afs_host.specs.Starting.{begun_with, BootsFrom, BootsOver, HasRisen, IsFound, Rises, Stays}
 use Rattle.afs_host.specs.declared.starting.Start.{Start}
 use Rattle.afs_host.specs.declared.starting.Start.TheVariants as starts
-use Rattle.afs_host.proofs.Lying.{begun_lies, kept_before, some_of}
+use Rattle.afs_host.proofs.Lying.{begun_lies, found_free, kept_before, kept_there, some_of}
 
 left_true : (a b : Bool) → (a && b) ≡ true → a ≡ true
 left_true true b h = refl
@@ -59,6 +59,12 @@ settled_up s d read can = ap (λ (t : Bool). if t then comes_up else is_full) (s
 settled_midway : (s : ServerState) (d : Durable) → lasting_of d ≡ s.lasting → can_boot d ≡ true → settled s fails_midway ≡ fails_midway
 settled_midway s d read can = ap (λ (t : Bool). if t then fails_midway else is_full) (same_test d s.lasting read ∙ can)
 
+up_not_full : comes_up ≡ is_full → ⊥
+up_not_full e = absurd cc
+
+not_full : (s : ServerState) (d : Durable) → lasting_of d ≡ s.lasting → can_boot d ≡ true → settled s is_full ≡ is_full → ⊥
+not_full s d read can full = up_not_full (sym (ap (λ (t : Bool). if t then comes_up else is_full) (same_test d s.lasting read ∙ can)) ∙ full)
+
 pub is_true : (t : Bool) → (t ≡ false → ⊥) → t ≡ true
 is_true true no_false = refl
 is_true false no_false = absurd (no_false refl)
@@ -80,6 +86,13 @@ pub was_failed : (f : StoreFault) (used capacity : ℕ) → f ≡ refusals.Faile
 was_failed f used capacity is (inl other) = absurd cc
 was_failed f used capacity is (inr other) = absurd cc
 
+-- and no other refusal is one
+pub full_failed : (f : StoreFault) (used capacity : ℕ) → f ≡ refusals.Full used capacity → refused_by f ≡ refused_by refusals.Failed → ⊥
+full_failed f used capacity is failed = absurd cc
+
+pub memory_failed : (f : StoreFault) → f ≡ refusals.OutOfMemory → refused_by f ≡ refused_by refusals.Failed → ⊥
+memory_failed f is failed = absurd cc
+
 -- ---- it doesn't fit
 
 pub full_boots : {D : Type 0} (seen : D → Option (List ℕ)) (may_leave : D → List ℕ → Type 0) (faults limit : D → ℕ) (begun : Begun) (records : List (List ℕ)) (front : List Line) (s t : Store (Fused D)) (clock count : ℕ) → IsFound seen begun records front s → SameBut s t → can_boot s.durable ≡ false →
@@ -98,13 +111,14 @@ full_boots {D} seen may_leave faults limit begun records front s t clock count f
           armed = refl;
           capacity = ap (λ (l : Lasting). l.capacity) (sym read) ∙ capacity;
           lies = λ told c left. inl (kept_before t.durable t.count (seen t.disk.disk) (may_leave t.disk.disk) begun.state read kept counted told c left);
+          found = λ bytes at. (false, (tt, kept_there t.durable t.count (seen t.disk.disk) (may_leave t.disk.disk) begun.state read kept counted bytes at));
         };
         lines = stays_so.1 ∙ sym (found.before (lines.Full s.node ∷ []));
         sent = refl;
       }),
     )
 full_boots {D} seen may_leave faults limit begun records front s t clock count found same not kept counted capacity (starts.Unchanged d) stays_so = absurd stays_so
-full_boots {D} seen may_leave faults limit begun records front s t clock count found same not kept counted capacity (starts.Lost d) stays_so = tt
+full_boots {D} seen may_leave faults limit begun records front s t clock count found same not kept counted capacity (starts.Lost d) stays_so = absurd stays_so
 
 -- ---- the disk failed
 
@@ -141,10 +155,10 @@ failed_lies {D} seen may_leave moment left_since now kept_law faults limit begun
     }) c is around.1
 
 pub failed_boots : {D : Type 0} (seen : D → Option (List ℕ)) (may_leave : D → List ℕ → Type 0) (moment : D → ℕ) (left_since : D → ℕ → List ℕ → Type 0) (now : (disk : D) (t : ℕ) (c : List ℕ) → t ≤ moment disk → may_leave disk c → left_since disk t c) (kept_law : StartsAreKept) (faults limit : D → ℕ)
-    (begun : Begun) (records : List (List ℕ)) (front : List Line) (s t : Store (Fused D)) (clock count : ℕ) → IsFound seen begun records front s → BootFails seen moment left_since faults limit s t → (result : Start (Running D) (Resting D)) → Stays t front (lines.Fault s.node) result →
+    (begun : Begun) (records : List (List ℕ)) (front : List Line) (s t : Store (Fused D)) (clock count : ℕ) → IsFound seen begun records front s → BootFails seen moment left_since faults limit s t → ((bytes : List ℕ) → seen t.disk.disk ≡ Some bytes → may_leave t.disk.disk bytes) → (result : Start (Running D) (Resting D)) → Stays t front (lines.Fault s.node) result →
     BootsFrom seen may_leave faults limit begun records s.node clock count s.disk.disk result
-failed_boots {D} seen may_leave moment left_since now kept_law faults limit begun records front s t clock count found fails (starts.Up r outs) stays_so = absurd stays_so
-failed_boots {D} seen may_leave moment left_since now kept_law faults limit begun records front s t clock count found fails (starts.Down d ls) stays_so =
+failed_boots {D} seen may_leave moment left_since now kept_law faults limit begun records front s t clock count found fails shows (starts.Up r outs) stays_so = absurd stays_so
+failed_boots {D} seen may_leave moment left_since now kept_law faults limit begun records front s t clock count found fails shows (starts.Down d ls) stays_so =
     let durable : t.durable ≡ s.durable = ap (λ (x : Store (Fused D)). x.durable) fails.store in
     let number : t.count ≡ s.count = ap (λ (x : Store (Fused D)). x.count) fails.store in
     inr (
@@ -157,6 +171,8 @@ failed_boots {D} seen may_leave moment left_since now kept_law faults limit begu
             armed = refl;
             capacity = ap (λ (l : Lasting). l.capacity) (sym (ap lasting_of durable ∙ found.read)) ∙ fails.capacity;
             lies = λ told c left. subst (λ (n : ℕ). Lies s.node begun.state in_boot (count_mark n) c) (sym number) (failed_lies seen may_leave moment left_since now kept_law faults limit begun records front s.node s t found fails c left);
+            found = λ bytes at. subst (λ (n : ℕ). LiesFound s.node begun.state in_boot (count_mark n) (whole_records bytes)) (sym number)
+                (found_free s.node begun.state in_boot (count_mark s.count) (whole_records bytes) (λ after. tt) (failed_lies seen may_leave moment left_since now kept_law faults limit begun records front s.node s t found fails bytes (shows bytes at)));
           };
           lines = stays_so.1 ∙ sym (found.before (lines.Fault s.node ∷ []));
           sent = refl;
@@ -164,10 +180,10 @@ failed_boots {D} seen may_leave moment left_since now kept_law faults limit begu
         subst (λ (x : Resting D). Rose (faults s.disk.disk) (faults x.disk)) (sym stays_so.0) fails.rose,
       ),
     )
-failed_boots {D} seen may_leave moment left_since now kept_law faults limit begun records front s t clock count found fails (starts.Unchanged d) stays_so = absurd stays_so
-failed_boots {D} seen may_leave moment left_since now kept_law faults limit begun records front s t clock count found fails (starts.Lost d) stays_so = tt
+failed_boots {D} seen may_leave moment left_since now kept_law faults limit begun records front s t clock count found fails shows (starts.Unchanged d) stays_so = absurd stays_so
+failed_boots {D} seen may_leave moment left_since now kept_law faults limit begun records front s t clock count found fails shows (starts.Lost d) stays_so = absurd stays_so
 
--- ---- memory was wanting
+-- ---- memory ran out
 
 one_longer : (bs : List (List ℕ)) (bytes : List ℕ) (rs : List (List ℕ)) (n : ℕ) → rs ≡ bs ++ bytes ∷ [] → length rs ≡ n → n ≡ length bs → ⊥
 one_longer bs bytes rs n is counted same = absurd (omega (arith, ap length is, counted, same, length-append bs (bytes ∷ [])))
@@ -176,7 +192,12 @@ still : (bs : List (List ℕ)) (bytes : List ℕ) (rs : List (List ℕ)) (n : �
 still bs bytes rs n (inl is) counted same = is
 still bs bytes rs n (inr is) counted same = absurd (one_longer bs bytes rs n is counted same)
 
--- nothing was written
+-- before the boot was begun
+pub untouched : {D : Type 0} (seen : D → Option (List ℕ)) (may_leave : D → List ℕ → Type 0) (begun : Begun) (records : List (List ℕ)) (front : List Line) (s : Store (Fused D)) → IsFound seen begun records front s → IsKept s.durable (seen s.disk.disk) (may_leave s.disk.disk) →
+    (c : List ℕ) → may_leave s.disk.disk c → whole_records c ≡ records
+untouched {D} seen may_leave begun records front s found kept c left = ap whole_records (kept.durable found.told.0 found.told.1.0 c left) ∙ found.told.1.1
+
+-- or in it, and nothing was written
 pub still_there : {D : Type 0} (seen : D → Option (List ℕ)) (may_leave : D → List ℕ → Type 0) (moment : D → ℕ) (left_since : D → ℕ → List ℕ → Type 0) (now : (disk : D) (t : ℕ) (c : List ℕ) → t ≤ moment disk → may_leave disk c → left_since disk t c)
     (begun : Begun) (records : List (List ℕ)) (front : List Line) (s t : Store (Fused D)) → IsFound seen begun records front s → SameBut s t → IsKept t.durable (seen t.disk.disk) (may_leave t.disk.disk) → IsCounted t.count (seen t.disk.disk) →
     ((bytes : List ℕ) → seen s.disk.disk ≡ Some bytes → LeavesOnly moment left_since s.disk.disk t.disk.disk (LeftAround (whole_records bytes) (boot_record (s.durable.boot + 1)) s.durable)) →
@@ -228,32 +249,34 @@ risen_boots {D} seen may_leave faults limit begun records front s t clock count 
     (settled_up begun.state s.durable found.read can, risen_up begun front s t clock count r outs found.read found.before store risen)
 risen_boots {D} seen may_leave faults limit begun records front s t clock count found can store (starts.Down d ls) risen = absurd risen
 risen_boots {D} seen may_leave faults limit begun records front s t clock count found can store (starts.Unchanged d) risen = absurd risen
-risen_boots {D} seen may_leave faults limit begun records front s t clock count found can store (starts.Lost d) risen = tt
+risen_boots {D} seen may_leave faults limit begun records front s t clock count found can store (starts.Lost d) risen = not_full begun.state s.durable found.read can
 
 -- ---- whatever the disk tells
 
-pub risen_over : {D : Type 0} (faults : D → ℕ) (front : List Line) (s t : Store (Fused D)) (clock count : ℕ) → can_boot s.durable ≡ true → t ≡ record s { durable = started s.durable; disk = t.disk; prepared = None; count = s.count + 1 } →
-    (result : Start (Running D) (Resting D)) → Rises t front count clock result → BootsOver faults s.durable front s.node clock count s.disk.disk result
-risen_over {D} faults front s t clock count can store (starts.Up r outs) risen =
-    (settled_up (begun_state s.durable) s.durable refl can, risen_up (begun_with s.durable front) front s t clock count r outs refl (λ ls. refl) store risen)
-risen_over {D} faults front s t clock count can store (starts.Down d ls) risen = absurd risen
-risen_over {D} faults front s t clock count can store (starts.Unchanged d) risen = tt
-risen_over {D} faults front s t clock count can store (starts.Lost d) risen = tt
+pub risen_over : {D : Type 0} (faults : D → ℕ) (front : List Line) (s t : Store (Fused D)) (clock count : ℕ) → can_boot s.durable ≡ true → t ≡ record s { durable = started s.durable; disk = t.disk; prepared = None; count = s.count + 1 } → faults t.disk.disk ≡ faults s.disk.disk →
+    (result : Start (Running D) (Resting D)) → Rises t front count clock result → BootsOver faults s.durable front s.node clock count (faults s.disk.disk) result
+risen_over {D} faults front s t clock count can store quiet (starts.Up r outs) risen = (
+  settled_up (begun_state s.durable) s.durable refl can,
+  (risen_up (begun_with s.durable front) front s t clock count r outs refl (λ ls. refl) store risen, ap (λ (x : Store (Fused D)). faults x.disk.disk) risen.store ∙ quiet),
+)
+risen_over {D} faults front s t clock count can store quiet (starts.Down d ls) risen = absurd risen
+risen_over {D} faults front s t clock count can store quiet (starts.Unchanged d) risen = absurd risen
+risen_over {D} faults front s t clock count can store quiet (starts.Lost d) risen = (not_full (begun_state s.durable) s.durable refl can, ap faults risen ∙ quiet)
 
-pub full_over : {D : Type 0} (faults : D → ℕ) (front : List Line) (s t : Store (Fused D)) (clock count : ℕ) → can_boot s.durable ≡ false → (result : Start (Running D) (Resting D)) → Stays t front (lines.Full s.node) result →
-    BootsOver faults s.durable front s.node clock count s.disk.disk result
-full_over {D} faults front s t clock count not (starts.Up r outs) stays_so = absurd stays_so
-full_over {D} faults front s t clock count not (starts.Down d ls) stays_so = inl (settled_full (begun_state s.durable) s.durable refl not, stays_so.1)
-full_over {D} faults front s t clock count not (starts.Unchanged d) stays_so = tt
-full_over {D} faults front s t clock count not (starts.Lost d) stays_so = tt
+pub full_over : {D : Type 0} (faults : D → ℕ) (front : List Line) (s t : Store (Fused D)) (clock count : ℕ) → can_boot s.durable ≡ false → faults t.disk.disk ≡ faults s.disk.disk → (result : Start (Running D) (Resting D)) → Stays t front (lines.Full s.node) result →
+    BootsOver faults s.durable front s.node clock count (faults s.disk.disk) result
+full_over {D} faults front s t clock count not quiet (starts.Up r outs) stays_so = absurd stays_so
+full_over {D} faults front s t clock count not quiet (starts.Down d ls) stays_so = inl (settled_full (begun_state s.durable) s.durable refl not, (stays_so.1, ap (λ (x : Resting D). faults x.disk) stays_so.0 ∙ quiet))
+full_over {D} faults front s t clock count not quiet (starts.Unchanged d) stays_so = absurd stays_so
+full_over {D} faults front s t clock count not quiet (starts.Lost d) stays_so = absurd stays_so
 
 pub failed_over : {D : Type 0} (faults : D → ℕ) (front : List Line) (s t : Store (Fused D)) (clock count : ℕ) → can_boot s.durable ≡ true → Rose (faults s.disk.disk) (faults t.disk.disk) → (result : Start (Running D) (Resting D)) → Stays t front (lines.Fault s.node) result →
-    BootsOver faults s.durable front s.node clock count s.disk.disk result
+    BootsOver faults s.durable front s.node clock count (faults s.disk.disk) result
 failed_over {D} faults front s t clock count can rose (starts.Up r outs) stays_so = absurd stays_so
 failed_over {D} faults front s t clock count can rose (starts.Down d ls) stays_so =
     inr (settled_midway (begun_state s.durable) s.durable refl can, (stays_so.1, subst (λ (x : Resting D). Rose (faults s.disk.disk) (faults x.disk)) (sym stays_so.0) rose))
-failed_over {D} faults front s t clock count can rose (starts.Unchanged d) stays_so = tt
-failed_over {D} faults front s t clock count can rose (starts.Lost d) stays_so = tt
+failed_over {D} faults front s t clock count can rose (starts.Unchanged d) stays_so = absurd stays_so
+failed_over {D} faults front s t clock count can rose (starts.Lost d) stays_so = absurd stays_so
 
 -- ---- the law of starts
 

@@ -12,14 +12,14 @@ use Rattle.afs_shape.specs.Taking.{◌>>=◌}
 use Rattle.afs_records.specs.Durable.{bad_by, bad_from, effect_of, first_bad, first_folded, fold_all, fold_from, folded, mark_of, nothing_on, Durable, Effect, StandFor}
 use Rattle.afs_records.specs.Records.{record_at, record_bytes}
 use Rattle.afs_records.proofs.Forms.{bound, some_is}
-use Rattle.afs_rows.specs.Runs.{at_rest, begun_by_disk, in_boot, in_step, Fall}
+use Rattle.afs_rows.specs.Runs.{at_rest, begun_by_disk, in_boot, in_step, Fall, MayFind}
 use Rattle.afs_rows.specs.ServerRow.{begun_after, begun_before, decides, drops, refuses, repeats, saves, shows, tells_boot, Begun, Decision}
 use Rattle.afs_rows.specs.States.{Lasting, ServerState}
 use Rattle.afs_num.specs.declared.messages.Received.TheVariants.{Whole}
 use Rattle.afs_volstore.specs.Opening.{last_effect, last_from, lines_begun, lines_unless_told, same_mark}
 use Rattle.afs_memory.specs.Telling.{in_words}
 use Rattle.afs_server.specs.Seen.{lasting_of}
-use Rattle.afs_host.specs.Standing.{Lies, LiesAfter, LiesBefore, LiesIn, StandsFor}
+use Rattle.afs_host.specs.Standing.{Lies, LiesAfter, LiesAs, LiesBefore, LiesFound, LiesIn, StandsFor}
 use Rattle.afs_host.proofs.Lying.{bind_is, one_taken}
 
 -- on a disk of one capacity records stand for one durable part
@@ -91,7 +91,7 @@ last_told mark records o e front other is h =
 
 state_before : (me : Node) (s : ServerState) (fall : Fall) → begun_by_disk me s false fall ≡ begun_before s
 state_before me s at_rest = refl
-state_before me s (in_step m clock) = refl
+state_before me s (in_step m clock b) = refl
 state_before me s in_boot = refl
 
 decided_capacity : (me : Node) (s : ServerState) (clock : ℕ) (d : Decision) → (begun_after me s clock d).state.lasting.capacity ≡ s.lasting.capacity
@@ -104,30 +104,32 @@ decided_capacity me s clock (saves head c) = refl
 
 capacity_after : (me : Node) (s : ServerState) (fall : Fall) → (begun_by_disk me s true fall).state.lasting.capacity ≡ s.lasting.capacity
 capacity_after me s at_rest = refl
-capacity_after me s (in_step m clock) = decided_capacity me s clock (decides me s clock (Whole m))
+capacity_after me s (in_step m clock b) = decided_capacity me s clock (decides me s clock (Whole m))
 capacity_after me s in_boot = refl
 
--- which of the two it is, and with which lines the restart begins
+-- which of the two it is, as the blow allows it, and with which lines the restart begins
 pub record Finds (me : Node) (s : ServerState) (fall : Fall) (durable : Durable) (front : List Line) : Type 0 where
   pub after : Bool
+  pub may : MayFind fall after
   pub read : lasting_of durable ≡ (begun_by_disk me s after fall).state.lasting
   pub before : (ls : List Line) → (begun_by_disk me s after fall).before ls ≡ front ++ ls
 
 finds_before : (me : Node) (s : ServerState) (fall : Fall) (mark : Mark) (records : List (List ℕ)) (durable : Durable) (front : List Line) (capacity : ℕ) → durable.capacity ≡ capacity → s.lasting.capacity ≡ capacity →
-    StandFor records durable → lines_begun me mark capacity records ≡ Some front → LiesBefore s mark records → Finds me s fall durable front
-finds_before me s fall mark records durable front capacity dc sc stands lines b =
+    StandFor records durable → lines_begun me mark capacity records ≡ Some front → MayFind fall false → LiesBefore s mark records → Finds me s fall durable front
+finds_before me s fall mark records durable front capacity dc sc stands lines may b =
     let d = b.before.durable in
     let same = same_durable records durable d (dc ∙ (sym sc ∙ sym (ap (λ (l : Lasting). l.capacity) b.before.read))) stands b.before.stands in
     let none = none_told mark records (last_effect me capacity records) front (same_mark_is (mark_of records) mark b.marked) lines in
     record {
       after = false;
+      may = may;
       read = ap lasting_of same ∙ (b.before.read ∙ ap (λ (x : Begun). x.state.lasting) (sym (state_before me s fall)));
       before = λ ls. ap (λ (x : Begun). x.before ls) (state_before me s fall) ∙ ap (λ (f : List Line). f ++ ls) (sym none);
     }
 
 finds_after : (me : Node) (s : ServerState) (fall : Fall) (mark : Mark) (records : List (List ℕ)) (durable : Durable) (front : List Line) (capacity : ℕ) → durable.capacity ≡ capacity → s.lasting.capacity ≡ capacity →
-    StandFor records durable → lines_begun me mark capacity records ≡ Some front → LiesAfter me s fall mark records → Finds me s fall durable front
-finds_after me s fall mark records durable front capacity dc sc stands lines a =
+    StandFor records durable → lines_begun me mark capacity records ≡ Some front → MayFind fall true → LiesAfter me s fall mark records → Finds me s fall durable front
+finds_after me s fall mark records durable front capacity dc sc stands lines may a =
     let d = a.before.before.durable in
     let e = a.after.durable in
     let d_capacity : d.capacity ≡ capacity = ap (λ (l : Lasting). l.capacity) a.before.before.read ∙ sc in
@@ -141,14 +143,19 @@ finds_after me s fall mark records durable front capacity dc sc stands lines a =
     let told = last_told mark (a.first ++ record_bytes a.last ∷ []) (last_effect me capacity (a.first ++ record_bytes a.last ∷ [])) (effect_of me a.last d) front (other_mark a.first (record_bytes a.last) mark a.before.marked) effect begun in
     record {
       after = true;
+      may = may;
       read = ap lasting_of same ∙ a.after.read;
       before = λ ls. a.told ls ∙ ap (λ (f : List Line). f ++ ls) (sym told);
     }
 
-pub finds : (me : Node) (s : ServerState) (fall : Fall) (mark : Mark) (records : List (List ℕ)) (durable : Durable) (front : List Line) (capacity : ℕ) → durable.capacity ≡ capacity → s.lasting.capacity ≡ capacity →
-    StandFor records durable → lines_begun me mark capacity records ≡ Some front → LiesIn me s fall mark records → Finds me s fall durable front
-finds me s fall mark records durable front capacity dc sc stands lines (inl b) = finds_before me s fall mark records durable front capacity dc sc stands lines b
-finds me s fall mark records durable front capacity dc sc stands lines (inr a) = finds_after me s fall mark records durable front capacity dc sc stands lines a
+finds_by : (me : Node) (s : ServerState) (fall : Fall) (mark : Mark) (records : List (List ℕ)) (durable : Durable) (front : List Line) (capacity : ℕ) → durable.capacity ≡ capacity → s.lasting.capacity ≡ capacity →
+    StandFor records durable → lines_begun me mark capacity records ≡ Some front → (after : Bool) → MayFind fall after → LiesAs me s fall mark after records → Finds me s fall durable front
+finds_by me s fall mark records durable front capacity dc sc stands lines false may b = finds_before me s fall mark records durable front capacity dc sc stands lines may b
+finds_by me s fall mark records durable front capacity dc sc stands lines true may a = finds_after me s fall mark records durable front capacity dc sc stands lines may a
+
+pub finds_found : (me : Node) (s : ServerState) (fall : Fall) (mark : Mark) (records : List (List ℕ)) (durable : Durable) (front : List Line) (capacity : ℕ) → durable.capacity ≡ capacity → s.lasting.capacity ≡ capacity →
+    StandFor records durable → lines_begun me mark capacity records ≡ Some front → LiesFound me s fall mark records → Finds me s fall durable front
+finds_found me s fall mark records durable front capacity dc sc stands lines found = finds_by me s fall mark records durable front capacity dc sc stands lines found.0 found.1.0 found.1.1
 
 -- both stand for something
 lies_stand : (me : Node) (s : ServerState) (fall : Fall) (mark : Mark) (records : List (List ℕ)) (capacity : ℕ) → s.lasting.capacity ≡ capacity → LiesIn me s fall mark records → (d : Durable) × (fold_all capacity records ≡ Some d)

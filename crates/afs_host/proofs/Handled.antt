@@ -1,4 +1,4 @@
--- A server was given bytes: its step was made, or memory was wanting.
+-- A server was given bytes: its step was made, or memory ran out.
 use Rattle.std.specs.Prelude.{◌≡◌, ◌≤◌, ℕ, ◌+◌, List, [], ◌∷◌, length, Option, Some, None, Result, Err, Ok}
 use Rattle.std.specs.Option.{option_map}
 use Rattle.std.proofs.Common.{refl, ap, sym, subst, ◌∙◌, arith}
@@ -80,7 +80,7 @@ passed_goes_on {D} clock bytes old new outs can p = record {
   adds = record { device_calls = p.most; drawn = p.drawn; owed = p.owed };
 }
 
--- ---- memory was wanting
+-- ---- memory ran out
 
 pub quiet_then : (T : Type 0) (o : Option StoreRecord) → IsQuiet {T = T} o (Err nodes.OutOfMemory)
 quiet_then T None = tt

@@ -1,5 +1,5 @@
 -- What a disk stands for once its server is down.
-use Rattle.std.specs.Prelude.{◌≡◌, ◌≤◌, ◌⊎◌, ◌+◌, ℕ, List, [], ◌∷◌, ◌++◌, length, map, true, Option, Some, None, IfSome, IsSome}
+use Rattle.std.specs.Prelude.{◌≡◌, ◌≤◌, ◌⊎◌, ◌+◌, ℕ, List, [], ◌∷◌, ◌++◌, length, map, Bool, true, false, Option, Some, None, IfSome, IsSome, if◌then◌else◌}
 use Rattle.std.proofs.Common.{refl, ap, sym, subst, ◌∙◌, inl, inr}
 use Rattle.afs_num.specs.declared.records.Mark.{Mark}
 use Rattle.afs_num.specs.declared.records.StoreRecord.{StoreRecord}
@@ -12,20 +12,23 @@ use Rattle.afs_records.specs.Durable.{effect_of, first_folded, fold_all, fold_fr
 use Rattle.afs_records.specs.Records.{record_at, record_bytes}
 use Rattle.afs_volstore.specs.Stands.{Stands}
 use Rattle.afs_records.proofs.Forms.{bound, some_is}
-use Rattle.afs_rows.specs.Runs.{begun_by_disk, Fall}
+use Rattle.afs_rows.specs.Runs.{begun_by_disk, Fall, MayFind}
 use Rattle.afs_rows.specs.States.{Lasting, ServerState}
 use Rattle.afs_volstore.specs.Stores.{IsCounted, IsKept, StandsAround}
 use Rattle.afs_memory.specs.Telling.{in_words}
 use Rattle.afs_server.specs.Seen.{lasting_of}
 use Rattle.afs_host.specs.Seats.{count_mark}
-use Rattle.afs_host.specs.Standing.{record_of_fall, Lies, LiesAfter, LiesBefore, LiesIn, StandsFor}
+use Rattle.afs_host.specs.Standing.{record_of_fall, Lies, LiesAfter, LiesAs, LiesBefore, LiesFound, LiesIn, StandsFor}
 
 pub some_of : {A : Type 0} (o : Option A) → IsSome o → (x : A) × (o ≡ Some x)
 some_of {A} None some = absurd cc
 some_of {A} (Some x) some = (x, refl)
 
+pub is_told : (o : Option (List ℕ)) (bytes : List ℕ) → o ≡ Some bytes → IsSome o
+is_told o bytes at = subst (λ (p : Option (List ℕ)). IsSome p) (sym at) refl
+
 pub if_some : {A : Type 0} (o : Option A) (P : A → Type 0) (x : A) → o ≡ Some x → IfSome o P → P x
-if_some {A} o P x e if = subst (λ (p : Option A). IfSome p P) e if
+if_some {A} o P x e has = subst (λ (p : Option A). IfSome p P) e has
 
 -- ---- a disk at rest
 
@@ -40,6 +43,19 @@ kept_before durable count seen may_leave s read kept counted told c left =
       marked = ap count_mark (counted bytes.0 bytes.1);
     })
 
+-- and so are those that a read gives
+pub kept_there : (durable : Durable) (count : ℕ) (seen : Option (List ℕ)) (may_leave : List ℕ → Type 0) (s : ServerState) → lasting_of durable ≡ s.lasting → IsKept durable seen may_leave → IsCounted count seen →
+    (bytes : List ℕ) → seen ≡ Some bytes → LiesBefore s (count_mark count) (whole_records bytes)
+kept_there durable count seen may_leave s read kept counted bytes told = record {
+  before = record { durable = durable; stands = kept.stands bytes told; read = read };
+  marked = ap count_mark (counted bytes told);
+}
+
+-- where a restart may begin either way it finds the one or the other
+pub found_free : (me : Node) (s : ServerState) (fall : Fall) (mark : Mark) (records : List (List ℕ)) → ((after : Bool) → MayFind fall after) → LiesIn me s fall mark records → LiesFound me s fall mark records
+found_free me s fall mark records free (inl b) = (false, (free false, b))
+found_free me s fall mark records free (inr a) = (true, (free true, a))
+
 -- what a crash with a pick leaves is what one may leave
 pub left_image : (seen : Option (List ℕ)) (before now : List ℕ → Type 0) → IfSome seen (λ bytes. before bytes × LeavesJust bytes now) → IsSome seen → (c : List ℕ) → now c → before c
 left_image seen before now image told c left =
@@ -52,7 +68,7 @@ left_image seen before now image told c left =
 pub bind_is : {A B : Type 0} (o : Option A) (x : A) (f : A → Option B) (y : B) → o ≡ Some x → (o >>= f) ≡ Some y → f x ≡ Some y
 bind_is {A} {B} o x f y e h = subst (λ (p : Option A). (p >>= f) ≡ Some y) e h
 
--- records that stand for something with this one behind them: it was taken
+-- records that stand for something with this one after them: it was taken
 more_from : (bs : List (List ℕ)) (bytes : List ℕ) (r : StoreRecord) (c d e : Durable) → fold_from bs c ≡ Some d → record_at bytes ≡ Some r → fold_from (bs ++ bytes ∷ []) c ≡ Some e → folded r d ≡ Some e
 more_from [] bytes r c d e h is stands =
     let p = bind_is (record_at bytes) r (λ q. (folded q c >>= fold_from [])) e is stands in
@@ -118,3 +134,11 @@ begun_lies me s fall records count durable r b c (inl is) stands = inl (subst (L
 begun_lies me s fall records count durable r b c (inr is) stands =
     inr (subst (LiesAfter me s fall (count_mark count)) (sym is) (around me s fall records count durable r b
     (subst (λ (rs : List (List ℕ)). StandFor rs durable ⊎ ((e : Durable) × ((folded r durable ≡ Some e) × StandFor rs e))) is stands)))
+
+-- and it is known which
+pub begun_as : (me : Node) (s : ServerState) (fall : Fall) (records : List (List ℕ)) (count : ℕ) (durable : Durable) (r : StoreRecord) → Begins me s fall records count durable r → (c : List ℕ) (after : Bool) →
+    whole_records c ≡ (if after then records ++ record_bytes r ∷ [] else records) → StandsAround r durable c → LiesAs me s fall (count_mark count) after (whole_records c)
+begun_as me s fall records count durable r b c false is stands = subst (LiesBefore s (count_mark count)) (sym is) (begun_before me s fall records count durable r b)
+begun_as me s fall records count durable r b c true is stands =
+    subst (LiesAfter me s fall (count_mark count)) (sym is) (around me s fall records count durable r b
+    (subst (λ (rs : List (List ℕ)). StandFor rs durable ⊎ ((e : Durable) × ((folded r durable ≡ Some e) × StandFor rs e))) is stands))

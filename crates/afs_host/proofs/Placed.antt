@@ -31,8 +31,8 @@ same_line i false = refl
 by_blow : (c : Cell) (i place : ℕ) (m : Message) (b : Option Blow) → server_served c i place m b ≡ placed c i (served_by (Server i) (c.hosts i) c.clock place m b)
 by_blow c i place m None = refl
 by_blow c i place m (Some b) =
-    ap (λ (l : Line). server_falls c i (lines.Given place ∷ l ∷ []) (in_step m c.clock)) (same_line i b.stops)
-    ∙ sym (sends_nothing c i (record (c.hosts i) { down = Some (in_step m c.clock); armed = unarmed }) (lines.Given place ∷ fall_line (Server i) b.stops ∷ []))
+    ap (λ (l : Line). server_falls c i (lines.Given place ∷ l ∷ []) (in_step m c.clock b)) (same_line i b.stops)
+    ∙ sym (sends_nothing c i (record (c.hosts i) { down = Some (in_step m c.clock b); armed = unarmed }) (lines.Given place ∷ fall_line (Server i) b.stops ∷ []))
 
 -- a message is given
 given_up : (c : Cell) (i place : ℕ) (luck : Luck) (m : Message) (down : Option Fall) → down ≡ None →

@@ -112,7 +112,7 @@ same_row me s clock m found (is_unserved user call is among e) =
 
 -- ---- a step that passed
 
--- a stop that came at none of these calls comes behind them
+-- a stop that came at none of these calls comes after them
 passes_stop : (t : Bool) (setting : Setting) (first n s : ℕ) → nat_lt s n ≡ t → setting.stop ≡ Some (first + s) → PassesAll setting first (first + n) → n ≤ s
 passes_stop true setting first n s less is passes =
     let lt = ltb-true s n less in

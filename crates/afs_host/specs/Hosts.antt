@@ -51,7 +51,7 @@ decided me h clock m = decides me h.state clock (Whole m)
 -- the step is done, or its disk ends it
 abbrev pub served_by : Node → Host → ℕ → ℕ → Message → Option Blow → HostStep
 served_by me h clock place m None = given me h clock place (Whole m)
-served_by me h clock place m (Some b) = falls h (lines.Given place ∷ fall_line me b.stops ∷ []) (in_step m clock)
+served_by me h clock place m (Some b) = falls h (lines.Given place ∷ fall_line me b.stops ∷ []) (in_step m clock b)
 
 -- given the message of this place, with this luck of its disk
 abbrev pub served : Node → Host → ℕ → ℕ → Luck → Message → HostStep

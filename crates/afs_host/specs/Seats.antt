@@ -6,6 +6,7 @@ use Rattle.afs_history.specs.declared.lines.Line.{Line}
 use Rattle.afs_history.specs.declared.lines.Outs.{Outs}
 use Rattle.afs_disk.specs.Disk.{SameDisk}
 use Rattle.afs_disk.specs.Fuses.{Fused}
+use Rattle.afs_journal.specs.Records.{whole_records}
 use Rattle.afs_model.specs.Messages.{messages_spelled, parcels_read}
 use Rattle.afs_rows.specs.Runs.{unarmed, Armed, Fall, Host}
 use Rattle.afs_rows.specs.States.{ServerState}
@@ -15,7 +16,7 @@ use Rattle.afs_server.specs.Handling.{server_seen, SameStore}
 use Rattle.afs_server.specs.Seen.{Memory, Serves}
 use Rattle.afs_host.specs.Hosts.{HostStep}
 use Rattle.afs_host.specs.Setting.{IsSet}
-use Rattle.afs_host.specs.Standing.{Lies}
+use Rattle.afs_host.specs.Standing.{Lies, LiesFound}
 
 -- a server that is up: what it has in memory, its store, and how its disk is set
 pub record Running (D : Type 0) : Type 0 where
@@ -49,13 +50,14 @@ pub record IsUp {D : Type 0} (r : Running D) (h : Host) : Type 0 where
   pub armed : h.armed ≡ r.armed
 
 -- One that is down fell so, and nothing is set at it. Where its disk tells, whatever a crash may leave of that stands for the
--- host's durable part, or for that with the interrupted step.
+-- host's durable part, or for that with the interrupted step; and what a read gives stands for the one that a restart may find.
 pub record IsDown {D : Type 0} (seen : D → Option (List ℕ)) (may_leave : D → List ℕ → Type 0) (limit : D → ℕ) (me : Node) (s : Resting D) (h : Host) : Type 0 where
   pub fall : Fall
   pub down : h.down ≡ Some fall
   pub armed : h.armed ≡ unarmed
   pub capacity : h.state.lasting.capacity ≡ limit s.disk
   pub lies : IsSome (seen s.disk) → (bytes : List ℕ) → may_leave s.disk bytes → Lies me h.state fall s.mark bytes
+  pub found : (bytes : List ℕ) → seen s.disk ≡ Some bytes → LiesFound me h.state fall s.mark (whole_records bytes)
 
 -- The server is up after this step, and gave this out. Its lines are these and then the node's.
 pub record IsStepUp {D : Type 0} (r : Running D) (before : List Line) (outs : Outs) (s : HostStep) : Type 0 where

@@ -1,5 +1,5 @@
 -- What becomes of a server that is up and is given a message.
-use Rattle.std.specs.Prelude.{◌≡◌, ◌≤◌, ◌⊎◌, ◌↔◌, ℕ, ◌+◌, List, [], ◌∷◌, Bool, true, Option, Result, Ok, Err, IfSome, IsSome}
+use Rattle.std.specs.Prelude.{◌≡◌, ◌≤◌, ◌⊎◌, ◌↔◌, ℕ, ◌+◌, ◌-◌, List, [], ◌∷◌, Bool, true, Option, Some, Result, Ok, Err, IfSome, IsSome}
 use Rattle.afs_num.specs.declared.messages.Message.{Message}
 use Rattle.afs_num.specs.declared.messages.Received.{Received}
 use Rattle.afs_num.specs.declared.messages.Received.TheVariants.{Whole}
@@ -8,8 +8,10 @@ use Rattle.afs_history.specs.declared.lines.Line.{Line}
 use Rattle.afs_history.specs.declared.lines.Line.TheVariants as lines
 use Rattle.afs_history.specs.declared.lines.Outs.{Outs}
 use Rattle.afs_disk.specs.Disk.{IsBeyond, LeavesJust, Rose, Trips}
+use Rattle.afs_journal.specs.Left.{is_left_whole, ReachesCall}
+use Rattle.afs_journal.specs.Records.{whole_records}
 use Rattle.afs_model.specs.Messages.{received, received_by}
-use Rattle.afs_rows.specs.Runs.{in_step, steady, Host, Luck}
+use Rattle.afs_rows.specs.Runs.{in_step, steady, Blow, Host, Luck}
 use Rattle.afs_rows.specs.ServerRow.{decides, device_calls}
 use Rattle.afs_server.specs.Handling.{calls_served, server_seen, IsClosed}
 use Rattle.afs_server.specs.declared.faults.NodeFault.{NodeFault}
@@ -17,10 +19,10 @@ use Rattle.afs_server.specs.declared.faults.NodeFault.TheVariants as nodes
 use Rattle.afs_host.specs.Hosts.{fall_line, given, served, GivesOut, HostStep, IsLuck}
 use Rattle.afs_host.specs.Seats.{count_mark, disk_of, GoesOn, IsSame, IsStepDown, IsStepUp, IsUp, Resting, Running}
 use Rattle.afs_host.specs.Setting.{pick_of, stops_now}
-use Rattle.afs_host.specs.Standing.{Lies}
+use Rattle.afs_host.specs.Standing.{Lies, LiesAs}
 
--- What became of a server that was given a message: it is up, and gave this out; or it went down, as this line tells. Memory may
--- have been wanting, and then nothing was done.
+-- What became of a server that was given a message: it is up, and gave this out; or it went down, as this line tells. Or memory
+-- ran out, and then nothing was done.
 pub data Served (D : Type 0) : Type 0 where
   is_up : Running D → Outs → Served D
   is_down : Resting D → Line → Served D
@@ -40,7 +42,7 @@ pub record HasServed (me : Node) (h : Host) (clock place : ℕ) (m : Message) (I
   pub blame : GivesOut luck → rose
 
 -- So it is of each host that the server stands for, and of the message that was found, at any place: the server is up, and gave
--- this out behind the line of the place; or it went down, and that line and this are all. Or memory was wanting, and it is as it was.
+-- this out after the line of the place; or it went down, and that line and this are all. Or memory ran out, and it is as it was.
 abbrev pub IsServed : {D : Type 0} → (D → Option (List ℕ)) → (D → ℕ → Option (List ℕ)) → (D → ℕ) → (D → List ℕ → Type 0) → (D → ℕ) → (D → ℕ → List ℕ → Type 0) → (D → ℕ) → (D → ℕ) →
     Running D → ℕ → Received → Served D → Type 0
 IsServed {D} seen left_by size may_leave moment left_since faults limit old clock found (is_up r outs) =
@@ -63,11 +65,15 @@ MakesRow {D} old clock bytes (unchanged r) = Unit {0}
 -- ---- a step that the disk ended
 
 -- The store's device call failed, and with it the step: a record was begun. Whatever a crash may leave of the disk now stands for the
--- state before the step or after it. At most four device calls came, and the last was set to trip, or the disk failed by itself.
-pub record IsBroken {D : Type 0} (seen : D → Option (List ℕ)) (may_leave : D → List ℕ → Type 0) (faults limit : D → ℕ) (old : Running D) (clock : ℕ) (found : Received) (new : Running D) : Type 0 where
+-- state before the step or after it. At most four device calls came, and the last was set to trip, or the disk failed by itself. Where
+-- it was set, what a crash with each pick leaves is told by that call.
+pub record IsBroken {D : Type 0} (seen : D → Option (List ℕ)) (left_by : D → ℕ → Option (List ℕ)) (may_leave : D → List ℕ → Type 0) (faults limit : D → ℕ) (old : Running D) (clock : ℕ) (found : Received) (new : Running D) : Type 0 where
   pub armed : new.armed ≡ old.armed
   pub closed : IsClosed old.store new.store
-  pub lies : (m : Message) → found ≡ Whole m → IsSome (seen (disk_of new)) → (c : List ℕ) → may_leave (disk_of new) c → Lies old.store.node (server_seen old.memory old.store) (in_step m clock) (count_mark old.store.count) c
+  pub lies : (m : Message) (b : Blow) → found ≡ Whole m → IsSome (seen (disk_of new)) → (c : List ℕ) → may_leave (disk_of new) c → Lies old.store.node (server_seen old.memory old.store) (in_step m clock b) (count_mark old.store.count) c
+  pub reached : ReachesCall (record { stop = old.store.disk.stop; fail = old.store.disk.fail }) old.store.disk.calls new.store.disk.calls
+  pub left : (m : Message) (b : Blow) → found ≡ Whole m → IsSome (seen (disk_of new)) → Trips (record { stop = old.store.disk.stop; fail = old.store.disk.fail }) new.store.disk.calls → (pick : ℕ) (c : List ℕ) → left_by (disk_of new) pick ≡ Some c
+      → LiesAs old.store.node (server_seen old.memory old.store) (in_step m clock b) (count_mark old.store.count) (is_left_whole (new.store.disk.calls - old.store.disk.calls) pick) (whole_records c)
   pub saves : (m : Message) → found ≡ Whole m → device_calls (decides old.store.node (server_seen old.memory old.store) clock (Whole m)) ≡ 4
   pub few : new.store.disk.calls ≤ old.store.disk.calls + 4
   pub stop : new.store.disk.stop ≡ old.store.disk.stop
@@ -82,7 +88,7 @@ IsHandled {D} seen left_by size may_leave moment left_since faults limit old clo
     ((h : Host) → IsUp old h → (m : Message) → found ≡ Whole m → (place : ℕ) → IsStepUp new (lines.Given place ∷ []) outs (served old.store.node h clock place steady m)) × GoesOn 4 50 old new
 IsHandled {D} seen left_by size may_leave moment left_since faults limit old clock found new (Err nodes.OutOfMemory) =
     IsSame seen left_by size may_leave moment left_since old new × GoesOn 4 50 old new
-IsHandled {D} seen left_by size may_leave moment left_since faults limit old clock found new (Err nodes.Down) = IsBroken seen may_leave faults limit old clock found new
+IsHandled {D} seen left_by size may_leave moment left_since faults limit old clock found new (Err nodes.Down) = IsBroken seen left_by may_leave faults limit old clock found new
 
 -- the row's step was made, whatever the bytes were; or their message's was ended
 abbrev pub RunsRow : {D : Type 0} → Running D → ℕ → List ℕ → Running D → Result Outs NodeFault → Type 0

@@ -1,5 +1,5 @@
 -- What the disk of a server that is down stands for.
-use Rattle.std.specs.Prelude.{◌≡◌, ◌⊎◌, ◌+◌, ℕ, List, [], ◌∷◌, ◌++◌, map, true, Option, Some, None}
+use Rattle.std.specs.Prelude.{◌≡◌, ◌⊎◌, ◌+◌, ℕ, List, [], ◌∷◌, ◌++◌, map, Bool, true, false, Option, Some, None}
 use Rattle.afs_num.specs.declared.types.Node.{Node}
 use Rattle.afs_num.specs.declared.messages.Message.{Message}
 use Rattle.afs_num.specs.declared.messages.Received.TheVariants.{Whole}
@@ -10,7 +10,7 @@ use Rattle.afs_journal.specs.Records.{whole_records}
 use Rattle.afs_records.specs.Changes.{boot_record}
 use Rattle.afs_records.specs.Durable.{effect_of, mark_of, Durable, StandFor}
 use Rattle.afs_records.specs.Records.{record_at, record_bytes}
-use Rattle.afs_rows.specs.Runs.{at_rest, begun_by_disk, in_boot, in_step, Fall}
+use Rattle.afs_rows.specs.Runs.{at_rest, begun_by_disk, in_boot, in_step, Fall, MayFind}
 use Rattle.afs_rows.specs.ServerRow.{decides}
 use Rattle.afs_rows.specs.States.{Lasting, ServerState}
 use Rattle.afs_memory.specs.Telling.{in_words}
@@ -20,7 +20,7 @@ use Rattle.afs_server.specs.Seen.{lasting_of}
 -- the record that the interrupted step was to make, or the restart: at rest there is none
 abbrev pub record_of_fall : Node → ServerState → Fall → Option StoreRecord
 record_of_fall me s at_rest = None
-record_of_fall me s (in_step m clock) = record_decided s.lasting.boot clock (decides me s clock (Whole m))
+record_of_fall me s (in_step m clock b) = record_decided s.lasting.boot clock (decides me s clock (Whole m))
 record_of_fall me s in_boot = Some (boot_record (s.lasting.boot + 1))
 
 -- the records are those of a durable part that is read so
@@ -45,6 +45,15 @@ pub record LiesAfter (me : Node) (s : ServerState) (fall : Fall) (mark : Mark) (
   pub read_again : record_at (record_bytes last) ≡ Some last
   pub after : StandsFor records (begun_by_disk me s true fall).state.lasting
   pub told : (ls : List Line) → (begun_by_disk me s true fall).before ls ≡ map in_words (effect_of me last before.before.durable).lines ++ ls
+
+-- the one or the other
+abbrev pub LiesAs : Node → ServerState → Fall → Mark → Bool → List (List ℕ) → Type 0
+LiesAs me s fall mark false records = LiesBefore s mark records
+LiesAs me s fall mark true records = LiesAfter me s fall mark records
+
+-- They are those that a restart may find: where the disk was set to the blow that ended the step, that tells which.
+abbrev pub LiesFound : Node → ServerState → Fall → Mark → List (List ℕ) → Type 0
+LiesFound me s fall mark records = (after : Bool) × (MayFind fall after × LiesAs me s fall mark after records)
 
 abbrev pub LiesIn : Node → ServerState → Fall → Mark → List (List ℕ) → Type 0
 LiesIn me s fall mark records = LiesBefore s mark records ⊎ LiesAfter me s fall mark records

@@ -12,7 +12,7 @@ use Rattle.afs_disk.specs.Fuses.{Fused}
 use Rattle.afs_journal.specs.Records.{whole_records}
 use Rattle.afs_model.specs.Messages.{messages_spelled, parcels_read}
 use Rattle.afs_records.specs.Durable.{first_bad, Durable, StandFor}
-use Rattle.afs_rows.specs.Runs.{at_rest, comes_up, fails_midway, in_boot, is_full, settled, unarmed, Fall, Host, Outcome}
+use Rattle.afs_rows.specs.Runs.{at_rest, begun_by_disk, comes_up, fails_midway, in_boot, is_full, settled, unarmed, Fall, Host, MayFind, Outcome}
 use Rattle.afs_rows.specs.ServerRow.{Begun}
 use Rattle.afs_rows.specs.ServerSteps.{start_row}
 use Rattle.afs_volstore.specs.Stores.{Store}
@@ -30,16 +30,17 @@ disk_started {D} (starts.Down s ls) = s.disk
 disk_started {D} (starts.Unchanged s) = s.disk
 disk_started {D} (starts.Lost s) = s.disk
 
--- One of the two that the disk may hold was found, and the restart ended so; the step of the host is this. Where the disk failed,
--- its count rose.
+-- One of the two that the disk may hold was found, as the blow that ended the step allows it, and the restart ended so; the step of the
+-- host is this. Where the disk failed, its count rose.
 pub record HasStarted (me : Node) (h : Host) (clock count : ℕ) (fall : Fall) (Is : HostStep → Type 0) (rose : Type 0) : Type 0 where
   pub after : Bool
+  pub may : MayFind fall after
   pub outcome : Outcome
   pub is : Is (restarted me h clock count after outcome fall)
   pub blame : Fails outcome → rose
 
--- The server is up, and gave this out; or it stays down, and told this; or memory was wanting, and it is what it was, or can't be
--- told of.
+-- The server is up, and gave this out; or it stays down, and told this. Or memory ran out, and it is what it was; or it can't be told
+-- of, since the record of its boot, which did fit, is on the disk.
 abbrev pub IsStarted : {D : Type 0} → (D → Option (List ℕ)) → (D → List ℕ → Type 0) → (D → ℕ) → (D → ℕ) → Node → ℕ → ℕ → Resting D → Start (Running D) (Resting D) → Type 0
 IsStarted {D} seen may_leave faults limit me clock count old (starts.Up r outs) =
     (h : Host) (was : IsDown seen may_leave limit me old h) → HasStarted me h clock count was.fall (IsStepUp r [] outs) (Rose (faults old.disk) (faults (disk_of r)))
@@ -47,7 +48,8 @@ IsStarted {D} seen may_leave faults limit me clock count old (starts.Down s ls) 
     (h : Host) (was : IsDown seen may_leave limit me old h) → HasStarted me h clock count was.fall (IsStepDown seen may_leave limit me s ls) (Rose (faults old.disk) (faults s.disk))
 IsStarted {D} seen may_leave faults limit me clock count old (starts.Unchanged s) =
     (h : Host) → IsDown seen may_leave limit me old h → IsDown seen may_leave limit me s h
-IsStarted {D} seen may_leave faults limit me clock count old (starts.Lost s) = Unit {0}
+IsStarted {D} seen may_leave faults limit me clock count old (starts.Lost s) =
+    (h : Host) (was : IsDown seen may_leave limit me old h) → (after : Bool) × (MayFind was.fall after × (settled (begun_by_disk me h.state after was.fall).state is_full ≡ is_full → ⊥))
 
 -- ---- whatever the disk tells
 
@@ -55,16 +57,17 @@ IsStarted {D} seen may_leave faults limit me clock count old (starts.Lost s) = U
 abbrev pub begun_with : Durable → List Line → Begun
 begun_with d front = record { state = begun_state d; before = λ ls. front ++ ls }
 
--- The record of the boot was put behind what was found, and the server is up in that boot; or it didn't fit, or the disk failed while
--- it was written, and the server stays down.
-abbrev pub BootsOver : {D : Type 0} → (D → ℕ) → Durable → List Line → Node → ℕ → ℕ → D → Start (Running D) (Resting D) → Type 0
-BootsOver {D} faults d front me clock count disk (starts.Up r outs) =
-    (settled (begun_state d) comes_up ≡ comes_up) × IsStepUp r [] outs (goes unarmed (start_row me clock count (begun_with d front)))
-BootsOver {D} faults d front me clock count disk (starts.Down s ls) =
-    ((settled (begun_state d) is_full ≡ is_full) × (ls ≡ front ++ lines.Full me ∷ []))
-    ⊎ ((settled (begun_state d) fails_midway ≡ fails_midway) × ((ls ≡ front ++ lines.Fault me ∷ []) × Rose (faults disk) (faults s.disk)))
-BootsOver {D} faults d front me clock count disk (starts.Unchanged s) = Unit {0}
-BootsOver {D} faults d front me clock count disk (starts.Lost s) = Unit {0}
+-- The record of the boot was put after what was found, and the server is up in that boot; or it didn't fit, or the disk failed while
+-- it was written, and the server stays down. Or memory ran out before the record was begun, or once it was on the disk. Where it isn't
+-- told that the disk failed, its count is what it was before.
+abbrev pub BootsOver : {D : Type 0} → (D → ℕ) → Durable → List Line → Node → ℕ → ℕ → ℕ → Start (Running D) (Resting D) → Type 0
+BootsOver {D} faults d front me clock count before (starts.Up r outs) =
+    (settled (begun_state d) comes_up ≡ comes_up) × (IsStepUp r [] outs (goes unarmed (start_row me clock count (begun_with d front))) × (faults (disk_of r) ≡ before))
+BootsOver {D} faults d front me clock count before (starts.Down s ls) =
+    ((settled (begun_state d) is_full ≡ is_full) × ((ls ≡ front ++ lines.Full me ∷ []) × (faults s.disk ≡ before)))
+    ⊎ ((settled (begun_state d) fails_midway ≡ fails_midway) × ((ls ≡ front ++ lines.Fault me ∷ []) × Rose before (faults s.disk)))
+BootsOver {D} faults d front me clock count before (starts.Unchanged s) = faults s.disk ≡ before
+BootsOver {D} faults d front me clock count before (starts.Lost s) = (settled (begun_state d) is_full ≡ is_full → ⊥) × (faults s.disk ≡ before)
 
 -- The disk failed before anything was found, or a record of this number can't be taken; that the server stays down is all that is told.
 pub record IsRefusedOver {D : Type 0} (seen : D → Option (List ℕ)) (faults limit : D → ℕ) (me : Node) (old new : Resting D) (told : List Line) : Type 0 where
@@ -77,15 +80,15 @@ pub record HasFoundOver {D : Type 0} (faults limit : D → ℕ) (me : Node) (clo
   pub durable : Durable
   pub capacity : durable.capacity ≡ limit old.disk
   pub front : List Line
-  pub boots : BootsOver faults durable front me clock count old.disk result
+  pub boots : BootsOver faults durable front me clock count (faults old.disk) result
 
 -- So it is also of a disk that doesn't tell its bytes. Of such a one nothing else is said of what was found on it.
 abbrev pub StartsOver : {D : Type 0} → (D → Option (List ℕ)) → (D → ℕ) → (D → ℕ) → Node → ℕ → ℕ → Resting D → Start (Running D) (Resting D) → Type 0
 StartsOver {D} seen faults limit me clock count old (starts.Up r outs) = HasFoundOver faults limit me clock count old (starts.Up r outs)
 StartsOver {D} seen faults limit me clock count old (starts.Down s ls) =
     IsRefusedOver seen faults limit me old s ls ⊎ HasFoundOver faults limit me clock count old (starts.Down s ls)
-StartsOver {D} seen faults limit me clock count old (starts.Unchanged s) = Unit {0}
-StartsOver {D} seen faults limit me clock count old (starts.Lost s) = Unit {0}
+StartsOver {D} seen faults limit me clock count old (starts.Unchanged s) = faults s.disk ≡ faults old.disk
+StartsOver {D} seen faults limit me clock count old (starts.Lost s) = HasFoundOver faults limit me clock count old (starts.Lost s)
 
 -- ---- what comes next
 
@@ -131,22 +134,22 @@ Rises {D} s front count clock (starts.Down d ls) = ⊥
 Rises {D} s front count clock (starts.Unchanged d) = ⊥
 Rises {D} s front count clock (starts.Lost d) = d.disk ≡ s.disk.disk
 
--- the server stays down, with its store's mark and these lines, and one behind them; or memory was wanting for that
+-- the server stays down, with its store's mark and these lines, and one more
 abbrev pub Stays : {D : Type 0} → Store (Fused D) → List Line → Line → Start (Running D) (Resting D) → Type 0
 Stays {D} s front last (starts.Up r outs) = ⊥
 Stays {D} s front last (starts.Down d ls) = (d ≡ record { disk = s.disk.disk; mark = count_mark s.count }) × (ls ≡ front ++ last ∷ [])
 Stays {D} s front last (starts.Unchanged d) = ⊥
-Stays {D} s front last (starts.Lost d) = d.disk ≡ s.disk.disk
+Stays {D} s front last (starts.Lost d) = ⊥
 
--- The disk couldn't be taken up, by this refusal: that the server stays down is all that is told. Or memory was wanting.
-abbrev pub IsRefused : {D : Type 0} → StoreFault → Resting D → Node → Start (Running D) (Resting D) → Type 0
-IsRefused {D} refusal old me (starts.Up r outs) = ⊥
-IsRefused {D} refusal old me (starts.Down d ls) = (refusal ≡ refusals.OutOfMemory → ⊥) × ((d ≡ old) × (ls ≡ lines.Fault me ∷ []))
-IsRefused {D} refusal old me (starts.Unchanged d) = d ≡ old
-IsRefused {D} refusal old me (starts.Lost d) = ⊥
+-- The disk couldn't be taken up, by this refusal: memory ran out, or the server stays down and tells just this.
+abbrev pub IsRefused : {D : Type 0} → StoreFault → Resting D → List Line → Start (Running D) (Resting D) → Type 0
+IsRefused {D} refusal old told (starts.Up r outs) = ⊥
+IsRefused {D} refusal old told (starts.Down d ls) = (refusal ≡ refusals.OutOfMemory → ⊥) × ((d ≡ old) × (ls ≡ told))
+IsRefused {D} refusal old told (starts.Unchanged d) = (refusal ≡ refusals.OutOfMemory) × (d ≡ old)
+IsRefused {D} refusal old told (starts.Lost d) = ⊥
 
--- The record of the boot was put on the disk, and the server is up; or it didn't fit, or the disk failed, and the server stays down; or memory was
--- wanting before that, and whatever a crash leaves has the records that were there.
+-- The record of the boot was put on the disk, and the server is up; or it didn't fit, or the disk failed, and the server stays down. Or
+-- memory ran out before that, and whatever a crash leaves has the records that were there; or after it, as the record did fit.
 abbrev pub BootsFrom : {D : Type 0} → (D → Option (List ℕ)) → (D → List ℕ → Type 0) → (D → ℕ) → (D → ℕ) → Begun → List (List ℕ) → Node → ℕ → ℕ → D → Start (Running D) (Resting D) → Type 0
 BootsFrom {D} seen may_leave faults limit begun records me clock count disk (starts.Up r outs) =
     (settled begun.state comes_up ≡ comes_up) × IsStepUp r [] outs (goes unarmed (start_row me clock count begun))
@@ -155,7 +158,7 @@ BootsFrom {D} seen may_leave faults limit begun records me clock count disk (sta
     ⊎ ((settled begun.state fails_midway ≡ fails_midway) × (IsStepDown seen may_leave limit me d ls (stays begun (lines.Fault me) in_boot) × Rose (faults disk) (faults d.disk)))
 BootsFrom {D} seen may_leave faults limit begun records me clock count disk (starts.Unchanged d) =
     IsSome (seen d.disk) → (c : List ℕ) → may_leave d.disk c → whole_records c ≡ records
-BootsFrom {D} seen may_leave faults limit begun records me clock count disk (starts.Lost d) = Unit {0}
+BootsFrom {D} seen may_leave faults limit begun records me clock count disk (starts.Lost d) = settled begun.state is_full ≡ is_full → ⊥
 
 -- whatever the disk tells
 abbrev pub GoesOnBooted : {D : Type 0} → Store (Fused D) → Mark → Start (Running D) (Resting D) → Type 0

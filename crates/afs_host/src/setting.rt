@@ -45,7 +45,7 @@ impl Armed {
     }
 
     /// Whether a step that its disk ended was ended by the stop: it was set to come no later than a failure, and it came, or no
-    /// call was left to pass. A server that tries a failed call again can come to a stop behind the failure; it fell by that.
+    /// call was left to pass. A server that tries a failed call again can come to a stop after the failure; it fell by that.
     pub fn stops_now(&self, came: bool) -> bool
         ensures { result ≡ stops_now came (armed_seen self.now) }
     {

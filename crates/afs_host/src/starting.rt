@@ -1,6 +1,6 @@
 //! A server that is down begins again.
 
-ghost use Rattle.std.specs.Prelude.{◌≡◌, ◌≤◌, ◌+◌, ◌↔◌, ◌++◌, ◌∷◌, [], ℕ, List, None, false, IfOk, IsSome};
+ghost use Rattle.std.specs.Prelude.{◌≡◌, ◌≤◌, ◌<◌, ◌+◌, ◌↔◌, ◌++◌, ◌∷◌, [], ℕ, List, None, false, vec_capacity, vec_len, IfOk, IsSome};
 ghost use Rattle.afs_num.specs.Nodes.{IsNode};
 ghost use Rattle.afs_num.specs.declared.types.Node.TheVariants.{Server};
 ghost use Rattle.afs_history.specs.declared.lines.Line.TheVariants as lines;
@@ -20,8 +20,8 @@ use afs_server::FileServer;
 use afs_volstore::VolStore;
 use std::alloc::{AllocError, Global};
 
-/// How a server began again: it is up, and gives this out; or it stays down, with these lines. Memory may have been wanting
-/// before anything was told or kept, or behind the record of its boot, when nothing can be told of that any more.
+/// How a server began again: it is up, and gives this out; or it stays down, with these lines. Or memory ran out: before anything was
+/// told or kept; or after the record of its boot, when nothing can be told of that any more.
 #[derive(Drop)]
 pub enum Start<U, R> {
     Up(U, Outs),
@@ -30,21 +30,44 @@ pub enum Start<U, R> {
     Lost(R),
 }
 
-/// These lines, and one behind them.
-fn with_line(lines: Lines, line: Line) -> Mem<Lines>
-    ensures { IfOk result (λ ls. ls ≡ lines ++ line ∷ []) }
+/// That the server's disk failed, and nothing else.
+fn fault_alone(alloc: Global, node: Node) -> Mem<Lines>
+    ensures { IfOk result (λ ls. ls ≡ lines.Fault node ∷ []) }
 {
-    let mut lines = lines;
-    lines.push(line)?;
+    let mut lines = Lines::new(alloc);
+    lines.push(Line::Fault { node })?;
     Ok(lines)
 }
 
+/// These lines, with room for one more.
+fn with_room(lines: Lines) -> Mem<Vec<Line>>
+    ensures items { IfOk result (λ ls. ls.items ≡ lines) }
+    ensures room { IfOk result (λ ls. vec_len ls < vec_capacity ls) }
+{
+    let mut lines = lines.into_vec();
+    lines.reserve(1)?;
+    Ok(lines)
+}
+
+/// These lines, and one more, for which there is room.
+fn with_line(lines: Vec<Line>, last: Line) -> Lines
+    requires { vec_len lines < vec_capacity lines }
+    ensures { result ≡ lines.items ++ last ∷ [] }
+{
+    let mut lines = lines;
+    match lines.push(last) {
+        Ok(()) => Sequence::from_vec(lines),
+        Err(_) => unreachable!(),
+    }
+}
+
 /// What a restart gives out: the lines with which it began, that the server is up, and the breaks that it owes now.
-fn risen(front: Lines, node: Node, boot: u32, outs: Outs) -> Mem<Outs>
-    ensures lines { IfOk result (λ o. o.lines ≡ front ++ lines.Restart node boot ∷ outs.lines) }
+fn risen(front: Vec<Line>, node: Node, boot: u32, outs: Outs) -> Mem<Outs>
+    requires { vec_len front < vec_capacity front }
+    ensures lines { IfOk result (λ o. o.lines ≡ front.items ++ lines.Restart node boot ∷ outs.lines) }
     ensures parcels { IfOk result (λ o. o.parcels ≡ outs.parcels) }
 {
-    let front = with_line(front, Line::Restart { node, boot })?;
+    let front = with_line(front, Line::Restart { node, boot });
     let Outs {
         parcels,
         lines: owed,
@@ -58,21 +81,22 @@ fn risen(front: Lines, node: Node, boot: u32, outs: Outs) -> Mem<Outs>
     })
 }
 
-/// The server is up, over a store that has begun its boot. Where memory is wanting the record of that stands on the disk, untold.
+/// The server is up, over a store that has begun its boot. Where memory runs out the record of that stands on the disk, untold.
 fn rise<D: Disk>(
     alloc: Global,
     mut store: VolStore<Fuse<D>>,
-    front: Lines,
+    front: Vec<Line>,
     clients: u8,
     now: u32,
 ) -> Start<Running<D>, Resting<D>>
+    requires room { vec_len front < vec_capacity front }
     requires node { IsNode store.node }
     requires drawn { store.drawn ≡ 0 }
     requires up { store.closed ≡ false }
     requires unset { (store.disk.stop ≡ None) × (store.disk.fail ≡ None) }
     requires clients { clients ≤ 16 }
     requires now { now ≤ 1000000000 }
-    ensures { Rises store front clients now result }
+    ensures { Rises store front.items clients now result }
 {
     let (node, boot) = (store.node(), store.boot_number());
     match FileServer::restart(alloc, &mut store, clients, now) {
@@ -84,26 +108,34 @@ fn rise<D: Disk>(
     }
 }
 
-/// The server stays down, and tells this behind the lines with which the restart began: what these told is told, so its mark is
+/// The server stays down, and tells this after the lines with which the restart began: what these told is told, so its mark is
 /// that of the store.
 fn stay<D: Disk>(
     store: VolStore<Fuse<D>>,
-    front: Lines,
+    front: Vec<Line>,
     last: Line,
 ) -> Start<Running<D>, Resting<D>>
-    ensures stays { Stays store front last result }
+    requires room { vec_len front < vec_capacity front }
+    ensures stays { Stays store front.items last result }
     ensures kept { store.closed ≡ false → IsKept store.durable (D.seen store.disk.disk) (D.may_leave store.disk.disk) }
     ensures counted { store.closed ≡ false → IsCounted store.count (D.seen store.disk.disk) }
     ensures capacity { store.durable.capacity ≡ D.limit store.disk.disk }
 {
-    let resting = Resting::of(store);
-    match with_line(front, last) {
-        Ok(lines) => Start::Down(resting, lines),
-        Err(_) => Start::Lost(resting),
-    }
+    Start::Down(Resting::of(store), with_line(front, last))
 }
 
-/// The second half of a restart, over a disk that was taken up and whose mark was told.
+/// What is left of a server of which nothing was told: its mark is the one that was told before.
+fn untold<D: Disk>(store: VolStore<Fuse<D>>, told: Mark) -> Resting<D>
+    ensures value { result ≡ record { disk = store.disk.disk; mark = told } }
+    ensures kept { store.closed ≡ false → IsKept store.durable (D.seen store.disk.disk) (D.may_leave store.disk.disk) }
+    ensures counted { store.closed ≡ false → IsCounted store.count (D.seen store.disk.disk) }
+{
+    let Resting { disk, mark: _ } = Resting::of(store);
+    Resting { disk, mark: told }
+}
+
+/// The second half of a restart, over a disk that was taken up and whose mark was told. Memory for the line that ends it is taken
+/// before its record is begun, so a disk that has no room, or fails, is told as that.
 fn boot<D: Disk>(
     alloc: Global,
     mut store: VolStore<Fuse<D>>,
@@ -119,47 +151,40 @@ fn boot<D: Disk>(
     requires clients { clients ≤ 16 }
     requires now { now ≤ 1000000000 }
     ensures boots { (begun : Begun) (records : List (List ℕ)) → IsFound D.seen begun records front store → BootsFrom D.seen D.may_leave D.faults D.limit begun records store.node now clients store.disk.disk result }
-    ensures over { BootsOver D.faults store.durable front store.node now clients store.disk.disk result }
+    ensures over { BootsOver D.faults store.durable front store.node now clients (D.faults store.disk.disk) result }
     ensures goes_on { GoesOnBooted store told result }
     ensures told { IsSome (D.seen (disk_started result)) ↔ IsSome (D.seen store.disk.disk) }
     ensures limit { D.limit (disk_started result) ≡ D.limit store.disk.disk }
     ensures faults { D.faults store.disk.disk ≤ D.faults (disk_started result) }
 {
     let node = store.node();
+    let Ok(front) = with_room(front) else {
+        return Start::Unchanged(untold(store, told));
+    };
     match store.boot() {
         // A set-up has no volume that vanishes at a boot.
         Ok(_vanished) => rise(alloc, store, front, clients, now),
         Err(StoreFault::Full(_, _)) => stay(store, front, Line::Full { node }),
         Err(StoreFault::Failed) => stay(store, front, Line::Fault { node }),
-        Err(StoreFault::OutOfMemory) => {
-            let Resting { disk, mark: _ } = Resting::of(store);
-            Start::Unchanged(Resting { disk, mark: told })
-        }
+        Err(StoreFault::OutOfMemory) => Start::Unchanged(untold(store, told)),
         Err(StoreFault::Closed) => unreachable!(),
         Err(StoreFault::BadRecord(_)) => unreachable!(),
     }
 }
 
 impl<D: Disk> Resting<D> {
-    /// A server whose disk can't be taken up stays down. That is all that is told, unless memory was wanting.
-    fn refused(
-        self,
-        alloc: Global,
-        node: Node,
-        refusal: StoreFault,
-    ) -> Start<Running<D>, Resting<D>>
-        ensures { IsRefused refusal self node result }
+    /// A server whose disk can't be taken up stays down, and tells just this, unless memory ran out.
+    fn refused(self, refusal: StoreFault, told: Lines) -> Start<Running<D>, Resting<D>>
+        ensures { IsRefused refusal self told result }
     {
         if refusal == StoreFault::OutOfMemory {
             return Start::Unchanged(self);
         }
-        match with_line(Lines::new(alloc), Line::Fault { node }) {
-            Ok(lines) => Start::Down(self, lines),
-            Err(_) => Start::Unchanged(self),
-        }
+        Start::Down(self, told)
     }
 
-    /// The server of this number begins again, in a cell of so many clients, at this time in ticks. Its disk isn't set.
+    /// The server of this number begins again, in a cell of so many clients, at this time in ticks. Its disk isn't set. Memory to tell
+    /// that the disk failed is taken before the first device call.
     pub fn start(
         self,
         alloc: Global,
@@ -179,6 +204,9 @@ impl<D: Disk> Resting<D> {
         ensures faults { D.faults self.disk ≤ D.faults (disk_started result) }
     {
         let node = Node::Server(server);
+        let Ok(fault) = fault_alone(alloc, node) else {
+            return Start::Unchanged(self);
+        };
         let Resting { disk, mark } = self;
         match VolStore::attach(alloc, Fuse::new(disk), node, mark) {
             Ok((store, front)) => boot(alloc, store, mark, front, clients, now),
@@ -187,7 +215,7 @@ impl<D: Disk> Resting<D> {
                     disk: fuse.into_inner(),
                     mark,
                 };
-                resting.refused(alloc, node, refusal)
+                resting.refused(refusal, fault)
             }
         }
     }

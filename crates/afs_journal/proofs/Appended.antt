@@ -1,12 +1,14 @@
 -- What a crash leaves between the device calls of an append.
 use Rattle.std.proofs.Common.{◌≡◌, ◌<◌, inl, ℕ, suc, ◌+◌, ◌^◌, List, [], ◌∷◌, ◌++◌, length, Option, Some, sym, ◌∙◌, ap, subst, arith, length-append}
 use Rattle.std.specs.Prelude.{option_map, IfSome}
-use Rattle.afs_disk.specs.Disk.{overwritten, Torn, ComesBy, LeavesJust, Passes, LeavesOnly}
+use Rattle.afs_disk.specs.Disk.{overwritten, written_by, Torn, ComesBy, LeavesJust, Passes, LeavesOnly}
+use Rattle.afs_journal.specs.Left.{records_left}
 use Rattle.afs_journal.specs.Records.{place_of, blocks, journal_bytes, whole_records, IsBeforeOrAfter}
-use Rattle.afs_journal.proofs.Crash.{torn_behind, torn_gate, written_behind, written_gate, whole_opened, staged}
+use Rattle.afs_journal.proofs.Crash.{torn_behind, torn_gate, picked_gate, written_behind, written_gate, whole_opened, staged}
 use Rattle.afs_journal.proofs.Records.{fit-push}
 use Rattle.afs_journal.proofs.Moments.{begins, goes_on}
 use Rattle.afs_journal.specs.Log.{IsSettled, Spells, IsJournal}
+use Rattle.afs_journal.proofs.Broken.{some_same}
 
 module _ {D : Type 0} (seen : D → Option (List ℕ)) (may_leave : D → List ℕ → Type 0) (moment : D → ℕ) (left_since : D → ℕ → List ℕ → Type 0) (just_now : (d : D) (c : List ℕ) → left_since d (moment d) c → may_leave d c)
     (count gate : ℕ) (body bytes place : List ℕ) (spells : Spells count body place) (d0 : D) (told : seen d0 ≡ Some bytes) (settled : IsSettled count gate (may_leave d0) bytes) where
@@ -36,11 +38,15 @@ module _ {D : Type 0} (seen : D → Option (List ℕ)) (may_leave : D → List �
   at_start = begins moment left_since d0 P (λ c left. inl (ap whole_records (settled.durable c (just_now d0 c left))))
 
   module _ (d1 : D) (time1 : Passes (moment d0) (moment d1) (left_since d0) (left_since d1) (may_leave d1)) (crash1 : ComesBy (Torn (gate + 1) (length place)) (may_leave d0) (may_leave d1)) where
+    -- until the gate is touched a crash leaves the records from before
+    pub still_shut : (c : List ℕ) → may_leave d1 c → whole_records c ≡ whole_records bytes
+    still_shut c left =
+        let from = crash1 c left in
+        torn_behind (whole_records bytes) gate size settled.fit (length place) c (subst (λ (f : List ℕ). Torn (gate + 1) (length place) f c) (as_before from.0 from.1) from.2)
+
     behind : (c : List ℕ) → may_leave d1 c → P c
     unfolding P
-    behind c left =
-        let from = crash1 c left in
-        inl (torn_behind (whole_records bytes) gate size settled.fit (length place) c (subst (λ (f : List ℕ). Torn (gate + 1) (length place) f c) (as_before from.0 from.1) from.2))
+    behind c left = inl (still_shut c left)
 
     pub written : LeavesOnly moment left_since d0 d1 (IsBeforeOrAfter (whole_records bytes) body)
     unfolding P
@@ -64,6 +70,14 @@ module _ {D : Type 0} (seen : D → Option (List ℕ)) (may_leave : D → List �
 
         durable_is : LeavesJust stages (may_leave d2)
         durable_is = subst (λ (o : Option (List ℕ)). IfSome o (λ b. LeavesJust b (may_leave d2))) staged_is durable
+
+        -- then the pick tells
+        pub picked : (left_by : D → ℕ → Option (List ℕ)) → ((pick : ℕ) → left_by d2 pick ≡ seen d2) → ((pick : ℕ) → left_by d3 pick ≡ option_map (written_by pick gate (1 ∷ [])) (left_by d2 pick))
+            → (pick : ℕ) (c : List ℕ) → left_by d3 pick ≡ Some c → whole_records c ≡ records_left 4 pick (whole_records bytes) body
+        unfolding stages
+        picked left_by synced_by written_so pick c left =
+            let is : left_by d3 pick ≡ Some (written_by pick gate (1 ∷ []) stages) = written_so pick ∙ ap (option_map (written_by pick gate (1 ∷ []))) (synced_by pick ∙ kept ∙ staged_is) in
+            ap whole_records (some_same c (written_by pick gate (1 ∷ []) stages) (sym left ∙ is)) ∙ picked_gate (whole_records bytes) gate size settled.fit body spells.small counted pick
 
         either : (c : List ℕ) → may_leave d3 c → P c
         unfolding P stages

@@ -2,13 +2,23 @@
 use Rattle.std.proofs.Common.{◌≡◌, ◌<◌, ◌≤◌, inl, inr, ℕ, suc, ◌+◌, ◌*◌, ◌-◌, ◌^◌, List, [], ◌∷◌, ◌++◌, length, get_or, take, drop, None, refl, sym, ◌∙◌, ap, subst, arith, append_assoc, length-append, take-append-drop, length-drop}
 use Rattle.std.proofs.lemmas.List.{append-nil, take_at, drop_at, take_all, drop_all, drop_more, take_more, take-take, length-take, length-take-le, drop-drop, drop-take}
 use Rattle.std.proofs.lemmas.Bool.{cases_eq}
-use Rattle.afs_disk.specs.Disk.{overwritten, Torn, CutShort}
+use Rattle.std.specs.Prelude.{zero, ◌≢◌, ◌==◌, Bool, false, nat_eq, replicate, if◌then◌else◌}
+use Rattle.std.proofs.lemmas.Bool.{ne_eqb}
+use Rattle.afs_disk.specs.Disk.{overwritten, struck, written_by, Torn, CutShort}
+use Rattle.afs_journal.specs.Left.{records_left}
 use Rattle.afs_journal.specs.Records.{place_of, blocks, journal_bytes, record_at, whole_records, IsBeforeOrAfter, Fit, EndsAt}
 use Rattle.afs_journal.proofs.Records.{blocks-push, fit-push, length-blocks, length-place_of, closed, short, none_in_front, stands_for, stands_for_nothing}
 
 -- bytes that begin with these and go on with what is behind
 split_at : (n : ℕ) (c front : List ℕ) → take n c ≡ front → c ≡ front ++ drop n c
 split_at n c front is = sym (take-append-drop n c) ∙ ap (λ (l : List ℕ). l ++ drop n c) is
+
+-- a crash with another pick than these fills what was written
+filled : (pick at : ℕ) (bytes left : List ℕ) → nat_eq pick 0 ≡ false → nat_eq pick 1 ≡ false → nat_eq pick 2 ≡ false → written_by pick at bytes left ≡ overwritten at (replicate (length bytes) 255) left
+filled pick at bytes left none first second =
+    ap (λ (t : Bool). if t then left else overwritten at (struck pick bytes) left) none
+    ∙ (ap (λ (t : Bool). overwritten at (if t then bytes else (if pick == 2 then replicate (length bytes) 0 else replicate (length bytes) 255)) left) first
+    ∙ ap (λ (t : Bool). overwritten at (if t then replicate (length bytes) 0 else replicate (length bytes) 255) left) second)
 
 module _ (bodies : List (List ℕ)) (gate : ℕ) (size : length (blocks 1 bodies) ≡ gate) (fit : Fit 1 bodies) where
   pub length-journal : length (journal_bytes bodies) ≡ gate + 1
@@ -109,11 +119,28 @@ module _ (bodies : List (List ℕ)) (gate : ℕ) (size : length (blocks 1 bodies
           | inr shut ↦ inl (ap whole_records whole ∙ stands_for bodies (gate_byte ∷ (place ++ 0 ∷ [])) fit (omega arith) (closed (suc (length bodies)) (gate_byte ∷ (place ++ 0 ∷ [])) shut))
         ]
 
+    -- the gate with another byte
+    written_byte : (gate_byte : ℕ) → overwritten gate (gate_byte ∷ []) staged ≡ blocks 1 bodies ++ gate_byte ∷ (place ++ 0 ∷ [])
+    written_byte gate_byte =
+        ap (λ (l : List ℕ). l ++ gate_byte ∷ drop (gate + 1) staged) (take_at (blocks 1 bodies) (0 ∷ (place ++ 0 ∷ [])) gate size)
+        ∙ ap (λ (l : List ℕ). blocks 1 bodies ++ gate_byte ∷ l) after_gate
+
     pub written_gate : overwritten gate (1 ∷ []) staged ≡ journal_bytes (bodies ++ body ∷ [])
-    written_gate =
-        ap (λ (l : List ℕ). l ++ 1 ∷ drop (gate + 1) staged) (take_at (blocks 1 bodies) (0 ∷ (place ++ 0 ∷ [])) gate size)
-        ∙ ap (λ (l : List ℕ). blocks 1 bodies ++ 1 ∷ l) after_gate
-        ∙ opened
+    written_gate = written_byte 1 ∙ opened
+
+    written_shut : (gate_byte : ℕ) → gate_byte ≢ 1 → whole_records (overwritten gate (gate_byte ∷ []) staged) ≡ bodies
+    written_shut gate_byte shut = ap whole_records (written_byte gate_byte) ∙ stands_for bodies (gate_byte ∷ (place ++ 0 ∷ [])) fit (omega arith) (closed (suc (length bodies)) (gate_byte ∷ (place ++ 0 ∷ [])) shut)
+
+    -- what each pick makes of the opened gate
+    pub picked_gate : (pick : ℕ) → whole_records (written_by pick gate (1 ∷ []) staged) ≡ records_left 4 pick bodies body
+    picked_gate zero = behind_closed (place ++ 0 ∷ [])
+    picked_gate (suc zero) = ap whole_records written_gate ∙ whole_opened
+    picked_gate (suc (suc zero)) = written_shut 0 (λ same. absurd cc)
+    picked_gate (suc (suc (suc more))) =
+        let pick : ℕ = suc (suc (suc more)) in
+        let first = ne_eqb pick 1 (λ same. omega (arith, same)) in
+        ap whole_records (filled pick gate (1 ∷ []) staged (ne_eqb pick 0 (λ same. omega (arith, same))) first (ne_eqb pick 2 (λ same. omega (arith, same))))
+        ∙ (written_shut 255 (λ same. absurd cc) ∙ sym (ap (λ (t : Bool). if t then bodies ++ body ∷ [] else bodies) first))
 
 -- a new journal's gate may be torn too
 pub torn_new : (c : List ℕ) → Torn 0 1 [] c → whole_records c ≡ []

@@ -1,4 +1,5 @@
 mod Appended
+pub mod Broken
 mod Crash
 mod Mended
 pub mod Moments

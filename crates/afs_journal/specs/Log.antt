@@ -52,20 +52,22 @@ pub record IsJournal (bodies : List (List ℕ)) (seen : Option (List ℕ)) (may_
   pub fit : Fit 1 bodies
   pub durable : LeavesJust (journal_bytes bodies) may_leave
 
--- A refusal but for Full and Closed, after device calls up to this number, and where it comes from.
+-- A refusal but for Full and Closed, after device calls up to this number, and where it comes from: a disk that failed, or
+-- memory that ran out, and then no count of faults rose.
 abbrev pub IsCaused : Setting → ℕ → ℕ → ℕ → ℕ → ℕ → JournalFault → Type 0
 IsCaused setting last before now own_before own_now Failed = Rose before now × (Trips setting last ⊎ Rose own_before own_now)
-IsCaused setting last before now own_before own_now OutOfMemory = Unit {0}
+IsCaused setting last before now own_before own_now OutOfMemory = (now ≡ before) × (own_now ≡ own_before)
 IsCaused setting last before now own_before own_now (Full length capacity) = ⊥
 IsCaused setting last before now own_before own_now Closed = ⊥
 
 -- A run of device calls, the first behind this number and the last of that one: no count of faults falls, each refusal has
--- its cause, and without one none of the calls was set to trip.
+-- its cause, and without one none of the calls was set to trip and no count of faults rose.
 pub record Served {T : Type 0} (setting : Setting) (first last before now own_before own_now : ℕ) (result : Result T JournalFault) : Type 0 where
   pub never_falls : before ≤ now
   pub own_never_falls : own_before ≤ own_now
   pub caused : IfErr result (IsCaused setting last before now own_before own_now)
   pub passed : OnOk result (PassesAll setting first last)
+  pub quiet : OnOk result ((now ≡ before) × (own_now ≡ own_before))
 
 -- the bytes stand for records that a crash might have left
 abbrev pub StandsAsBefore : (List ℕ → Type 0) → List ℕ → Type 0
@@ -118,9 +120,11 @@ pub record Taken {D : Type 0} (faults own_faults calls : D → ℕ) (setting : D
   pub few : calls new ≤ calls old + 6
   pub same_setting : setting new ≡ setting old
 
--- an append's device calls, from this number on up to that one: a failure has its cause, and at Ok none was set to trip
+-- an append's device calls, from this number on up to that one: a failure has its cause, and at Ok none was set to trip and no
+-- count of faults rose
 pub record Appended (setting : Setting) (first last before now own_before own_now : ℕ) (result : Result ℕ JournalFault) : Type 0 where
   pub never_falls : before ≤ now
   pub own_never_falls : own_before ≤ own_now
   pub failed : IsErrOf result Failed → Rose before now × (Trips setting last ⊎ Rose own_before own_now)
   pub passed : OnOk result (PassesAll setting first last)
+  pub quiet : OnOk result ((now ≡ before) × (own_now ≡ own_before))

@@ -1,5 +1,6 @@
 ghost use Rattle.std.specs.Prelude.{◌≡◌, ◌≤◌, ◌<◌, ◌+◌, ◌++◌, ◌∷◌, [], ◌↔◌, ◌*◌, ◌^◌, List, ℕ, Some, true, false, length, MatchResult, IfOk, IfErr, OnOk, IsOk, IsErrOf, IsTrue, IsSome};
 ghost use Rattle.afs_disk.specs.Disk.{LeavesOnly, PassesAll};
+ghost use Rattle.afs_journal.specs.Left.{LeavesByPick, ReachesCall};
 ghost use Rattle.afs_journal.specs.Records.{whole_records, IsBeforeOrAfter};
 ghost use Rattle.afs_journal.specs.Log.{AlwaysStandsFor, Appended, HasRoom, IsCaused, IsJournal, KeepsRoom, LeavesUnchanged, Rests, SameCounts, Served, StandsAsBefore, Taken, Unchanged};
 
@@ -55,6 +56,7 @@ fn take_up<D: Disk>(alloc: Global, disk: &mut D) -> Result<(Records, u64), Journ
     ensures done { OnOk result ((bytes : List ℕ) → D.seen disk.old ≡ Some bytes → IsJournal (whole_records bytes) (D.seen disk.new) (D.may_leave disk.new)) }
     ensures any_moment { (bytes : List ℕ) → D.seen disk.old ≡ Some bytes → LeavesOnly D.moment D.left_since disk.old disk.new (StandsAsBefore (D.may_leave disk.old)) }
     ensures begins { D.calls disk.old + 2 ≤ D.calls disk.new → (bytes : List ℕ) → D.seen disk.old ≡ Some bytes → AlwaysStandsFor (whole_records bytes) (D.may_leave disk.new) }
+    ensures reads { (bytes now : List ℕ) → D.seen disk.old ≡ Some bytes → D.seen disk.new ≡ Some now → whole_records now ≡ whole_records bytes }
     ensures rests { OnOk result ((bytes : List ℕ) → D.seen disk.old ≡ Some bytes → Rests bytes → D.calls disk.new ≡ D.calls disk.old + 2) }
     ensures calls { (D.calls disk.old ≤ D.calls disk.new) × (D.calls disk.new ≤ D.calls disk.old + 6) }
     ensures setting { D.setting disk.new ≡ D.setting disk.old }
@@ -87,10 +89,14 @@ impl<D: Disk> Journal<D> {
             (λ j. LeavesOnly D.moment D.left_since disk j.disk (StandsAsBefore (D.may_leave disk)))
             (λ e. LeavesOnly D.moment D.left_since disk e.1 (StandsAsBefore (D.may_leave disk))) }
         ensures ok { IfOk result (λ j. Taken D.faults D.own_faults D.calls D.setting disk j.disk × PassesAll (D.setting disk) (D.calls disk) (D.calls j.disk)) }
+        ensures quiet { IfOk result (λ j. (D.faults j.disk ≡ D.faults disk) × (D.own_faults j.disk ≡ D.own_faults disk)) }
         ensures err { IfErr result (λ e. Taken D.faults D.own_faults D.calls D.setting disk e.1 × IsCaused (D.setting disk) (D.calls e.1) (D.faults disk) (D.faults e.1) (D.own_faults disk) (D.own_faults e.1) e.0) }
 
         // It begins with a sync: once it made another call, every crash leaves the records that a read gave.
         ensures begins { IfErr result (λ e. D.calls disk + 2 ≤ D.calls e.1 → (bytes : List ℕ) → D.seen disk ≡ Some bytes → AlwaysStandsFor (whole_records bytes) (D.may_leave e.1)) }
+
+        // What a read gives then stands for the records from before.
+        ensures reads { IfErr result (λ e. (bytes now : List ℕ) → D.seen disk ≡ Some bytes → D.seen e.1 ≡ Some now → whole_records now ≡ whole_records bytes) }
 
         // A journal at rest is synced and read, and nothing more.
         ensures rests { IfOk result (λ j. (bytes : List ℕ) → D.seen disk ≡ Some bytes → Rests bytes → D.calls j.disk ≡ D.calls disk + 2) }
@@ -189,6 +195,11 @@ impl<D: Disk> Journal<D> {
         // A crash at any moment leaves the records from before the call, with the new one or without.
         ensures any_moment { self.old.closed ≡ false → (bytes : List ℕ) → D.seen self.old.disk ≡ Some bytes
             → LeavesOnly D.moment D.left_since self.old.disk self.new.disk (IsBeforeOrAfter (whole_records bytes) rec.now) }
+
+        // Where the disk was set to stop or to fail at one of the calls, that one tells what a crash with each pick leaves.
+        ensures reached { IsErrOf result JournalFault.Failed → ReachesCall (D.setting self.old.disk) (D.calls self.old.disk) (D.calls self.new.disk) }
+        ensures left { IsErrOf result JournalFault.Failed → (bytes : List ℕ) → D.seen self.old.disk ≡ Some bytes
+            → LeavesByPick D.left_by D.calls D.setting (whole_records bytes) rec.now self.old.disk self.new.disk }
 
         ensures unchanged { LeavesUnchanged result (Unchanged D.seen D.left_by D.size D.may_leave D.moment D.left_since self.old self.new) }
         ensures keeps { LeavesUnchanged result (KeepsRoom D.limit D.space self.old self.new) }

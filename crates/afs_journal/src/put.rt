@@ -2,6 +2,7 @@
 ghost use Rattle.std.specs.Prelude.{◌≡◌, ◌≤◌, ◌<◌, ◌+◌, ◌^◌, List, ℕ, [], ◌∷◌, ◌++◌, length, Some, IsSome, OnOk, ◌↔◌};
 ghost use Rattle.afs_disk.specs.Disk.{Ran, Holds, LeavesOnly};
 ghost use Rattle.afs_journal.specs.Records.{whole_records, IsBeforeOrAfter};
+ghost use Rattle.afs_journal.specs.Left.{LeavesByPick, ReachesCall};
 ghost use Rattle.afs_journal.specs.Log.{IsJournal, IsSettled, Spells};
 
 use afs_disk::Disk;
@@ -28,6 +29,11 @@ pub(crate) fn put<D: Disk>(disk: &mut D, gate: u64, place: &[u8]) -> Result<(), 
     // A crash at any moment leaves the records from before, with the new one or without.
     ensures any_moment { (count : ℕ) (body bytes : List ℕ) → Spells count body place.now → D.seen disk.old ≡ Some bytes → IsSettled count gate (D.may_leave disk.old) bytes
         → LeavesOnly D.moment D.left_since disk.old disk.new (IsBeforeOrAfter (whole_records bytes) body) }
+
+    // Where the disk was set to stop or to fail at one of the calls, that one tells what a crash with each pick leaves.
+    ensures reached { ReachesCall (D.setting disk.old) (D.calls disk.old) (D.calls disk.new) }
+    ensures left { (count : ℕ) (body bytes : List ℕ) → Spells count body place.now → D.seen disk.old ≡ Some bytes → IsSettled count gate (D.may_leave disk.old) bytes
+        → LeavesByPick D.left_by D.calls D.setting (whole_records bytes) body disk.old disk.new }
 
     ensures made { OnOk result (D.calls disk.new ≡ D.calls disk.old + 4) }
     ensures calls { (D.calls disk.old ≤ D.calls disk.new) × (D.calls disk.new ≤ D.calls disk.old + 4) }

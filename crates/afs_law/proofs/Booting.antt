@@ -328,8 +328,8 @@ after_front me x clock d = record { before = λ ls. refl; standing = refl }
 
 pub disk_front : (me : Node) (x : ServerState) (after : Bool) (fall : Fall) → HasFront (begun_by_disk me x after fall)
 disk_front me x after at_rest = record { before = λ ls. refl; standing = refl }
-disk_front me x false (in_step m clock) = record { before = λ ls. refl; standing = refl }
-disk_front me x true (in_step m clock) = after_front me x clock (decides me x clock (Whole m))
+disk_front me x false (in_step m clock hit) = record { before = λ ls. refl; standing = refl }
+disk_front me x true (in_step m clock hit) = after_front me x clock (decides me x clock (Whole m))
 disk_front me x false in_boot = record { before = λ ls. refl; standing = refl }
 disk_front me x true in_boot = record { before = λ ls. refl; standing = refl }
 

@@ -236,7 +236,7 @@ acts_ideal s c past n who ls h = all_blank s who past [] ls (blank_by (is_of n) 
 
 -- the message of an interrupted step, where its change comes first
 pub cut_placed : (s : Script) (c : Cell) (past : List Entry) (i : ℕ) (rest : List Line) → HeldCuts s c past → EndsBoot (Server i) rest → CutIs (λ m. IsPlaced c past i m [] rest) (c.hosts i).down
-cut_placed s c past i rest h ends m clock e = (h.0.1.cut i m clock e, inr (record { front' = refl; boots = ends; cut = h.1 i m clock e }))
+cut_placed s c past i rest h ends m clock hit e = (h.0.1.cut i m clock hit e, inr (record { front' = refl; boots = ends; cut = h.1 i m clock hit e }))
 
 stays_ideal : (s : Script) (c : Cell) (past : List Entry) (i : ℕ) (after : Bool) (fall : Fall) (l : Line) → HeldCuts s c past → (c.hosts i).down ≡ Some fall → is_from (Server i) l ≡ true → EndsBoot (Server i) (l ∷ []) → EachLine (IsIdeal s) (actors.Node (Server i)) past [] ((begun_by_disk (Server i) (c.hosts i).state after fall).before (l ∷ []))
 stays_ideal s c past i after fall l h down from ends =
@@ -252,7 +252,7 @@ ideal_moves s = record {
   fallen = λ c past n h. (tt, tt);
   risen = λ c past n h. (tt, tt);
   served = λ c past i place m armed h up at to. works_ideal s c past i _ _ h.0 (serves_works (IsPlaced c past i) (Server i) (c.hosts i).state c.clock place m (λ rest. ((place, at), inl (record { place = place; front' = refl; at = at; up = up }))));
-  cut = λ c past i place m t h up at to. all_blank s (actors.Node (Server i)) past [] (lines.Given place ∷ blow_line i t ∷ []) (blow_blank i place t);
+  cut = λ c past i place m t h up at to. all_blank s (actors.Node (Server i)) past [] (lines.Given place ∷ blow_line i t.stops ∷ []) (blow_blank i place t.stops);
   stopped = λ c past i h up. (tt, tt);
   stop_set = λ c past i calls pick armed h up. (tt, tt);
   fail_set = λ c past i call armed h up. (tt, tt);
@@ -272,7 +272,7 @@ pub cuts_kept : (s : Script) → IsKept (HeldCuts s)
 cuts_kept s c past x h = (held_kept s c past x h.0, each_moved KnownCuts (Behind CutsIn) cuts_moves c past x (h.0.0.0, h.1))
 
 pub cuts_first : (s : Script) → HeldCuts s (start s) (set_up s ∷ [])
-cuts_first s = ((asked_first s, volumes_first s), λ i m clock e. absurd cc)
+cuts_first s = ((asked_first s, volumes_first s), λ i m clock hit e. absurd cc)
 
 -- each entry of a run is what each step gives
 pub run_each : (P : Cell → List Entry → Type 0) (G : List Entry → Entry → Type 0) → IsKept P → ((c : Cell) (past : List Entry) (x : Input) → P c past → G past (moved c x).entry) → (xs : List Input) (c : Cell) (past es : List Entry) (end : Cell) → P c past → Leads c xs es end → EachEntry G past es

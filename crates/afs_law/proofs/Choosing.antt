@@ -288,13 +288,13 @@ after_works P me x clock m d ls p c h = inl (record { left = same_left _; lines 
 
 -- of an interrupted step's message
 abbrev pub IfCut : (Message → Type 0) → Fall → Type 0
-IfCut P (in_step m clock) = P m
+IfCut P (in_step m clock hit) = P m
 IfCut P fall = ⊤
 
 pub disk_works : (P : Message → List Line → List Line → Type 0) (me : Node) (x : ServerState) (after : Bool) (fall : Fall) (ls : List Line) → IfCut (λ m. P m [] ls) fall → AreFrom me ls → Works P me x (begun_by_disk me x after fall).state.lasting.volumes ((begun_by_disk me x after fall).before ls)
 disk_works P me x after at_rest ls p h = inl (record { left = same_left _; lines = h })
-disk_works P me x false (in_step m clock) ls p h = inl (record { left = same_left _; lines = h })
-disk_works P me x true (in_step m clock) ls p h = after_works P me x clock m (decides me x clock (Whole m)) ls p (chosen me x clock m) h
+disk_works P me x false (in_step m clock hit) ls p h = inl (record { left = same_left _; lines = h })
+disk_works P me x true (in_step m clock hit) ls p h = after_works P me x clock m (decides me x clock (Whole m)) ls p (chosen me x clock m) h
 disk_works P me x false in_boot ls p h = inl (record { left = same_left _; lines = h })
 disk_works P me x true in_boot ls p h = inl (record { left = then_left x.lasting.volumes x.lasting.volumes (same_left x.lasting.volumes); lines = h })
 

@@ -154,6 +154,7 @@ caused_by s c past own j act code h q =
       own_user = ap (λ (p : List ℕ × FsCall). p.0) same;
       before = q.before;
       called = subst (λ (p : List ℕ × FsCall). CalledSince k p.0 p.1 past) (sym same) q.called;
+      last = q.last;
       ends = q.ends (subst (λ (f : FsCall). IsKind f m.carried) call t.kind);
     }
 

@@ -19,7 +19,7 @@ use Rattle.afs_num.specs.declared.messages.Message.{Message}
 use Rattle.afs_num.specs.declared.types.Node.{Node}
 use Rattle.afs_num.specs.declared.types.Node.TheVariants.{Client, Server}
 use Rattle.afs_rows.specs.Callbacks.{put}
-use Rattle.afs_rows.specs.Runs.{Cell, Entry, Fall, Host, blow_line, in_step, message_at, server_falls}
+use Rattle.afs_rows.specs.Runs.{Blow, Cell, Entry, Fall, Host, blow_line, in_step, message_at, server_falls}
 use Rattle.afs_rows.specs.States.{ServerState}
 use Rattle.std.proofs.Common.{◌≡◌, ℕ, inl, inr, Bool, true, false, List, [], ◌∷◌, ◌++◌, Option, Some, None, refl, sym, ap, subst, ◌∙◌}
 
@@ -37,7 +37,7 @@ pub record CutOf (i : ℕ) (x : ServerState) (m : Message) (past : List Entry) :
   pub latest : admitted x.lasting.boot x.seats m.head ≡ pairs.runs → IsLatest (Server i) (called_key m.head) (lines_of older)
 
 abbrev pub CutsAt : (ℕ → Host) → List Entry → Type 0
-CutsAt hosts past = (i : ℕ) (m : Message) (clock : ℕ) → (hosts i).down ≡ Some (in_step m clock) → CutOf i (hosts i).state m past
+CutsAt hosts past = (i : ℕ) (m : Message) (clock : ℕ) (hit : Blow) → (hosts i).down ≡ Some (in_step m clock hit) → CutOf i (hosts i).state m past
 
 abbrev pub CutsIn : Cell → List Entry → Type 0
 CutsIn c past = CutsAt c.hosts past
@@ -60,17 +60,17 @@ cut_later i x m e past w h = record { newer = e ∷ h.newer; at = h.at; older = 
 
 -- of no server
 other_cuts : (hosts : ℕ → Host) (past : List Entry) (e : Entry) → ((i : ℕ) → e.actor ≡ actors.Node (Server i) → ⊥) → CutsAt hosts past → CutsAt hosts (e ∷ past)
-other_cuts hosts past e away C i m clock d = cut_later i (hosts i).state m e past (λ a. absurd (away i a)) (C i m clock d)
+other_cuts hosts past e away C i m clock hit d = cut_later i (hosts i).state m e past (λ a. absurd (away i a)) (C i m clock hit d)
 
 server_same : (i j : ℕ) → actors.Node (Server i) ≡ actors.Node (Server j) → i ≡ j
 server_same i j e = cc
 
 -- of one server
-host_cuts : (hosts : ℕ → Host) (i : ℕ) (h : Host) (past : List Entry) (e : Entry) → e.actor ≡ actors.Node (Server i) → CutsAt hosts past → ((m : Message) (clock : ℕ) → h.down ≡ Some (in_step m clock) → CutOf i h.state m (e ∷ past)) → CutsAt (put i h hosts) (e ∷ past)
-host_cuts hosts i h past e actor C own j m clock =
-    at_put i j (λ (x : Host). x.down ≡ Some (in_step m clock) → CutOf j x.state m (e ∷ past)) h hosts
-    (λ same d. subst (λ (k : ℕ). CutOf k h.state m (e ∷ past)) same (own m clock d))
-    (λ other d. cut_later j (hosts j).state m e past (λ a. absurd (other (server_same i j (sym actor ∙ a)))) (C j m clock d))
+host_cuts : (hosts : ℕ → Host) (i : ℕ) (h : Host) (past : List Entry) (e : Entry) → e.actor ≡ actors.Node (Server i) → CutsAt hosts past → ((m : Message) (clock : ℕ) (hit : Blow) → h.down ≡ Some (in_step m clock hit) → CutOf i h.state m (e ∷ past)) → CutsAt (put i h hosts) (e ∷ past)
+host_cuts hosts i h past e actor C own j m clock hit =
+    at_put i j (λ (x : Host). x.down ≡ Some (in_step m clock hit) → CutOf j x.state m (e ∷ past)) h hosts
+    (λ same d. subst (λ (k : ℕ). CutOf k h.state m (e ∷ past)) same (own m clock hit d))
+    (λ other d. cut_later j (hosts j).state m e past (λ a. absurd (other (server_same i j (sym actor ∙ a)))) (C j m clock hit d))
 
 no_client : (n i : ℕ) → actors.Node (Client n) ≡ actors.Node (Server i) → ⊥
 no_client n i e = absurd cc
@@ -88,8 +88,8 @@ pub blow_stopped : (i place : ℕ) (t : Bool) → HasStopped (Server i) (lines.G
 blow_stopped i place true = inl refl
 blow_stopped i place false = inl refl
 
-pub same_cut : (m k : Message) (a b : ℕ) → Some (in_step m a) ≡ Some (in_step k b) → m ≡ k
-same_cut m k a b e = cc
+pub same_cut : (m k : Message) (a b : ℕ) (x y : Blow) → Some (in_step m a x) ≡ Some (in_step k b y) → m ≡ k
+same_cut m k a b x y e = cc
 
 -- where it is cut short
 cut_here : (c : Cell) (past : List Entry) (i place : ℕ) (m : Message) (t : Bool) (e : Entry) → Known c past → (c.hosts i).down ≡ None → message_at c.sent place ≡ Some m → e.actor ≡ actors.Node (Server i) → e.lines ≡ lines.Given place ∷ blow_line i t ∷ [] → CutOf i (c.hosts i).state m (e ∷ past)
@@ -121,15 +121,15 @@ cuts_moves = record {
   waited = λ c past n act h r. other_cuts c.hosts past _ (no_client n) h.1;
   fallen = λ c past n h. other_cuts c.hosts past _ (no_client n) h.1;
   risen = λ c past n h. other_cuts c.hosts past _ (no_client n) h.1;
-  served = λ c past i place m armed h up at to. host_cuts c.hosts i _ past _ refl h.1 (λ k clock e. absurd cc);
-  cut = λ c past i place m t h up at to. host_cuts c.hosts i _ past _ refl h.1 (λ k clock e. subst (λ (y : Message). CutOf i (c.hosts i).state y ((server_falls c i (lines.Given place ∷ blow_line i t ∷ []) (in_step m c.clock)).entry ∷ past)) (same_cut m k c.clock clock e) (cut_here c past i place m t (server_falls c i (lines.Given place ∷ blow_line i t ∷ []) (in_step m c.clock)).entry h.0 up at refl refl));
-  stopped = λ c past i h up. host_cuts c.hosts i _ past _ refl h.1 (λ k clock e. absurd cc);
-  stop_set = λ c past i calls pick armed h up. host_cuts c.hosts i _ past _ refl h.1 (λ k clock e. absurd (none_some (c.hosts i).down (in_step k clock) up e));
-  fail_set = λ c past i call armed h up. host_cuts c.hosts i _ past _ refl h.1 (λ k clock e. absurd (none_some (c.hosts i).down (in_step k clock) up e));
-  timed = λ c past i n b armed h up at. host_cuts c.hosts i _ past _ refl h.1 (λ k clock e. absurd cc);
-  woken = λ c past i armed h up. host_cuts c.hosts i _ past _ refl h.1 (λ k clock e. absurd cc);
-  started = λ c past i after fall h down. host_cuts c.hosts i _ past _ refl h.1 (λ k clock e. absurd cc);
-  early = λ c past i fall h down. host_cuts c.hosts i _ past _ refl h.1 (λ k clock e. cut_later i (c.hosts i).state k _ past (λ a. refl) (h.1 i k clock (down ∙ e)));
-  midway = λ c past i after fall h down. host_cuts c.hosts i _ past _ refl h.1 (λ k clock e. absurd cc);
-  full = λ c past i after fall h down. host_cuts c.hosts i _ past _ refl h.1 (λ k clock e. absurd cc);
+  served = λ c past i place m armed h up at to. host_cuts c.hosts i _ past _ refl h.1 (λ k clock hit e. absurd cc);
+  cut = λ c past i place m t h up at to. host_cuts c.hosts i _ past _ refl h.1 (λ k clock hit e. subst (λ (y : Message). CutOf i (c.hosts i).state y ((server_falls c i (lines.Given place ∷ blow_line i t.stops ∷ []) (in_step m c.clock t)).entry ∷ past)) (same_cut m k c.clock clock t hit e) (cut_here c past i place m t.stops (server_falls c i (lines.Given place ∷ blow_line i t.stops ∷ []) (in_step m c.clock t)).entry h.0 up at refl refl));
+  stopped = λ c past i h up. host_cuts c.hosts i _ past _ refl h.1 (λ k clock hit e. absurd cc);
+  stop_set = λ c past i calls pick armed h up. host_cuts c.hosts i _ past _ refl h.1 (λ k clock hit e. absurd (none_some (c.hosts i).down (in_step k clock hit) up e));
+  fail_set = λ c past i call armed h up. host_cuts c.hosts i _ past _ refl h.1 (λ k clock hit e. absurd (none_some (c.hosts i).down (in_step k clock hit) up e));
+  timed = λ c past i n b armed h up at. host_cuts c.hosts i _ past _ refl h.1 (λ k clock hit e. absurd cc);
+  woken = λ c past i armed h up. host_cuts c.hosts i _ past _ refl h.1 (λ k clock hit e. absurd cc);
+  started = λ c past i after fall h down. host_cuts c.hosts i _ past _ refl h.1 (λ k clock hit e. absurd cc);
+  early = λ c past i fall h down. host_cuts c.hosts i _ past _ refl h.1 (λ k clock hit e. cut_later i (c.hosts i).state k _ past (λ a. refl) (h.1 i k clock hit (down ∙ e)));
+  midway = λ c past i after fall h down. host_cuts c.hosts i _ past _ refl h.1 (λ k clock hit e. absurd cc);
+  full = λ c past i after fall h down. host_cuts c.hosts i _ past _ refl h.1 (λ k clock hit e. absurd cc);
 }

@@ -5,6 +5,7 @@ use Rattle.afs_history.specs.declared.lines.Line.TheVariants as lines
 use Rattle.afs_history.specs.declared.scripts.Script.{Script}
 use Rattle.afs_ideal.specs.Operations.{volume_changed}
 use Rattle.afs_law.proofs.Acting.{last_key, read_all, walked_reads}
+use Rattle.afs_law.proofs.Asking.{its_last}
 use Rattle.afs_law.proofs.Sent.{call_is}
 use Rattle.afs_law.proofs.Backing.{all_lines}
 use Rattle.afs_law.proofs.Basics.{Each, IfCall, a_key, at_put, both, each_at, same_node-refl, same_node-true, some_of}
@@ -26,7 +27,7 @@ use Rattle.afs_law.specs.Cells.{IsOfCell}
 use Rattle.afs_law.specs.ClientParts.{AnswersAreDue, IsDue, IsDueCode, IsUsed}
 use Rattle.afs_law.specs.Grants.{is_promised}
 use Rattle.afs_law.specs.Ideal.{call_under, callee_under, set_up, user_of}
-use Rattle.afs_law.specs.Legal.{Brings, EndsAct, HasUsed, IsAtOnce, IsUse, has_read}
+use Rattle.afs_law.specs.Legal.{Brings, EndsAct, GoesOn, HasUsed, IsAtOnce, IsLastCall, IsOnItsWay, IsUse, has_read}
 use Rattle.afs_law.specs.Parts.{EachLine}
 use Rattle.afs_law.specs.Legal.{IsKind}
 use Rattle.afs_model.specs.FsRows.{call_number, reply_number}
@@ -106,15 +107,19 @@ abbrev pub AreCached : List Look → Type 0
 AreCached [] = ⊤
 AreCached (l ∷ looks) = ((l.source ≡ Cached) × (is_promised l.body ≡ true)) × AreCached looks
 
-cached_use : (s : Script) (c : Node) (f : Fid) (source : ReadSource) (body : ReadBody) (past : List Entry) (own : List Line) (t : Bool) → t ≡ true → source ≡ Cached → IsUsed s t c f source body past own
-cached_use s c f source body past own true e is = λ z. let no_ : Cached ≡ Fetched = sym is ∙ z in absurd cc
-cached_use s c f source body past own false e is = absurd cc
+cached_use : (s : Script) (c : Node) (f : Fid) (source : ReadSource) (body : ReadBody) (past : List Entry) (own : List Line) (t : Bool) → t ≡ true → source ≡ Cached → GoesOn s c past own → IsUsed s t c f source body past own
+cached_use s c f source body past own true e is on = ((λ z. let no_ : Cached ≡ Fetched = sym is ∙ z in absurd cc), subst (λ (x : ReadSource). IsOnItsWay s c x past own) (sym is) on)
+cached_use s c f source body past own false e is on = absurd cc
 
-looks_due : (s : Script) (n : ℕ) (past : List Entry) (K : List Line → Type 0) → IsSteady n K → (looks : List Look) → AreCached looks → (own ls : List Line) (g : Going) → K own → Runs s n past own g → Rest s n past K (read_all looks g) ls → Due s n past own (looked (Client n) looks ls)
-looks_due s n past K st [] h own ls g k r w = w own k r
-looks_due s n past K st (l ∷ looks) h own ls g k r w = (
-  cached_use s (Client n) l.fid l.source l.body past own (is_promised l.body) h.0.1 h.0.0,
-  looks_due s n past K st looks h.1 (lines.Read (Client n) l.fid l.index l.source l.body ∷ own) ls (with_read l.fid l.body g) (st.reads' own l.fid l.index l.source l.body k) (read_runs s n (own ++ lines_of past) l.fid l.index l.source l.body g r) w,
+-- where K holds the act is on its way
+abbrev IsEnough : Script → ℕ → List Entry → (List Line → Type 0) → Type 0
+IsEnough s n past K = (o : List Line) → K o → GoesOn s (Client n) past o
+
+looks_due : (s : Script) (n : ℕ) (past : List Entry) (K : List Line → Type 0) → IsSteady n K → IsEnough s n past K → (looks : List Look) → AreCached looks → (own ls : List Line) (g : Going) → K own → Runs s n past own g → Rest s n past K (read_all looks g) ls → Due s n past own (looked (Client n) looks ls)
+looks_due s n past K st enough [] h own ls g k r w = w own k r
+looks_due s n past K st enough (l ∷ looks) h own ls g k r w = (
+  cached_use s (Client n) l.fid l.source l.body past own (is_promised l.body) h.0.1 h.0.0 (enough own k),
+  looks_due s n past K st enough looks h.1 (lines.Read (Client n) l.fid l.index l.source l.body ∷ own) ls (with_read l.fid l.body g) (st.reads' own l.fid l.index l.source l.body k) (read_runs s n (own ++ lines_of past) l.fid l.index l.source l.body g r) w,
 )
 
 abbrev pub Caches : (Going → List CacheEntry → Walked) → Type 0
@@ -156,15 +161,12 @@ walked_cached (suc k) clock act cache = by_cached (walked k clock) clock act cac
 abbrev Fronts : Script → ℕ → List Entry → (List Line → Type 0) → Going → (List Line → List Line) → Type 0
 Fronts s n past K g front = (ls : List Line) → Rest s n past K g ls → Due s n past [] (front ls)
 
-abbrev IsEnough : Script → ℕ → List Entry → (List Line → Type 0) → Type 0
-IsEnough s n past K = (o : List Line) → K o → IsAtOnce (Client n) o ⊎ (HasUsed s (Client n) past o × (has_read (Client n) o ≡ true))
-
 goes_due : (s : Script) (n : ℕ) (past : List Entry) (K : List Line → Type 0) → IsSteady n K → IsEnough s n past K → (y : ClientState) (front : List Line → List Line) (g : Going) (w : Walked) (need : Need) → next w.act ≡ need → Fronts s n past K g front → AreCached w.looks → read_all w.looks g ≡ w.act → Due s n past [] (goes_by (Client n) y front w need).lines
 goes_due s n past K st enough y front g w (answers k) e f c same =
     f (looked (Client n) w.looks (lines.Answer (Client n) (record { 0 = pos k }) ∷ []))
-    (λ o x r. looks_due s n past K st w.looks c o (lines.Answer (Client n) (record { 0 = pos k }) ∷ []) g x r
+    (λ o x r. looks_due s n past K st enough w.looks c o (lines.Answer (Client n) (record { 0 = pos k }) ∷ []) g x r
     (λ p y' q. (record { act = w.act; runs = q ∙ ap (λ (h : Going). Some h) same; cause = inr (inl (record { number = k; is = refl; by = e; last = enough p y' })) }, tt)))
-goes_due s n past K st enough y front g w need e f c same = f (looked (Client n) w.looks []) (λ o x r. looks_due s n past K st w.looks c o [] g x r (λ p y' q. tt))
+goes_due s n past K st enough y front g w need e f c same = f (looked (Client n) w.looks []) (λ o x r. looks_due s n past K st enough w.looks c o [] g x r (λ p y' q. tt))
 
 walks_due : (s : Script) (n : ℕ) (past : List Entry) (K : List Line → Type 0) → IsSteady n K → IsEnough s n past K → (y : ClientState) (clock : ℕ) (front : List Line → List Line) (g : Going) (cache : List CacheEntry) → Fronts s n past K g front → Due s n past [] (walks_on (Client n) y clock front g cache).lines
 walks_due s n past K st enough y clock front g cache f =
@@ -184,6 +186,7 @@ record IsTold (s : Script) (n place : ℕ) (c : ClientState) (act : Going) (m : 
   to : m.head.to ≡ Client n
   called : CalledSince (answered_key m.head) (user_of s (Client n)) (call_of c act) past
   from : callee_under (answered_key m.head) (sent_of past) ≡ Some m.head.from
+  last : IsLastCall (answered_key m.head) (sent_of past)
 
 -- this message was given, and no act begun
 abbrev IsGiven : ℕ → Message → List Entry → List Line → Type 0
@@ -200,10 +203,10 @@ read_steady : (n : ℕ) (m : Message) (past : List Entry) → IsSteady n (IsRead
 read_steady n m past = record { reads' = λ own f index source body k. (k.0, sent_either (same_node (Client n) (Client n)) (has_read (Client n) own) k.1); drops' = λ own f k. k }
 
 now_used : (s : Script) (n place : ℕ) (c : ClientState) (act : Going) (m : Message) (past : List Entry) (own : List Line) → IsTold s n place c act m past → code_told m.carried ≡ Some (pos 0) → IsGiven n m past own → HasUsed s (Client n) past own
-now_used s n place c act m past own q zero_told k = record { reply = m; by = k.0; is_reply = q.reply; told = zero_told; to = q.to; before = k.1; call = call_of c act; called = q.called; from = q.from }
+now_used s n place c act m past own q zero_told k = record { reply = m; by = k.0; is_reply = q.reply; told = zero_told; to = q.to; before = k.1; call = call_of c act; called = q.called; from = q.from; last = q.last }
 
 now_use : (s : Script) (n place : ℕ) (c : ClientState) (act : Going) (m : Message) (past : List Entry) (own : List Line) (f : Fid) (body : ReadBody) → Brings (call_of c act) f body → IsTold s n place c act m past → code_told m.carried ≡ Some (pos 0) → IsGiven n m past own → IsUse s (Client n) f body past own
-now_use s n place c act m past own f body of q zero_told k = record { used = record { reply = m; by = k.0; is_reply = q.reply; told = zero_told; to = q.to; before = k.1; call = call_of c act; called = q.called; from = q.from }; of = of }
+now_use s n place c act m past own f body of q zero_told k = record { used = record { reply = m; by = k.0; is_reply = q.reply; told = zero_told; to = q.to; before = k.1; call = call_of c act; called = q.called; from = q.from; last = q.last }; of = of }
 
 read_enough : (s : Script) (n place : ℕ) (c : ClientState) (act : Going) (m : Message) (past : List Entry) → IsTold s n place c act m past → code_told m.carried ≡ Some (pos 0) → IsEnough s n past (IsRead n m past)
 read_enough s n place c act m past q zero_told o k = inr (now_used s n place c act m past o q zero_told k.0, k.1)
@@ -213,7 +216,7 @@ abbrev IsEnd : ClientState → Going → Carried → Code → Type 0
 IsEnd c act x code = IsKind (call_of c act) x → code.0 ≡ pos 0 → EndsAct (next act)
 
 by_reply : (s : Script) (n place : ℕ) (c : ClientState) (act : Going) (m : Message) (past : List Entry) (code : Code) → IsTold s n place c act m past → code_told m.carried ≡ Some code.0 → IsEnd c act m.carried code → (own : List Line) → IsGiven n m past own → Runs s n past own act → IsDueCode s (Client n) code past own
-by_reply s n place c act m past code q told w own k r = record { act = act; runs = r; cause = inl (record { reply = m; by = k.0; is_reply = q.reply; told = told; to = q.to; before = k.1; call = call_of c act; asks = call_is c act; called = q.called; ends = w }) }
+by_reply s n place c act m past code q told w own k r = record { act = act; runs = r; cause = inl (record { reply = m; by = k.0; is_reply = q.reply; told = told; to = q.to; before = k.1; call = call_of c act; asks = call_is c act; called = q.called; last = q.last; ends = w }) }
 
 -- its act is answered, and what it may have changed dropped
 ends_due : (s : Script) (n place : ℕ) (c : ClientState) (act : Going) (m : Message) (past : List Entry) (es : List CacheEntry) (code : Code) → IsTold s n place c act m past → code_told m.carried ≡ Some code.0 → IsEnd c act m.carried code → Due s n past [] (given place (dropped (Client n) es (lines.Answer (Client n) code ∷ [])))
@@ -221,7 +224,7 @@ ends_due s n place c act m past es code q told w =
     (tt, drops_due s n past (IsGiven n m past) (given_steady n m past) es (lines.Given place ∷ []) (lines.Answer (Client n) code ∷ []) act (q.at, refl) q.runs (λ o k r. (by_reply s n place c act m past code q told w o k r, tt)))
 
 use_by : (s : Script) (c : Node) (f : Fid) (body : ReadBody) (past : List Entry) (own : List Line) (t : Bool) → t ≡ true → IsUse s c f body past own → IsUsed s t c f Fetched body past own
-use_by s c f body past own true e h = λ z. h
+use_by s c f body past own true e h = ((λ z. h), tt)
 use_by s c f body past own false e h = absurd cc
 
 has_now : (n : ℕ) (m : Message) (past : List Entry) (place : ℕ) (f : Fid) (index : ℕ) (source : ReadSource) (body : ReadBody) → message_at (sent_of past) place ≡ Some m → IsRead n m past (lines.Read (Client n) f index source body ∷ lines.Given place ∷ [])
@@ -254,7 +257,7 @@ told_by_bulk server sync all (f ∷ fs) (s ∷ ss) (c ∷ cs) w = (w f (inl refl
 statuses_due : (s : Script) (n place : ℕ) (c : ClientState) (act : Going) (m : Message) (past : List Entry) (es : List CacheEntry) (own ls : List Line) (g : Going) → AreReadBy (call_of c act) es → IsTold s n place c act m past → code_told m.carried ≡ Some (pos 0) → IsRead n m past own → Runs s n past own g → Rest s n past (IsRead n m past) (with_statuses es g) ls → Due s n past own (looked (Client n) (map status_look es) ls)
 statuses_due s n place c act m past [] own ls g of q zero_told k r w = w own k r
 statuses_due s n place c act m past (e ∷ es) own ls g of q zero_told k r w = (
-  (λ z. now_use s n place c act m past own e.fid (seen.Status e.status) of.0 q zero_told k.0),
+  ((λ z. now_use s n place c act m past own e.fid (seen.Status e.status) of.0 q zero_told k.0), tt),
   statuses_due s n place c act m past es (lines.Read (Client n) e.fid e.index Fetched (seen.Status e.status) ∷ own) ls (with_read e.fid (seen.Status e.status) g) of.1 q zero_told ((read_steady n m past).reads' own e.fid e.index Fetched (seen.Status e.status) k) (read_runs s n (own ++ lines_of past) e.fid e.index Fetched (seen.Status e.status) g r) w,
 )
 
@@ -276,7 +279,7 @@ entries_due s n clock place c act m past (e ∷ es) fids need of q zero_told =
     (λ ls w. (
       tt,
       (
-        (λ z. now_use s n place c act m past (lines.Given place ∷ []) e.fid (seen.Status e.status) of.0 q zero_told (q.at, refl)),
+        ((λ z. now_use s n place c act m past (lines.Given place ∷ []) e.fid (seen.Status e.status) of.0 q zero_told (q.at, refl)), tt),
         statuses_due s n place c act m past es (lines.Read (Client n) e.fid e.index Fetched (seen.Status e.status) ∷ lines.Given place ∷ []) ls (with_read e.fid (seen.Status e.status) act) of.1 q zero_told (has_now n m past place e.fid e.index Fetched (seen.Status e.status) q.at) (read_runs s n (lines_of past) e.fid e.index Fetched (seen.Status e.status) act q.runs) w,
       ),
     )))
@@ -353,7 +356,7 @@ list_due s n clock place c act m past text status sync (calls.FetchAcl f) same a
     (λ ls w. (
       tt,
       (
-        record { fetched = refl; act = act; runs = q.runs; needs = need; used = record { reply = m; by = q.at; is_reply = q.reply; told = z; to = q.to; before = refl; call = call_of c act; called = q.called; from = q.from }; asks = same ∙ sym (ap call_for need) },
+        record { fetched = refl; act = act; runs = q.runs; needs = need; used = record { reply = m; by = q.at; is_reply = q.reply; told = z; to = q.to; before = refl; call = call_of c act; called = q.called; from = q.from; last = q.last }; asks = same ∙ sym (ap call_for need) },
         drops_due s n past (IsRead n m past) (read_steady n m past) es (lines.Read (Client n) f status.sync_counter Fetched body ∷ lines.Given place ∷ []) ls (with_read f body act) (has_now n m past place f status.sync_counter Fetched body q.at) (read_runs s n (lines_of past) f status.sync_counter Fetched body act q.runs) w,
       ),
     ))
@@ -400,6 +403,7 @@ takes_due s n clock place c act m past call reply same a q z = plain_due s n pla
 pub record IsWaiting (s : Script) (n place : ℕ) (c : ClientState) (head : Head) (x : Carried) (past : List Entry) : Type 0 where
   pub asked' : (act : Going) → c.running ≡ Some act → CalledSince (last_key n c) (user_at s n) (call_of c act) past
   pub callee : (act : Going) → c.running ≡ Some act → callee_under (last_key n c) (sent_of past) ≡ Some c.callee
+  pub last : IsLastCall (last_key n c) (sent_of past)
   pub acts : running s (Client n) (lines_of past) ≡ c.running
   pub at : message_at (sent_of past) place ≡ Some (record { head = head; carried = x })
   pub to : head.to ≡ Client n
@@ -407,7 +411,7 @@ pub record IsWaiting (s : Script) (n place : ℕ) (c : ClientState) (head : Head
   pub open' : AreOpen c
 
 is_told : (s : Script) (n place : ℕ) (c : ClientState) (act : Going) (head : Head) (x : Carried) (past : List Entry) → IsWaiting s n place c head x past → c.running ≡ Some act → is_awaited c act head ≡ true → IsReply (record { head = head; carried = x }) → IsTold s n place c act (record { head = head; carried = x }) past
-is_told s n place c act head x past w r e reply = record { runs = w.acts ∙ r; at = w.at; reply = reply; to = w.to; called = subst (λ (k : Key). CalledSince k (user_at s n) (call_of c act) past) (its_key n c act head w.to e) (w.asked' act r); from = subst (λ (k : Key). callee_under k (sent_of past) ≡ Some c.callee) (its_key n c act head w.to e) (w.callee act r) ∙ ap Some (sym (same_node-true head.from c.callee (both (same_node head.from c.callee) _ e).0)) }
+is_told s n place c act head x past w r e reply = record { runs = w.acts ∙ r; at = w.at; reply = reply; to = w.to; called = subst (λ (k : Key). CalledSince k (user_at s n) (call_of c act) past) (its_key n c act head w.to e) (w.asked' act r); from = subst (λ (k : Key). callee_under k (sent_of past) ≡ Some c.callee) (its_key n c act head w.to e) (w.callee act r) ∙ ap Some (sym (same_node-true head.from c.callee (both (same_node head.from c.callee) _ e).0)); last = subst (λ (k : Key). IsLastCall k (sent_of past)) (its_key n c act head w.to e) w.last }
 
 counts_due : (s : Script) (n clock place : ℕ) (c : ClientState) (act : Going) (head : Head) (x : Carried) (past : List Entry) → IsWaiting s n place c head x past → c.running ≡ Some act → is_awaited c act head ≡ true → Due s n past [] (counts (Client n) c clock place act head x).lines
 counts_due s n clock place c act head (carried.Call user call) past w r e = (tt, tt)
@@ -577,6 +581,9 @@ waiting_for s c past n place m h at to = record {
       let K : Known c past = h.0.0.0.0.0 in
       let P : Message → Type 0 = IfCall (KnownBy K.keys.callees c.clients) in
       callee_is K.keys.callees c.clients n (last_key n x) (x.user, call_of x act) (sent_of past) refl (ap (call_under (last_key n x)) K.hears.told ∙ h.0.0.0.0.1.last n act r) (subst (Each P) (sym K.hears.told) K.keys.calls) ∙ ap Some (K.keys.own n);
+  last =
+      let K : Known c past = h.0.0.0.0.0 in
+      its_last K.keys.callees c.clients n (last_key n (c.clients n)) (sent_of past) refl (subst (Each (IfCall (KnownBy K.keys.callees c.clients))) (sym K.hears.told) K.keys.calls);
   acts = h.0.0.0.0.1.acts n;
   at = ap (λ (ms : List Message). message_at ms place) h.0.0.0.0.0.hears.told ∙ at;
   to = to;
@@ -597,7 +604,7 @@ due_moves s = record {
   fallen = λ c past n h. (tt, tt);
   risen = λ c past n h. (tt, tt);
   served = λ c past i place m armed h up at to. works_due s i past _ (idle_works any_message i (c.hosts i).state _ _ (serves_works any_message (Server i) (c.hosts i).state c.clock place m (λ rest. tt)));
-  cut = λ c past i place m t h up at to. works_due s i past (lines.Given place ∷ blow_line i t ∷ []) (blow_idle i t);
+  cut = λ c past i place m t h up at to. works_due s i past (lines.Given place ∷ blow_line i t.stops ∷ []) (blow_idle i t.stops);
   stopped = λ c past i h up. (tt, tt);
   stop_set = λ c past i calls pick armed h up. (tt, tt);
   fail_set = λ c past i call armed h up. (tt, tt);

@@ -442,7 +442,7 @@ handled_moves s = (let q : EachMove (Placed s) (PlacedStep s) = placed_moves s i
   fallen = λ c past n h. falls_handles s c past n h;
   risen = λ c past n h. rises_handles s c past n h;
   served = λ c past i place m armed h up at to. besides_handles s c past (server_moves c i armed (server_row (Server i) (c.hosts i).state c.clock place (Whole m))) h (q.served c past i place m armed h.0 up at to) (λ j e. absurd cc) refl;
-  cut = λ c past i place m t h up at to. besides_handles s c past (server_falls c i (lines.Given place ∷ blow_line i t ∷ []) (in_step m c.clock)) h (q.cut c past i place m t h.0 up at to) (λ j e. absurd cc) refl;
+  cut = λ c past i place m t h up at to. besides_handles s c past (server_falls c i (lines.Given place ∷ blow_line i t.stops ∷ []) (in_step m c.clock t)) h (q.cut c past i place m t h.0 up at to) (λ j e. absurd cc) refl;
   stopped = λ c past i h up. besides_handles s c past (server_falls c i (lines.Crash (Server i) ∷ []) at_rest) h (q.stopped c past i h.0 up) (λ j e. absurd cc) refl;
   stop_set = λ c past i calls pick armed h up. besides_handles s c past (server_set c i (lines.Stop (Server i) calls pick) armed) h (q.stop_set c past i calls pick armed h.0 up) (λ j e. absurd cc) refl;
   fail_set = λ c past i call armed h up. besides_handles s c past (server_set c i (lines.Fail (Server i) call) armed) h (q.fail_set c past i call armed h.0 up) (λ j e. absurd cc) refl;

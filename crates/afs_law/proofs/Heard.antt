@@ -24,7 +24,7 @@ use Rattle.afs_num.specs.declared.types.Head.{Head}
 use Rattle.afs_num.specs.declared.types.Key.{Key}
 use Rattle.afs_num.specs.declared.types.Node.{Node}
 use Rattle.afs_num.specs.declared.types.Node.TheVariants.{Admin, Client, Loc, Server}
-use Rattle.afs_rows.specs.Runs.{Armed, Cell, Entry, Fall, Host, Moved, at_rest, begun_by_disk, client_moves, in_boot, in_step, moved, server_falls, server_moves, server_set, server_stays, start, ticked, unarmed, voided}
+use Rattle.afs_rows.specs.Runs.{Blow, Armed, Cell, Entry, Fall, Host, Moved, at_rest, begun_by_disk, client_moves, in_boot, in_step, moved, server_falls, server_moves, server_set, server_stays, start, ticked, unarmed, voided}
 use Rattle.afs_rows.specs.Callbacks.{put}
 use Rattle.afs_history.specs.declared.lines.Line.{Line}
 use Rattle.afs_rows.specs.Going.{ClientState}
@@ -125,10 +125,10 @@ risen_later x y e r le h boot above =
     let same : r.head.boot ≡ y.lasting.boot = boot in
     absurd (omega (arith, e))
 
-found_later : (me : Node) (x : ServerState) (after : Bool) (fall : Fall) → ((m : Message) (clock : ℕ) → fall ≡ in_step m clock → IsDue any_told any_told me x (decides me x clock (Whole m))) → IsLater x (begun_by_disk me x after fall).state
+found_later : (me : Node) (x : ServerState) (after : Bool) (fall : Fall) → ((m : Message) (clock : ℕ) (hit : Blow) → fall ≡ in_step m clock hit → IsDue any_told any_told me x (decides me x clock (Whole m))) → IsLater x (begun_by_disk me x after fall).state
 found_later me x after at_rest w = same_later x
-found_later me x false (in_step m clock) w = same_later x
-found_later me x true (in_step m clock) w = saved_later x clock me (decides me x clock (Whole m)) (w m clock refl)
+found_later me x false (in_step m clock hit) w = same_later x
+found_later me x true (in_step m clock hit) w = saved_later x clock me (decides me x clock (Whole m)) (w m clock hit refl)
 found_later me x false in_boot w = same_later x
 found_later me x true in_boot w = risen_later x (begun_by_disk me x true in_boot).state refl
 
@@ -207,7 +207,7 @@ set_heard s c past i l armed h = host_heard s c (server_set c i l armed).cell pa
 stays_heard : (s : Script) (c : Cell) (past : List Entry) (i : ℕ) (after : Bool) (fall now : Fall) (l : Line) → GivenHeard s c past → (c.hosts i).down ≡ Some fall → Then s c past (server_stays c i (begun_by_disk (Server i) (c.hosts i).state after fall) l now)
 stays_heard s c past i after fall now l h down =
     let m : Moved = server_stays c i (begun_by_disk (Server i) (c.hosts i).state after fall) l now in
-    host_heard s c m.cell past i _ m.entry [] h refl (none_sent c) (inr (found_later (Server i) (c.hosts i).state after fall (λ x clock e. cut_due c past i x clock h.0.0.0.0.0 (down ∙ ap (λ (f : Fall). Some f) e)))) tt
+    host_heard s c m.cell past i _ m.entry [] h refl (none_sent c) (inr (found_later (Server i) (c.hosts i).state after fall (λ x clock hit e. cut_due c past i x clock hit h.0.0.0.0.0 (down ∙ ap (λ (f : Fall). Some f) e)))) tt
 
 heard_moves : (s : Script) → EachMove (GivenHeard s) (Then s)
 heard_moves s = record {
@@ -219,7 +219,7 @@ heard_moves s = record {
   fallen = λ c past n h. client_heard s c past n _ h tt;
   risen = λ c past n h. client_heard s c past n _ h tt;
   served = λ c past i place m armed h up at to. serves_heard s c past i armed _ h (served_posts (Server i) (c.hosts i).state c.clock place m (h.0.0.0.1.0 i).seats (h.0.0.0.1.1 i)).0;
-  cut = λ c past i place m t h up at to. falls_heard s c past i _ (in_step m c.clock) h;
+  cut = λ c past i place m t h up at to. falls_heard s c past i _ (in_step m c.clock t) h;
   stopped = λ c past i h up. falls_heard s c past i _ at_rest h;
   stop_set = λ c past i calls pick armed h up. set_heard s c past i _ armed h;
   fail_set = λ c past i call armed h up. set_heard s c past i _ armed h;

@@ -101,7 +101,7 @@ pub sound_to : (K M L O : Head → Type 0) → ((h : Head) → K h → M h) → 
 sound_to K M L O w u x h = record { seats = replies_to K M L O w u x.seats h.seats; kept = replies_to K M L O w u x.kept h.kept; lower = h.lower }
 
 pub cut_by : (K M : Head → Type 0) → ((h : Head) → K h → M h) → (boot : ℕ) (seats : List Seat) (fall : Fall) → IsCutBy K boot seats fall → IsCutBy M boot seats fall
-cut_by K M w boot seats (in_step m clock) h = if_call (λ x user call. admitted boot seats x ≡ pairs.runs → K (reply_head boot x)) (λ x user call. admitted boot seats x ≡ pairs.runs → M (reply_head boot x)) (λ x user call f e. w (reply_head boot x) (f e)) m h
+cut_by K M w boot seats (in_step m clock hit) h = if_call (λ x user call. admitted boot seats x ≡ pairs.runs → K (reply_head boot x)) (λ x user call. admitted boot seats x ≡ pairs.runs → M (reply_head boot x)) (λ x user call f e. w (reply_head boot x) (f e)) m h
 cut_by K M w boot seats at_rest h = tt
 cut_by K M w boot seats in_boot h = tt
 
@@ -338,8 +338,8 @@ after_boot me x clock (saves head c) = omega arith
 
 disk_boot : (me : Node) (x : ServerState) (after : Bool) (fall : Fall) → x.lasting.boot ≤ (begun_by_disk me x after fall).state.lasting.boot
 disk_boot me x after at_rest = omega arith
-disk_boot me x false (in_step m clock) = omega arith
-disk_boot me x true (in_step m clock) = after_boot me x clock (decides me x clock (Whole m))
+disk_boot me x false (in_step m clock hit) = omega arith
+disk_boot me x true (in_step m clock hit) = after_boot me x clock (decides me x clock (Whole m))
 disk_boot me x false in_boot = omega arith
 disk_boot me x true in_boot = omega arith
 
@@ -415,17 +415,17 @@ serves_hears c past i place armed m H S up to at =
     ))
     (step_boots c.hosts i h e past (serves_standing (Server i) x c.clock place m) (sym up) same H.boots)
 
-cut_hears : (c : Cell) (past : List Entry) (i place : ℕ) (m : Message) (b : Blow) → HearsIn c past → StandsIn c (lines_of past) → (c.hosts i).down ≡ None → m.head.to ≡ Server i → message_at c.sent place ≡ Some m → After past (server_falls c i (lines.Given place ∷ blow_line i b.stops ∷ []) (in_step m c.clock))
+cut_hears : (c : Cell) (past : List Entry) (i place : ℕ) (m : Message) (b : Blow) → HearsIn c past → StandsIn c (lines_of past) → (c.hosts i).down ≡ None → m.head.to ≡ Server i → message_at c.sent place ≡ Some m → After past (server_falls c i (lines.Given place ∷ blow_line i b.stops ∷ []) (in_step m c.clock b))
 cut_hears c past i place m b H S up to at =
     let ls : List Line = lines.Given place ∷ blow_line i b.stops ∷ [] in
     let w : IfCall (λ y user call. IsHad c.hosts y.to y.boot) m = each_at (IfCall (λ y user call. IsHad c.hosts y.to y.boot)) c.sent place m at H.calls in
     let given : given_message ls (sent_of past) ≡ Some m = ap (λ (ms : List Message). message_at ms place) H.told ∙ at in
-    falls_hears c past i (Some (in_step m c.clock)) unarmed ls H (call_here c past i (of_server i ls []) m H S refl given to up w) (subst (GivenTo (Server i)) (sym given) to)
+    falls_hears c past i (Some (in_step m c.clock b)) unarmed ls H (call_here c past i (of_server i ls []) m H S refl given to up w) (subst (GivenTo (Server i)) (sym given) to)
     (λ j k x is later. (
       λ u. not_next c i m j k x to w is later (subst (λ (o : Option Message). IsCallUnder (Server i) k x o) given u),
       unheard_next i (c.hosts i).down (c.hosts i).state.seats (c.hosts i).state.lasting.boot past (H.unheard i) j k x is later,
     ))
-    (stop_boots c.hosts i (record (c.hosts i) { down = Some (in_step m c.clock); armed = unarmed }) (of_server i ls []) past (lines.Given place ∷ []) (blow_line i b.stops) refl refl (blow_stops i b.stops) refl (le_refl _) H.boots)
+    (stop_boots c.hosts i (record (c.hosts i) { down = Some (in_step m c.clock b); armed = unarmed }) (of_server i ls []) past (lines.Given place ∷ []) (blow_line i b.stops) refl refl (blow_stops i b.stops) refl (le_refl _) H.boots)
 
 still_hears : (clients : ℕ → ClientState) (hosts : ℕ → Host) (sent : List Message) (past : List Entry) (e : Entry) → Hears clients hosts sent past → e.sent ≡ [] → given_message e.lines (sent_of past) ≡ None → all_lines is_standing e.lines ≡ true → Hears clients hosts sent (e ∷ past)
 still_hears clients hosts sent past e H none given stand =

@@ -95,7 +95,7 @@ blow_least i false o = fault_least (same_node (Server i) (Server i)) (server_boo
 abbrev reached : ℕ → Option Fall → ℕ
 reached boot None = boot
 reached boot (Some at_rest) = boot
-reached boot (Some (in_step m clock)) = boot
+reached boot (Some (in_step m clock hit)) = boot
 reached boot (Some in_boot) = boot + 1
 
 found_after : (me : Node) (x : ServerState) (clock : ℕ) (d : Decision) → (begun_after me x clock d).state.lasting.boot ≡ x.lasting.boot
@@ -108,8 +108,8 @@ found_after me x clock (saves head c) = refl
 
 found : (me : Node) (x : ServerState) (after : Bool) (fall : Fall) → (begun_by_disk me x after fall).state.lasting.boot ≤ reached x.lasting.boot (Some fall)
 found me x after at_rest = le_refl _
-found me x false (in_step m clock) = le_refl _
-found me x true (in_step m clock) = le_of_eq (found_after me x clock (decides me x clock (Whole m)))
+found me x false (in_step m clock hit) = le_refl _
+found me x true (in_step m clock hit) = le_of_eq (found_after me x clock (decides me x clock (Whole m)))
 found me x false in_boot = omega arith
 found me x true in_boot = le_refl _
 
@@ -158,8 +158,8 @@ behind_change most me x clock d ls sent h = h
 
 behind_disk : (most : ℕ) (me : Node) (x : ServerState) (after : Bool) (fall : Fall) (ls : List Line) (sent : List Message) → IsStart most ls sent → IsStart most ((begun_by_disk me x after fall).before ls) sent
 behind_disk most me x after at_rest ls sent h = h
-behind_disk most me x false (in_step m clock) ls sent h = h
-behind_disk most me x true (in_step m clock) ls sent h = behind_change most me x clock (decides me x clock (Whole m)) ls sent h
+behind_disk most me x false (in_step m clock hit) ls sent h = h
+behind_disk most me x true (in_step m clock hit) ls sent h = behind_change most me x clock (decides me x clock (Whole m)) ls sent h
 behind_disk most me x false in_boot ls sent h = h
 behind_disk most me x true in_boot ls sent h = h
 
@@ -321,7 +321,7 @@ hosted_moves s = (let q : EachMove (Placed s) (PlacedStep s) = placed_moves s in
   fallen = λ c past n h. besides_hosts s c past (client_falls c n) h (q.fallen c past n h.0) (λ i e. absurd cc) refl;
   risen = λ c past n h. besides_hosts s c past (client_rises c n) h (q.risen c past n h.0) (λ i e. absurd cc) refl;
   served = λ c past i place m armed h up at to. serves_hosts s c past i armed (server_row (Server i) (c.hosts i).state c.clock place (Whole m)) h (q.served c past i place m armed h.0 up at to) up (served_boot i (c.hosts i).state c.clock place m) (serves_running (Server i) (c.hosts i).state c.clock place m);
-  cut = λ c past i place m t h up at to. falls_hosts s c past i (lines.Given place ∷ blow_line i t ∷ []) (in_step m c.clock) h (q.cut c past i place m t h.0 up at to) (as_up s c past i _ [] h up (blow_lived i place (c.hosts i).state.lasting.boot (last_written (Server i) (lines_of past) + 1) t)) (up_now c past i h.1 up) (blow_least i t (lines.Given place ∷ lines_of past));
+  cut = λ c past i place m t h up at to. falls_hosts s c past i (lines.Given place ∷ blow_line i t.stops ∷ []) (in_step m c.clock t) h (q.cut c past i place m t h.0 up at to) (as_up s c past i _ [] h up (blow_lived i place (c.hosts i).state.lasting.boot (last_written (Server i) (lines_of past) + 1) t.stops)) (up_now c past i h.1 up) (blow_least i t.stops (lines.Given place ∷ lines_of past));
   stopped = λ c past i h up. falls_hosts s c past i (lines.Crash (Server i) ∷ []) at_rest h (q.stopped c past i h.0 up) (as_up s c past i _ [] h up (inr (tt, refl))) (up_now c past i h.1 up) (le_refl _);
   stop_set = λ c past i calls pick armed h up. set_hosts s c past i (lines.Stop (Server i) calls pick) armed h (q.stop_set c past i calls pick armed h.0 up) up refl;
   fail_set = λ c past i call armed h up. set_hosts s c past i (lines.Fail (Server i) call) armed h (q.fail_set c past i call armed h.0 up) up refl;

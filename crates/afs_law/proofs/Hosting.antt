@@ -436,13 +436,13 @@ revives_begins K L me x s h = record { hosts = λ ls p. revived_hosts K L me (me
 
 -- the message of an interrupted step
 abbrev pub IsCutBy : (Head → Type 0) → ℕ → List Seat → Fall → Type 0
-IsCutBy K boot seats (in_step m clock) = IsCallOf K boot seats m.head m.carried
+IsCutBy K boot seats (in_step m clock hit) = IsCallOf K boot seats m.head m.carried
 IsCutBy K boot seats fall = ⊤
 
 pub disk_begins : (K : Head → Type 0) (L : Head → Type 0) (me : Node) (x : ServerState) (after : Bool) (fall : Fall) → IsSound K L (memory_of x) → Each (IsAnswer K L) (replies_of x.backs.held) → IsCutBy K x.lasting.boot x.seats fall → ((h : Head) → h.to ≡ me → L (boot_told x.lasting.boot h).head) → Begins K L me x (begun_by_disk me x after fall)
 disk_begins K L me x after at_rest s h c told = before_begins K L me x s h
-disk_begins K L me x false (in_step m clock) s h c told = before_begins K L me x s h
-disk_begins K L me x true (in_step m clock) s h c told = after_begins K L me x clock (decides me x clock (Whole m)) s h (decides_due K L me x clock m s.seats c (told m.head))
+disk_begins K L me x false (in_step m clock hit) s h c told = before_begins K L me x s h
+disk_begins K L me x true (in_step m clock hit) s h c told = after_begins K L me x clock (decides me x clock (Whole m)) s h (decides_due K L me x clock m s.seats c (told m.head))
 disk_begins K L me x false in_boot s h c told = before_begins K L me x s h
 disk_begins K L me x true in_boot s h c told = revives_begins K L me x s h
 

@@ -41,7 +41,7 @@ use Rattle.afs_num.specs.declared.types.Node.{Node}
 use Rattle.afs_num.specs.declared.types.Node.TheVariants.{Client, Server}
 use Rattle.afs_records.specs.Durable.{Stored}
 use Rattle.afs_rows.specs.Callbacks.{put}
-use Rattle.afs_rows.specs.Runs.{Armed, Cell, Entry, Fall, Host, RunsTo, at_rest, begun_by_disk, blow_line, counts_later, first_host, first_volumes, in_boot, in_step, message_at, placed_at, server_moves, server_stays, start, unarmed, unless_there, volumes_at}
+use Rattle.afs_rows.specs.Runs.{Blow, Armed, Cell, Entry, Fall, Host, RunsTo, at_rest, begun_by_disk, blow_line, counts_later, first_host, first_volumes, in_boot, in_step, message_at, placed_at, server_moves, server_stays, start, unarmed, unless_there, volumes_at}
 use Rattle.afs_rows.specs.Going.{ClientState}
 use Rattle.afs_rows.specs.ServerRow.{Begun, Change, key_of, stored_by, versioned}
 use Rattle.afs_rows.specs.ServerSteps.{back_timeout_row, server_row, start_row, wake_row}
@@ -119,7 +119,7 @@ pub record Volumes (s : Script) (hosts : ℕ → Host) (sent : List Message) (pa
   pub fine : (i : ℕ) → AreFine (hosts i).state.lasting.volumes
   pub home : (i id : ℕ) (v : Volume) → volume_in id (hosts i).state.lasting.volumes ≡ Some v → is_at id (Server i) s.volumes
   -- the message of an interrupted step was sent
-  pub cut : (i : ℕ) (m : Message) (clock : ℕ) → (hosts i).down ≡ Some (in_step m clock) → IsSent sent m
+  pub cut : (i : ℕ) (m : Message) (clock : ℕ) (hit : Blow) → (hosts i).down ≡ Some (in_step m clock hit) → IsSent sent m
   -- a volume that is nowhere isn't there
   pub none : (id : ℕ) → ((i : ℕ) → is_at id (Server i) s.volumes → ⊥) → volume_after id past ≡ None
 
@@ -142,7 +142,7 @@ still_volumes s hosts sent more past e V g none blank = record {
   sound = λ id. sound_on id past e (blank_after id e past none blank) blank (V.sound id);
   fine = V.fine;
   home = V.home;
-  cut = λ i m clock d. sent_over sent more g m (V.cut i m clock d);
+  cut = λ i m clock hit d. sent_over sent more g m (V.cut i m clock hit d);
   none = λ id away. blank_after id e past none blank ∙ V.none id away;
 }
 
@@ -155,7 +155,7 @@ left_fine a b fine left id v e = fine id v (sym (left_same a b fine left id) ∙
 
 -- its host after a step, whose message is this where it is cut short
 abbrev pub CutIs : (Message → Type 0) → Option Fall → Type 0
-CutIs P d = (m : Message) (clock : ℕ) → d ≡ Some (in_step m clock) → P m
+CutIs P d = (m : Message) (clock : ℕ) (hit : Blow) → d ≡ Some (in_step m clock hit) → P m
 
 -- one host's step that changes nothing
 quiet_volumes : (s : Script) (hosts : ℕ → Host) (sent more : List Message) (past : List Entry) (e : Entry) (i : ℕ) (h : Host) → Volumes s hosts sent past → Grows sent more → e.volumes ≡ [] → AreBlank e.lines → AreLeft (hosts i).state.lasting.volumes h.state.lasting.volumes → CutIs (IsSent more) h.down
@@ -168,7 +168,7 @@ quiet_volumes s hosts sent more past e i h V g none blank left cut =
       sound = U.sound;
       fine = λ j. at_put i j (λ (x : Host). AreFine x.state.lasting.volumes) h hosts (λ q. left_fine (hosts i).state.lasting.volumes h.state.lasting.volumes (V.fine i) left) (λ other. U.fine j);
       home = λ j id v. at_put i j (λ (x : Host). volume_in id x.state.lasting.volumes ≡ Some v → is_at id (Server j) s.volumes) h hosts (λ q f. subst (λ (k : ℕ). is_at id (Server k) s.volumes) q (V.home i id v (sym (same id) ∙ f))) (λ other. V.home j id v);
-      cut = λ j m clock. at_put i j (λ (x : Host). x.down ≡ Some (in_step m clock) → IsSent more m) h hosts (λ q. cut m clock) (λ other. U.cut j m clock);
+      cut = λ j m clock hit. at_put i j (λ (x : Host). x.down ≡ Some (in_step m clock hit) → IsSent more m) h hosts (λ q. cut m clock hit) (λ other. U.cut j m clock hit);
       none = U.none;
     }
 
@@ -298,7 +298,7 @@ saves_volumes s hosts sent more past e i h V told g none S cut =
       home = λ j id u. at_put i j (λ (x : Host). volume_in id x.state.lasting.volumes ≡ Some u → is_at id (Server j) s.volumes) h hosts
           (λ same f. subst (λ (k : ℕ). is_at id (Server k) s.volumes) same (found_either (eqb c.id id) c.id id N u (volume_in id a) (is_at id (Server i) s.volumes) refl (λ is. subst (λ (n : ℕ). is_at n (Server i) s.volumes) is home) (V.home i id u) (sym (now id) ∙ f)))
           (λ other. V.home j id u);
-      cut = λ j m clock. at_put i j (λ (x : Host). x.down ≡ Some (in_step m clock) → IsSent more m) h hosts (λ same. cut m clock) (λ other p. sent_over sent more g m (V.cut j m clock p));
+      cut = λ j m clock hit. at_put i j (λ (x : Host). x.down ≡ Some (in_step m clock hit) → IsSent more m) h hosts (λ same. cut m clock hit) (λ other p. sent_over sent more g m (V.cut j m clock hit p));
       none = λ id away. q.after id ∙ (other_after (eqb c.id id) N (volume_after id past) (not_here (eqb c.id id) c.id id refl (λ is. away i (subst (λ (n : ℕ). is_at n (Server i) s.volumes) is home))) ∙ V.none id away);
     }
 
@@ -314,14 +314,14 @@ Held s c past = KnownAsked s c past × VolumesIn s c past
 
 pub cut_by : (P : Message → Type 0) (d : Option Fall) (fall : Fall) → d ≡ Some fall → CutIs P d → IfCut P fall
 cut_by P d at_rest e w = tt
-cut_by P d (in_step m clock) e w = w m clock e
+cut_by P d (in_step m clock hit) e w = w m clock hit e
 cut_by P d in_boot e w = tt
 
 pub own_from : (i : ℕ) → same_node (Server i) (Server i) ≡ true
 own_from i = same_node-refl (Server i)
 
 no_cut : (P : Message → Type 0) (d : Option Fall) → d ≡ None → CutIs P d
-no_cut P d e m clock f = let z : None ≡ Some (in_step m clock) = sym e ∙ f in absurd cc
+no_cut P d e m clock hit f = let z : None ≡ Some (in_step m clock hit) = sym e ∙ f in absurd cc
 
 -- a client's lines
 acts_volumes : (s : Script) (c : Cell) (past : List Entry) (n : ℕ) (st : Step ClientState) → VolumesIn s c past → Acts n (who_at (c.clients n)) (c.clients n).gifts st → Volumes s c.hosts (c.sent ++ st.sent) (of_client n st ∷ past)
@@ -338,7 +338,7 @@ falls_volumes : (s : Script) (c : Cell) (past : List Entry) (i : ℕ) (d : Optio
 falls_volumes s c past i d armed ls h blank cut = quiet_volumes s c.hosts c.sent c.sent past (record { actor = actors.Node (Server i); lines = ls; sent = []; volumes = [] }) i (record (c.hosts i) { down = d; armed = armed }) h.1 (same_grows c.sent) refl blank (λ id w. refl) cut
 
 pub cut_call : (s : Script) (c : Cell) (past : List Entry) (i : ℕ) → Held s c past → CutIs (IfCall (IsOne c.sent)) (c.hosts i).down
-cut_call s c past i h m clock e = let q : IsSent c.sent m = h.1.cut i m clock e in each_at (IfCall (IsOne c.sent)) c.sent q.0 m q.1 h.0.1.ones
+cut_call s c past i h m clock hit e = let q : IsSent c.sent m = h.1.cut i m clock hit e in each_at (IfCall (IsOne c.sent)) c.sent q.0 m q.1 h.0.1.ones
 
 stays_volumes : (s : Script) (c : Cell) (past : List Entry) (i : ℕ) (after : Bool) (fall now : Fall) (l : Line) → Held s c past → (c.hosts i).down ≡ Some fall → is_from (Server i) l ≡ true → CutIs (IsSent c.sent) (Some now)
     → Behind (VolumesIn s) c past (server_stays c i (begun_by_disk (Server i) (c.hosts i).state after fall) l now)
@@ -360,17 +360,17 @@ volumes_moves s = record {
   fallen = λ c past n h. acts_volumes s c past n _ h.1 (falls_acts n (c.clients n));
   risen = λ c past n h. acts_volumes s c past n _ h.1 (rises_acts n (c.clients n));
   served = λ c past i place m armed h up at to. done_volumes s c past i armed (server_row (Server i) (c.hosts i).state c.clock place (Whole m)) h (serves_works (IsCalled c.sent) (Server i) (c.hosts i).state c.clock place m (λ rest. each_at (IfCall (IsOne c.sent)) c.sent place m at h.0.1.ones));
-  cut = λ c past i place m t h up at to. falls_volumes s c past i (Some (in_step m c.clock)) unarmed _ h (blow_blank i place t) (λ k clock e. (place, subst (λ (y : Message). message_at c.sent place ≡ Some y) (same_cut m k c.clock clock e) at));
-  stopped = λ c past i h up. falls_volumes s c past i (Some at_rest) unarmed _ h refl (λ m clock e. absurd cc);
+  cut = λ c past i place m t h up at to. falls_volumes s c past i (Some (in_step m c.clock t)) unarmed _ h (blow_blank i place t.stops) (λ k clock hit e. (place, subst (λ (y : Message). message_at c.sent place ≡ Some y) (same_cut m k c.clock clock t hit e) at));
+  stopped = λ c past i h up. falls_volumes s c past i (Some at_rest) unarmed _ h refl (λ m clock hit e. absurd cc);
   stop_set = λ c past i calls pick armed h up. falls_volumes s c past i (c.hosts i).down armed _ h refl (h.1.cut i);
   fail_set = λ c past i call armed h up. falls_volumes s c past i (c.hosts i).down armed _ h refl (h.1.cut i);
   timed = λ c past i n b armed h up at. done_volumes s c past i armed (back_timeout_row (Server i) (c.hosts i).state c.clock n b) h (times_works (IsCalled c.sent) (Server i) (c.hosts i).state c.clock n b);
   woken = λ c past i armed h up. done_volumes s c past i armed (wake_row (Server i) (c.hosts i).state c.clock) h (wakes_works (IsCalled c.sent) (Server i) (c.hosts i).state c.clock);
   started = λ c past i after fall h down. done_volumes s c past i unarmed (start_row (Server i) c.clock c.count (begun_by_disk (Server i) (c.hosts i).state after fall)) h
       (starts_works (IsCalled c.sent) (Server i) (c.hosts i).state c.clock c.count (begun_by_disk (Server i) (c.hosts i).state after fall) (disk_works (IsCalled c.sent) (Server i) (c.hosts i).state after fall (risen_lines (Server i) c.clock c.count (begun_by_disk (Server i) (c.hosts i).state after fall)) (cut_by (IfCall (IsOne c.sent)) (c.hosts i).down fall down (cut_call s c past i h)) (risen_from (Server i) c.clock c.count (begun_by_disk (Server i) (c.hosts i).state after fall))));
-  early = λ c past i fall h down. falls_volumes s c past i (Some fall) unarmed _ h refl (λ m clock e. h.1.cut i m clock (down ∙ e));
-  midway = λ c past i after fall h down. stays_volumes s c past i after fall in_boot (lines.Fault (Server i)) h down (own_from i) (λ m clock e. absurd cc);
-  full = λ c past i after fall h down. stays_volumes s c past i after fall at_rest (lines.Full (Server i)) h down (own_from i) (λ m clock e. absurd cc);
+  early = λ c past i fall h down. falls_volumes s c past i (Some fall) unarmed _ h refl (λ m clock hit e. h.1.cut i m clock hit (down ∙ e));
+  midway = λ c past i after fall h down. stays_volumes s c past i after fall in_boot (lines.Fault (Server i)) h down (own_from i) (λ m clock hit e. absurd cc);
+  full = λ c past i after fall h down. stays_volumes s c past i after fall at_rest (lines.Full (Server i)) h down (own_from i) (λ m clock hit e. absurd cc);
 }
 
 pub held_kept : (s : Script) → IsKept (Held s)
@@ -440,7 +440,7 @@ volumes_first s =
       sound = λ id. subst (λ (o : Option Volume). SoundIn id o (lines_of (set_up s ∷ []))) (ideal_first s id) (facts.sound id);
       fine = λ i id v e. facts.fine id v (sym (first_at i id s.volumes (at i id v e)) ∙ (sym (first_in id (volumes_at i s.volumes)) ∙ e));
       home = at;
-      cut = λ i m clock e. absurd cc;
+      cut = λ i m clock hit e. absurd cc;
       none = λ id away. sym (ideal_first s id) ∙ nowhere id s.volumes away;
     }
 

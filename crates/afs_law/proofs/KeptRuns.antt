@@ -145,7 +145,7 @@ abbrev unasked : Message → Message
 unasked m = record m { head = record m.head { number = 3 } }
 
 abbrev with_unasked : Fall → Fall
-with_unasked (in_step m clock) = in_step (unasked m) clock
+with_unasked (in_step m clock hit) = in_step (unasked m) clock hit
 with_unasked fall = fall
 
 kept_from_nobody : Survives (script 1) 1 (record last_host { down = Some (with_unasked last_fall) }) past → ⊥

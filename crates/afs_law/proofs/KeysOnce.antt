@@ -127,7 +127,7 @@ by_key K h = K h.from (answered_key h)
 
 -- the key of an interrupted step's message
 abbrev pub IsCutOf : (Node → Key → Type 0) → Fall → Type 0
-IsCutOf K (in_step m clock) = IfCall (λ x user call. K x.to (key_of x)) m
+IsCutOf K (in_step m clock hit) = IfCall (λ x user call. K x.to (key_of x)) m
 IsCutOf K fall = ⊤
 
 abbrev pub HasCut : (Node → Key → Type 0) → Option Fall → Type 0
@@ -135,7 +135,7 @@ HasCut K None = ⊤
 HasCut K (Some fall) = IsCutOf K fall
 
 cut_by : (K : Node → Key → Type 0) (s : ServerState) (fall : Fall) → IsCutOf K fall → IsCutBy (by_key K) s.lasting.boot s.seats fall
-cut_by K s (in_step m clock) h = any_call (by_key K) s.lasting.boot s.seats m.head m.carried h
+cut_by K s (in_step m clock hit) h = any_call (by_key K) s.lasting.boot s.seats m.head m.carried h
 cut_by K s at_rest h = tt
 cut_by K s in_boot h = tt
 
@@ -254,7 +254,7 @@ blow_none i false = refl
 served_keeps : (c : Cell) (o : List Line) (i place : ℕ) (m : Message) (b : Option Blow) → (S : StandsIn c o) → IfCall (λ h user call. IsKnown S.callees c.clients h.to (key_of h)) m → Keeps o (server_served c i place m b)
 served_keeps c o i place m None S h =
     moves_keeps c o i _ _ _ S (serves_step (by_key (IsKnown S.callees c.clients)) any_told i (c.hosts i).state c.clock place m (S.sound i) (S.held i) (decides_due (by_key (IsKnown S.callees c.clients)) any_told (Server i) (c.hosts i).state c.clock m (S.sound i).seats (any_call (by_key (IsKnown S.callees c.clients)) (c.hosts i).state.lasting.boot (c.hosts i).state.seats m.head m.carried h) (λ to. tt)))
-served_keeps c o i place m (Some b) S h = falls_keeps c o i (Some (in_step m c.clock)) unarmed (lines.Given place ∷ blow_line i b.stops ∷ []) S (blow_none i b.stops) h
+served_keeps c o i place m (Some b) S h = falls_keeps c o i (Some (in_step m c.clock b)) unarmed (lines.Given place ∷ blow_line i b.stops ∷ []) S (blow_none i b.stops) h
 
 received_keeps : (c : Cell) (o : List Line) (i place : ℕ) (luck : Luck) (m : Message) (d : Option Fall) → (S : StandsIn c o) → IfCall (λ h user call. IsKnown S.callees c.clients h.to (key_of h)) m → Keeps o (server_given c i place luck m d)
 received_keeps c o i place luck m None S h = served_keeps c o i place m (struck (c.hosts i).armed luck (device_calls (decided_at c i m))) S h
@@ -353,7 +353,7 @@ cut_over : (K L : Node → Key → Type 0) → ((q : Node) (k : Key) → K q k �
 cut_over K L w None h = tt
 cut_over K L w (Some at_rest) h = tt
 cut_over K L w (Some in_boot) h = tt
-cut_over K L w (Some (in_step m clock)) h = if_call (λ x user call. K x.to (key_of x)) (λ x user call. L x.to (key_of x)) (λ x user call. w x.to (key_of x)) m h
+cut_over K L w (Some (in_step m clock hit)) h = if_call (λ x user call. K x.to (key_of x)) (λ x user call. L x.to (key_of x)) (λ x user call. w x.to (key_of x)) m h
 
 run_later : (callees more : Key → Node) (clients then : ℕ → ClientState) (hosts : ℕ → Host) → ((q : Node) (k : Key) → IsKnown callees clients q k → IsKnown more then q k) → (q : Node) (k : Key) → HasRun callees clients hosts q k → HasRun more then hosts q k
 run_later callees more clients then hosts w q k r = record { server = r.server; is = r.is; known = w q k r.known; ran = r.ran }

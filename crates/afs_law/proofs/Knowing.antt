@@ -14,7 +14,7 @@ use Rattle.afs_num.specs.declared.types.Key.{Key}
 use Rattle.afs_num.specs.declared.types.Node.{Node}
 use Rattle.afs_num.specs.declared.types.Node.TheVariants.{Server}
 use Rattle.afs_rows.specs.Callbacks.{replies_of}
-use Rattle.afs_rows.specs.Runs.{Cell, Entry, Fall, at_rest, begun_by_disk, in_boot, in_step, message_at, start}
+use Rattle.afs_rows.specs.Runs.{Blow, Cell, Entry, Fall, at_rest, begun_by_disk, in_boot, in_step, message_at, start}
 use Rattle.afs_rows.specs.ServerRow.{decides, key_of}
 use Rattle.afs_rows.specs.ServerSteps.{back_timeout_row, server_row, start_row, wake_row}
 use Rattle.afs_rows.specs.States.{BackCall, ServerState}
@@ -58,7 +58,7 @@ woken_uncalled c past i K = uncalled _ (wakes_step any_told any_told i (c.hosts 
 
 -- the message of an interrupted step
 cut_any : (K : Node → Key → Type 0) (x : ServerState) (fall : Fall) → IsCutOf K fall → IsCutBy any_told x.lasting.boot x.seats fall
-cut_any K x (in_step m clock) h = any_call any_told x.lasting.boot x.seats m.head m.carried (if_call (λ h user call. K h.to (key_of h)) (λ h user call. any_told h) (λ h user call z. tt) m h)
+cut_any K x (in_step m clock hit) h = any_call any_told x.lasting.boot x.seats m.head m.carried (if_call (λ h user call. K h.to (key_of h)) (λ h user call. any_told h) (λ h user call z. tt) m h)
 cut_any K x at_rest h = tt
 cut_any K x in_boot h = tt
 
@@ -73,7 +73,7 @@ started_uncalled c past i after fall K down =
     (disk_begins any_told any_told (Server i) x after fall (any_sound c past i K) (any_held c past i K) (cut_any (IsKnown K.keys.callees c.clients) x fall (has_cut (IsKnown K.keys.callees c.clients) (c.hosts i).down fall down (K.keys.falls i))) (λ h to. tt))).sent
 
 -- so is what it decides there
-pub cut_due : (c : Cell) (past : List Entry) (i : ℕ) (m : Message) (clock : ℕ) → Known c past → (c.hosts i).down ≡ Some (in_step m clock) → IsDue any_told any_told (Server i) (c.hosts i).state (decides (Server i) (c.hosts i).state clock (Whole m))
-cut_due c past i m clock K down =
+pub cut_due : (c : Cell) (past : List Entry) (i : ℕ) (m : Message) (clock : ℕ) (hit : Blow) → Known c past → (c.hosts i).down ≡ Some (in_step m clock hit) → IsDue any_told any_told (Server i) (c.hosts i).state (decides (Server i) (c.hosts i).state clock (Whole m))
+cut_due c past i m clock hit K down =
     let x : ServerState = (c.hosts i).state in
-    decides_due any_told any_told (Server i) x clock m (any_sound c past i K).seats (cut_any (IsKnown K.keys.callees c.clients) x (in_step m clock) (has_cut (IsKnown K.keys.callees c.clients) (c.hosts i).down (in_step m clock) down (K.keys.falls i))) (λ to. tt)
+    decides_due any_told any_told (Server i) x clock m (any_sound c past i K).seats (cut_any (IsKnown K.keys.callees c.clients) x (in_step m clock hit) (has_cut (IsKnown K.keys.callees c.clients) (c.hosts i).down (in_step m clock hit) down (K.keys.falls i))) (λ to. tt)

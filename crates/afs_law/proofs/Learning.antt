@@ -26,7 +26,7 @@ use Rattle.afs_num.specs.declared.types.Node.TheVariants.{Admin, Client, Loc, Se
 use Rattle.afs_rows.specs.Callbacks.{put, replies_of}
 use Rattle.afs_rows.specs.ClientRow.{begin_row, boot_of, client_row, reborn, timeout_row}
 use Rattle.afs_rows.specs.Going.{ClientState, Going}
-use Rattle.afs_rows.specs.Runs.{Armed, Cell, Entry, Fall, Host, at_rest, begun_by_disk, blow_line, in_boot, in_step, message_at, server_moves, start, ticked, unarmed, voided}
+use Rattle.afs_rows.specs.Runs.{Blow, Armed, Cell, Entry, Fall, Host, at_rest, begun_by_disk, blow_line, in_boot, in_step, message_at, server_moves, start, ticked, unarmed, voided}
 use Rattle.afs_rows.specs.ServerRow.{boot_told, decides}
 use Rattle.afs_rows.specs.ServerSteps.{back_timeout_row, server_row, start_row, wake_row}
 use Rattle.afs_rows.specs.States.{BackCall, Seat, ServerState}
@@ -117,7 +117,7 @@ last_begun past n x h head user call l = subst (λ (q : Node). IsBootOf q head.b
 
 -- a server that is down in a step was up before that
 abbrev pub HasStood : ℕ → ServerState → Option Fall → List Entry → Type 0
-HasStood i x d past = (m : Message) (clock : ℕ) → d ≡ Some (in_step m clock) → HasBoot (Server i) x.lasting.boot (lines_of past)
+HasStood i x d past = (m : Message) (clock : ℕ) (hit : Blow) → d ≡ Some (in_step m clock hit) → HasBoot (Server i) x.lasting.boot (lines_of past)
 
 pub record Learnt (clients : ℕ → ClientState) (hosts : ℕ → Host) (sent : List Message) (past : List Entry) : Type 0 where
   pub calls : Each (IfCall (IsToBegun past)) sent
@@ -147,7 +147,7 @@ held_onto : (e : Entry) (past : List Entry) (ms : List Message) → Each (IsAnsw
 held_onto e past ms h = each_map (IsAnswer any_told (Tells past)) (IsAnswer any_told (Tells (e ∷ past))) (answer_over any_told any_told (Tells past) (Tells (e ∷ past)) any_head (tells_onto e past)) ms h
 
 stood_onto : (e : Entry) (past : List Entry) (i : ℕ) (x : ServerState) (d : Option Fall) → HasStood i x d past → HasStood i x d (e ∷ past)
-stood_onto e past i x d h m clock is = boot_onto (Server i) x.lasting.boot e.lines (lines_of past) (h m clock is)
+stood_onto e past i x d h m clock hit is = boot_onto (Server i) x.lasting.boot e.lines (lines_of past) (h m clock hit is)
 
 -- ---- a step of nobody
 
@@ -214,7 +214,7 @@ same_learnt : (c : Cell) (e : Entry) (past : List Entry) (i : ℕ) (d : Option F
 same_learnt c e past i d armed h stood = quiet_learnt c e past i (record (c.hosts i) { down = d; armed = armed }) h (sound_onto e past (c.hosts i).state (h.sound i)) (held_onto e past (replies_of (c.hosts i).state.backs.held) (h.held i)) stood
 
 up_learnt : (c : Cell) (past : List Entry) (i : ℕ) (D : Option ℕ) (armed : Armed) (s : Step ServerState) → LearntIn c past → HostStep any_told (Tells ((server_moves c i armed s).entry ∷ past)) D (Server i) (c.hosts i).state s → LearntIn (server_moves c i armed s).cell ((server_moves c i armed s).entry ∷ past)
-up_learnt c past i D armed s h t = host_learnt c (server_moves c i armed s).entry past i (record { state = s.state; down = None; armed = armed }) s.sent h t.sent t.hosts.sound t.held (λ m clock is. absurd cc)
+up_learnt c past i D armed s h t = host_learnt c (server_moves c i armed s).entry past i (record { state = s.state; down = None; armed = armed }) s.sent h t.sent t.hosts.sound t.held (λ m clock hit is. absurd cc)
 
 now_has : (c : Cell) (past : List Entry) (i : ℕ) → HearsIn c past → (c.hosts i).down ≡ None → HasBoot (Server i) (c.hosts i).state.lasting.boot (lines_of past)
 now_has c past i H up = up_has (Server i) (c.hosts i).state.lasting.boot (lines_of past) (H.boots.now i ∙ ap (λ (d : Option Fall). up_boot d (c.hosts i).state.lasting.boot) up)
@@ -238,7 +238,7 @@ serves_learns c past i place m armed h up at =
 -- what a restart finds
 found_begins : (e : Entry) (past : List Entry) (i : ℕ) (x : ServerState) (after : Bool) (fall : Fall) → IsSound any_told (Tells (e ∷ past)) (memory_of x) → Each (IsAnswer any_told (Tells (e ∷ past))) (replies_of x.backs.held) → IsCutBy any_told x.lasting.boot x.seats fall → HasStood i x (Some fall) past → Begins any_told (Tells (e ∷ past)) (Server i) x (begun_by_disk (Server i) x after fall)
 found_begins e past i x after at_rest s h cut stood = before_begins any_told (Tells (e ∷ past)) (Server i) x s h
-found_begins e past i x after (in_step m clock) s h cut stood = disk_begins any_told (Tells (e ∷ past)) (Server i) x after (in_step m clock) s h cut (λ y to. own_tells e past i x.lasting.boot y (stood m clock refl) to)
+found_begins e past i x after (in_step m clock hit) s h cut stood = disk_begins any_told (Tells (e ∷ past)) (Server i) x after (in_step m clock hit) s h cut (λ y to. own_tells e past i x.lasting.boot y (stood m clock hit refl) to)
 found_begins e past i x false in_boot s h cut stood = before_begins any_told (Tells (e ∷ past)) (Server i) x s h
 found_begins e past i x true in_boot s h cut stood = revives_begins any_told (Tells (e ∷ past)) (Server i) x s h
 
@@ -249,14 +249,14 @@ any_cut P x (Some f) fall e h = subst (IsCutBy any_told x.lasting.boot x.seats) 
 begins_at : (c : Cell) (e : Entry) (past : List Entry) (i : ℕ) (after : Bool) (fall : Fall) → KnownLearnt c past → (c.hosts i).down ≡ Some fall → Begins any_told (Tells (e ∷ past)) (Server i) (c.hosts i).state (begun_by_disk (Server i) (c.hosts i).state after fall)
 begins_at c e past i after fall h down =
     found_begins e past i (c.hosts i).state after fall (sound_onto e past (c.hosts i).state (h.1.sound i)) (held_onto e past (replies_of (c.hosts i).state.backs.held) (h.1.held i)) (any_cut (IsRan past) (c.hosts i).state (c.hosts i).down fall down (h.0.hears.falls i))
-    (λ m clock is. h.1.stood i m clock (down ∙ is))
+    (λ m clock hit is. h.1.stood i m clock hit (down ∙ is))
 
 -- a server that stays down
-stays_learns : (c : Cell) (e : Entry) (past : List Entry) (i : ℕ) (after : Bool) (fall other : Fall) → KnownLearnt c past → (c.hosts i).down ≡ Some fall → ((m : Message) (clock : ℕ) → Some other ≡ Some (in_step m clock) → ⊥)
+stays_learns : (c : Cell) (e : Entry) (past : List Entry) (i : ℕ) (after : Bool) (fall other : Fall) → KnownLearnt c past → (c.hosts i).down ≡ Some fall → ((m : Message) (clock : ℕ) (hit : Blow) → Some other ≡ Some (in_step m clock hit) → ⊥)
     → Learnt c.clients (put i (record { state = (begun_by_disk (Server i) (c.hosts i).state after fall).state; down = Some other; armed = unarmed }) c.hosts) c.sent (e ∷ past)
 stays_learns c e past i after fall other h down none =
     let b = begins_at c e past i after fall h down in
-    quiet_learnt c e past i (record { state = (begun_by_disk (Server i) (c.hosts i).state after fall).state; down = Some other; armed = unarmed }) h.1 (b.hosts [] refl).sound b.held (λ m clock is. absurd (none m clock is))
+    quiet_learnt c e past i (record { state = (begun_by_disk (Server i) (c.hosts i).state after fall).state; down = Some other; armed = unarmed }) h.1 (b.hosts [] refl).sound b.held (λ m clock hit is. absurd (none m clock hit is))
 
 -- ---- every step
 
@@ -280,16 +280,16 @@ learnt_moves = record {
   fallen = λ c past n h. (let s : Step ClientState = record { state = reborn (c.clients n); lines = lines.Crash (Client n) ∷ []; sent = [] } in let e : Entry = of_client n s in client_learnt c e past n None s h.1 (falls_tame any_told (Tells (e ∷ past)) (IsOf (e ∷ past)) n (c.clients n) (first_of (e ∷ past))));
   risen = λ c past n h. (let s : Step ClientState = record { state = c.clients n; lines = lines.Restart (Client n) (c.clients n).epoch ∷ []; sent = [] } in let e : Entry = of_client n s in client_learnt c e past n None s h.1 (rises_tame any_told (Tells (e ∷ past)) (IsOf (e ∷ past)) n (c.clients n) (own_replies c e past n h.1)));
   served = λ c past i place m armed h up at to. serves_learns c past i place m armed h up at;
-  cut = λ c past i place m t h up at to. (let e : Entry = of_server i (lines.Given place ∷ blow_line i t ∷ []) [] in same_learnt c e past i (Some (in_step m c.clock)) unarmed h.1 (λ k clock is. boot_onto (Server i) (c.hosts i).state.lasting.boot e.lines (lines_of past) (now_has c past i h.0.hears up)));
-  stopped = λ c past i h up. same_learnt c (of_server i (lines.Crash (Server i) ∷ []) []) past i (Some at_rest) unarmed h.1 (λ k clock is. absurd cc);
+  cut = λ c past i place m t h up at to. (let e : Entry = of_server i (lines.Given place ∷ blow_line i t.stops ∷ []) [] in same_learnt c e past i (Some (in_step m c.clock t)) unarmed h.1 (λ k clock hit is. boot_onto (Server i) (c.hosts i).state.lasting.boot e.lines (lines_of past) (now_has c past i h.0.hears up)));
+  stopped = λ c past i h up. same_learnt c (of_server i (lines.Crash (Server i) ∷ []) []) past i (Some at_rest) unarmed h.1 (λ k clock hit is. absurd cc);
   stop_set = λ c past i calls pick armed h up. (let e : Entry = of_server i (lines.Stop (Server i) calls pick ∷ []) [] in same_learnt c e past i (c.hosts i).down armed h.1 (stood_onto e past i (c.hosts i).state (c.hosts i).down (h.1.stood i)));
   fail_set = λ c past i call armed h up. (let e : Entry = of_server i (lines.Fail (Server i) call ∷ []) [] in same_learnt c e past i (c.hosts i).down armed h.1 (stood_onto e past i (c.hosts i).state (c.hosts i).down (h.1.stood i)));
   timed = λ c past i n b armed h up at. (let s : Step ServerState = back_timeout_row (Server i) (c.hosts i).state c.clock n b in let e : Entry = up_entry i s in up_learnt c past i None armed s h.1 (times_step any_told (Tells (e ∷ past)) i (c.hosts i).state c.clock n b (sound_onto e past (c.hosts i).state (h.1.sound i)) (held_onto e past (replies_of (c.hosts i).state.backs.held) (h.1.held i))));
   woken = λ c past i armed h up. (let s : Step ServerState = wake_row (Server i) (c.hosts i).state c.clock in let e : Entry = up_entry i s in up_learnt c past i None armed s h.1 (wakes_step any_told (Tells (e ∷ past)) i (c.hosts i).state c.clock (sound_onto e past (c.hosts i).state (h.1.sound i)) (held_onto e past (replies_of (c.hosts i).state.backs.held) (h.1.held i))));
   started = λ c past i after fall h down. (let s : Step ServerState = start_row (Server i) c.clock c.count (begun_by_disk (Server i) (c.hosts i).state after fall) in let e : Entry = up_entry i s in up_learnt c past i None unarmed s h.1 (starts_step any_told (Tells (e ∷ past)) i (c.hosts i).state c.clock c.count (begun_by_disk (Server i) (c.hosts i).state after fall) (begins_at c e past i after fall h down)));
-  early = λ c past i fall h down. (let e : Entry = of_server i (lines.Fault (Server i) ∷ []) [] in same_learnt c e past i (Some fall) unarmed h.1 (λ m clock is. boot_onto (Server i) (c.hosts i).state.lasting.boot e.lines (lines_of past) (h.1.stood i m clock (down ∙ is))));
-  midway = λ c past i after fall h down. stays_learns c (of_server i ((begun_by_disk (Server i) (c.hosts i).state after fall).before (lines.Fault (Server i) ∷ [])) []) past i after fall in_boot h down (λ m clock is. absurd cc);
-  full = λ c past i after fall h down. stays_learns c (of_server i ((begun_by_disk (Server i) (c.hosts i).state after fall).before (lines.Full (Server i) ∷ [])) []) past i after fall at_rest h down (λ m clock is. absurd cc);
+  early = λ c past i fall h down. (let e : Entry = of_server i (lines.Fault (Server i) ∷ []) [] in same_learnt c e past i (Some fall) unarmed h.1 (λ m clock hit is. boot_onto (Server i) (c.hosts i).state.lasting.boot e.lines (lines_of past) (h.1.stood i m clock hit (down ∙ is))));
+  midway = λ c past i after fall h down. stays_learns c (of_server i ((begun_by_disk (Server i) (c.hosts i).state after fall).before (lines.Fault (Server i) ∷ [])) []) past i after fall in_boot h down (λ m clock hit is. absurd cc);
+  full = λ c past i after fall h down. stays_learns c (of_server i ((begun_by_disk (Server i) (c.hosts i).state after fall).before (lines.Full (Server i) ∷ [])) []) past i after fall at_rest h down (λ m clock hit is. absurd cc);
 }
 
 pub learnt_kept : IsKept KnownLearnt
@@ -305,6 +305,6 @@ learnt_first s = (
     replies = λ j n seat m e. absurd cc;
     sound = λ i. record { seats = λ n seat m e. absurd cc; kept = λ n seat m e. absurd cc; lower = λ n e k a. a };
     held = λ i. tt;
-    stood = λ i m clock is. absurd cc;
+    stood = λ i m clock hit is. absurd cc;
   },
 )

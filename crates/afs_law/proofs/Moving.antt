@@ -28,7 +28,7 @@ pub record EachMove (Q : Cell → List Entry → Type 0) (M : Cell → List Entr
   pub risen : (c : Cell) (past : List Entry) (n : ℕ) → Q c past → M c past (client_rises c n)
   -- of a server that is up: it serves a message or is cut short in that, it stops, its disk is set, a call of its own is timed out, time passes
   pub served : (c : Cell) (past : List Entry) (i place : ℕ) (m : Message) (armed : Armed) → Q c past → (c.hosts i).down ≡ None → message_at c.sent place ≡ Some m → m.head.to ≡ Server i → M c past (server_moves c i armed (server_row (Server i) (c.hosts i).state c.clock place (Whole m)))
-  pub cut : (c : Cell) (past : List Entry) (i place : ℕ) (m : Message) (t : Bool) → Q c past → (c.hosts i).down ≡ None → message_at c.sent place ≡ Some m → m.head.to ≡ Server i → M c past (server_falls c i (lines.Given place ∷ blow_line i t ∷ []) (in_step m c.clock))
+  pub cut : (c : Cell) (past : List Entry) (i place : ℕ) (m : Message) (t : Blow) → Q c past → (c.hosts i).down ≡ None → message_at c.sent place ≡ Some m → m.head.to ≡ Server i → M c past (server_falls c i (lines.Given place ∷ blow_line i t.stops ∷ []) (in_step m c.clock t))
   pub stopped : (c : Cell) (past : List Entry) (i : ℕ) → Q c past → (c.hosts i).down ≡ None → M c past (server_falls c i (lines.Crash (Server i) ∷ []) at_rest)
   pub stop_set : (c : Cell) (past : List Entry) (i calls pick : ℕ) (armed : Armed) → Q c past → (c.hosts i).down ≡ None → M c past (server_set c i (lines.Stop (Server i) calls pick) armed)
   pub fail_set : (c : Cell) (past : List Entry) (i call : ℕ) (armed : Armed) → Q c past → (c.hosts i).down ≡ None → M c past (server_set c i (lines.Fail (Server i) call) armed)
@@ -48,7 +48,7 @@ either Q M c past false m k a b = b
 
 served_by : (Q : Cell → List Entry → Type 0) (M : Cell → List Entry → Moved → Type 0) (E : EachMove Q M) (c : Cell) (past : List Entry) (i place : ℕ) (m : Message) (b : Option Blow) → Q c past → (c.hosts i).down ≡ None → message_at c.sent place ≡ Some m → m.head.to ≡ Server i → M c past (server_served c i place m b)
 served_by Q M E c past i place m None h up at to = E.served c past i place m _ h up at to
-served_by Q M E c past i place m (Some b) h up at to = E.cut c past i place m b.stops h up at to
+served_by Q M E c past i place m (Some b) h up at to = E.cut c past i place m b h up at to
 
 received_by : (Q : Cell → List Entry → Type 0) (M : Cell → List Entry → Moved → Type 0) (E : EachMove Q M) (c : Cell) (past : List Entry) (i place : ℕ) (luck : Luck) (m : Message) (d : Option Fall) → Q c past → (c.hosts i).down ≡ d → message_at c.sent place ≡ Some m → m.head.to ≡ Server i → M c past (server_given c i place luck m d)
 received_by Q M E c past i place luck m None h up at to = served_by Q M E c past i place m (struck (c.hosts i).armed luck (device_calls (decided_at c i m))) h up at to

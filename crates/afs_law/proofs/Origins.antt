@@ -390,7 +390,7 @@ any_message m front rest = ⊤
 
 pub any_cut : (fall : Fall) → IfCut (λ m. ⊤) fall
 any_cut at_rest = tt
-any_cut (in_step m clock) = tt
+any_cut (in_step m clock hit) = tt
 any_cut in_boot = tt
 
 pub blow_idle : (i : ℕ) (t : Bool) → all_lines is_idle (blow_line i t ∷ []) ≡ true
@@ -417,7 +417,7 @@ asked_moves s = record {
   fallen = λ c past n h. client_asked s c past n _ h.0 h.1 (falls_acts n (c.clients n));
   risen = λ c past n h. client_asked s c past n _ h.0 h.1 (rises_acts n (c.clients n));
   served = λ c past i place m armed h up at to. moves_asked s c past i armed (server_row (Server i) (c.hosts i).state c.clock place (Whole m)) h.1 (idle_works any_message i (c.hosts i).state _ _ (serves_works any_message (Server i) (c.hosts i).state c.clock place m (λ rest. tt))) (served_uncalled c past i place m h.0 at);
-  cut = λ c past i place m t h up at to. still_asked s c past _ h.1 refl (blow_idle i t);
+  cut = λ c past i place m t h up at to. still_asked s c past _ h.1 refl (blow_idle i t.stops);
   stopped = λ c past i h up. still_asked s c past _ h.1 refl refl;
   stop_set = λ c past i calls pick armed h up. still_asked s c past _ h.1 refl refl;
   fail_set = λ c past i call armed h up. still_asked s c past _ h.1 refl refl;

@@ -456,8 +456,8 @@ after_found me x time (shows head r) fall cs clock sent past h = h
 -- in what the disk has
 disk_found : (me : Node) (x : ServerState) (after : Bool) (fall : Fall) (cs : ℕ → Option Seat) (clock : ℕ) (sent : List Message) (past : List Entry) → BackedIn me (Some fall) x.backs x.lasting.boot x.seats cs clock sent past → FoundAt me (begun_by_disk me x after fall) fall cs clock sent past
 disk_found me x after at_rest cs clock sent past h = h
-disk_found me x false (in_step m time) cs clock sent past h = h
-disk_found me x true (in_step m time) cs clock sent past h = after_found me x time (decides me x time (Whole m)) (in_step m time) cs clock sent past h
+disk_found me x false (in_step m time hit) cs clock sent past h = h
+disk_found me x true (in_step m time hit) cs clock sent past h = after_found me x time (decides me x time (Whole m)) (in_step m time hit) cs clock sent past h
 disk_found me x false in_boot cs clock sent past h = h
 disk_found me x true in_boot cs clock sent past h = down_later me (Some in_boot) x.backs x.lasting.boot x.seats x.lasting.kept cs clock sent past in_boot (λ z. absurd cc) h
 
@@ -472,8 +472,8 @@ begun_lines q u w me x time (shows head r) ls h = h
 -- the lines of what was found, before others
 pub disk_lines : (q : Line → Bool) → ((s : Node) (k : Key) (n : ℕ) → q (lines.Change s k n) ≡ true) → ((v : Version) → q (lines.Version v) ≡ true) → (me : Node) (x : ServerState) (after : Bool) (fall : Fall) (ls : List Line) → all_lines q ls ≡ true → all_lines q ((begun_by_disk me x after fall).before ls) ≡ true
 disk_lines q u w me x after at_rest ls h = h
-disk_lines q u w me x false (in_step m time) ls h = h
-disk_lines q u w me x true (in_step m time) ls h = begun_lines q u w me x time (decides me x time (Whole m)) ls h
+disk_lines q u w me x false (in_step m time hit) ls h = h
+disk_lines q u w me x true (in_step m time hit) ls h = begun_lines q u w me x time (decides me x time (Whole m)) ls h
 disk_lines q u w me x false in_boot ls h = h
 disk_lines q u w me x true in_boot ls h = h
 
@@ -491,8 +491,8 @@ after_given me x time (shows head r) ls sent = refl
 
 disk_given : (me : Node) (x : ServerState) (after : Bool) (fall : Fall) (ls : List Line) (sent : List Message) → given_message ((begun_by_disk me x after fall).before ls) sent ≡ given_message ls sent
 disk_given me x after at_rest ls sent = refl
-disk_given me x false (in_step m time) ls sent = refl
-disk_given me x true (in_step m time) ls sent = after_given me x time (decides me x time (Whole m)) ls sent
+disk_given me x false (in_step m time hit) ls sent = refl
+disk_given me x true (in_step m time hit) ls sent = after_given me x time (decides me x time (Whole m)) ls sent
 disk_given me x false in_boot ls sent = refl
 disk_given me x true in_boot ls sent = refl
 
@@ -722,8 +722,8 @@ begun_rules s me past tail x time (shows head r) w = w.rest [] refl (λ z. z)
 
 disk_rules : (s : Script) (me : Node) (past : List Entry) (tail : List Line) (x : ServerState) (after : Bool) (fall : Fall) → Downs s me past tail → EachLine (IsBreakGood s) (actors.Node me) past [] ((begun_by_disk me x after fall).before tail)
 disk_rules s me past tail x after at_rest w = w.rest [] refl (λ z. z)
-disk_rules s me past tail x false (in_step m time) w = w.rest [] refl (λ z. z)
-disk_rules s me past tail x true (in_step m time) w = begun_rules s me past tail x time (decides me x time (Whole m)) w
+disk_rules s me past tail x false (in_step m time hit) w = w.rest [] refl (λ z. z)
+disk_rules s me past tail x true (in_step m time hit) w = begun_rules s me past tail x time (decides me x time (Whole m)) w
 disk_rules s me past tail x false in_boot w = w.rest [] refl (λ z. z)
 disk_rules s me past tail x true in_boot w = w.rest [] refl (λ z. z)
 
@@ -782,7 +782,7 @@ KnownBy c callees m = IfCall (λ h user call. IsKnown callees c.clients h.to (ke
 
 cut_known : (c : Cell) (callees : Key → Node) (ls : List Line) (fall : Fall) → IsCutOf (IsKnown callees c.clients) fall → IfCut (λ m. KnownIn c callees m [] ls) fall
 cut_known c callees ls at_rest h = tt
-cut_known c callees ls (in_step m time) h = h
+cut_known c callees ls (in_step m time hit) h = h
 cut_known c callees ls in_boot h = tt
 
 cut_at : (s : Script) (c : Cell) (past : List Entry) (i : ℕ) (fall : Fall) (ls : List Line) → (B : Breaks s c past) → (c.hosts i).down ≡ Some fall → IfCut (λ m. KnownIn c B.held.0.0.0.keys.callees m [] ls) fall
@@ -854,7 +854,7 @@ break_moves s = record {
   fallen = λ c past n B. let k = client_steps s c past n (record { state = reborn (c.clients n); lines = lines.Crash (Client n) ∷ []; sent = [] }) B (falls_acts n (c.clients n)) (falls_all c past n) in record { backed = record { count = k.backed.count; fair = k.backed.fair; all = k.backed.all }; rules = k.rules; replies = k.replies };
   risen = λ c past n B. let k = speaks_steps s c past n (record { state = c.clients n; lines = lines.Restart (Client n) (c.clients n).epoch ∷ []; sent = [] }) B (rises_acts n (c.clients n)) (record { calls = tt; seats' = refl }) in record { backed = record { count = k.backed.count; fair = k.backed.fair; all = k.backed.all }; rules = k.rules; replies = k.replies };
   served = λ c past i place m armed B up at to. server_steps s c past i armed (server_row (Server i) (c.hosts i).state c.clock place (Whole m)) B (serves_works (KnownIn c B.held.0.0.0.keys.callees) (Server i) (c.hosts i).state c.clock place m (λ rest. each_at (KnownBy c B.held.0.0.0.keys.callees) c.sent place m at B.held.0.0.0.keys.calls)) (served_step s c past i place m B up at to) (served_rules s c past i place m B up at to);
-  cut = λ c past i place m t B up at to. falls_steps s c past i (lines.Given place ∷ blow_line i t ∷ []) (in_step m c.clock) B (blow_from i place t) (blow_free i place t) (blow_oweless i place t) (blow_still i place t) (blow_stopped i place t);
+  cut = λ c past i place m t B up at to. falls_steps s c past i (lines.Given place ∷ blow_line i t.stops ∷ []) (in_step m c.clock t) B (blow_from i place t.stops) (blow_free i place t.stops) (blow_oweless i place t.stops) (blow_still i place t.stops) (blow_stopped i place t.stops);
   stopped = λ c past i B up. falls_steps s c past i (lines.Crash (Server i) ∷ []) at_rest B (rw (own_from i) refl) refl refl refl (λ o. inl refl);
   stop_set = λ c past i calls pick armed B up. set_steps s c past i (lines.Stop (Server i) calls pick) armed B (own_from i) refl (record { up = refl; still = refl; oweless = refl; unchanging = refl });
   fail_set = λ c past i call armed B up. set_steps s c past i (lines.Fail (Server i) call) armed B (own_from i) refl (record { up = refl; still = refl; oweless = refl; unchanging = refl });

@@ -176,8 +176,8 @@ after_each S i past x clock d ls h = h []
 
 disk_each : (S : Script) (i : ℕ) (past : List Entry) (x : ServerState) (after : Bool) (fall : Fall) (ls : List Line) → ((own : List Line) → InPlace S i past own ls) → InPlace S i past [] ((begun_by_disk (Server i) x after fall).before ls)
 disk_each S i past x after at_rest ls h = h []
-disk_each S i past x false (in_step m clock) ls h = h []
-disk_each S i past x true (in_step m clock) ls h = after_each S i past x clock (decides (Server i) x clock (Whole m)) ls h
+disk_each S i past x false (in_step m clock hit) ls h = h []
+disk_each S i past x true (in_step m clock hit) ls h = after_each S i past x clock (decides (Server i) x clock (Whole m)) ls h
 disk_each S i past x false in_boot ls h = h []
 disk_each S i past x true in_boot ls h = h []
 
@@ -253,7 +253,7 @@ placed_moves s = record {
   fallen = λ c past n h. (falls_acts n (c.clients n)).each s past (h.0.1.table n) (h.0.1.acts n);
   risen = λ c past n h. (rises_acts n (c.clients n)).each s past (h.0.1.table n) (h.0.1.acts n);
   served = λ c past i place m armed h up at to. serves_each s i past (c.hosts i).state c.clock place m;
-  cut = λ c past i place m t h up at to. blow_each s i place past t;
+  cut = λ c past i place m t h up at to. blow_each s i place past t.stops;
   stopped = λ c past i h up. (refl, tt);
   stop_set = λ c past i calls pick armed h up. ((refl, (refl, refl)), tt);
   fail_set = λ c past i call armed h up. ((refl, (refl, refl)), tt);

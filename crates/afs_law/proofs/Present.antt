@@ -261,7 +261,7 @@ present_moves = record {
   fallen = λ c past n h K. besides_present c past (client_falls c n) h (λ i e. absurd cc) refl;
   risen = λ c past n h K. besides_present c past (client_rises c n) h (λ i e. absurd cc) refl;
   served = λ c past i place m armed h up at to K. up_present c past i (Some place) armed (server_row (Server i) (c.hosts i).state c.clock place (Whole m)) h (served_boot i (c.hosts i).state c.clock place m) (serves_now c past i place m h up at) K;
-  cut = λ c past i place m t h up at to K. quiet_present c past i (record (c.hosts i) { down = Some (in_step m c.clock); armed = unarmed }) (server_falls c i (lines.Given place ∷ blow_line i t ∷ []) (in_step m c.clock)) h refl refl (no_fall (in_step m c.clock) _);
+  cut = λ c past i place m t h up at to K. quiet_present c past i (record (c.hosts i) { down = Some (in_step m c.clock t); armed = unarmed }) (server_falls c i (lines.Given place ∷ blow_line i t.stops ∷ []) (in_step m c.clock t)) h refl refl (no_fall (in_step m c.clock t) _);
   stopped = λ c past i h up K. quiet_present c past i (record (c.hosts i) { down = Some at_rest; armed = unarmed }) (server_falls c i (lines.Crash (Server i) ∷ []) at_rest) h refl refl (no_fall at_rest _);
   stop_set = λ c past i calls pick armed h up K. quiet_present c past i (record (c.hosts i) { armed = armed }) (server_set c i (lines.Stop (Server i) calls pick) armed) h refl refl (h.1 i);
   fail_set = λ c past i call armed h up K. quiet_present c past i (record (c.hosts i) { armed = armed }) (server_set c i (lines.Fail (Server i) call) armed) h refl refl (h.1 i);

@@ -131,8 +131,8 @@ begun_still me x clock (saves head c) ls h = versions_still (made c) ls h
 
 disk_still : (me : Node) (x : ServerState) (after : Bool) (fall : Fall) (ls : List Line) → all_lines is_still ls ≡ true → all_lines is_still ((begun_by_disk me x after fall).before ls) ≡ true
 disk_still me x after at_rest ls h = h
-disk_still me x false (in_step m clock) ls h = h
-disk_still me x true (in_step m clock) ls h = begun_still me x clock (decides me x clock (Whole m)) ls h
+disk_still me x false (in_step m clock hit) ls h = h
+disk_still me x true (in_step m clock hit) ls h = begun_still me x clock (decides me x clock (Whole m)) ls h
 disk_still me x false in_boot ls h = h
 disk_still me x true in_boot ls h = h
 
@@ -335,7 +335,7 @@ grant_moves s = record {
   fallen = λ c past n h. (tt, tt);
   risen = λ c past n h. (tt, tt);
   served = λ c past i place m armed h up at to. served_rules s c past i place m h up at;
-  cut = λ c past i place m t h up at to. all_still (actors.Node (Server i)) past [] (lines.Given place ∷ blow_line i t ∷ []) (blow_still i place t);
+  cut = λ c past i place m t h up at to. all_still (actors.Node (Server i)) past [] (lines.Given place ∷ blow_line i t.stops ∷ []) (blow_still i place t.stops);
   stopped = λ c past i h up. (tt, tt);
   stop_set = λ c past i calls pick armed h up. (tt, tt);
   fail_set = λ c past i call armed h up. (tt, tt);

@@ -67,22 +67,25 @@ last_there f index past m q same = subst (λ (x : Message). (r : Ran x.head past
     (λ r t h. subst (λ (p : List Entry). IsLast f index (lines_of p)) (ran_same q.head past r t) h)
 
 read_good : (s : Script) (t : Bool) (c : Node) (f : Fid) (index : ℕ) (source : ReadSource) (body : ReadBody) (past : List Entry) (own : List Line) → ShownBy s t c f index source body past own → (u : IsUsed s t c f source body past own) → CauseFor s t c f source body past own u → IsBrought s c f index source body (own ++ lines_of past) → GoodReadBy s t c f index source body past own
-read_good s true c f index source body past own w u k b = record {
-  whole = w.whole;
-  not_older = w.not_older;
-  used = u;
-  brought = b;
-  reply = w.reply;
-  by = w.by;
-  expiry = w.expiry;
-  grant = w.grant;
-  exact = w.exact;
-  home = w.home;
-  granted = w.granted;
-  lasts = w.lasts;
-  kept = w.kept;
-  newest = w.newest;
-}
+read_good s true c f index source body past own w u k b = (
+  record {
+    whole = w.whole;
+    not_older = w.not_older;
+    used = u.0;
+    brought = b;
+    reply = w.reply;
+    by = w.by;
+    expiry = w.expiry;
+    grant = w.grant;
+    exact = w.exact;
+    home = w.home;
+    granted = w.granted;
+    lasts = w.lasts;
+    kept = w.kept;
+    newest = w.newest;
+  },
+  u.1,
+)
 read_good s false c f index source body past own w u k b = record {
   fetched = u.fetched;
   act = u.act;

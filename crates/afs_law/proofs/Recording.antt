@@ -131,7 +131,7 @@ told_moves s = record {
   fallen = λ c past n h. inl refl;
   risen = λ c past n h. inl refl;
   served = λ c past i place m armed h up at to. works_saved s c past i _ _ h.0 refl refl (serves_works (IsPlaced c past i) (Server i) (c.hosts i).state c.clock place m (λ rest. ((place, at), inl (record { place = place; front' = refl; at = at; up = up }))));
-  cut = λ c past i place m t h up at to. inl (blow_blank i place t);
+  cut = λ c past i place m t h up at to. inl (blow_blank i place t.stops);
   stopped = λ c past i h up. inl refl;
   stop_set = λ c past i calls pick armed h up. inl refl;
   fail_set = λ c past i call armed h up. inl refl;

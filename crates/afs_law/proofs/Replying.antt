@@ -189,13 +189,13 @@ after_replies T me x clock d h k = h
 
 -- the step that was interrupted
 abbrev pub MakesCut : (Message → Type 0) → Node → ServerState → Fall → Type 0
-MakesCut T me x (in_step m clock) = Leaves T x clock (decides me x clock (Whole m))
+MakesCut T me x (in_step m clock hit) = Leaves T x clock (decides me x clock (Whole m))
 MakesCut T me x fall = ⊤
 
 pub disk_replies : (T : Message → Type 0) (me : Node) (x : ServerState) (after : Bool) (fall : Fall) → Replies T x → (after ≡ true → MakesCut T me x fall) → Replies T (begun_by_disk me x after fall).state
 disk_replies T me x after at_rest h k = h
-disk_replies T me x false (in_step m clock) h k = h
-disk_replies T me x true (in_step m clock) h k = after_replies T me x clock (decides me x clock (Whole m)) h (k refl)
+disk_replies T me x false (in_step m clock hit) h k = h
+disk_replies T me x true (in_step m clock hit) h k = after_replies T me x clock (decides me x clock (Whole m)) h (k refl)
 disk_replies T me x false in_boot h k = h
 disk_replies T me x true in_boot h k = record { seats = h.kept; kept = h.kept; held = h.held }
 

@@ -184,8 +184,8 @@ after_sits me x clock d r h = h
 
 disk_sits : (me : Node) (x : ServerState) (after : Bool) (fall : Fall) → Sits me x → Sits me (begun_by_disk me x after fall).state
 disk_sits me x after at_rest h = h
-disk_sits me x false (in_step m clock) h = h
-disk_sits me x true (in_step m clock) h = after_sits me x clock (decides me x clock (Whole m)) (hears_runs me x clock m.head m.carried) h
+disk_sits me x false (in_step m clock hit) h = h
+disk_sits me x true (in_step m clock hit) h = after_sits me x clock (decides me x clock (Whole m)) (hears_runs me x clock m.head m.carried) h
 disk_sits me x false in_boot h = h
 disk_sits me x true in_boot h = record { seats = h.kept; kept = h.kept }
 

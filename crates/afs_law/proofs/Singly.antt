@@ -637,8 +637,8 @@ after_ends me past b x clock (shows head r) ls k = k [] (first_calm past)
 
 disk_ends : (me : Node) (past : List Entry) (b : Backs) (x : ServerState) (after : Bool) (fall : Fall) (ls : List Line) → EndsBehind me past b ls → Ends me past b [] ((begun_by_disk me x after fall).before ls)
 disk_ends me past b x after at_rest ls k = k [] (first_calm past)
-disk_ends me past b x false (in_step m clock) ls k = k [] (first_calm past)
-disk_ends me past b x true (in_step m clock) ls k = after_ends me past b x clock (decides me x clock (Whole m)) ls k
+disk_ends me past b x false (in_step m clock hit) ls k = k [] (first_calm past)
+disk_ends me past b x true (in_step m clock hit) ls k = after_ends me past b x clock (decides me x clock (Whole m)) ls k
 disk_ends me past b x false in_boot ls k = k [] (first_calm past)
 disk_ends me past b x true in_boot ls k = k [] (first_calm past)
 
@@ -673,8 +673,8 @@ after_top P me x clock (shows head r) ls o w = w o
 
 disk_top : (P : List Line → Type 0) (me : Node) (x : ServerState) (after : Bool) (fall : Fall) (ls o : List Line) → ((p : List Line) → P (onto p ls)) → P (onto o ((begun_by_disk me x after fall).before ls))
 disk_top P me x after at_rest ls o w = w o
-disk_top P me x false (in_step m clock) ls o w = w o
-disk_top P me x true (in_step m clock) ls o w = after_top P me x clock (decides me x clock (Whole m)) ls o w
+disk_top P me x false (in_step m clock hit) ls o w = w o
+disk_top P me x true (in_step m clock hit) ls o w = after_top P me x clock (decides me x clock (Whole m)) ls o w
 disk_top P me x false in_boot ls o w = w o
 disk_top P me x true in_boot ls o w = w o
 
@@ -795,7 +795,7 @@ singly_moves s = (let q : EachMove (Placed s) (PlacedStep s) = placed_moves s in
   fallen = λ c past n h. besides_single s c past (client_falls c n) h (q.fallen c past n h.0) (λ i e. absurd cc) refl;
   risen = λ c past n h. besides_single s c past (client_rises c n) h (q.risen c past n h.0) (λ i e. absurd cc) refl;
   served = λ c past i place m armed h up at to. up_single s c past i armed (server_row (Server i) (c.hosts i).state c.clock place (Whole m)) h (q.served c past i place m armed h.0 up at to) (served_ends (Server i) (c.hosts i).state c.clock place m past (up_now c past i h.1 up));
-  cut = λ c past i place m t h up at to. falls_single s c past i (lines.Given place ∷ blow_line i t ∷ []) (in_step m c.clock) h (q.cut c past i place m t h.0 up at to) (blow_breakless i t) (blow_none i t (lines.Given place ∷ lines_of past));
+  cut = λ c past i place m t h up at to. falls_single s c past i (lines.Given place ∷ blow_line i t.stops ∷ []) (in_step m c.clock t) h (q.cut c past i place m t h.0 up at to) (blow_breakless i t.stops) (blow_none i t.stops (lines.Given place ∷ lines_of past));
   stopped = λ c past i h up. falls_single s c past i (lines.Crash (Server i) ∷ []) at_rest h (q.stopped c past i h.0 up) refl (blow_none i true (lines_of past));
   stop_set = λ c past i calls pick armed h up. set_single s c past i (lines.Stop (Server i) calls pick) armed h (q.stop_set c past i calls pick armed h.0 up) refl;
   fail_set = λ c past i call armed h up. set_single s c past i (lines.Fail (Server i) call) armed h (q.fail_set c past i call armed h.0 up) refl;

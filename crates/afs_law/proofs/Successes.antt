@@ -93,8 +93,8 @@ after_kept me x clock d h k = h
 
 disk_kept : (me : Node) (x : ServerState) (after : Bool) (fall : Fall) → AreTold IsDone x.lasting.kept → AreTold IsDone (begun_by_disk me x after fall).state.lasting.kept
 disk_kept me x after at_rest h = h
-disk_kept me x false (in_step m clock) h = h
-disk_kept me x true (in_step m clock) h = after_kept me x clock (decides me x clock (Whole m)) h (leaves_done me x clock m (decides me x clock (Whole m)) (chosen me x clock m))
+disk_kept me x false (in_step m clock hit) h = h
+disk_kept me x true (in_step m clock hit) h = after_kept me x clock (decides me x clock (Whole m)) h (leaves_done me x clock m (decides me x clock (Whole m)) (chosen me x clock m))
 disk_kept me x false in_boot h = h
 disk_kept me x true in_boot h = h
 
@@ -208,7 +208,7 @@ coded_moves s = record {
   fallen = λ c past n h. besides_coded c past (client_falls c n) h.1 (λ i e. absurd cc) refl;
   risen = λ c past n h. besides_coded c past (client_rises c n) h.1 (λ i e. absurd cc) refl;
   served = λ c past i place m armed h up at to. served_coded s c past i place m armed h up at;
-  cut = λ c past i place m t h up at to. down_coded c past i (c.hosts i).state (in_step m c.clock) unarmed (server_falls c i (lines.Given place ∷ blow_line i t ∷ []) (in_step m c.clock)) h.1 refl refl refl (h.1 i).kept;
+  cut = λ c past i place m t h up at to. down_coded c past i (c.hosts i).state (in_step m c.clock t) unarmed (server_falls c i (lines.Given place ∷ blow_line i t.stops ∷ []) (in_step m c.clock t)) h.1 refl refl refl (h.1 i).kept;
   stopped = λ c past i h up. down_coded c past i (c.hosts i).state at_rest unarmed (server_falls c i (lines.Crash (Server i) ∷ []) at_rest) h.1 refl refl refl (h.1 i).kept;
   stop_set = λ c past i calls pick armed h up. set_coded c past i armed (server_set c i (lines.Stop (Server i) calls pick) armed) h.1 refl refl refl;
   fail_set = λ c past i call armed h up. set_coded c past i armed (server_set c i (lines.Fail (Server i) call) armed) h.1 refl refl refl;

@@ -49,7 +49,7 @@ use Rattle.afs_num.specs.declared.types.Node.{Node}
 use Rattle.afs_num.specs.declared.types.Node.TheVariants.{Client, Server}
 use Rattle.afs_rows.specs.Callbacks.{expired, put, replies_of, turn_for, turned_by}
 use Rattle.afs_rows.specs.ClientRow.{begin_row, client_row, reborn, timeout_row}
-use Rattle.afs_rows.specs.Runs.{Armed, Cell, Entry, Fall, Host, at_rest, begun_by_disk, blow_line, client_moves, in_boot, in_step, message_at, server_falls, server_moves, server_rises, server_stays, start, unarmed}
+use Rattle.afs_rows.specs.Runs.{Blow, Armed, Cell, Entry, Fall, Host, at_rest, begun_by_disk, blow_line, client_moves, in_boot, in_step, message_at, server_falls, server_moves, server_rises, server_stays, start, unarmed}
 use Rattle.afs_rows.specs.ServerRow.{Begun, Change, Decision, Reading, admits, begun_after, carried_by, change_reply_to, decides, does, drops, granted, granted_in, hears, is_client, key_of, made, not_served, promise_ticks, promised_in, read_reply_to, refusal, refuses, repeats, reply_head, result, saves, serves_call, shows, stored_by, tells_boot, versioned, whole}
 use Rattle.afs_rows.specs.ServerSteps.{back_timeout_row, server_row, start_row, wake_row}
 use Rattle.afs_rows.specs.Going.{ClientState}
@@ -513,20 +513,20 @@ cut_leaves i x clock m e past rest d h ideal ls y = tt
 pub record Told (hosts : ℕ → Host) (sent : List Message) (past : List Entry) : Type 0 where
   pub sends : Each (IsTold past) sent
   pub hosts' : (i : ℕ) → Replies (IsTold past) (hosts i).state
-  pub cuts : (i : ℕ) (m : Message) (clock : ℕ) → (hosts i).down ≡ Some (in_step m clock) → CutHeld i (hosts i).state m past
+  pub cuts : (i : ℕ) (m : Message) (clock : ℕ) (hit : Blow) → (hosts i).down ≡ Some (in_step m clock hit) → CutHeld i (hosts i).state m past
 
 abbrev pub ToldIn : Cell → List Entry → Type 0
 ToldIn c past = Told c.hosts c.sent past
 
 others_told : (hosts : ℕ → Host) (sent more : List Message) (past : List Entry) (e : Entry) → Told hosts sent past → Each (IsTold (e ∷ past)) more → Told hosts more (e ∷ past)
-others_told hosts sent more past e h w = record { sends = w; hosts' = λ i. replies_later e past (hosts i).state (h.hosts' i); cuts = λ i m clock d. cut_later i (hosts i).state m e past (h.cuts i m clock d) }
+others_told hosts sent more past e h w = record { sends = w; hosts' = λ i. replies_later e past (hosts i).state (h.hosts' i); cuts = λ i m clock hit d. cut_later i (hosts i).state m e past (h.cuts i m clock hit d) }
 
-host_told : (hosts : ℕ → Host) (sent more : List Message) (past : List Entry) (e : Entry) (i : ℕ) (x : Host) → Told hosts sent past → Each (IsTold (e ∷ past)) more → Replies (IsTold (e ∷ past)) x.state → ((m : Message) (clock : ℕ) → x.down ≡ Some (in_step m clock) → CutHeld i x.state m (e ∷ past)) → Told (put i x hosts) more (e ∷ past)
+host_told : (hosts : ℕ → Host) (sent more : List Message) (past : List Entry) (e : Entry) (i : ℕ) (x : Host) → Told hosts sent past → Each (IsTold (e ∷ past)) more → Replies (IsTold (e ∷ past)) x.state → ((m : Message) (clock : ℕ) (hit : Blow) → x.down ≡ Some (in_step m clock hit) → CutHeld i x.state m (e ∷ past)) → Told (put i x hosts) more (e ∷ past)
 host_told hosts sent more past e i x h w r cut = record {
   sends = w;
   hosts' = λ j. at_put i j (λ (y : Host). Replies (IsTold (e ∷ past)) y.state) x hosts (λ same. r) (λ other. replies_later e past (hosts j).state (h.hosts' j));
-  cuts = λ j m clock. at_put i j (λ (y : Host). y.down ≡ Some (in_step m clock) → CutHeld j y.state m (e ∷ past)) x hosts
-      (λ same d. subst (λ (k : ℕ). CutHeld k x.state m (e ∷ past)) same (cut m clock d)) (λ other d. cut_later j (hosts j).state m e past (h.cuts j m clock d));
+  cuts = λ j m clock hit. at_put i j (λ (y : Host). y.down ≡ Some (in_step m clock hit) → CutHeld j y.state m (e ∷ past)) x hosts
+      (λ same d. subst (λ (k : ℕ). CutHeld k x.state m (e ∷ past)) same (cut m clock hit d)) (λ other d. cut_later j (hosts j).state m e past (h.cuts j m clock hit d));
 }
 
 all_later : (e : Entry) (past : List Entry) (sent : List Message) → Each (IsTold past) sent → Each (IsTold (e ∷ past)) sent
@@ -543,9 +543,9 @@ acts_told c past n st h from =
 moves_told : (c : Cell) (past : List Entry) (i : ℕ) (armed : Armed) (st : Step ServerState) → Told c.hosts c.sent past → Replied (IsTold ((server_moves c i armed st).entry ∷ past)) st → Behind ToldIn c past (server_moves c i armed st)
 moves_told c past i armed st h r =
     let e : Entry = (server_moves c i armed st).entry in
-    host_told c.hosts c.sent (c.sent ++ st.sent) past e i (record { state = st.state; down = None; armed = armed }) h (each_more (IsTold (e ∷ past)) c.sent st.sent (all_later e past c.sent h.sends) r.sent) r.replies (λ m clock d. absurd cc)
+    host_told c.hosts c.sent (c.sent ++ st.sent) past e i (record { state = st.state; down = None; armed = armed }) h (each_more (IsTold (e ∷ past)) c.sent st.sent (all_later e past c.sent h.sends) r.sent) r.replies (λ m clock hit d. absurd cc)
 
-falls_told : (c : Cell) (past : List Entry) (i : ℕ) (x : Host) (e : Entry) → Told c.hosts c.sent past → x.state ≡ (c.hosts i).state → ((m : Message) (clock : ℕ) → x.down ≡ Some (in_step m clock) → CutHeld i x.state m (e ∷ past)) → Told (put i x c.hosts) c.sent (e ∷ past)
+falls_told : (c : Cell) (past : List Entry) (i : ℕ) (x : Host) (e : Entry) → Told c.hosts c.sent past → x.state ≡ (c.hosts i).state → ((m : Message) (clock : ℕ) (hit : Blow) → x.down ≡ Some (in_step m clock hit) → CutHeld i x.state m (e ∷ past)) → Told (put i x c.hosts) c.sent (e ∷ past)
 falls_told c past i x e h same cut = host_told c.hosts c.sent c.sent past e i x h (all_later e past c.sent h.sends) (subst (Replies (IsTold (e ∷ past))) (sym same) (replies_later e past (c.hosts i).state (h.hosts' i))) cut
 
 -- ---- every step
@@ -577,9 +577,9 @@ cut_makes : (s : Script) (c : Cell) (past : List Entry) (e : Entry) (i : ℕ) (a
 cut_makes s c past e i false fall rest h down ls a = absurd cc
 cut_makes s c past e i true at_rest rest h down ls a = tt
 cut_makes s c past e i true in_boot rest h down ls a = tt
-cut_makes s c past e i true (in_step m clock) rest h down ls a =
-    let sent : IsSent c.sent m = h.0.0.1.cut i m clock down in
-    cut_leaves i (c.hosts i).state clock m e past rest (decides (Server i) (c.hosts i).state clock (Whole m)) (h.1.cuts i m clock down) (are_ideal s c past i h.0.0) ls
+cut_makes s c past e i true (in_step m clock hit) rest h down ls a =
+    let sent : IsSent c.sent m = h.0.0.1.cut i m clock hit down in
+    cut_leaves i (c.hosts i).state clock m e past rest (decides (Server i) (c.hosts i).state clock (Whole m)) (h.1.cuts i m clock hit down) (are_ideal s c past i h.0.0) ls
     (why (Server i) (c.hosts i).state clock m (is_file (IsOne c.sent) m (each_at (IfCall (IsOne c.sent)) c.sent sent.0 m sent.1 h.0.0.0.1.ones)))
 
 disk_told : (s : Script) (c : Cell) (past : List Entry) (e : Entry) (i : ℕ) (after : Bool) (fall : Fall) (rest : List Line) → Telling s c past → (c.hosts i).down ≡ Some fall → e.lines ≡ (begun_by_disk (Server i) (c.hosts i).state after fall).before rest → Replies (IsTold (e ∷ past)) (begun_by_disk (Server i) (c.hosts i).state after fall).state
@@ -592,11 +592,11 @@ started_told s c past i after fall h down =
     let e : Entry = (server_moves c i unarmed st).entry in
     moves_told c past i unarmed st h.1 (starts_replies (IsTold (e ∷ past)) (spares (e ∷ past)) i c.clock c.count f (disk_told s c past e i after fall (risen_lines (Server i) c.clock c.count f) h down (rise_lines (Server i) c.clock c.count f)))
 
-stays_told : (s : Script) (c : Cell) (past : List Entry) (i : ℕ) (after : Bool) (fall now : Fall) (l : Line) → Telling s c past → (c.hosts i).down ≡ Some fall → ((m : Message) (clock : ℕ) → Some now ≡ Some (in_step m clock) → ⊥) → Behind ToldIn c past (server_stays c i (begun_by_disk (Server i) (c.hosts i).state after fall) l now)
+stays_told : (s : Script) (c : Cell) (past : List Entry) (i : ℕ) (after : Bool) (fall now : Fall) (l : Line) → Telling s c past → (c.hosts i).down ≡ Some fall → ((m : Message) (clock : ℕ) (hit : Blow) → Some now ≡ Some (in_step m clock hit) → ⊥) → Behind ToldIn c past (server_stays c i (begun_by_disk (Server i) (c.hosts i).state after fall) l now)
 stays_told s c past i after fall now l h down none =
     let f : Begun = begun_by_disk (Server i) (c.hosts i).state after fall in
     let e : Entry = (server_stays c i f l now).entry in
-    host_told c.hosts c.sent c.sent past e i (record { state = f.state; down = Some now; armed = unarmed }) h.1 (all_later e past c.sent h.1.sends) (disk_told s c past e i after fall (l ∷ []) h down refl) (λ m clock d. absurd (none m clock d))
+    host_told c.hosts c.sent c.sent past e i (record { state = f.state; down = Some now; armed = unarmed }) h.1 (all_later e past c.sent h.1.sends) (disk_told s c past e i after fall (l ∷ []) h down refl) (λ m clock hit d. absurd (none m clock hit d))
 
 pub told_moves : (s : Script) → EachMove (Telling s) (Behind ToldIn)
 told_moves s = record {
@@ -608,22 +608,22 @@ told_moves s = record {
   fallen = λ c past n h. acts_told c past n (record { state = reborn (c.clients n); lines = lines.Crash (Client n) ∷ []; sent = [] }) h.1 tt;
   risen = λ c past n h. acts_told c past n (record { state = c.clients n; lines = lines.Restart (Client n) (c.clients n).epoch ∷ []; sent = [] }) h.1 tt;
   served = λ c past i place m armed h up at to. served_told s c past i place m armed h up at;
-  cut = λ c past i place m t h up at to. falls_told c past i _ (server_falls c i (lines.Given place ∷ blow_line i t ∷ []) (in_step m c.clock)).entry h.1 refl
-      (λ k clock d. subst (λ (y : Message). CutHeld i (c.hosts i).state y ((server_falls c i (lines.Given place ∷ blow_line i t ∷ []) (in_step m c.clock)).entry ∷ past)) (same_cut m k c.clock clock d) (cut_here s c past i place m t (server_falls c i (lines.Given place ∷ blow_line i t ∷ []) (in_step m c.clock)).entry h.0.0 up at refl refl));
-  stopped = λ c past i h up. falls_told c past i _ _ h.1 refl (λ m clock d. absurd cc);
-  stop_set = λ c past i calls pick armed h up. falls_told c past i _ _ h.1 refl (λ m clock d. cut_later i (c.hosts i).state m _ past (h.1.cuts i m clock d));
-  fail_set = λ c past i call armed h up. falls_told c past i _ _ h.1 refl (λ m clock d. cut_later i (c.hosts i).state m _ past (h.1.cuts i m clock d));
+  cut = λ c past i place m t h up at to. falls_told c past i _ (server_falls c i (lines.Given place ∷ blow_line i t.stops ∷ []) (in_step m c.clock t)).entry h.1 refl
+      (λ k clock hit d. subst (λ (y : Message). CutHeld i (c.hosts i).state y ((server_falls c i (lines.Given place ∷ blow_line i t.stops ∷ []) (in_step m c.clock t)).entry ∷ past)) (same_cut m k c.clock clock t hit d) (cut_here s c past i place m t.stops (server_falls c i (lines.Given place ∷ blow_line i t.stops ∷ []) (in_step m c.clock t)).entry h.0.0 up at refl refl));
+  stopped = λ c past i h up. falls_told c past i _ _ h.1 refl (λ m clock hit d. absurd cc);
+  stop_set = λ c past i calls pick armed h up. falls_told c past i _ _ h.1 refl (λ m clock hit d. cut_later i (c.hosts i).state m _ past (h.1.cuts i m clock hit d));
+  fail_set = λ c past i call armed h up. falls_told c past i _ _ h.1 refl (λ m clock hit d. cut_later i (c.hosts i).state m _ past (h.1.cuts i m clock hit d));
   timed = λ c past i n b armed h up at. moves_told c past i armed (back_timeout_row (Server i) (c.hosts i).state c.clock n b) h.1 (times_replies _ (spares _) i (c.hosts i).state c.clock n b (replies_later _ past (c.hosts i).state (h.1.hosts' i)));
   woken = λ c past i armed h up. moves_told c past i armed (wake_row (Server i) (c.hosts i).state c.clock) h.1 (wakes_replies _ (spares _) i (c.hosts i).state c.clock (replies_later _ past (c.hosts i).state (h.1.hosts' i)));
   started = λ c past i after fall h down. started_told s c past i after fall h down;
-  early = λ c past i fall h down. falls_told c past i _ _ h.1 refl (λ m clock d. cut_later i (c.hosts i).state m _ past (h.1.cuts i m clock (down ∙ d)));
-  midway = λ c past i after fall h down. stays_told s c past i after fall in_boot (lines.Fault (Server i)) h down (λ m clock e. absurd cc);
-  full = λ c past i after fall h down. stays_told s c past i after fall at_rest (lines.Full (Server i)) h down (λ m clock e. absurd cc);
+  early = λ c past i fall h down. falls_told c past i _ _ h.1 refl (λ m clock hit d. cut_later i (c.hosts i).state m _ past (h.1.cuts i m clock hit (down ∙ d)));
+  midway = λ c past i after fall h down. stays_told s c past i after fall in_boot (lines.Fault (Server i)) h down (λ m clock hit e. absurd cc);
+  full = λ c past i after fall h down. stays_told s c past i after fall at_rest (lines.Full (Server i)) h down (λ m clock hit e. absurd cc);
 }
 
 pub told_first : (s : Script) → ToldIn (start s) (set_up s ∷ [])
 told_first s = record {
   sends = tt;
   hosts' = λ i. record { seats = λ n seat m at r. absurd cc; kept = λ n seat m at r. absurd cc; held = tt };
-  cuts = λ i m clock d. absurd cc;
+  cuts = λ i m clock hit d. absurd cc;
 }

@@ -38,7 +38,7 @@ AnyCall m front rest = ⊤
 
 pub any_cut : (ls : List Line) (fall : Fall) → IfCut (λ m. AnyCall m [] ls) fall
 any_cut ls at_rest = tt
-any_cut ls (in_step m clock) = tt
+any_cut ls (in_step m clock hit) = tt
 any_cut ls in_boot = tt
 
 lines_by : (q p : Line → Bool) → ((l : Line) → p l ≡ true → q l ≡ true) → (ls : List Line) → all_lines p ls ≡ true → all_lines q ls ≡ true
@@ -103,7 +103,7 @@ ticks_moves s = record {
   fallen = λ c past n h. h.1;
   risen = λ c past n h. h.1;
   served = λ c past i place m armed h up at to. works_stand c past i _ _ h.1 (serves_works AnyCall (Server i) (c.hosts i).state c.clock place m (λ rest. tt));
-  cut = λ c past i place m t h up at to. blow_stands c past i place t h.1;
+  cut = λ c past i place m t h up at to. blow_stands c past i place t.stops h.1;
   stopped = λ c past i h up. h.1;
   stop_set = λ c past i calls pick armed h up. h.1;
   fail_set = λ c past i call armed h up. h.1;

@@ -306,7 +306,7 @@ unanswered_moves s = record {
   fallen = λ c past n h. client_unanswered s c past n _ h (falls_acts n (c.clients n)) (falls_follow n (c.clients n)) (ungiven_on n (c.clients n) (record { state = reborn (c.clients n); lines = lines.Crash (Client n) ∷ []; sent = [] }) past refl);
   risen = λ c past n h. client_unanswered s c past n _ h (rises_acts n (c.clients n)) (rises_follow n (c.clients n) (h.0.0.0.0.0.1 n).0) (ungiven_on n (c.clients n) (record { state = c.clients n; lines = lines.Restart (Client n) (c.clients n).epoch ∷ []; sent = [] }) past refl);
   served = λ c past i place m armed h up at to. idle_unanswered c past (server_moves c i armed (server_row (Server i) (c.hosts i).state c.clock place (Whole m))).entry h.1 (of_server i);
-  cut = λ c past i place m t h up at to. idle_unanswered c past (server_falls c i (lines.Given place ∷ blow_line i t ∷ []) (in_step m c.clock)).entry h.1 (of_server i);
+  cut = λ c past i place m t h up at to. idle_unanswered c past (server_falls c i (lines.Given place ∷ blow_line i t.stops ∷ []) (in_step m c.clock t)).entry h.1 (of_server i);
   stopped = λ c past i h up. idle_unanswered c past (server_falls c i (lines.Crash (Server i) ∷ []) at_rest).entry h.1 (of_server i);
   stop_set = λ c past i calls pick armed h up. idle_unanswered c past (server_set c i (lines.Stop (Server i) calls pick) armed).entry h.1 (of_server i);
   fail_set = λ c past i call armed h up. idle_unanswered c past (server_set c i (lines.Fail (Server i) call) armed).entry h.1 (of_server i);

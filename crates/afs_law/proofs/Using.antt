@@ -75,7 +75,7 @@ use_of s c f body m past own ls (inr g) u = let no_ : None ≡ Some u.used.reply
 read_use : (s : Script) (c n : Node) (f g : Fid) (body : ReadBody) (m : Message) (past : List Entry) (own ls : List Line) (t u v : Bool) → is_promised body ≡ t → same_node n c ≡ u → same_fid g f ≡ v → IsGivenIn (sent_of past) m own ls → IsUsed s (is_promised body) n g Fetched body past own → (rest : Bool) → cond (t && (u && v)) true rest ≡ true → (rest ≡ true → IsUseOf s c f m past) → IsUseOf s c f m past
 read_use s c n f g body m past own ls true true true p q r given used rest e w =
     use_of s c f body m past own ls given
-    (subst (λ (x : Node). IsUse s x f body past own) (same_node-true n c q) (subst (λ (h : Fid). IsUse s n h body past own) (same_fid-true g f r) (subst (λ (b : Bool). IsUsed s b n g Fetched body past own) p used refl)))
+    (subst (λ (x : Node). IsUse s x f body past own) (same_node-true n c q) (subst (λ (h : Fid). IsUse s n h body past own) (same_fid-true g f r) ((subst (λ (b : Bool). IsUsed s b n g Fetched body past own) p used).0 refl)))
 read_use s c n f g body m past own ls true true false p q r given used rest e w = w e
 read_use s c n f g body m past own ls true false v p q r given used rest e w = w e
 read_use s c n f g body m past own ls false u v p q r given used rest e w = w e

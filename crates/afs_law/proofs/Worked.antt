@@ -356,11 +356,11 @@ other_fid e = apart_numbers 1 2 refl (ap (λ (f : Fid). f.vnode) e)
 
 shown_wrong : Legal (alters 2 (by_lines shows_other) (entries (start (script 1)) open_front)) (script 1) → ⊥
 unfolding moved begin_row client_row server_row back_timeout_row wake_row start_row record_bytes head_form volume_form spelled opaque pad word laid_at led name_ok directory_bytes name_bytes rights_of image acl_text digits entry_text
-shown_wrong h = elim h.1.1.0.0.0.1.0.1.whole.1 [ inl x ↦ other_fid x.0 | inr y ↦ elim y [ inl x ↦ other_bytes x.1.1 | inr z ↦ z ] ]
+shown_wrong h = elim h.1.1.0.0.0.1.0.1.0.whole.1 [ inl x ↦ other_fid x.0 | inr y ↦ elim y [ inl x ↦ other_bytes x.1.1 | inr z ↦ z ] ]
 
 shown_later : Legal (alters 2 (by_lines later_index) (entries (start (script 1)) open_front)) (script 1) → ⊥
 unfolding moved begin_row client_row server_row back_timeout_row wake_row start_row record_bytes head_form volume_form spelled opaque pad word laid_at led name_ok directory_bytes name_bytes rights_of image acl_text digits entry_text
-shown_later h = elim h.1.1.0.0.0.1.0.1.whole.1 [ inl x ↦ other_fid x.0 | inr y ↦ elim y [ inl x ↦ apart_numbers 1 2 refl x.1.0 | inr z ↦ z ] ]
+shown_later h = elim h.1.1.0.0.0.1.0.1.0.whole.1 [ inl x ↦ other_fid x.0 | inr y ↦ elim y [ inl x ↦ apart_numbers 1 2 refl x.1.0 | inr z ↦ z ] ]
 
 -- a status that the object never had, and a text of rights that it never had
 abbrev stat_front : List Input
@@ -387,7 +387,7 @@ first_code (b ∷ rest) = b
 
 status_wrong : Legal (alters 2 (by_lines tells_linked) (entries (start (script 1)) stat_front)) (script 1) → ⊥
 unfolding moved begin_row client_row server_row back_timeout_row wake_row start_row record_bytes head_form volume_form spelled opaque pad word laid_at led name_ok directory_bytes name_bytes rights_of image acl_text digits entry_text
-status_wrong h = elim h.1.1.0.0.0.1.0.1.whole.1 [ inl x ↦ apart_numbers 1 7 refl (ap (λ (t : ReadStatus). t.link_count) x.1) | inr y ↦ elim y [ inl x ↦ apart_numbers 1 7 refl (ap (λ (t : ReadStatus). t.link_count) x.1) | inr z ↦ elim z [ inl x ↦ apart_numbers 1 7 refl (ap (λ (t : ReadStatus). t.link_count) x.1) | inr w ↦ w ] ] ]
+status_wrong h = elim h.1.1.0.0.0.1.0.1.0.whole.1 [ inl x ↦ apart_numbers 1 7 refl (ap (λ (t : ReadStatus). t.link_count) x.1) | inr y ↦ elim y [ inl x ↦ apart_numbers 1 7 refl (ap (λ (t : ReadStatus). t.link_count) x.1) | inr z ↦ elim z [ inl x ↦ apart_numbers 1 7 refl (ap (λ (t : ReadStatus). t.link_count) x.1) | inr w ↦ w ] ] ]
 
 rights_wrong : Legal (alters 2 (by_lines tells_rights) (entries (start (script 1)) rights_front)) (script 1) → ⊥
 unfolding moved begin_row client_row server_row back_timeout_row wake_row start_row record_bytes head_form volume_form spelled opaque pad word laid_at led name_ok directory_bytes name_bytes rights_of image acl_text digits entry_text first_code
@@ -439,7 +439,7 @@ stat_again = begins 1 (acts.Stat (operands.Fid file)) ∷ begins 2 (acts.Close (
 
 status_goes_back : Legal (alters 7 (too (lines.Read (Client 1) file 1 Cached (seen.Status (record { kind = 1; link_count = 1; length = 3; mode = 420 })))) (entries (start (script 2)) stat_again)) (script 2) → ⊥
 unfolding moved begin_row client_row server_row back_timeout_row wake_row start_row record_bytes head_form volume_form spelled opaque pad word laid_at led name_ok directory_bytes name_bytes rights_of image acl_text digits entry_text
-status_goes_back h = let e : 2 ≤ 1 = h.1.1.1.1.1.1.1.0.0.0.1.1.0.1.not_older in absurd (omega arith)
+status_goes_back h = let e : 2 ≤ 1 = h.1.1.1.1.1.1.1.0.0.0.1.1.0.1.0.not_older in absurd (omega arith)
 
 -- a status among those of a directory's names that the object never had
 abbrev statuses_front : List Input
@@ -447,7 +447,7 @@ statuses_front = begins 1 (acts.StatAll (operands.Fid root)) ∷ gives 1 steady 
 
 statuses_wrong : Legal (alters 4 (by_lines tells_linked) (entries (start (script 1)) statuses_front)) (script 1) → ⊥
 unfolding moved begin_row client_row server_row back_timeout_row wake_row start_row record_bytes head_form volume_form spelled opaque pad word laid_at led name_ok directory_bytes name_bytes rights_of image acl_text digits entry_text directory_of names_at opaque_at word_at counted_at whole_at count_at name_at spelled_at bytes_below
-statuses_wrong h = elim h.1.1.1.1.0.0.0.1.0.1.whole.1 [ inl x ↦ apart_numbers 1 7 refl (ap (λ (t : ReadStatus). t.link_count) x.1) | inr y ↦ elim y [ inl x ↦ apart_numbers 1 7 refl (ap (λ (t : ReadStatus). t.link_count) x.1) | inr z ↦ elim z [ inl x ↦ apart_numbers 1 7 refl (ap (λ (t : ReadStatus). t.link_count) x.1) | inr w ↦ elim w [ inl x ↦ apart_numbers 1 7 refl (ap (λ (t : ReadStatus). t.link_count) x.1) | inr v ↦ elim v [ inl x ↦ apart_numbers 1 7 refl (ap (λ (t : ReadStatus). t.link_count) x.1) | inr u ↦ u ] ] ] ] ]
+statuses_wrong h = elim h.1.1.1.1.0.0.0.1.0.1.0.whole.1 [ inl x ↦ apart_numbers 1 7 refl (ap (λ (t : ReadStatus). t.link_count) x.1) | inr y ↦ elim y [ inl x ↦ apart_numbers 1 7 refl (ap (λ (t : ReadStatus). t.link_count) x.1) | inr z ↦ elim z [ inl x ↦ apart_numbers 1 7 refl (ap (λ (t : ReadStatus). t.link_count) x.1) | inr w ↦ elim w [ inl x ↦ apart_numbers 1 7 refl (ap (λ (t : ReadStatus). t.link_count) x.1) | inr v ↦ elim v [ inl x ↦ apart_numbers 1 7 refl (ap (λ (t : ReadStatus). t.link_count) x.1) | inr u ↦ u ] ] ] ] ]
 
 -- ---- what a client gives back
 

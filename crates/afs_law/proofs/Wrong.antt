@@ -1,5 +1,5 @@
 -- Histories that are wrong for one reason each: a run, altered in one entry, of which just one condition isn't met. (Some of those of a server
--- that stops or is down, of a timeout, and of a client that makes two calls of one act, more than one condition refuses.)
+-- that stops or is down, of a timeout, of a read after a refusal, and of a client that makes two calls of one act, more than one condition refuses.)
 use Rattle.afs_law.proofs.Ideals.{at_home}
 use Rattle.afs_law.proofs.Backing.{all_lines}
 use Rattle.afs_num.specs.declared.types.Key.{Key}
@@ -31,7 +31,7 @@ use Rattle.afs_num.specs.declared.histories.Actor.{Actor}
 use Rattle.afs_num.specs.declared.types.Node.{Node}
 use Rattle.afs_law.proofs.Worked.{apart_numbers, home, by_lines, stores, alters, answer, begun, entries, file, root, script, six_front}
 use Rattle.afs_law.specs.Breaks.{HasStopped, IsCarried, IsNamedIn}
-use Rattle.afs_law.specs.Legal.{Answered, Brings, IsInTurn, IsKind, IsOpen, KnowsBoot, IsPromisedBy, Cause, EndsAct, IsGivenBack, IsNeededFrom, IsResult, Legal, answer_at, code_given}
+use Rattle.afs_law.specs.Legal.{Answered, Brings, IsInTurn, IsKind, IsOpen, IsLastCall, KnowsBoot, IsPromisedBy, Cause, EndsAct, IsGivenBack, IsNeededFrom, IsResult, Legal, answer_at, code_given}
 use Rattle.afs_model.specs.Messages.{spelled}
 use Rattle.afs_num.specs.Names.{name_ok}
 use Rattle.afs_num.specs.declared.types.Fid.{Fid}
@@ -436,10 +436,24 @@ old_reply_front = begins 1 (acts.Open (operands.Fid file)) ∷ gives 1 steady �
 read_of_an_old_reply : Legal (alters 4 (instead (lines.Given 2 ∷ shown Fetched ∷ [])) (entries (start (script 1)) old_reply_front)) (script 1) → ⊥
 unfolding moved begin_row client_row server_row back_timeout_row wake_row start_row record_bytes head_form volume_form spelled opaque pad word laid_at led name_ok directory_bytes name_bytes rights_of image acl_text digits entry_text directory_of names_at opaque_at word_at counted_at whole_at count_at name_at spelled_at bytes_below
 read_of_an_old_reply h =
-    let u = (h.1.1.1.1.0.0.0.1.0.1.used refl).used in
+    let u = (h.1.1.1.1.0.0.0.1.0.1.0.used refl).used in
     elim (subst (λ (m : Message). CalledSince (answered_key m.head) (codes "guest") u.call (past_of (set_up (script 1) ∷ []) (entries (start (script 1)) (take 4 old_reply_front)))) (sym (some_of _ _ u.by)) u.called) [
       | inl x ↦ elim x.1 [ inl y ↦ let e : 2 ≡ 1 = ap (λ (k : Key). k.number) y.0 in absurd (omega (arith, e)) | inr y ↦ y ]
       | inr x ↦ let e : true ≡ false = x.0 in absurd cc
+    ]
+
+-- a client walks to a file, and makes its second call; and then it shows the directory once more, by the reply to the first
+abbrev root_shown : Line
+root_shown = lines.Read (Client 1) root 1 Fetched (seen.Contents (bodies.Dir (record { name = codes "a"; vnode = 2; unique = 2 } ∷ [])))
+
+shown_once_more : Legal (alters 3 (instead (lines.Given 2 ∷ root_shown ∷ [])) (entries (start (script 1)) (walk_front ++ gives 2 steady ∷ []))) (script 1) → ⊥
+unfolding moved begin_row client_row server_row back_timeout_row wake_row start_row record_bytes head_form volume_form spelled opaque pad word laid_at led name_ok directory_bytes name_bytes rights_of image acl_text digits entry_text directory_of names_at opaque_at word_at counted_at whole_at count_at name_at spelled_at bytes_below
+shown_once_more h =
+    let u = (h.1.1.1.0.0.0.1.0.1.0.used refl).used in
+    let past : List Entry = past_of (set_up (script 1) ∷ []) (entries (start (script 1)) walk_front) in
+    elim ((subst (λ (m : Message). IsLastCall (answered_key m.head) (sent_of past)) (sym (some_of _ _ u.by)) u.last).1.1.0 tt refl) [
+      | inl x ↦ let e : 1 < 1 = x in absurd (omega arith)
+      | inr x ↦ let e : 2 ≤ 1 = x.1 in absurd (omega arith)
     ]
 
 -- a client opens a file, and tells so only when the reply comes again
@@ -641,7 +655,7 @@ gone_front = begins 1 (acts.Open (operands.Fid file)) ∷ gives 1 steady ∷ giv
 
 read_when_gone : Legal (alters 7 (instead (lines.Begin (Client 1) (acts.ReadLink (operands.Fid file)) ∷ lines.Read (Client 1) file 2 Cached (seen.Contents bodies.Gone) ∷ answer 1 ∷ [])) (entries (start (script 2)) gone_front)) (script 2) → ⊥
 unfolding moved begin_row client_row server_row back_timeout_row wake_row start_row record_bytes head_form volume_form spelled opaque pad word laid_at led name_ok directory_bytes name_bytes rights_of image acl_text digits entry_text directory_of names_at opaque_at word_at counted_at whole_at count_at name_at spelled_at bytes_below
-read_when_gone h = h.1.1.1.1.1.1.1.0.0.0.1.0.1.whole.0
+read_when_gone h = h.1.1.1.1.1.1.1.0.0.0.1.0.1.0.whole.0
 
 -- ---- what is given back was dropped
 
@@ -1203,7 +1217,7 @@ stat_front = begins 1 (acts.Stat (operands.Fid file)) ∷ gives 1 steady ∷ giv
 read_what_was_only_looked_at : Legal (entries (start (script 1)) stat_front ++ step_of (Client 1) (begun 1 ∷ shown Cached ∷ answer 1 ∷ []) [] ∷ []) (script 1) → ⊥
 unfolding moved begin_row client_row server_row back_timeout_row wake_row start_row record_bytes head_form volume_form spelled opaque pad word laid_at led name_ok directory_bytes name_bytes rights_of image acl_text digits entry_text directory_of names_at opaque_at word_at counted_at whole_at count_at name_at spelled_at bytes_below
 read_what_was_only_looked_at h =
-    elim h.1.1.1.0.0.0.1.0.1.brought.1 [
+    elim h.1.1.1.0.0.0.1.0.1.0.brought.1 [
       | inl x ↦ x.1.1.0
       | inr y ↦ elim y [
         | inl x ↦ let e : seen.Status status ≡ seen.Contents (bodies.File (codes "abc")) = x.1.1.1.1 in absurd cc
@@ -1215,6 +1229,11 @@ read_what_was_only_looked_at h =
 shown_unneeded : Legal (entries (start (script 1)) open_front ++ step_of (Client 1) (lines.Begin (Client 1) (acts.Stat (operands.Fid file)) ∷ shown Cached ∷ []) [] ∷ []) (script 1) → ⊥
 unfolding moved begin_row client_row server_row back_timeout_row wake_row start_row record_bytes head_form volume_form spelled opaque pad word laid_at led name_ok directory_bytes name_bytes rights_of image acl_text digits entry_text directory_of names_at opaque_at word_at counted_at whole_at count_at name_at spelled_at bytes_below
 shown_unneeded h = let x = h.1.1.1.0.0.0.1.0.0.1 in subst (λ (a : Going). IsNeededFrom Cached file (seen.Contents (bodies.File (codes "abc"))) (next a)) (sym (some_of _ _ x.runs)) x.needs
+
+-- a client begins to open a file that it has, and shows it in a later entry, to which nothing gave rise
+shown_by_itself : Legal (entries (start (script 1)) open_front ++ step_of (Client 1) (begun 1 ∷ []) [] ∷ step_of (Client 1) (shown Cached ∷ []) [] ∷ []) (script 1) → ⊥
+unfolding moved begin_row client_row server_row back_timeout_row wake_row start_row record_bytes head_form volume_form spelled opaque pad word laid_at led name_ok directory_bytes name_bytes rights_of image acl_text digits entry_text directory_of names_at opaque_at word_at counted_at whole_at count_at name_at spelled_at bytes_below
+shown_by_itself h = elim h.1.1.1.1.0.0.0.0.1.1 [ inl x ↦ let e : false ≡ true = x.0 in absurd cc | inr u ↦ let e : false ≡ true = u.1 in absurd cc ]
 
 -- it had read the file once, and when its promise was over another set the mode; now it looks at the file again, and shows the contents of before as
 -- those of the version at which it looked: its server wasn't asked whether it may read them still
@@ -1228,7 +1247,7 @@ status_not a b e = absurd cc
 contents_of_another_version : Legal (entries (start (script 2)) looked_again ++ step_of (Client 1) (begun 1 ∷ lines.Read (Client 1) file 2 Cached (seen.Contents (bodies.File (codes "abc"))) ∷ answer 1 ∷ []) [] ∷ []) (script 2) → ⊥
 unfolding moved begin_row client_row server_row back_timeout_row wake_row start_row record_bytes head_form volume_form spelled opaque pad word laid_at led name_ok directory_bytes name_bytes rights_of image acl_text digits entry_text directory_of names_at opaque_at word_at counted_at whole_at count_at name_at spelled_at bytes_below
 contents_of_another_version h =
-    elim h.1.1.1.1.1.1.1.1.1.1.0.0.0.1.0.1.brought.1 [
+    elim h.1.1.1.1.1.1.1.1.1.1.0.0.0.1.0.1.0.brought.1 [
       | inl x ↦ x.1.1.0
       | inr a ↦ elim a [
         | inl x ↦ status_not _ _ x.1.1.1.1
@@ -1249,7 +1268,7 @@ mode_front = stat_front ++ begins 2 (acts.SetMode (operands.Fid file) 384) ∷ g
 status_that_never_came : Legal (entries (start (script 2)) mode_front ++ step_of (Client 1) (lines.Begin (Client 1) (acts.Stat (operands.Fid file)) ∷ lines.Read (Client 1) file 2 Cached (seen.Status (record status { mode = 384 })) ∷ answer 1 ∷ []) [] ∷ []) (script 2) → ⊥
 unfolding moved begin_row client_row server_row back_timeout_row wake_row start_row record_bytes head_form volume_form spelled opaque pad word laid_at led name_ok directory_bytes name_bytes rights_of image acl_text digits entry_text directory_of names_at opaque_at word_at counted_at whole_at count_at name_at spelled_at bytes_below
 status_that_never_came h =
-    elim h.1.1.1.1.1.0.0.0.1.0.1.brought.0 [
+    elim h.1.1.1.1.1.0.0.0.1.0.1.0.brought.0 [
       | inl x ↦ x.1.1.0
       | inr y ↦ elim y [ inl x ↦ let e : 1 ≡ 2 = x.1.1.0 in absurd (omega (arith, e)) | inr x ↦ x ]
     ]
@@ -1258,7 +1277,7 @@ status_that_never_came h =
 fetched_by_a_status : Legal (alters 2 (instead (lines.Given 2 ∷ shown Fetched ∷ [])) (entries (start (script 1)) stat_front)) (script 1) → ⊥
 unfolding moved begin_row client_row server_row back_timeout_row wake_row start_row record_bytes head_form volume_form spelled opaque pad word laid_at led name_ok directory_bytes name_bytes rights_of image acl_text digits entry_text directory_of names_at opaque_at word_at counted_at whole_at count_at name_at spelled_at bytes_below
 fetched_by_a_status h =
-    let u = h.1.1.0.0.0.1.0.1.used refl in
+    let u = h.1.1.0.0.0.1.0.1.0.used refl in
     let past : List Entry = past_of (set_up (script 1) ∷ []) (entries (start (script 1)) (take 2 stat_front)) in
     elim (subst (λ (m : Message). CalledSince (answered_key m.head) (codes "guest") u.used.call past) (sym (some_of _ _ u.used.by)) u.used.called) [
       | inl x ↦ let e : actors.Node (Server 1) ≡ actors.Node (Client 1) = x.0 in absurd cc
@@ -1295,7 +1314,7 @@ crash_since server a b rest (x ∷ y ∷ newer) at older m base split given up d
 read_over_a_crash : Legal (entries (start (script 1)) (stat_front ++ client_stops 1 ∷ client_starts 1 ∷ []) ++ step_of (Client 1) (lines.Begin (Client 1) (acts.Stat (operands.Fid file)) ∷ lines.Read (Client 1) file 1 Cached (seen.Status status) ∷ answer 1 ∷ []) [] ∷ []) (script 1) → ⊥
 unfolding moved begin_row client_row server_row back_timeout_row wake_row start_row record_bytes head_form volume_form spelled opaque pad word laid_at led name_ok directory_bytes name_bytes rights_of image acl_text digits entry_text directory_of names_at opaque_at word_at counted_at whole_at count_at name_at spelled_at bytes_below
 read_over_a_crash h =
-    let g = h.1.1.1.1.1.0.0.0.1.0.1 in
+    let g = h.1.1.1.1.1.0.0.0.1.0.1.0 in
     g.kept (crash_since g.grant.server _ _ _ g.grant.ran.newer g.grant.ran.at g.grant.ran.older g.grant.ran.message (onto [] g.grant.after) g.grant.ran.split g.grant.ran.given refl refl)
 
 -- ---- what is fetched is what its reply brought
@@ -1321,7 +1340,7 @@ no_such_grant n c f x reply past g none own same =
 -- a file is stored anew while the reply with its old contents is under way; its client shows the new ones, which no message brought
 fetched_what_came_later : Legal (alters 4 (instead (lines.Given 2 ∷ lines.Read (Client 1) file 2 Fetched (seen.Contents (bodies.File (codes "def"))) ∷ answer 1 ∷ [])) (entries (start (script 2)) (changes_file ++ gives 2 steady ∷ []))) (script 2) → ⊥
 unfolding moved begin_row client_row server_row back_timeout_row wake_row start_row record_bytes head_form volume_form spelled opaque pad word laid_at led name_ok directory_bytes name_bytes rights_of image acl_text digits entry_text directory_of names_at opaque_at word_at counted_at whole_at count_at name_at spelled_at bytes_below
-fetched_what_came_later h = let g = h.1.1.1.1.0.0.0.1.0.1 in no_such_grant 2 _ _ _ _ _ g.grant refl refl (g.exact refl)
+fetched_what_came_later h = let g = h.1.1.1.1.0.0.0.1.0.1.0 in no_such_grant 2 _ _ _ _ _ g.grant refl refl (g.exact refl)
 
 -- what the cause of a read of rights says of the entry that ran its call
 record RanForRights (e : Entry) (older : List Entry) : Type 0 where
@@ -1430,7 +1449,7 @@ given_up_front =
 contents_that_were_dropped : Legal (entries (start (script 1)) given_up_front ++ step_of (Client 1) (begun 1 ∷ shown Cached ∷ answer 1 ∷ []) [] ∷ []) (script 1) → ⊥
 unfolding moved begin_row client_row server_row back_timeout_row wake_row start_row record_bytes head_form volume_form spelled opaque pad word laid_at led name_ok directory_bytes name_bytes rights_of image acl_text digits entry_text directory_of names_at opaque_at word_at counted_at whole_at count_at name_at spelled_at bytes_below
 contents_that_were_dropped h =
-    elim h.1.1.1.1.1.1.1.1.1.0.0.0.1.0.1.brought.1 [
+    elim h.1.1.1.1.1.1.1.1.1.0.0.0.1.0.1.0.brought.1 [
       | inl x ↦ x.1.1.0
       | inr a ↦ elim a [
         | inl x ↦ status_not _ _ x.1.1.1.1
@@ -1467,7 +1486,7 @@ dead_not e = absurd cc
 
 shown_when_given_up : Legal (alters 7 (instead (times_two_out 3 ∷ lines.Answer (Client 1) (record { 0 = negsuc 0 }) ∷ [])) (entries (start (script 2)) given_up_store) ++ step_of (Client 1) (begun 1 ∷ shown Cached ∷ answer 1 ∷ []) [] ∷ []) (script 2) → ⊥
 unfolding moved begin_row client_row server_row back_timeout_row wake_row start_row record_bytes head_form volume_form spelled opaque pad word laid_at led name_ok directory_bytes name_bytes rights_of image acl_text digits entry_text directory_of names_at opaque_at word_at counted_at whole_at count_at name_at spelled_at bytes_below
-shown_when_given_up h = elim h.1.1.1.1.1.1.1.1.1.1.0.0.0.1.0.1.brought.0 [ inl x ↦ dead_not x.1.0 | inr y ↦ y.0 (refl, (refl, refl)) ]
+shown_when_given_up h = elim h.1.1.1.1.1.1.1.1.1.1.0.0.0.1.0.1.0.brought.0 [ inl x ↦ dead_not x.1.0 | inr y ↦ y.0 (refl, (refl, refl)) ]
 
 -- ---- a client's calls are numbered one by one, in its epoch
 
@@ -2061,7 +2080,7 @@ linked_status = lines.Read (Client 1) file 2 Cached (seen.Status (record { kind 
 shown_after_a_link : Legal (alters 7 (instead (lines.Given 6 ∷ answer 1 ∷ [])) (entries (start (script 1)) linked_front) ++ step_of (Client 1) (lines.Begin (Client 1) (acts.Stat (operands.Fid file)) ∷ linked_status ∷ answer 1 ∷ []) [] ∷ []) (script 1) → ⊥
 unfolding moved begin_row client_row server_row back_timeout_row wake_row start_row record_bytes head_form volume_form spelled opaque pad word laid_at led name_ok directory_bytes name_bytes rights_of image acl_text digits entry_text directory_of names_at opaque_at word_at counted_at whole_at count_at name_at spelled_at bytes_below
 shown_after_a_link h =
-    elim h.1.1.1.1.1.1.1.1.0.0.0.1.0.1.brought.0 [
+    elim h.1.1.1.1.1.1.1.1.0.0.0.1.0.1.0.brought.0 [
       | inl x ↦ x.1.1.0
       | inr y ↦ elim y [
         | inl x ↦ let no_ : Cached ≡ Fetched = x.1.1.1.0 in absurd cc

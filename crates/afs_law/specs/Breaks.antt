@@ -142,7 +142,7 @@ abbrev pub is_in : ℕ → Option ℕ → Bool
 is_in boot None = false
 is_in boot (Some now) = nat_eq boot now
 
--- whether an entry behind this past that is given the call runs it: it is to the boot in which the server is, and the first there
+-- whether an entry after this past that is given the call runs it: it is to the boot in which the server is, and the first there
 -- under its key, before any later call of its node. What the server changed in older boots isn't looked at here: a client sends no call of
 -- an older key to a later boot
 abbrev pub runs_now : Node → Head → List Entry → Bool
@@ -174,7 +174,7 @@ HasOwe s c what [] = ⊥
 HasOwe s c what (lines.Owe q d w n ∷ ls) = ((q ≡ s) × ((d ≡ c) × (w ≡ what))) ⊎ HasOwe s c what ls
 HasOwe s c what (l ∷ ls) = HasOwe s c what ls
 
--- when a break ends by itself that becomes owed behind these lines: with the last grant, or so long after the restart
+-- when a break ends by itself that becomes owed after these lines: with the last grant, or so long after the restart
 abbrev pub expiry_of : Node → Node → Option Fid → List Line → Option ℕ
 expiry_of s c (Some f) older = last_grant s c f older
 expiry_of s c None older = Some (clock_of older + 7200)
@@ -239,7 +239,7 @@ pub record FirstSent (callee : Node) (k : Key) (user : List ℕ) (call : FsCall)
   pub first : has_sent k (sent_of older) ≡ false
 
 -- A call of the server to the client carries the break. It was first sent after that became owed, or in the same entry, for an entry sends
--- behind its lines; and the server hasn't stopped since
+-- after its lines; and the server hasn't stopped since
 pub record IsCarried (s c : Node) (epoch number : ℕ) (what : Option Fid) (n : ℕ) (past : List Entry) : Type 0 where
   pub user : List ℕ
   pub call : FsCall

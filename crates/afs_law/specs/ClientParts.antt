@@ -8,7 +8,7 @@ use Rattle.afs_history.specs.declared.scripts.Script.{Script}
 use Rattle.afs_law.specs.Cells.{IsOfCell}
 use Rattle.afs_law.specs.Grants.{IsDropped, fetch_reply, has_fetched, is_promised}
 use Rattle.afs_law.specs.Ideal.{set_up, user_of}
-use Rattle.afs_law.specs.Legal.{EndsAct, GoodGift, HasChange, HasChangeBy, HasOwnHalf, HasUsed, IsDead, IsDone, IsKind, IsUse, as_asked, has_dropped}
+use Rattle.afs_law.specs.Legal.{EndsAct, GoodGift, HasChange, HasChangeBy, HasOwnHalf, HasUsed, IsDead, IsDone, IsKind, IsLastCall, IsOnItsWay, IsUse, as_asked, has_dropped}
 use Rattle.afs_law.specs.Once.{past_of}
 use Rattle.afs_law.specs.Parts.{AllLines, EachEntry, EachSent, LineRule, waited_key}
 use Rattle.afs_law.specs.Past.{CalledSince, IsReply, answered_key, code_told, given_message, has_begun, has_sent, is_of_act, lines_of, lines_on, onto, running, sent_of}
@@ -66,15 +66,16 @@ pub record AreAskedFor (s : Script) (c : Node) (f : Fid) (source : ReadSource) (
   pub used : HasUsed s c past own
   pub asks : used.call ≡ asked act
 
--- what is promised and was fetched just now is of a reply with code 0 to a call of the running act that brings just that; rights are such, too
+-- what is promised and was fetched just now is of a reply with code 0 to the client's last call, one of the running act that brings just that; rights
+-- are such, too. What is read from the cache is read where the act begins, or goes on by a reply
 abbrev pub IsUsed : Script → Bool → Node → Fid → ReadSource → ReadBody → List Entry → List Line → Type 0
-IsUsed s true c f source body past own = source ≡ Fetched → IsUse s c f body past own
+IsUsed s true c f source body past own = (source ≡ Fetched → IsUse s c f body past own) × IsOnItsWay s c source past own
 IsUsed s false c f source body past own = AreAskedFor s c f source past own
 
 -- ---- answers
 
--- the entry was given a reply with this code to the call of this very act, which its client sent for its user since the act began, and
--- that was in an entry before. If the reply is of that call's kind, it has code 0 only where the act ends with this call
+-- the entry was given a reply with this code to its client's last call, one of this very act, which it sent for its user since the act began,
+-- and that was in an entry before. If the reply is of that call's kind, it has code 0 only where the act ends with that call
 pub record IsReplied (s : Script) (c : Node) (act : Going) (code : ℤ) (past : List Entry) (own : List Line) : Type 0 where
   pub reply : Message
   pub by : given_message own (sent_of past) ≡ Some reply
@@ -85,6 +86,7 @@ pub record IsReplied (s : Script) (c : Node) (act : Going) (code : ℤ) (past : 
   pub call : FsCall
   pub asks : as_asked call ≡ asked act
   pub called : CalledSince (answered_key reply.head) (user_of s c) call past
+  pub last : IsLastCall (answered_key reply.head) (sent_of past)
   pub ends : IsKind call reply.carried → code ≡ pos 0 → EndsAct (next act)
 
 -- The act gives promises back, and is answered in the entry in which it began: then that drops nothing. Of a script with a volume
@@ -106,8 +108,8 @@ IsDue s who (lines.Read c f index source body) past own next = IsUsed s (is_prom
 IsDue s who (lines.Answer c code) past own next = IsDueCode s c code past own
 IsDue s who l past own next = ⊤
 
--- what an act of a run fetches is of replies to its own calls, and it is answered by such a reply, by what it read, by the third timeout
--- of its call, or at once
+-- what an act of a run fetches is of replies to its own calls, each the last that was made, and what it reads from the cache it reads where it begins
+-- or goes on. It is answered by such a reply, by what it read, by the third timeout of its call, or at once
 abbrev pub AnswersAreDue : Type 0
 AnswersAreDue = (s : Script) (history : List Entry) (end : Cell) → RunsTo history s end → AllLines (IsDue s) s history
 

@@ -35,7 +35,7 @@ abbrev pub fetch_reply : Node → Fid → List Entry → Option Message
 fetch_reply c f [] = None
 fetch_reply c f (e ∷ past) = if has_fetched c f e.lines then given_message e.lines (sent_of past) else fetch_reply c f past
 
--- that of a read behind the entry's own lines
+-- that of a read after the entry's own lines
 abbrev pub read_reply : Node → Fid → ReadSource → List Entry → List Line → Option Message
 read_reply c f Fetched past own = given_message own (sent_of past)
 read_reply c f Cached past own = if has_fetched c f own then given_message own (sent_of past) else fetch_reply c f past

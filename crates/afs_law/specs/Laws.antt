@@ -206,7 +206,7 @@ pub record AreMadeAndKept (s : Script) (c : Node) (act : Going) (past : List Ent
 
 -- What is acknowledged survives every crash. In every run, where an act that changes something was answered 0, its change was told, and
 -- from then on each server keeps of its volumes what all changes that were told have made of them. Before the answer stand the entries
--- `before`, and in its own entry the lines `first`; `end` is any moment behind it
+-- `before`, and in its own entry the lines `first`; `end` is any moment after it
 abbrev pub AcknowledgedAreKept : Type 0
 AcknowledgedAreKept =
     (s : Script) (history before after : List Entry) (e : Entry) (first rest : List Line) (c : Node) (code : Code) (act : Going) (end : Cell) → IsOfCell s → RunsTo history s end → history ≡ before ++ (e ∷ after) → e.lines ≡ first ++ lines.Answer c code ∷ rest
@@ -265,7 +265,7 @@ abbrev pub ChangesAreFolded : Type 0
 ChangesAreFolded = (l : Lasting) (head : Head) (clock : ℕ) (c : Change) → get c.id l.volumes ≡ Some c.before → CanBeStored c.id c.edits c.before.volume → IsNode head.from → AllByRecursion (λ (s : Seat). IsNode s.caller) l.kept →
     folded (record_of l.boot head clock c) (durable_of l) ≡ Some (durable_of (lasting_after head clock c l))
 
--- What the record of one change tells, as a restart tells it behind a step that was interrupted, is what the step tells of it.
+-- What the record of one change tells, as a restart tells it after a step that was interrupted, is what the step tells of it.
 abbrev pub EffectsAreTold : Type 0
 EffectsAreTold = (me : Node) (l : Lasting) (head : Head) (clock : ℕ) (c : Change) → get c.id l.volumes ≡ Some c.before → IsOneChange c.id c.edits c.before.volume → CanBeStored c.id c.edits c.before.volume →
     (effect_of me (record_of l.boot head clock c) (durable_of l)).lines ≡ lines.Change me (key_of head) (length (made c)) ∷ versioned (made c) []

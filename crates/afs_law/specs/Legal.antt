@@ -65,8 +65,13 @@ has_read c [] = false
 has_read c (lines.Read m f index source body ∷ own) = if same_node m c then true else has_read c own
 has_read c (l ∷ own) = has_read c own
 
--- the entry was given a reply with code 0, by the first callee of a call which the client sent for its user since it last began an act, in an
--- entry before
+-- none of these messages is a call of the key's node under a later key
+abbrev pub IsLastCall : Key → List Message → Type 0
+IsLastCall k [] = ⊤
+IsLastCall k (m ∷ ms) = (IsCall m.carried → m.head.from ≡ k.node → IsUpTo m.head.epoch m.head.number k.epoch k.number) × IsLastCall k ms
+
+-- the entry was given a reply with code 0, by the first callee of the client's last call, which it sent for its user since it last began an act, in
+-- an entry before
 pub record HasUsed (s : Script) (c : Node) (past : List Entry) (own : List Line) : Type 0 where
   pub reply : Message
   pub by : given_message own (sent_of past) ≡ Some reply
@@ -77,6 +82,11 @@ pub record HasUsed (s : Script) (c : Node) (past : List Entry) (own : List Line)
   pub call : FsCall
   pub called : CalledSince (answered_key reply.head) (user_of s c) call past
   pub from : callee_under (answered_key reply.head) (sent_of past) ≡ Some reply.head.from
+  pub last : IsLastCall (answered_key reply.head) (sent_of past)
+
+-- the act is on its way: it began in this entry, which was given nothing; or the entry was given a reply with code 0 to its call, and reads something
+abbrev pub GoesOn : Script → Node → List Entry → List Line → Type 0
+GoesOn s c past own = IsAtOnce c own ⊎ (HasUsed s c past own × (has_read c own ≡ true))
 
 -- ---- reads
 
@@ -243,7 +253,7 @@ abbrev pub IsChanged : Fid → List Version → Type 0
 IsChanged f [] = ⊥
 IsChanged f (v ∷ vs) = (v.fid ≡ f) ⊎ IsChanged f vs
 
--- among these lines, which stand behind in an entry, the server begins again, or its disk fails or has no room for that: the entry is a restart
+-- among these lines, which come later in an entry, the server begins again, or its disk fails or has no room for that: the entry is a restart
 abbrev pub EndsBoot : Node → List Line → Type 0
 EndsBoot s [] = ⊥
 EndsBoot s (lines.Restart n boot ∷ next) = (n ≡ s) ⊎ EndsBoot s next
@@ -280,7 +290,7 @@ pub record RanBefore (server : Node) (k : Key) (past : List Entry) (own next : L
   pub since : AreFailed server newer
 
 -- A change runs a key for the first time, at a server that accepts stores of the volume, is the only one of its entry, and is later than
--- what the server changed before for the same node. Its entry ran the key's call, or is the restart behind the one that was interrupted
+-- what the server changed before for the same node. Its entry ran the key's call, or is the restart after the one that was interrupted
 -- in that. The call was sent by its node, for its user, and is that of the act that ran there, with the act's own bytes. The versions
 -- that follow are just those of the ideal operation on the ideal volume
 pub record IdealChange (s : Script) (server : Node) (k : Key) (count : ℕ) (past : List Entry) (own next : List Line) : Type 0 where
@@ -309,7 +319,7 @@ pub record IdealChange (s : Script) (server : Node) (k : Key) (count : ℕ) (pas
 
 -- A change is the ideal one, and the only one of its act. `once`: while any act runs at the key's node, this server changed nothing before under
 -- a key of that act. `alone`: no server changed anything before under another key of the act to which this key belongs, were that long over.
--- `owed`: behind the change stands a break for each other client whose last promise on one of the fids that change lasts, and isn't broken already
+-- `owed`: after the change stands a break for each other client whose last promise on one of the fids that change lasts, and isn't broken already
 pub record GoodChange (s : Script) (server : Node) (k : Key) (count : ℕ) (past : List Entry) (own next : List Line) : Type 0 where
   pub ideal : IdealChange s server k count past own next
   pub once : (a : Going) → running s k.node (lines_of past) ≡ Some a → (l : Key) → HasChangeBy server l (lines_of past) → is_of_act k.node l past ≡ true → ⊥
@@ -445,18 +455,23 @@ pub record GoodRights (s : Script) (c : Node) (f : Fid) (index : ℕ) (source : 
   pub own_user : cause.user ≡ user_of s c
   pub exact : IsLast f index (lines_of cause.ran.older)
 
+-- an act reads from the cache where it begins, or goes on by a reply, after what that brought
+abbrev pub IsOnItsWay : Script → Node → ReadSource → List Entry → List Line → Type 0
+IsOnItsWay s c Cached past own = GoesOn s c past own
+IsOnItsWay s c Fetched past own = ⊤
+
 abbrev pub GoodReadBy : Script → Bool → Node → Fid → ℕ → ReadSource → ReadBody → List Entry → List Line → Type 0
-GoodReadBy s true c f index source body past own = GoodRead s c f index source body past own
+GoodReadBy s true c f index source body past own = GoodRead s c f index source body past own × IsOnItsWay s c source past own
 GoodReadBy s false c f index source body past own = GoodRights s c f index source body past own
 
--- the act ends with what it needs next: where the reply to that has code 0, so has the act. What it reads it goes on behind
+-- the act ends with what it needs next: where the reply to that has code 0, so has the act. After what it reads it goes on
 abbrev pub EndsAct : Need → Type 0
 EndsAct (asks_for call) = ⊤
 EndsAct gives_back = ⊤
 EndsAct need = ⊥
 
--- the reply that the answer's entry was given is the cause of the code, and its call is one of this very act: the client
--- sent it for its user since the act began, which was in an entry before. (So its server ran it since then, for no act before used
+-- the reply that the answer's entry was given is the cause of the code, and its call is the client's last one, of this very act: the
+-- client sent it for its user since the act began, which was in an entry before. (So its server ran it since then, for no act before used
 -- its key.) The code is 0 only where the act ends with this call
 pub record IsCaused (s : Script) (c : Node) (act : Going) (code : ℤ) (past : List Entry) (own : List Line) : Type 0 where
   pub reply : Message
@@ -466,15 +481,16 @@ pub record IsCaused (s : Script) (c : Node) (act : Going) (code : ℤ) (past : L
   pub own_user : cause.user ≡ user_of s c
   pub before : has_begun c own ≡ false
   pub called : CalledSince (answered_key reply.head) cause.user cause.call past
+  pub last : IsLastCall (answered_key reply.head) (sent_of past)
   pub ends : code ≡ pos 0 → EndsAct (next act)
 
 -- the act needs no more, and answers so by its read lines; it began in this entry, which was given nothing, or the entry was
--- given a reply with code 0 to a call of the act, and reads something
+-- given a reply with code 0 to its call, and reads something
 pub record IsDone (s : Script) (c : Node) (act : Going) (code : ℤ) (past : List Entry) (own : List Line) : Type 0 where
   pub number : ℕ
   pub is : code ≡ pos number
   pub by : next act ≡ answers number
-  pub last : IsAtOnce c own ⊎ (HasUsed s c past own × (has_read c own ≡ true))
+  pub last : GoesOn s c past own
 
 -- the act needs something still
 abbrev pub IsOpen : Need → Type 0
@@ -632,7 +648,7 @@ abbrev pub IsPresent : List Entry → Message → Type 0
 IsPresent past m =
     (i j : ℕ) → IsReply m → m.head.from ≡ Server i → m.head.to ≡ Client j → (server_boot m.head.from (lines_of past) ≡ Some m.head.boot) ⊎ (HasChangeBy m.head.from (answered_key m.head) (lines_of past) × (code_told m.carried ≡ Some (pos 0)))
 
--- the node is in this boot; that of a client is its epoch
+-- the node is in this boot; that of a client is its epoch. Of other nodes nothing is asked
 abbrev pub IsInBoot : Node → ℕ → List Line → Type 0
 IsInBoot (Client j) boot ls = epoch_after (Client j) ls ≡ boot
 IsInBoot (Server i) boot ls = server_boot (Server i) ls ≡ Some boot
@@ -718,11 +734,6 @@ abbrev pub IsAtHome : Script → Node → FsCall → List Line → Type 0
 IsAtHome s n (calls.BulkStatus fids) ls = AcceptsEach s n fids ls
 IsAtHome s n (calls.GiveUpCallBacks fids callbacks) ls = AcceptsEach s n fids ls
 IsAtHome s n call ls = (id : ℕ) → volume_called call ≡ Some id → Accepts s id n ls
-
--- none of these messages is a call of the key's node under a later key
-abbrev pub IsLastCall : Key → List Message → Type 0
-IsLastCall k [] = ⊤
-IsLastCall k (m ∷ ms) = (IsCall m.carried → m.head.from ≡ k.node → IsUpTo m.head.epoch m.head.number k.epoch k.number) × IsLastCall k ms
 
 -- what a file server answers a call with: a refusal, or what was asked for
 abbrev pub IsFileReply : Carried → Type 0
@@ -873,7 +884,8 @@ pub record HearsOfAct (s : Script) (c : Node) (past : List Entry) (ls : List Lin
   pub runs : running s c (lines_of past) ≡ Some act
   pub called : CalledSince (answered_key heard.message.head) heard.its.user heard.its.call past
 
--- a client that is so given the reply to a call which may change something, or its refusal, answers its act with that code in that entry
+-- A client that is so given the reply to a call which may change something, or its refusal, answers its act with that code in that entry. (No volume is
+-- busy or out of service yet; of such a refusal, 110 or 106, this can't be asked.)
 abbrev pub TakesReply : Script → Actor → List Entry → List Line → Type 0
 TakesReply s (actors.Node (Client j)) past ls = (given : HearsOfAct s (Client j) past ls) (id : ℕ) → volume_changed given.heard.its.call ≡ Some id → HasAnswer (Client j) given.heard.code ls
 TakesReply s who past ls = ⊤

@@ -87,7 +87,7 @@ LinesAreInPlace = (s : Script) (history : List Entry) (end : Cell) → RunsTo hi
 
 -- ---- messages
 
--- of each of these messages, behind the entry that sends them
+-- of each of these messages, after the entry that sends them
 abbrev pub EachSent : (List Entry → Message → Type 0) → List Entry → List Message → Type 0
 EachSent G past [] = ⊤
 EachSent G past (m ∷ ms) = G past m × EachSent G past ms

@@ -32,7 +32,7 @@ GrantsAreGood = (s : Script) (history : List Entry) (end : Cell) → RunsTo hist
 
 -- ---- breaks
 
--- behind a change stands a break for each other client whose last promise on one of the fids that change lasts, unbroken; and what is owed, settled or
+-- after a change stands a break for each other client whose last promise on one of the fids that change lasts, unbroken; and what is owed, settled or
 -- given up is good
 abbrev pub IsBreakGood : Script → LineRule
 IsBreakGood s who (lines.Change server k count) past own next =
@@ -81,7 +81,7 @@ RepliesAreTrue = (s : Script) (history : List Entry) (end : Cell) → RunsTo his
 
 -- ---- what is kept
 
--- while a server is down, what its step that was interrupted may have left is the ideal volumes too, behind what a restart tells of that step
+-- while a server is down, what its step that was interrupted may have left is the ideal volumes too, after what a restart tells of that step
 abbrev pub FallsAreKept : Type 0
 FallsAreKept =
     (s : Script) (history : List Entry) (end : Cell) → RunsTo history s end → (i : ℕ) (fall : Fall) → (end.hosts i).down ≡ Some fall → (id : ℕ) → Accepts s id (Server i) (lines_of (past_of (set_up s ∷ []) history))
@@ -100,8 +100,8 @@ abbrev pub IsBroughtGood : Script → LineRule
 IsBroughtGood s who (lines.Read c f index source body) past own next = IsBrought s c f index source body (own ++ lines_of past)
 IsBroughtGood s who l past own next = ⊤
 
--- what a client of a run reads from its cache came to it since it last crashed: that version, and contents as just this body of it, which it didn't
--- drop since
+-- what a client of a run reads from its cache came to it since it last crashed, or gave up a change in its volume: that version, and contents as just
+-- this body of it, which it didn't drop since
 abbrev pub CachedAreBrought : Type 0
 CachedAreBrought = (s : Script) (history : List Entry) (end : Cell) → RunsTo history s end → AllLines (IsBroughtGood s) s history
 

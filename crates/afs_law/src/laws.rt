@@ -174,8 +174,9 @@ pub fn changes_are_alone()
     ensures { ChangesAreAlone }
 {}
 
-/// What an act fetches is of replies to its own calls, and its answer has a cause: such a reply, what it read, the third timeout of its
-/// call, or that it had nothing to give back.
+/// What an act fetches is of replies to its own calls, each the last that was made, and what it reads from the cache it reads where it
+/// begins or goes on. Its answer has a cause: such a reply, what it read, the third timeout of its call, or that it had nothing to give
+/// back.
 pub fn answers_are_due()
     ensures { AnswersAreDue }
 {}

@@ -7,4 +7,3 @@ pub mod ServerSteps
 pub mod Going
 pub mod ClientRow
 pub mod Runs
-pub mod Durable

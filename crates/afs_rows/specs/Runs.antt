@@ -10,7 +10,7 @@ use Rattle.afs_history.specs.declared.lines.Line.{Line}
 use Rattle.afs_rows.specs.ServerRow.{Begun, begun_before, begun_after, decides, device_calls, revived, Decision}
 use Rattle.afs_rows.specs.States.{Location, ServerState, BackCall, Lasting, durable_of}
 use Rattle.afs_rows.specs.Steps.{Step}
-use Rattle.std.specs.Prelude.{is_some, ◌≡◌, ℕ, zero, suc, ◌+◌, ◌-◌, List, [], ◌∷◌, ◌++◌, Bool, true, false, cond, not, ◌||◌, nat_eq, nat_lt, codes, Option, Some, None, if◌then◌else◌}
+use Rattle.std.specs.Prelude.{is_some, ◌≡◌, ℕ, zero, suc, ◌+◌, ◌-◌, List, [], ◌∷◌, ◌++◌, Bool, true, false, cond, not, ◌&&◌, ◌||◌, nat_eq, nat_lt, codes, Option, Some, None, if◌then◌else◌}
 use Rattle.std.specs.Option.{option_map}
 use Rattle.afs_num.specs.declared.types.Node.{Node}
 use Rattle.afs_num.specs.declared.types.Node.TheVariants.{Loc, Server, Client, Admin}
@@ -38,9 +38,11 @@ pub record Entry : Type 0 where
 
 -- ---- the disk of a server, in numbers of its calls
 
--- a device call that isn't made: which one of the step, whether the disk was stopped there (it failed, else), and its pick
+-- A device call that isn't made: which one of the step, whether the disk was set to that (it failed by itself, else), whether it
+-- was stopped there (it failed, else), and its pick.
 pub record Blow : Type 0 where
   pub call : ℕ
+  pub is_set : Bool
   pub stops : Bool
   pub pick : ℕ
 
@@ -59,15 +61,15 @@ pub data Luck : Type 0 where
 
 abbrev pub stop_blow : Option (ℕ × ℕ) → Option Blow
 stop_blow None = None
-stop_blow (Some s) = Some (record { call = s.0 + 1; stops = true; pick = s.1 })
+stop_blow (Some s) = Some (record { call = s.0 + 1; is_set = true; stops = true; pick = s.1 })
 
 abbrev pub fail_blow : Option ℕ → Option Blow
 fail_blow None = None
-fail_blow (Some k) = Some (record { call = k; stops = false; pick = 0 })
+fail_blow (Some k) = Some (record { call = k; is_set = true; stops = false; pick = 0 })
 
 abbrev pub own_blow : Luck → Option Blow
 own_blow steady = None
-own_blow (gives_out k) = Some (record { call = k; stops = false; pick = 0 })
+own_blow (gives_out k) = Some (record { call = k; is_set = false; stops = false; pick = 0 })
 
 -- the earlier of two; of two at one call the first
 abbrev pub sooner : Option Blow → Option Blow → Option Blow
@@ -89,11 +91,11 @@ struck a luck calls = within calls (sooner (sooner (stop_blow a.stop) (fail_blow
 abbrev pub lowered : ℕ → Armed → Armed
 lowered calls a = record { stop = option_map (λ (s : ℕ × ℕ). (s.0 - calls, s.1)) a.stop; fail = option_map (λ (k : ℕ). k - calls) a.fail }
 
--- a server that is down: it stopped between two steps, or in the step of this message, which came at this clock, or in a
--- restart, while its boot record was written
+-- a server that is down: it stopped between two steps, or in the step of this message, which came at this clock, by this blow, or
+-- in a restart, while its boot record was written
 pub data Fall : Type 0 where
   at_rest : Fall
-  in_step : Message → ℕ → Fall
+  in_step : Message → ℕ → Blow → Fall
   in_boot : Fall
 
 -- how a restart ends: its boot record is on the disk; the disk fails before that is begun, or while it is written; or it
@@ -197,7 +199,7 @@ decided_at c i m = decides (Server i) (c.hosts i).state c.clock (Whole m)
 abbrev pub server_served : Cell → ℕ → ℕ → Message → Option Blow → Moved
 server_served c i place m None =
     server_moves c i (lowered (device_calls (decided_at c i m)) (c.hosts i).armed) (server_row (Server i) (c.hosts i).state c.clock place (Whole m))
-server_served c i place m (Some b) = server_falls c i (lines.Given place ∷ blow_line i b.stops ∷ []) (in_step m c.clock)
+server_served c i place m (Some b) = server_falls c i (lines.Given place ∷ blow_line i b.stops ∷ []) (in_step m c.clock b)
 
 abbrev pub server_given : Cell → ℕ → ℕ → Luck → Message → Option Fall → Moved
 server_given c i place luck m (Some fall) = voided c
@@ -252,10 +254,26 @@ server_stopped c i (Some fall) = voided c
 -- the state in which a restart finds the disk: before the interrupted step, or after it
 abbrev pub begun_by_disk : Node → ServerState → Bool → Fall → Begun
 begun_by_disk me s after at_rest = begun_before s
-begun_by_disk me s false (in_step m clock) = begun_before s
-begun_by_disk me s true (in_step m clock) = begun_after me s clock (decides me s clock (Whole m))
+begun_by_disk me s false (in_step m clock b) = begun_before s
+begun_by_disk me s true (in_step m clock b) = begun_after me s clock (decides me s clock (Whole m))
 begun_by_disk me s false in_boot = begun_before s
 begun_by_disk me s true in_boot = begun_before (revived s)
+
+-- What is left by a blow to which the disk was set. The step's record is whole on the disk only where the last of its four calls, the
+-- sync of the opened gate, is the one that wasn't made. And the disk failed at that call, so that what was written stays; or it stopped
+-- there, with the pick that leaves what was written.
+abbrev pub leaves_after : Blow → Bool
+leaves_after b = nat_eq b.call 4 && (not b.stops || nat_eq b.pick 1)
+
+-- Whether a restart may begin so, before the interrupted step or after it. Of a disk that failed by itself nothing is said.
+abbrev pub MayFind : Fall → Bool → Type 0
+MayFind at_rest after = Unit {0}
+MayFind (in_step m clock b) after = b.is_set ≡ true → after ≡ leaves_after b
+MayFind in_boot after = Unit {0}
+
+abbrev pub MayBegin : Option Fall → Bool → Type 0
+MayBegin None after = Unit {0}
+MayBegin (Some fall) after = MayFind fall after
 
 abbrev pub server_rises : Cell → ℕ → Begun → Moved
 server_rises c i f = server_moves c i unarmed (start_row (Server i) c.clock c.count f)

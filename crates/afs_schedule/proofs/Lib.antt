@@ -1,3 +1,4 @@
 mod Lowest
 mod Taken
 mod Drained
+mod Restarted

@@ -12,7 +12,7 @@ use Rattle.afs_history.specs.declared.scripts.Task.{Task}
 use Rattle.afs_history.specs.declared.scripts.Task.TheVariants as tasks
 use Rattle.afs_rows.specs.Callbacks.{put}
 use Rattle.afs_rows.specs.Going.{ClientState, Going}
-use Rattle.afs_rows.specs.Runs.{begins, client_starts, client_stops, gives, gives_out, is_away, moved, nothing, server_waits, sets_fail, sets_stop, start, starts_again, steady, stops, ticks, waits, wakes, Cell, Entry, Input, Leads, Luck, Outcome}
+use Rattle.afs_rows.specs.Runs.{begins, client_starts, client_stops, gives, gives_out, is_away, moved, nothing, server_waits, sets_fail, sets_stop, start, starts_again, steady, stops, ticks, waits, wakes, Cell, Entry, Input, Leads, Luck, MayBegin, Outcome}
 
 -- ---- a schedule under way: the cell, the acts that each client has not begun, and the places that a deliver named
 
@@ -74,8 +74,9 @@ abbrev pub IsLuck : Luck → Type 0
 IsLuck steady = Unit {0}
 IsLuck (gives_out call) = 1 ≤ call
 
--- What each event is. A delivery leaves open whether the disk fails by itself, a restart of a server what its disk kept and
--- whether it fails. The location database and administrators have no steps yet.
+-- What each event is. A delivery leaves open whether the disk fails by itself. So does a restart of a server: it begins before the
+-- interrupted step or after it as the blow tells that ended it, where the disk was set to that, and this is open where it failed by
+-- itself. The location database and administrators have no steps yet.
 abbrev pub IsInput : Turn → Event → Input → Type 0
 IsInput t (events.Act (Client n)) x = x ≡ act_input t.cell n (t.left n)
 IsInput t (events.Act node) x = x ≡ nothing
@@ -91,7 +92,7 @@ IsInput t (events.Crash node) x = x ≡ nothing
 IsInput t (events.CrashDisk (Server i) pick) x = x ≡ stops i
 IsInput t (events.CrashDisk node pick) x = x ≡ nothing
 IsInput t (events.Restart (Client n)) x = x ≡ client_starts n
-IsInput t (events.Restart (Server i)) x = (after : Bool) × ((outcome : Outcome) × (x ≡ starts_again i after outcome))
+IsInput t (events.Restart (Server i)) x = (after : Bool) × ((outcome : Outcome) × (MayBegin (t.cell.hosts i).down after × (x ≡ starts_again i after outcome)))
 IsInput t (events.Restart node) x = x ≡ nothing
 IsInput t (events.Stop (Server i) calls pick) x = x ≡ sets_stop i calls pick
 IsInput t (events.Stop node calls pick) x = x ≡ nothing

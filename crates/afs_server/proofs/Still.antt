@@ -1,14 +1,16 @@
 -- What a step does to the disk: nothing, or what the commit of its record does.
 use Rattle.std.proofs.Common.{◌≡◌, ◌≤◌, ◌<◌, ◌+◌, inl, inr, ⊎_elim, ℕ, List, Option, Some, None, refl, sym, ap, subst, ◌∙◌, arith}
-use Rattle.std.specs.Prelude.{◌↔◌, Result, Ok, Err, IsSome, OnOk}
+use Rattle.std.specs.Prelude.{◌↔◌, Result, Ok, Err, IsErrOf, IsSome, OnOk}
 use Rattle.std.specs.Result.{IsErrAnd}
 use Rattle.std.proofs.lemmas.Result.{err_from_is_err_and}
 use Rattle.afs_disk.specs.Disk.{LeavesOnly, PassesAll, SameDisk, Setting}
 use Rattle.afs_journal.specs.Log.{SameCounts}
 use Rattle.afs_journal.specs.Records.{whole_records}
+use Rattle.afs_journal.proofs.Broken.{left_from, reached_from}
 use Rattle.afs_history.specs.declared.lines.Outs.{Outs}
 use Rattle.afs_num.specs.declared.records.StoreRecord.{StoreRecord}
 use Rattle.afs_records.specs.Durable.{Durable}
+use Rattle.afs_records.specs.Records.{record_bytes}
 use Rattle.afs_volstore.specs.Stores.{LeftAround}
 use Rattle.afs_server.specs.Handling.{IsQuiet, IsWritten, Ran}
 use Rattle.afs_server.specs.Putting.{calls_for, IsStill, OnDisk}
@@ -61,6 +63,11 @@ module _ {D : Type 0} (seen : D → Option (List ℕ)) (left_by : D → ℕ → 
   not_written {T} decided r (Err nodes.OutOfMemory) still is = is
   not_written {T} decided r (Err nodes.Down) still is = still
 
+  not_down : {T : Type 0} (decided : Option StoreRecord) (result : Result T NodeFault) → IsStill decided result → IsErrOf result nodes.Down → ⊥
+  not_down {T} decided (Ok x) still down = absurd cc
+  not_down {T} decided (Err nodes.OutOfMemory) still down = absurd cc
+  not_down {T} decided (Err nodes.Down) still down = still
+
   none_more : {T : Type 0} (decided : Option StoreRecord) (old new : D) (result : Result T NodeFault) → IsStill decided result → calls new ≡ calls old → OnOk result (calls new ≡ calls old + calls_for decided)
   none_more {T} None old new (Ok x) still same = omega (arith, same)
   none_more {T} (Some r) old new (Ok x) still same = absurd cc
@@ -87,6 +94,8 @@ module _ {D : Type 0} (seen : D → Option (List ℕ)) (left_by : D → ℕ → 
     told = as_told (seen old) (seen new) same.same_seen;
     quiet = λ is. (same, counts);
     any_moment = λ r is. absurd (not_written decided r result still is);
+    reached = λ down. absurd (not_down decided result still down);
+    left = λ down. absurd (not_down decided result still down);
     fits = λ r is. absurd (not_written decided r result still is);
     most = let e = counts.same_calls in (omega (arith, e), omega (arith, e));
     limited = counts.same_limit;
@@ -134,6 +143,8 @@ module _ {D : Type 0} (seen : D → Option (List ℕ)) (left_by : D → ℕ → 
     told = subst (λ (o : Option (List ℕ)). IsSome (seen new) ↔ IsSome o) same.same_seen then.told;
     quiet = λ is. let q = then.quiet is in (both_same old mid new same q.0, both_count old mid new counts q.1);
     any_moment = λ r is bytes told. moved old mid new (LeftAround (whole_records bytes) r d) same (then.any_moment r is bytes (same.same_seen ∙ told));
+    reached = λ down. reached_from (setting old) (setting mid) (calls old) (calls mid) (calls new) counts.same_setting counts.same_calls (then.reached down);
+    left = λ down r has bytes told. left_from left_by calls setting (whole_records bytes) (record_bytes r) old mid new counts.same_setting counts.same_calls (then.left down r has bytes (same.same_seen ∙ told));
     fits = then.fits;
     most = subst (λ (n : ℕ). (n ≤ calls new) × (calls new ≤ n + 4)) counts.same_calls then.most;
     limited = then.limited ∙ counts.same_limit;
@@ -148,16 +159,16 @@ module _ {D : Type 0} (seen : D → Option (List ℕ)) (left_by : D → ℕ → 
 
   -- with another value at Ok
   pub with_value : {S T : Type 0} (decided : Option StoreRecord) (d : Durable) (old new : D) (x : S) (y : T) → OfDisk {T = S} decided d old new (Ok x) → OfDisk {T = T} decided d old new (Ok y)
-  with_value {S} {T} None d old new x y is = record { told = is.told; quiet = is.quiet; any_moment = is.any_moment; fits = is.fits; most = is.most; limited = is.limited; called = is.called; ran = record { never_falls = is.ran.never_falls; own_never_falls = is.ran.own_never_falls; down = λ z. absurd cc; passed = is.ran.passed }; set = is.set }
-  with_value {S} {T} (Some r) d old new x y is = record { told = is.told; quiet = is.quiet; any_moment = is.any_moment; fits = is.fits; most = is.most; limited = is.limited; called = is.called; ran = record { never_falls = is.ran.never_falls; own_never_falls = is.ran.own_never_falls; down = λ z. absurd cc; passed = is.ran.passed }; set = is.set }
+  with_value {S} {T} None d old new x y is = record { told = is.told; quiet = is.quiet; any_moment = is.any_moment; reached = λ z. absurd cc; left = λ z. absurd cc; fits = is.fits; most = is.most; limited = is.limited; called = is.called; ran = record { never_falls = is.ran.never_falls; own_never_falls = is.ran.own_never_falls; down = λ z. absurd cc; passed = is.ran.passed }; set = is.set }
+  with_value {S} {T} (Some r) d old new x y is = record { told = is.told; quiet = is.quiet; any_moment = is.any_moment; reached = λ z. absurd cc; left = λ z. absurd cc; fits = is.fits; most = is.most; limited = is.limited; called = is.called; ran = record { never_falls = is.ran.never_falls; own_never_falls = is.ran.own_never_falls; down = λ z. absurd cc; passed = is.ran.passed }; set = is.set }
 
   fault_by : {S T : Type 0} (decided : Option StoreRecord) (d : Durable) (old new : D) → OfDisk {T = S} decided d old new (Err nodes.OutOfMemory) → OfDisk {T = T} decided d old new (Err nodes.OutOfMemory)
-  fault_by {S} {T} None d old new is = record { told = is.told; quiet = is.quiet; any_moment = λ r z. absurd z; fits = λ r z. absurd z; most = is.most; limited = is.limited; called = tt; ran = record { never_falls = is.ran.never_falls; own_never_falls = is.ran.own_never_falls; down = λ z. absurd cc; passed = tt }; set = is.set }
-  fault_by {S} {T} (Some r) d old new is = record { told = is.told; quiet = is.quiet; any_moment = λ r z. absurd z; fits = λ r z. absurd z; most = is.most; limited = is.limited; called = tt; ran = record { never_falls = is.ran.never_falls; own_never_falls = is.ran.own_never_falls; down = λ z. absurd cc; passed = tt }; set = is.set }
+  fault_by {S} {T} None d old new is = record { told = is.told; quiet = is.quiet; any_moment = λ r z. absurd z; reached = λ z. absurd cc; left = λ z. absurd cc; fits = λ r z. absurd z; most = is.most; limited = is.limited; called = tt; ran = record { never_falls = is.ran.never_falls; own_never_falls = is.ran.own_never_falls; down = λ z. absurd cc; passed = tt }; set = is.set }
+  fault_by {S} {T} (Some r) d old new is = record { told = is.told; quiet = is.quiet; any_moment = λ r z. absurd z; reached = λ z. absurd cc; left = λ z. absurd cc; fits = λ r z. absurd z; most = is.most; limited = is.limited; called = tt; ran = record { never_falls = is.ran.never_falls; own_never_falls = is.ran.own_never_falls; down = λ z. absurd cc; passed = tt }; set = is.set }
 
   down_by : {S T : Type 0} (decided : Option StoreRecord) (d : Durable) (old new : D) → OfDisk {T = S} decided d old new (Err nodes.Down) → OfDisk {T = T} decided d old new (Err nodes.Down)
-  down_by {S} {T} None d old new is = record { told = is.told; quiet = is.quiet; any_moment = is.any_moment; fits = is.fits; most = is.most; limited = is.limited; called = tt; ran = record { never_falls = is.ran.never_falls; own_never_falls = is.ran.own_never_falls; down = λ z. is.ran.down refl; passed = tt }; set = is.set }
-  down_by {S} {T} (Some r) d old new is = record { told = is.told; quiet = is.quiet; any_moment = is.any_moment; fits = is.fits; most = is.most; limited = is.limited; called = tt; ran = record { never_falls = is.ran.never_falls; own_never_falls = is.ran.own_never_falls; down = λ z. is.ran.down refl; passed = tt }; set = is.set }
+  down_by {S} {T} None d old new is = record { told = is.told; quiet = is.quiet; any_moment = is.any_moment; reached = λ z. is.reached refl; left = λ z. is.left refl; fits = is.fits; most = is.most; limited = is.limited; called = tt; ran = record { never_falls = is.ran.never_falls; own_never_falls = is.ran.own_never_falls; down = λ z. is.ran.down refl; passed = tt }; set = is.set }
+  down_by {S} {T} (Some r) d old new is = record { told = is.told; quiet = is.quiet; any_moment = is.any_moment; reached = λ z. is.reached refl; left = λ z. is.left refl; fits = is.fits; most = is.most; limited = is.limited; called = tt; ran = record { never_falls = is.ran.never_falls; own_never_falls = is.ran.own_never_falls; down = λ z. is.ran.down refl; passed = tt }; set = is.set }
 
   pub with_fault : {S T : Type 0} (decided : Option StoreRecord) (d : Durable) (old new : D) (fault : NodeFault) → OfDisk {T = S} decided d old new (Err fault) → OfDisk {T = T} decided d old new (Err fault)
   with_fault {S} {T} decided d old new nodes.OutOfMemory is = fault_by decided d old new is

@@ -1,6 +1,7 @@
 -- What a step does to its store: what is decided is done, with its record or without one.
-use Rattle.std.specs.Prelude.{◌≡◌, ◌≤◌, ◌↔◌, ◌+◌, ◌++◌, ℕ, List, [], Bool, true, false, Option, Some, None, Result, Ok, Err, IsSome, OnOk, length, map}
+use Rattle.std.specs.Prelude.{◌≡◌, ◌≤◌, ◌↔◌, ◌+◌, ◌++◌, ℕ, List, [], Bool, true, false, Option, Some, None, Result, Ok, Err, IsErrOf, IsSome, OnOk, length, map}
 use Rattle.afs_disk.specs.Disk.{LeavesOnly, SameDisk, Setting}
+use Rattle.afs_journal.specs.Left.{LeavesByPick, ReachesCall}
 use Rattle.afs_journal.specs.Log.{SameCounts}
 use Rattle.afs_journal.specs.Records.{whole_records}
 use Rattle.afs_history.specs.declared.lines.Line.{Line}
@@ -8,7 +9,7 @@ use Rattle.afs_history.specs.declared.lines.Outs.{Outs}
 use Rattle.afs_num.specs.declared.records.StoreRecord.{StoreRecord}
 use Rattle.afs_num.specs.declared.types.Node.{Node}
 use Rattle.afs_records.specs.Durable.{effect_of, folded, Durable}
-use Rattle.afs_records.specs.Records.{FitsRecord}
+use Rattle.afs_records.specs.Records.{record_bytes, FitsRecord}
 use Rattle.afs_rows.specs.Callbacks as row
 use Rattle.afs_rows.specs.ServerRow.{begun_after, does, shows, Decision}
 use Rattle.afs_rows.specs.ServerSteps.{stepped}
@@ -19,6 +20,7 @@ use Rattle.afs_server.specs.Handling.{lines_behind, record_decided, server_seen,
 use Rattle.afs_server.specs.Seen.{lasting_of, Memory, Serves}
 use Rattle.afs_server.specs.declared.faults.NodeFault.{NodeFault}
 use Rattle.afs_server.specs.declared.faults.NodeFault.TheVariants as faults
+use Rattle.afs_server.specs.declared.faults.NodeFault.TheVariants.{Down}
 
 -- ---- the disk
 
@@ -29,12 +31,15 @@ calls_for (Some r) = 4
 
 -- What a step that has this record, or none, does to the disk of a store that keeps this. Without a record, or where memory was
 -- wanting, it leaves the disk alone; else a crash at any moment leaves what was kept before, or what is kept with the record.
--- Either way a disk that tells goes on telling.
+-- Either way a disk that tells goes on telling. Where it was set to stop or to fail at one of the calls, that one tells what a crash
+-- with each pick leaves.
 pub record OnDisk {D T : Type 0} (seen : D → Option (List ℕ)) (left_by : D → ℕ → Option (List ℕ)) (size : D → ℕ) (may_leave : D → List ℕ → Type 0) (moment : D → ℕ) (left_since : D → ℕ → List ℕ → Type 0)
     (faults own_faults calls : D → ℕ) (setting : D → Setting) (limit : D → ℕ) (decided : Option StoreRecord) (d : Durable) (old new : D) (result : Result T NodeFault) : Type 0 where
   pub told : IsSome (seen new) ↔ IsSome (seen old)
   pub quiet : IsQuiet decided result → SameDisk seen left_by size may_leave moment left_since old new × SameCounts faults own_faults calls setting limit old new
   pub any_moment : (r : StoreRecord) → IsWritten r decided result → (bytes : List ℕ) → seen old ≡ Some bytes → LeavesOnly moment left_since old new (LeftAround (whole_records bytes) r d)
+  pub reached : IsErrOf result Down → ReachesCall (setting old) (calls old) (calls new)
+  pub left : IsErrOf result Down → (r : StoreRecord) → decided ≡ Some r → (bytes : List ℕ) → seen old ≡ Some bytes → LeavesByPick left_by calls setting (whole_records bytes) (record_bytes r) old new
   pub fits : (r : StoreRecord) → IsWritten r decided result → FitsRecord r
   pub most : (calls old ≤ calls new) × (calls new ≤ calls old + 4)
   pub limited : limit new ≡ limit old

@@ -6,13 +6,14 @@ ghost use Rattle.afs_num.specs.declared.records.StoreRecord as records;
 ghost use Rattle.afs_disk.specs.Disk.{LeavesOnly, SameDisk};
 ghost use Rattle.afs_history.specs.declared.lines.Line.{Line};
 ghost use Rattle.afs_history.specs.declared.lines.Line.TheVariants as lines;
+ghost use Rattle.afs_journal.specs.Left.{LeavesByPick, ReachesCall};
 ghost use Rattle.afs_journal.specs.Log.{SameCounts};
 ghost use Rattle.afs_journal.specs.Records.{whole_records};
 ghost use Rattle.afs_model.specs.Calls.{call_seat, paired};
 ghost use Rattle.afs_model.specs.Heads.{IsSoundHead};
 ghost use Rattle.afs_model.specs.Messages.{received_by, FindsMessages, HasSpelling, IsSoundReceived};
 ghost use Rattle.afs_records.specs.Durable.{effect_of, folded, Durable};
-ghost use Rattle.afs_records.specs.Records.{FitsRecord};
+ghost use Rattle.afs_records.specs.Records.{record_bytes, FitsRecord};
 ghost use Rattle.afs_rows.specs.Callbacks as row;
 ghost use Rattle.afs_rows.specs.Callbacks.{no_turn, turn_for, turned_in};
 ghost use Rattle.afs_rows.specs.ServerRow.{begun_after, called, decides, device_calls, drops, Decision};
@@ -311,6 +312,11 @@ impl FileServer {
         // Else a crash at any moment leaves what was kept before, or what is kept with this record.
         ensures any_moment { (r : records.StoreRecord) → IsWritten r (record_decided store.old.durable.boot now (decides store.old.node (server_seen self.old store.old) now (received_by calls_served bytes.now))) result
             → (bytes : List ℕ) → D.seen store.old.disk ≡ Some bytes → LeavesOnly D.moment D.left_since store.old.disk store.new.disk (LeftAround (whole_records bytes) r store.old.durable) }
+
+        // Where the disk was set to stop or to fail at one of the calls, that one tells what a crash with each pick leaves.
+        ensures reached { IsErrOf result faults.Down → ReachesCall (D.setting store.old.disk) (D.calls store.old.disk) (D.calls store.new.disk) }
+        ensures left { IsErrOf result faults.Down → (r : records.StoreRecord) → record_decided store.old.durable.boot now (decides store.old.node (server_seen self.old store.old) now (received_by calls_served bytes.now)) ≡ Some r
+            → (bytes : List ℕ) → D.seen store.old.disk ≡ Some bytes → LeavesByPick D.left_by D.calls D.setting (whole_records bytes) (record_bytes r) store.old.disk store.new.disk }
 
         ensures fits { (r : records.StoreRecord) → IsWritten r (record_decided store.old.durable.boot now (decides store.old.node (server_seen self.old store.old) now (received_by calls_served bytes.now))) result → FitsRecord r }
 

@@ -269,8 +269,9 @@ pub record RunsOutOfMemory (s : Script) (wire : Bool) (tells : Type 0) (o : Outs
   pub written : WritesEntries IsFew wire o
   pub told : tells → ReplaysSome s wire o
 
--- memory ran out while the disks were set up: what that leaves comes back
+-- memory ran out while the disks were set up, of which none failed: what that leaves comes back
 pub record SettingUpStops (left : Type 0) (o : Outside) : Type 0 where
+  pub quiet : IsUnchanged o.disk_faults
   pub written : IsUnchanged o.sink
   pub only_set_up : left
 

@@ -18,7 +18,7 @@ use Rattle.afs_volstore.specs.Stores.{IsCaused, IsCounted, IsKept}
 use Rattle.afs_memory.specs.Telling.{in_words}
 use Rattle.afs_volstore.proofs.FoldsOn.{journal_length}
 
-some_is : (x y : List ℕ) → Some x ≡ Some y → x ≡ y
+pub some_is : (x y : List ℕ) → Some x ≡ Some y → x ≡ y
 some_is x y q = cc
 
 pub some_bytes : (o : Option (List ℕ)) → is_some o ≡ true → (b : List ℕ) × (o ≡ Some b)
@@ -107,13 +107,13 @@ are_begun node told c count records found b ls is counted mark tells =
 
 -- ---- faults
 
--- a fault that isn't the disk's has no cause there
-pub fault_without : (setting : Setting) (last before now own_before own_now : ℕ) (e : StoreFault) → IsFoldFault e → IsCaused setting last before now own_before own_now e
-fault_without setting last before now own_before own_now (faults.Full used capacity) is = tt
-fault_without setting last before now own_before own_now faults.Failed is = absurd is
-fault_without setting last before now own_before own_now faults.Closed is = tt
-fault_without setting last before now own_before own_now (faults.BadRecord n) is = tt
-fault_without setting last before now own_before own_now faults.OutOfMemory is = tt
+-- a fault that isn't the disk's, where no count rose
+pub fault_without : (setting : Setting) (last before now own_before own_now : ℕ) (e : StoreFault) → IsFoldFault e → (now ≡ before) × (own_now ≡ own_before) → IsCaused setting last before now own_before own_now e
+fault_without setting last before now own_before own_now (faults.Full used capacity) is same = same
+fault_without setting last before now own_before own_now faults.Failed is same = absurd is
+fault_without setting last before now own_before own_now faults.Closed is same = same
+fault_without setting last before now own_before own_now (faults.BadRecord n) is same = same
+fault_without setting last before now own_before own_now faults.OutOfMemory is same = same
 
 pub fault_at_attach : (e : StoreFault) → IsFoldFault e → IsAttachFault e
 fault_at_attach (faults.Full used capacity) is = is

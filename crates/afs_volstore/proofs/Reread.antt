@@ -1,6 +1,6 @@
 -- A store over a disk that was taken up anew.
 use Rattle.std.proofs.Common.{◌≡◌, ℕ, ◌+◌, Bool, false, List, length, Option, Some, None, Result, Ok, Err, is_some, refl, sym, ap, subst, ◌∙◌}
-use Rattle.std.specs.Prelude.{IsSome, MatchResult}
+use Rattle.std.specs.Prelude.{IsSome, MatchResult, OnOk}
 use Rattle.afs_num.specs.declared.faults.StoreFault.{StoreFault}
 use Rattle.afs_num.specs.declared.types.Node.{Node}
 use Rattle.afs_disk.specs.Disk.{PassesAll, Setting}
@@ -12,17 +12,18 @@ use Rattle.afs_volstore.specs.Stores.{IsKept, Store}
 use Rattle.afs_volstore.proofs.Attached.{fault_at_attach, fault_without, some_bytes}
 
 -- what is told of a journal that was found on a disk
-pub record IsFound {D : Type 0} (seen : D → Option (List ℕ)) (may_leave : D → List ℕ → Type 0) (calls : D → ℕ) (setting : D → Setting) (limit : D → ℕ) (disk : D) (log : Log D) : Type 0 where
+pub record IsFound {D : Type 0} (seen : D → Option (List ℕ)) (may_leave : D → List ℕ → Type 0) (faults own_faults calls : D → ℕ) (setting : D → Setting) (limit : D → ℕ) (disk : D) (log : Log D) : Type 0 where
   pub found : (bytes : List ℕ) → seen disk ≡ Some bytes → log.found ≡ whole_records bytes
   pub at_rest : (bytes : List ℕ) → seen disk ≡ Some bytes → IsJournal (whole_records bytes) (seen log.disk) (may_leave log.disk)
   pub told : IsSome (seen log.disk) → IsSome (seen disk)
   pub counted : log.count ≡ length log.found
   pub open_is : log.closed ≡ false
   pub passed : PassesAll (setting disk) (calls disk) (calls log.disk)
+  pub quiet : (faults log.disk ≡ faults disk) × (own_faults log.disk ≡ own_faults disk)
   pub rests : (bytes : List ℕ) → seen disk ≡ Some bytes → Rests bytes → calls log.disk ≡ calls disk + 2
   pub same_limit : limit log.disk ≡ limit disk
 
-module _ {D : Type 0} (seen : D → Option (List ℕ)) (may_leave : D → List ℕ → Type 0) (faults own_faults calls : D → ℕ) (setting : D → Setting) (limit : D → ℕ) (node : Node) (disk : D) (log : Log D) (is : IsFound seen may_leave calls setting limit disk log) where
+module _ {D : Type 0} (seen : D → Option (List ℕ)) (may_leave : D → List ℕ → Type 0) (faults own_faults calls : D → ℕ) (setting : D → Setting) (limit : D → ℕ) (node : Node) (disk : D) (log : Log D) (is : IsFound seen may_leave faults own_faults calls setting limit disk log) where
   -- it is at rest with what was found
   pub rests_so : (bytes : List ℕ) → seen log.disk ≡ Some bytes → IsJournal log.found (seen log.disk) (may_leave log.disk)
   rests_so bytes at =
@@ -55,7 +56,7 @@ module _ {D : Type 0} (seen : D → Option (List ℕ)) (may_leave : D → List �
   refused_so e not = record {
     refusal = fault_at_attach e.0 not.refusal;
     bad = λ n same bytes at. subst (λ (rs : List (List ℕ)). first_bad (limit disk) rs ≡ Some n) (is.found bytes at) (not.bad n same (limit disk));
-    caused = fault_without (setting disk) (calls e.1) (faults disk) (faults e.1) (own_faults disk) (own_faults e.1) e.0 not.refusal;
+    caused = fault_without (setting disk) (calls e.1) (faults disk) (faults e.1) (own_faults disk) (own_faults e.1) e.0 not.refusal (subst (λ (d : D). (faults d ≡ faults disk) × (own_faults d ≡ own_faults disk)) (sym not.disk_is) is.quiet);
   }
 
   pub comes_so : (r : Result (Store D) (StoreFault × D)) → MatchResult r (IsMade seen may_leave limit node log) (IsNotMade log) → MatchResult r (IsAttached seen may_leave calls setting limit node disk) (IsRefused seen faults own_faults calls setting limit disk)
@@ -65,3 +66,7 @@ module _ {D : Type 0} (seen : D → Option (List ℕ)) (may_leave : D → List �
   pub disk_is : (r : Result (Store D) (StoreFault × D)) → MatchResult r (IsMade seen may_leave limit node log) (IsNotMade log) → disk_after r ≡ log.disk
   disk_is (Ok s) made = ap (λ (x : Store D). x.disk) made.rest
   disk_is (Err e) not = not.disk_is
+
+  pub quiet_so : (r : Result (Store D) (StoreFault × D)) → MatchResult r (IsMade seen may_leave limit node log) (IsNotMade log) → OnOk r ((faults (disk_after r) ≡ faults disk) × (own_faults (disk_after r) ≡ own_faults disk))
+  quiet_so (Ok s) made = subst (λ (d : D). (faults d ≡ faults disk) × (own_faults d ≡ own_faults disk)) (sym (ap (λ (x : Store D). x.disk) made.rest)) is.quiet
+  quiet_so (Err e) not = tt

@@ -43,17 +43,19 @@ IsCounted count seen = (bytes : List ℕ) → seen ≡ Some bytes → length (wh
 
 -- ---- refusals
 
--- what a call's refusal comes from, after device calls up to this number: a disk that failed, and nothing is said of the others
+-- what a call's refusal comes from, after device calls up to this number: a disk that failed; at any other refusal no count of
+-- faults rose
 abbrev pub IsCaused : Setting → ℕ → ℕ → ℕ → ℕ → ℕ → StoreFault → Type 0
 IsCaused setting last before now own_before own_now faults.Failed = Rose before now × (Trips setting last ⊎ Rose own_before own_now)
-IsCaused setting last before now own_before own_now refusal = Unit {0}
+IsCaused setting last before now own_before own_now refusal = (now ≡ before) × (own_now ≡ own_before)
 
 -- A call's device calls, the first behind this number and the last of that one: no count of faults falls, a failure has its
--- cause, and at Ok none was set to trip.
+-- cause, at any other answer no count rose, and at Ok none was set to trip.
 pub record Served {T : Type 0} (setting : Setting) (first last before now own_before own_now : ℕ) (result : Result T StoreFault) : Type 0 where
   pub never_falls : before ≤ now
   pub own_never_falls : own_before ≤ own_now
   pub failed : IsErrOf result faults.Failed → Rose before now × (Trips setting last ⊎ Rose own_before own_now)
+  pub quiet : (IsErrOf result faults.Failed → ⊥) → (now ≡ before) × (own_now ≡ own_before)
   pub passed : OnOk result (PassesAll setting first last)
 
 -- the record doesn't fit behind a journal of this length, on a disk of this capacity

@@ -4,6 +4,7 @@ ghost use Rattle.std.specs.Prelude.{◌≡◌, ◌≤◌, ◌+◌, ◌++◌, ◌
 ghost use Rattle.afs_num.specs.declared.faults.StoreFault.TheVariants as faults;
 ghost use Rattle.afs_num.specs.declared.records.StoreRecord as records;
 ghost use Rattle.afs_disk.specs.Disk.{LeavesOnly, SameDisk};
+ghost use Rattle.afs_journal.specs.Left.{LeavesByPick, ReachesCall};
 ghost use Rattle.afs_journal.specs.Log.{HasRoom, IsJournal, KeepsRoom, SameCounts, Unchanged};
 ghost use Rattle.afs_journal.specs.Records.{whole_records, IsBeforeOrAfter};
 ghost use Rattle.afs_records.specs.Records.{record_bytes, FitsRecord};
@@ -170,6 +171,8 @@ fn append<D: Disk>(journal: &mut Journal<D>, bytes: &[u8]) -> Result<(), StoreFa
     ensures added { OnOk result ((content : List ℕ) → D.seen journal.old.disk ≡ Some content → IsJournal (whole_records content ++ bytes.now ∷ []) (D.seen journal.new.disk) (D.may_leave journal.new.disk)) }
     ensures any_moment { (content : List ℕ) → D.seen journal.old.disk ≡ Some content
         → LeavesOnly D.moment D.left_since journal.old.disk journal.new.disk (IsBeforeOrAfter (whole_records content) bytes.now) }
+    ensures reached { OnErr result (ReachesCall (D.setting journal.old.disk) (D.calls journal.old.disk) (D.calls journal.new.disk)) }
+    ensures left { OnErr result ((content : List ℕ) → D.seen journal.old.disk ≡ Some content → LeavesByPick D.left_by D.calls D.setting (whole_records content) bytes.now journal.old.disk journal.new.disk) }
     ensures calls { OnOk result (D.calls journal.new.disk ≡ D.calls journal.old.disk + 4) }
     ensures most { (D.calls journal.old.disk ≤ D.calls journal.new.disk) × (D.calls journal.new.disk ≤ D.calls journal.old.disk + 4) }
     ensures served { Served (D.setting journal.old.disk) (D.calls journal.old.disk) (D.calls journal.new.disk) (D.faults journal.old.disk) (D.faults journal.new.disk) (D.own_faults journal.old.disk) (D.own_faults journal.new.disk) result }
@@ -200,6 +203,8 @@ pub(crate) fn put<D: Disk>(
     ensures added { OnOk result ((content : List ℕ) → D.seen journal.old.disk ≡ Some content → IsJournal (whole_records content ++ prepared.bytes ∷ []) (D.seen journal.new.disk) (D.may_leave journal.new.disk)) }
     ensures any_moment { (content : List ℕ) → D.seen journal.old.disk ≡ Some content
         → LeavesOnly D.moment D.left_since journal.old.disk journal.new.disk (IsBeforeOrAfter (whole_records content) prepared.bytes) }
+    ensures reached { OnErr result (ReachesCall (D.setting journal.old.disk) (D.calls journal.old.disk) (D.calls journal.new.disk)) }
+    ensures left { OnErr result ((content : List ℕ) → D.seen journal.old.disk ≡ Some content → LeavesByPick D.left_by D.calls D.setting (whole_records content) prepared.bytes journal.old.disk journal.new.disk) }
     ensures calls { OnOk result (D.calls journal.new.disk ≡ D.calls journal.old.disk + 4) }
     ensures most { (D.calls journal.old.disk ≤ D.calls journal.new.disk) × (D.calls journal.new.disk ≤ D.calls journal.old.disk + 4) }
     ensures served { Served (D.setting journal.old.disk) (D.calls journal.old.disk) (D.calls journal.new.disk) (D.faults journal.old.disk) (D.faults journal.new.disk) (D.own_faults journal.old.disk) (D.own_faults journal.new.disk) result }
@@ -276,6 +281,11 @@ impl<D: Disk> VolStore<D> {
         // A crash at any moment leaves what was kept before, or what is kept with the record.
         ensures any_moment { self.old.closed ≡ false → (r : records.StoreRecord) → self.old.prepared ≡ Some r → (bytes : List ℕ) → D.seen self.old.disk ≡ Some bytes
             → LeavesOnly D.moment D.left_since self.old.disk self.new.disk (LeftAround (whole_records bytes) r self.old.durable) }
+
+        // Where the disk was set to stop or to fail at one of the calls, that one tells what a crash with each pick leaves.
+        ensures reached { IsErrOf result faults.Failed → ReachesCall (D.setting self.old.disk) (D.calls self.old.disk) (D.calls self.new.disk) }
+        ensures left { IsErrOf result faults.Failed → (r : records.StoreRecord) → self.old.prepared ≡ Some r → (bytes : List ℕ) → D.seen self.old.disk ≡ Some bytes
+            → LeavesByPick D.left_by D.calls D.setting (whole_records bytes) (record_bytes r) self.old.disk self.new.disk }
 
         ensures calls { OnOk result (D.calls self.new.disk ≡ D.calls self.old.disk + 4) }
         ensures most { (D.calls self.old.disk ≤ D.calls self.new.disk) × (D.calls self.new.disk ≤ D.calls self.old.disk + 4) }

@@ -86,6 +86,7 @@ fn begin<D: Disk>(alloc: Global, disk: D) -> Result<Journal<D>, (StoreFault, D)>
         (λ j. LeavesOnly D.moment D.left_since disk j.disk (λ c. whole_records c ≡ []))
         (λ e. LeavesOnly D.moment D.left_since disk e.1 (λ c. whole_records c ≡ [])) }
     ensures ok { IfOk result (λ j. Moved 7 D.faults D.own_faults D.calls D.setting D.limit disk j.disk × PassesAll (D.setting disk) (D.calls disk) (D.calls j.disk)) }
+    ensures quiet { IfOk result (λ j. (D.faults j.disk ≡ D.faults disk) × (D.own_faults j.disk ≡ D.own_faults disk)) }
     ensures err { IfErr result (λ e. Moved 7 D.faults D.own_faults D.calls D.setting D.limit disk e.1 × IsCaused (D.setting disk) (D.calls e.1) (D.faults disk) (D.faults e.1) (D.own_faults disk) (D.own_faults e.1) e.0) }
     ensures refusals { IfErr result (λ e. (e.0 ≡ faults.Failed) ⊎ (e.0 ≡ faults.OutOfMemory)) }
 {
@@ -148,6 +149,7 @@ fn filled<D: Disk>(
         (λ s. LeavesOnly D.moment D.left_since journal.disk s.disk (IsBeforeOrAfter [] (record_bytes rec.now)))
         (λ e. LeavesOnly D.moment D.left_since journal.disk e.1 (IsBeforeOrAfter [] (record_bytes rec.now))) }
     ensures ok { IfOk result (λ s. Moved 4 D.faults D.own_faults D.calls D.setting D.limit journal.disk s.disk × PassesAll (D.setting journal.disk) (D.calls journal.disk) (D.calls s.disk)) }
+    ensures quiet { IfOk result (λ s. (D.faults s.disk ≡ D.faults journal.disk) × (D.own_faults s.disk ≡ D.own_faults journal.disk)) }
     ensures err { IfErr result (λ e. Moved 4 D.faults D.own_faults D.calls D.setting D.limit journal.disk e.1 × IsCaused (D.setting journal.disk) (D.calls e.1) (D.faults journal.disk) (D.faults e.1) (D.own_faults journal.disk) (D.own_faults e.1) e.0) }
 {
     records_are_read_again();
@@ -193,6 +195,7 @@ impl<D: Disk> VolStore<D> {
 
         // It makes at most twelve device calls.
         ensures ok { IfOk result (λ s. Moved 12 D.faults D.own_faults D.calls D.setting D.limit disk s.disk × PassesAll (D.setting disk) (D.calls disk) (D.calls s.disk)) }
+        ensures quiet { IfOk result (λ s. (D.faults s.disk ≡ D.faults disk) × (D.own_faults s.disk ≡ D.own_faults disk)) }
         ensures err { IfErr result (λ e. Moved 12 D.faults D.own_faults D.calls D.setting D.limit disk e.1 × IsCaused (D.setting disk) (D.calls e.1) (D.faults disk) (D.faults e.1) (D.own_faults disk) (D.own_faults e.1) e.0) }
     {
         records_are_read_again();

@@ -54,7 +54,9 @@ impl<D: Disk> VolStore<D> {
             (λ r. LeavesOnly D.moment D.left_since disk r.0.disk (StandsAsBefore (D.may_leave disk)))
             (λ e. LeavesOnly D.moment D.left_since disk e.1 (StandsAsBefore (D.may_leave disk))) }
         ensures ok { IfOk result (λ r. Taken D.faults D.own_faults D.calls D.setting disk r.0.disk × PassesAll (D.setting disk) (D.calls disk) (D.calls r.0.disk)) }
+        ensures quiet { IfOk result (λ r. (D.faults r.0.disk ≡ D.faults disk) × (D.own_faults r.0.disk ≡ D.own_faults disk)) }
         ensures err { IfErr result (λ e. Taken D.faults D.own_faults D.calls D.setting disk e.1 × IsCaused (D.setting disk) (D.calls e.1) (D.faults disk) (D.faults e.1) (D.own_faults disk) (D.own_faults e.1) e.0) }
+        ensures reads { IfErr result (λ e. (bytes now : List ℕ) → D.seen disk ≡ Some bytes → D.seen e.1 ≡ Some now → whole_records now ≡ whole_records bytes) }
         ensures rests { IfOk result (λ r. (bytes : List ℕ) → D.seen disk ≡ Some bytes → Rests bytes → D.calls r.0.disk ≡ D.calls disk + 2) }
         ensures limit { MatchResult result (λ r. D.limit r.0.disk ≡ D.limit disk) (λ e. D.limit e.1 ≡ D.limit disk) }
     {

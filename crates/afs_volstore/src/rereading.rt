@@ -1,6 +1,6 @@
 //! The disk of a store that is there is taken up anew.
 
-ghost use Rattle.std.specs.Prelude.{◌≡◌, ◌≤◌, ◌+◌, ℕ, List, Some, false, MatchResult};
+ghost use Rattle.std.specs.Prelude.{◌≡◌, ◌≤◌, ◌+◌, ℕ, List, Some, false, MatchResult, OnOk};
 ghost use Rattle.afs_journal.specs.Log.{IsJournal};
 ghost use Rattle.afs_volstore.specs.Rereading.{disk_after, IsAttached, IsMade, IsNotMade, IsRefused, IsTakenUp};
 ghost use Rattle.afs_memory.specs.States.{parts_of, placed};
@@ -51,6 +51,7 @@ fn again<D: Disk>(
     requires limit { D.limit disk ≤ 268435456 }
     requires kept { IsKept (placed len (D.limit disk) (parts_of state)) (D.seen disk) (D.may_leave disk) }
     ensures disk { IsTakenUp D.seen D.may_leave D.moment D.left_since D.faults D.own_faults D.calls D.setting D.limit disk (disk_after result) }
+    ensures quiet { OnOk result ((D.faults (disk_after result) ≡ D.faults disk) × (D.own_faults (disk_after result) ≡ D.own_faults disk)) }
     ensures attached { MatchResult result (IsAttached D.seen D.may_leave D.calls D.setting D.limit node disk) (IsRefused D.seen D.faults D.own_faults D.calls D.setting D.limit disk) }
 {
     let journal = take_up(alloc, disk)?;
@@ -65,6 +66,7 @@ impl<D: Disk> VolStore<Fuse<D>> {
         requires limit { D.limit self.disk.disk ≤ 268435456 }
         ensures was { IsKept self.durable (D.seen self.disk.disk) (D.may_leave self.disk.disk) × (self.durable.capacity ≡ D.limit self.disk.disk) }
         ensures disk { IsTakenUp D.seen D.may_leave D.moment D.left_since D.faults D.own_faults D.calls D.setting D.limit self.disk.disk (disk_after result) }
+        ensures quiet { OnOk result ((D.faults (disk_after result) ≡ D.faults self.disk.disk) × (D.own_faults (disk_after result) ≡ D.own_faults self.disk.disk)) }
         ensures attached { MatchResult result (IsAttached D.seen D.may_leave D.calls D.setting D.limit self.node self.disk.disk) (IsRefused D.seen D.faults D.own_faults D.calls D.setting D.limit self.disk.disk) }
     {
         let VolStore {

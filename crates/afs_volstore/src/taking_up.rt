@@ -24,7 +24,9 @@ pub(crate) fn take_up<D: Disk>(alloc: Global, disk: D) -> Result<Journal<D>, (St
         (λ j. LeavesOnly D.moment D.left_since disk j.disk (StandsAsBefore (D.may_leave disk)))
         (λ e. LeavesOnly D.moment D.left_since disk e.1 (StandsAsBefore (D.may_leave disk))) }
     ensures ok { IfOk result (λ j. Taken D.faults D.own_faults D.calls D.setting disk j.disk × PassesAll (D.setting disk) (D.calls disk) (D.calls j.disk)) }
+    ensures quiet { IfOk result (λ j. (D.faults j.disk ≡ D.faults disk) × (D.own_faults j.disk ≡ D.own_faults disk)) }
     ensures err { IfErr result (λ e. Taken D.faults D.own_faults D.calls D.setting disk e.1 × IsCaused (D.setting disk) (D.calls e.1) (D.faults disk) (D.faults e.1) (D.own_faults disk) (D.own_faults e.1) e.0) }
+    ensures reads { IfErr result (λ e. (bytes now : List ℕ) → D.seen disk ≡ Some bytes → D.seen e.1 ≡ Some now → whole_records now ≡ whole_records bytes) }
     ensures rests { IfOk result (λ j. (bytes : List ℕ) → D.seen disk ≡ Some bytes → Rests bytes → D.calls j.disk ≡ D.calls disk + 2) }
     ensures limit { MatchResult result (λ j. D.limit j.disk ≡ D.limit disk) (λ e. D.limit e.1 ≡ D.limit disk) }
     ensures refusals { IfErr result (λ e. (e.0 ≡ faults.Failed) ⊎ (e.0 ≡ faults.OutOfMemory)) }

@@ -1,5 +1,6 @@
 use Rattle.std.proofs.Common.{◌≡◌, List, ℕ, Some, sym, ◌∙◌, ap}
 use Rattle.afs_journal.specs.Records.{whole_records}
+use Rattle.afs_journal.proofs.Broken.{some_same}
 use Rattle.afs_journal.proofs.Sound.{taken_up, stands_now}
 use Rattle.afs_journal.proofs.journal.take_up.Goals as goal
 
@@ -30,3 +31,21 @@ returns-clause-begins g c = λ made bytes told b left.
 
 pub returns-in_err-bytes-clause-begins : goal.returns-in_err-bytes-clause-begins
 returns-in_err-bytes-clause-begins g c = λ made bytes told b left. ap whole_records (c.open.ensures.begins made bytes told b left)
+
+-- what a read gives then stands for the same records
+pub returns-in_err-bytes-clause-reads : goal.returns-in_err-bytes-clause-reads
+returns-in_err-bytes-clause-reads g c = λ bytes now told held. ap whole_records (some_same now bytes (sym held ∙ (c.open.ensures.seen ∙ told)))
+
+pub returns-in_err-found-clause-reads : goal.returns-in_err-found-clause-reads
+returns-in_err-found-clause-reads g c = λ bytes now told held.
+    let read : c.deref.result.now ≡ bytes = c.deref.ensures.value ∙ c.in_ok-bytes.ensures.bytes bytes told in
+    let run = c.settle.ensures.any_moment (c.open.ensures.seen ∙ told ∙ ap (λ (l : List ℕ). Some l) (sym read)) (λ b left. c.in_ok-bytes.ensures.durable bytes told b left ∙ sym read) in
+    let left = g.met.D.Disk.leaves c.settle.new.disk 1 now (g.met.D.Disk.shows c.settle.new.disk ∙ held) in
+    stands_now g.D.Disk.may_leave g.D.Disk.moment g.D.Disk.left_since g.met.D.Disk.counts_now c.open.new.disk c.settle.new.disk (λ (l : List ℕ). whole_records l ≡ whole_records c.deref.result.now) run now left ∙ ap whole_records read
+
+pub returns-clause-reads : goal.returns-clause-reads
+returns-clause-reads g c = λ bytes now told held.
+    let read : c.deref.result.now ≡ bytes = c.deref.ensures.value ∙ c.in_ok-bytes.ensures.bytes bytes told in
+    let run = c.settle.ensures.any_moment (c.open.ensures.seen ∙ told ∙ ap (λ (l : List ℕ). Some l) (sym read)) (λ b left. c.in_ok-bytes.ensures.durable bytes told b left ∙ sym read) in
+    let left = g.met.D.Disk.leaves c.settle.new.disk 1 now (g.met.D.Disk.shows c.settle.new.disk ∙ held) in
+    stands_now g.D.Disk.may_leave g.D.Disk.moment g.D.Disk.left_since g.met.D.Disk.counts_now c.open.new.disk c.settle.new.disk (λ (l : List ℕ). whole_records l ≡ whole_records c.deref.result.now) run now left ∙ ap whole_records read

@@ -8,6 +8,8 @@ returns-in-Ok-clause-disk g c r e = record {
   told = c.commit.ensures.told;
   quiet = λ is. absurd is;
   any_moment = λ q is bytes told. c.commit.ensures.any_moment c.requires.up q (e ∙ is) bytes told;
+  reached = λ z. absurd cc;
+  left = λ z. absurd cc;
   fits = λ q is. c.requires.fits q (e ∙ is);
   most = c.commit.ensures.most;
   limited = c.commit.ensures.setting.0;
@@ -21,6 +23,8 @@ returns-in-Err-clause-disk g c r e = record {
   told = c.commit.ensures.told;
   quiet = λ is. absurd is;
   any_moment = λ q is bytes told. c.commit.ensures.any_moment c.requires.up q (e ∙ is) bytes told;
+  reached = λ z. c.in-Err.ensures.reached (⊎_elim (λ failed. ap (λ (e : StoreFault). Err e) failed) (λ closed. let yes = c.in-Err.ensures.closed.0 (ap (λ (e : StoreFault). Err e) closed) in let no = c.requires.up in absurd cc) c.in-Err.ensures.refusals);
+  left = λ z q is bytes told. c.in-Err.ensures.left (⊎_elim (λ failed. ap (λ (e : StoreFault). Err e) failed) (λ closed. let yes = c.in-Err.ensures.closed.0 (ap (λ (e : StoreFault). Err e) closed) in let no = c.requires.up in absurd cc) c.in-Err.ensures.refusals) q (e ∙ is) bytes told;
   fits = λ q is. c.requires.fits q (e ∙ is);
   most = c.commit.ensures.most;
   limited = c.commit.ensures.setting.0;

@@ -3,7 +3,7 @@ use Rattle.afs_volstore.specs.Rereading.{IsTakenUp}
 use Rattle.afs_memory.specs.States.{parts_of, placed}
 use Rattle.afs_volstore.specs.Stores.{IsKept}
 use Rattle.afs_volstore.proofs.Attached.{counted_taken_up, kept_again}
-use Rattle.afs_volstore.proofs.Reread.{comes_so, disk_is, rests_so}
+use Rattle.afs_volstore.proofs.Reread.{comes_so, disk_is, quiet_so, rests_so}
 use Rattle.afs_volstore.proofs.rereading.again.Goals as goal
 
 pub made-requires-clause-counted : goal.made-requires-clause-counted
@@ -16,7 +16,7 @@ pub made-requires-clause-rests : goal.made-requires-clause-rests
 made-requires-clause-rests g c =
     let e = c.in_ok-journal.ensures in
     rests_so g.D.Disk.seen g.D.Disk.may_leave g.D.Disk.faults g.D.Disk.own_faults g.D.Disk.calls g.D.Disk.setting g.D.Disk.limit c.args.node c.args.disk c.in_ok-journal.journal
-    (record { found = e.found; at_rest = e.at_rest; told = e.told.0; counted = e.counts.0; open_is = e.counts.1.1; passed = e.ok.1; rests = e.rests; same_limit = e.limit })
+    (record { found = e.found; at_rest = e.at_rest; told = e.told.0; counted = e.counts.0; open_is = e.counts.1.1; passed = e.ok.1; quiet = e.quiet; rests = e.rests; same_limit = e.limit })
 
 pub made-requires-clause-kept : goal.made-requires-clause-kept
 made-requires-clause-kept g c =
@@ -33,7 +33,7 @@ returns-clause-disk g c =
     subst (λ (x : g.row.D.Denot). IsTakenUp g.D.Disk.seen g.D.Disk.may_leave g.D.Disk.moment g.D.Disk.left_since g.D.Disk.faults g.D.Disk.own_faults g.D.Disk.calls g.D.Disk.setting g.D.Disk.limit d x)
     (sym
     (disk_is g.D.Disk.seen g.D.Disk.may_leave g.D.Disk.faults g.D.Disk.own_faults g.D.Disk.calls g.D.Disk.setting g.D.Disk.limit c.args.node d c.in_ok-journal.journal
-    (record { found = e.found; at_rest = e.at_rest; told = e.told.0; counted = e.counts.0; open_is = e.counts.1.1; passed = e.ok.1; rests = e.rests; same_limit = e.limit })
+    (record { found = e.found; at_rest = e.at_rest; told = e.told.0; counted = e.counts.0; open_is = e.counts.1.1; passed = e.ok.1; quiet = e.quiet; rests = e.rests; same_limit = e.limit })
     c.made.result c.made.ensures))
     (record { told = e.told; any_moment = e.any_moment; taken = e.ok.0; same_limit = e.limit })
 
@@ -41,5 +41,12 @@ pub returns-clause-attached : goal.returns-clause-attached
 returns-clause-attached g c =
     let e = c.in_ok-journal.ensures in
     comes_so g.D.Disk.seen g.D.Disk.may_leave g.D.Disk.faults g.D.Disk.own_faults g.D.Disk.calls g.D.Disk.setting g.D.Disk.limit c.args.node c.args.disk c.in_ok-journal.journal
-    (record { found = e.found; at_rest = e.at_rest; told = e.told.0; counted = e.counts.0; open_is = e.counts.1.1; passed = e.ok.1; rests = e.rests; same_limit = e.limit })
+    (record { found = e.found; at_rest = e.at_rest; told = e.told.0; counted = e.counts.0; open_is = e.counts.1.1; passed = e.ok.1; quiet = e.quiet; rests = e.rests; same_limit = e.limit })
+    c.made.result c.made.ensures
+
+pub returns-clause-quiet : goal.returns-clause-quiet
+returns-clause-quiet g c =
+    let e = c.in_ok-journal.ensures in
+    quiet_so g.D.Disk.seen g.D.Disk.may_leave g.D.Disk.faults g.D.Disk.own_faults g.D.Disk.calls g.D.Disk.setting g.D.Disk.limit c.args.node c.args.disk c.in_ok-journal.journal
+    (record { found = e.found; at_rest = e.at_rest; told = e.told.0; counted = e.counts.0; open_is = e.counts.1.1; passed = e.ok.1; quiet = e.quiet; rests = e.rests; same_limit = e.limit })
     c.made.result c.made.ensures

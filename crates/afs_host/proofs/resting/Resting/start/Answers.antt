@@ -1,38 +1,39 @@
-use Rattle.std.specs.Prelude.{◌≡◌, ℕ, List, [], Option, Some, None, IsSome}
+use Rattle.std.specs.Prelude.{◌≡◌, ℕ, List, [], ◌∷◌, Option, Some, None, IsSome}
 use Rattle.std.proofs.Common.{refl, ap, sym, subst, ◌∙◌}
 use Rattle.afs_num.specs.declared.faults.StoreFault.{StoreFault}
 use Rattle.afs_num.specs.declared.faults.StoreFault.TheVariants as refusals
+use Rattle.afs_num.specs.declared.types.Node.{Node}
 use Rattle.afs_num.specs.declared.types.Node.TheVariants.{Server}
+use Rattle.afs_history.specs.declared.lines.Line.{Line}
 use Rattle.afs_disk.specs.Disk.{Rose, Setting}
 use Rattle.afs_disk.specs.Fuses.{Fused}
 use Rattle.afs_volstore.specs.Stores.{IsCaused, Store}
 use Rattle.afs_host.specs.Seats.{Resting}
-use Rattle.afs_host.specs.Starting.{IsStarted, StartsOver}
-use Rattle.afs_host.proofs.Started.{boots_over, own_cause, refused_over, refused_so, taken_up, Refused}
+use Rattle.afs_host.specs.Starting.{BootsOver, IsRefused, IsStarted, StartsOver}
+use Rattle.afs_host.proofs.Started.{boots_over, own_cause, own_quiet, refused_over, refused_so, taken_up, Refused}
 use Rattle.afs_host.proofs.resting.Resting.start.Goals as goal
 
-pub returns-in-Ok-clause-started : goal.returns-in-Ok-clause-started
-returns-in-Ok-clause-started g c =
+pub returns-in-Ok-attach-clause-started : goal.returns-in-Ok-attach-clause-started
+returns-in-Ok-attach-clause-started g c =
     let fuse = c.new.result in
     let old : Resting g.row.D.Denot = record { disk = fuse.disk; mark = c.self.inside.mark } in
-    let s = c.in-Ok.store in
-    let e = c.in-Ok.ensures in
+    let s = c.in-Ok-attach.store in
+    let e = c.in-Ok-attach.ensures in
     let b = c.boot.ensures in
     let is : old ≡ c.args.self = ap (λ (d : g.row.D.Denot). record { disk = d; mark = c.self.inside.mark }) (ap (λ (f : Fused g.row.D.Denot). f.disk) c.new.ensures) ∙ c.self.view_is in
     subst (λ (x : Resting g.row.D.Denot). IsSome (g.D.Disk.seen x.disk) → IsStarted g.D.Disk.seen g.D.Disk.may_leave g.D.Disk.faults g.D.Disk.limit (Server c.args.server) c.args.now c.args.clients x c.boot.result) is
-    (taken_up g.D.Disk.seen g.D.Disk.may_leave g.D.Disk.faults g.D.Disk.limit (Server c.args.server) c.args.now c.args.clients old s c.in-Ok.front c.boot.result (record {
+    (taken_up g.D.Disk.seen g.D.Disk.may_leave g.D.Disk.faults g.D.Disk.limit (Server c.args.server) c.args.now c.args.clients old s c.in-Ok-attach.front c.boot.result (record {
       node = ap (λ (t : Store (Fused g.row.D.Denot)). t.node) e.rest;
-      shows = λ bytes told. g.met.D.Disk.leaves old.disk 1 bytes (g.met.D.Disk.shows old.disk ∙ told);
+      shows = λ d bytes told. g.met.D.Disk.leaves d 1 bytes (g.met.D.Disk.shows d ∙ told);
       stands = λ bytes told. e.stands bytes told;
       lines_are = λ bytes told. e.lines bytes told;
       rests = λ bytes told. let r = e.at_rest bytes told in record { now = r.now; stands = r.stands; fit = r.fit; durable = r.durable };
       counted = λ bytes told. e.count bytes told;
       capacity = e.capacity;
-      no_less = e.ok.0.own_never_falls;
+      quiet = e.quiet.1;
       boots = b.boots;
       goes_on = b.goes_on;
       same_limit = b.limit ∙ e.limit;
-      falls_not = b.faults;
     }))
 
 pub returns-in-Err-clause-started : goal.returns-in-Err-clause-started
@@ -47,6 +48,7 @@ returns-in-Err-clause-started g c =
     (refused_so g.D.Disk.seen g.D.Disk.may_leave g.D.Disk.moment g.D.Disk.left_since g.met.D.Disk.counts_now g.D.Disk.faults g.D.Disk.limit c.in-Err.refusal (Server c.args.server) c.args.now c.args.clients old new
     (subst (λ (d : g.row.D.Denot). Refused g.D.Disk.seen g.D.Disk.may_leave g.D.Disk.moment g.D.Disk.left_since g.D.Disk.faults g.D.Disk.limit c.in-Err.refusal old (record { disk = d; mark = c.self.inside.mark })) (sym inner) (record {
       shows = λ bytes told. g.met.D.Disk.leaves old.disk 1 bytes (g.met.D.Disk.shows old.disk ∙ told);
+      reads = λ bytes now told held. e.reads bytes now told held;
       mark = refl;
       same_limit = e.limit;
       told = e.told.0;
@@ -56,18 +58,20 @@ returns-in-Err-clause-started g c =
       refusals_are = e.refusals;
       bad = λ number is bytes told. e.bad number is bytes told;
       failed = own_cause (record { stop = fuse.stop; fail = fuse.fail }) c.in-Err.fuse.calls _ _ _ _ c.in-Err.refusal (ap (λ (f : Fused g.row.D.Denot). f.stop) c.new.ensures) (ap (λ (f : Fused g.row.D.Denot). f.fail) c.new.ensures) e.err.1;
-    })) c.refused.result c.refused.ensures)
+    })) c.refused.result (subst (λ (ls : List Line). IsRefused c.in-Err.refusal new ls c.refused.result) c.in-Ok.ensures c.refused.ensures))
 
-pub returns-in-Ok-clause-over : goal.returns-in-Ok-clause-over
-returns-in-Ok-clause-over g c =
+pub returns-in-Ok-attach-clause-over : goal.returns-in-Ok-attach-clause-over
+returns-in-Ok-attach-clause-over g c =
     let fuse = c.new.result in
     let old : Resting g.row.D.Denot = record { disk = fuse.disk; mark = c.self.inside.mark } in
-    let s = c.in-Ok.store in
-    let e = c.in-Ok.ensures in
-    let b = c.boot.ensures in
+    let s = c.in-Ok-attach.store in
+    let e = c.in-Ok-attach.ensures in
     let is : old ≡ c.args.self = ap (λ (d : g.row.D.Denot). record { disk = d; mark = c.self.inside.mark }) (ap (λ (f : Fused g.row.D.Denot). f.disk) c.new.ensures) ∙ c.self.view_is in
+    let node = ap (λ (t : Store (Fused g.row.D.Denot)). t.node) e.rest in
     subst (λ (x : Resting g.row.D.Denot). StartsOver g.D.Disk.seen g.D.Disk.faults g.D.Disk.limit (Server c.args.server) c.args.now c.args.clients x c.boot.result) is
-    (boots_over g.D.Disk.seen g.D.Disk.faults g.D.Disk.limit (Server c.args.server) c.args.now c.args.clients old s c.in-Ok.front (ap (λ (t : Store (Fused g.row.D.Denot)). t.node) e.rest) e.capacity e.ok.0.own_never_falls c.boot.result b.faults b.over)
+    (boots_over g.D.Disk.seen g.D.Disk.faults g.D.Disk.limit (Server c.args.server) c.args.now c.args.clients old s c.in-Ok-attach.front e.capacity c.boot.result
+    (subst (λ (before : ℕ). BootsOver g.D.Disk.faults s.durable c.in-Ok-attach.front (Server c.args.server) c.args.now c.args.clients before c.boot.result) e.quiet.1
+    (subst (λ (n : Node). BootsOver g.D.Disk.faults s.durable c.in-Ok-attach.front n c.args.now c.args.clients (g.D.Disk.faults s.disk.disk) c.boot.result) node c.boot.ensures.over)))
 
 pub returns-in-Err-clause-over : goal.returns-in-Err-clause-over
 returns-in-Err-clause-over g c =
@@ -81,4 +85,5 @@ returns-in-Err-clause-over g c =
     (refused_over g.D.Disk.seen g.D.Disk.faults g.D.Disk.limit (Server c.args.server) c.args.now c.args.clients old new c.in-Err.refusal refl e.refusals (λ number is bytes told. e.bad number is bytes told)
     (λ failed. subst (λ (d : g.row.D.Denot). Rose (g.D.Disk.faults old.disk) (g.D.Disk.faults d)) (sym inner)
     (own_cause (record { stop = fuse.stop; fail = fuse.fail }) c.in-Err.fuse.calls _ _ _ _ c.in-Err.refusal (ap (λ (f : Fused g.row.D.Denot). f.stop) c.new.ensures) (ap (λ (f : Fused g.row.D.Denot). f.fail) c.new.ensures) e.err.1 failed))
-    c.refused.result c.refused.ensures)
+    (λ memory. ap g.D.Disk.faults inner ∙ own_quiet (record { stop = fuse.stop; fail = fuse.fail }) c.in-Err.fuse.calls _ _ _ _ c.in-Err.refusal e.err.1 memory)
+    c.refused.result (subst (λ (ls : List Line). IsRefused c.in-Err.refusal new ls c.refused.result) c.in-Ok.ensures c.refused.ensures))

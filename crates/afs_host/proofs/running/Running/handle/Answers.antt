@@ -18,7 +18,7 @@ use Rattle.afs_server.specs.declared.faults.NodeFault.TheVariants as nodes
 use Rattle.afs_host.specs.Seats.{CanRun, Running}
 use Rattle.afs_host.specs.Serving.{IsBroken, IsHandled, RunsRow}
 use Rattle.afs_host.specs.Setting.{armed_seen}
-use Rattle.afs_host.proofs.Breaking.{ended_lies, saves_calls}
+use Rattle.afs_host.proofs.Breaking.{ended_left, ended_lies, saves_calls, Ended}
 use Rattle.afs_host.proofs.Handled.{row_made, Passed, passed_goes_on, passed_step, quiet_then, same_goes_on}
 use Rattle.afs_host.proofs.Heard.{message_of, stands_there}
 use Rattle.afs_host.proofs.Stepping.{made_calls, same_row}
@@ -112,23 +112,28 @@ returns-in-Err-Down-clause-handled g c =
     let written : (r : StoreRecord) → decided ≡ Some r → IsWritten {T = Outs} r decided (Err c.in-Err-Down.field-0) = λ r w. subst (λ (f : NodeFault). IsWritten {T = Outs} r decided (Err f)) (sym is) w in
     let err : IsErrOf {T = Outs} {E = NodeFault} (Err c.in-Err-Down.field-0) nodes.Down = ap (λ (f : NodeFault). Err f) is in
     let some = e.down err in
+    let ended : Ended g.D.Disk.seen g.D.Disk.may_leave g.D.Disk.moment g.D.Disk.left_since c.args.now found old inside.store.disk.disk c.handle.new.store.disk.disk = record {
+      kept = c.mark-before.ensures.kept can.up;
+      counted = c.mark-before.ensures.counted can.up;
+      some = some;
+      left = λ r w. e.interrupted err r w;
+      around = λ r w bytes seen.
+          let only = e.any_moment r (written r w) bytes seen in
+          record { later = only.later; each = only.each; before = only.before };
+      fits = λ r w. e.fits r (written r w);
+      effects = λ r w. e.effects r (written r w);
+      told = e.told.0;
+    } in
     subst (λ (x : Running g.row.D.Denot). IsHandled g.D.Disk.seen g.D.Disk.left_by g.D.Disk.size g.D.Disk.may_leave g.D.Disk.moment g.D.Disk.left_since g.D.Disk.faults g.D.Disk.limit x c.args.now (received c.args.bytes.now) new (Err nodes.Down)) c.self.view_is
     (record {
       armed = refl;
       closed = closed;
-      lies = λ m whole told b left.
-          ended_lies g.D.Disk.seen g.D.Disk.may_leave g.D.Disk.moment g.D.Disk.left_since g.met.D.Disk.counts_now c.args.now found old inside.store.disk.disk c.handle.new.store.disk.disk (record {
-            kept = c.mark-before.ensures.kept can.up;
-            counted = c.mark-before.ensures.counted can.up;
-            some = some;
-            left = λ r w. e.interrupted err r w;
-            around = λ r w bytes seen.
-                let only = e.any_moment r (written r w) bytes seen in
-                record { later = only.later; each = only.each; before = only.before };
-            fits = λ r w. e.fits r (written r w);
-            effects = λ r w. e.effects r (written r w);
-            told = e.told.0;
-          }) m (e.found m whole) told b left;
+      lies = λ m b whole told x left.
+          ended_lies g.D.Disk.seen g.D.Disk.may_leave g.D.Disk.moment g.D.Disk.left_since g.met.D.Disk.counts_now c.args.now found old inside.store.disk.disk c.handle.new.store.disk.disk ended m (e.found m whole) b told x left;
+      reached = e.reached err;
+      left = λ m b whole told trips pick x left.
+          ended_left g.D.Disk.seen g.D.Disk.left_by g.D.Disk.may_leave g.D.Disk.moment g.D.Disk.left_since g.met.D.Disk.counts_now g.met.D.Disk.leaves c.args.now found old inside.store.disk.disk c.handle.new.store.disk.disk ended m (e.found m whole) b told
+          (c.handle.new.store.disk.calls - inside.store.disk.calls) (λ r w bytes seen. e.left err r w bytes seen trips) pick x left;
       saves = λ m whole. ap device_calls (sym (same_row inside.store.node s c.args.now m found (e.found m whole)).decision) ∙ saves_calls inside.store.durable.boot c.args.now (decides inside.store.node s c.args.now found) some;
       few = e.most.1;
       stop = ap (λ (x : Setting). x.stop) e.setting;

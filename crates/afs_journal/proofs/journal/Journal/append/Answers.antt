@@ -1,7 +1,9 @@
 use Rattle.std.proofs.Common.{◌≡◌, ◌≤◌, ◌+◌, Some, [], ◌∷◌, ◌++◌, length, rules, arith, sym, ◌∙◌, ap, subst, length-append}
 use Rattle.afs_disk.specs.Disk.{LeavesOnly}
 use Rattle.afs_journal.specs.Records.{whole_records, IsBeforeOrAfter}
+use Rattle.afs_journal.specs.Left.{LeavesByPick, ReachesCall}
 use Rattle.afs_journal.specs.Log.{Log}
+use Rattle.afs_journal.proofs.Broken.{left_from, reached_from}
 use Rattle.afs_journal.proofs.Sound.{settled_now, told_is, told_from, length-spelled, spells_next, still_settled, with_room}
 use Rattle.afs_journal.proofs.journal.Journal.append.Goals as goal
 
@@ -44,6 +46,22 @@ returns-in-Err-clause-any_moment g c = λ shut bytes told.
     let run = c.put.ensures.any_moment c.self.inside.count c.args.rec.now bytes spells (c.make_room.ensures.same.same_seen ∙ here) mid_settled in
     subst (λ (d : g.row.D.Denot). LeavesOnly g.D.Disk.moment g.D.Disk.left_since d c.put.new.disk (IsBeforeOrAfter (whole_records bytes) c.args.rec.now)) (ap (λ (j : Log g.row.D.Denot). j.disk) c.self.view_is)
     (with_room g.D.Disk.seen g.D.Disk.left_by g.D.Disk.size g.D.Disk.may_leave g.D.Disk.moment g.D.Disk.left_since g.met.D.Disk.just_now c.self.inside.disk c.make_room.new.disk c.put.new.disk c.self.inside.count c.self.inside.gate c.args.rec.now bytes c.make_room.ensures.same settled run)
+
+pub returns-in-Err-clause-reached : goal.returns-in-Err-clause-reached
+returns-in-Err-clause-reached g c = λ failed.
+    subst (λ (d : g.row.D.Denot). ReachesCall (g.D.Disk.setting d) (g.D.Disk.calls d) (g.D.Disk.calls c.put.new.disk)) (ap (λ (j : Log g.row.D.Denot). j.disk) c.self.view_is)
+    (reached_from (g.D.Disk.setting c.self.inside.disk) (g.D.Disk.setting c.make_room.new.disk) (g.D.Disk.calls c.self.inside.disk) (g.D.Disk.calls c.make_room.new.disk) (g.D.Disk.calls c.put.new.disk) c.make_room.ensures.setting c.make_room.ensures.calls c.put.ensures.reached)
+
+pub returns-in-Err-clause-left : goal.returns-in-Err-clause-left
+returns-in-Err-clause-left g c = λ failed bytes told.
+    let here : g.D.Disk.seen c.self.inside.disk ≡ Some bytes = ap (λ (j : Log g.row.D.Denot). g.D.Disk.seen j.disk) c.self.view_is ∙ told in
+    let settled = (c.self.invariant.at_rest c.if-self.false).settled bytes here in
+    let mid_settled = still_settled g.D.Disk.seen g.D.Disk.left_by g.D.Disk.size g.D.Disk.may_leave g.D.Disk.moment g.D.Disk.left_since c.self.inside.disk c.make_room.new.disk c.self.inside.count c.self.inside.gate bytes c.make_room.ensures.same settled in
+    let fit : c.self.inside.gate + 1 + length c.args.rec.now + 9 ≤ c.capacity-capacity.result = search rules in
+    let spells = spells_next c.deref.result.now c.self.inside.count c.args.rec.now (c.deref.ensures.value ∙ c.in_ok-spell.ensures.is) (omega (arith, fit, c.self.invariant.small, c.capacity-capacity.ensures)) (omega (arith, fit, c.self.invariant.small, c.self.invariant.counts, c.capacity-capacity.ensures)) in
+    let run = c.put.ensures.left c.self.inside.count c.args.rec.now bytes spells (c.make_room.ensures.same.same_seen ∙ here) mid_settled in
+    subst (λ (d : g.row.D.Denot). LeavesByPick g.D.Disk.left_by g.D.Disk.calls g.D.Disk.setting (whole_records bytes) c.args.rec.now d c.put.new.disk) (ap (λ (j : Log g.row.D.Denot). j.disk) c.self.view_is)
+    (left_from g.D.Disk.left_by g.D.Disk.calls g.D.Disk.setting (whole_records bytes) c.args.rec.now c.self.inside.disk c.make_room.new.disk c.put.new.disk c.make_room.ensures.setting c.make_room.ensures.calls run)
 
 pub invariant_of-self-in-Ok : goal.invariant_of-self-in-Ok
 invariant_of-self-in-Ok g c =

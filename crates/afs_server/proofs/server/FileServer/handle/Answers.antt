@@ -59,6 +59,12 @@ returns-clause-quiet g c = c.take_bytes.ensures.disk.quiet
 pub returns-clause-any_moment : goal.returns-clause-any_moment
 returns-clause-any_moment g c = c.take_bytes.ensures.disk.any_moment
 
+pub returns-clause-reached : goal.returns-clause-reached
+returns-clause-reached g c = c.take_bytes.ensures.disk.reached
+
+pub returns-clause-left : goal.returns-clause-left
+returns-clause-left g c = c.take_bytes.ensures.disk.left
+
 pub returns-clause-fits : goal.returns-clause-fits
 returns-clause-fits g c = c.take_bytes.ensures.disk.fits
 

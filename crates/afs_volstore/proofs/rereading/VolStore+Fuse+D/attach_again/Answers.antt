@@ -1,4 +1,4 @@
-use Rattle.std.specs.Prelude.{MatchResult}
+use Rattle.std.specs.Prelude.{MatchResult, OnOk}
 use Rattle.std.proofs.Common.{◌≡◌, ◌≤◌, ◌+◌, ℕ, ap, refl, sym, subst, ◌∙◌}
 use Rattle.afs_num.specs.declared.types.Node.{Node}
 use Rattle.afs_disk.specs.Fuses.{Fused}
@@ -41,3 +41,8 @@ returns-clause-attached g c =
     (subst
     (λ (n : Node). MatchResult c.again.result (IsAttached g.D.Disk.seen g.D.Disk.may_leave g.D.Disk.calls g.D.Disk.setting g.D.Disk.limit n c.into_inner-disk.result) (IsRefused g.D.Disk.seen g.D.Disk.faults g.D.Disk.own_faults g.D.Disk.calls g.D.Disk.setting g.D.Disk.limit c.into_inner-disk.result))
     (ap (λ (s : Store (Fused g.row.D.Denot)). s.node) c.self.view_is) c.again.ensures.attached)
+
+pub returns-clause-quiet : goal.returns-clause-quiet
+returns-clause-quiet g c =
+    let same : c.into_inner-disk.result ≡ c.args.self.disk.disk = c.into_inner-disk.ensures ∙ ap (λ (f : Fused g.row.D.Denot). f.disk) (c.into_disk.ensures ∙ ap (λ (s : Store (Fused g.row.D.Denot)). s.disk) c.self.view_is) in
+    subst (λ (d : g.row.D.Denot). OnOk c.again.result ((g.D.Disk.faults (disk_after c.again.result) ≡ g.D.Disk.faults d) × (g.D.Disk.own_faults (disk_after c.again.result) ≡ g.D.Disk.own_faults d))) same c.again.ensures.quiet

@@ -1,10 +1,12 @@
 use Rattle.std.proofs.Common.{◌≡◌, ◌+◌, ℕ, List, Some, false, refl, sym, ap, subst, ◌∙◌, rules}
 use Rattle.afs_disk.specs.Disk.{LeavesOnly}
+use Rattle.afs_journal.specs.Left.{LeavesByPick, ReachesCall}
 use Rattle.afs_journal.specs.Records.{whole_records, IsBeforeOrAfter}
 use Rattle.afs_journal.proofs.Moments.{weaker}
 use Rattle.afs_num.specs.declared.records.StoreRecord.{StoreRecord}
 use Rattle.afs_num.specs.declared.records.RecordHead.{RecordHead}
 use Rattle.afs_records.specs.Durable.{folded}
+use Rattle.afs_records.specs.Records.{record_bytes}
 use Rattle.afs_memory.specs.Called.{IsCaller}
 use Rattle.afs_memory.proofs.Held.{fits_caller}
 use Rattle.afs_volstore.specs.Waiting.{Waits, WaitsReady}
@@ -34,6 +36,21 @@ returns-in_err-head-clause-any_moment g c = λ shut r has bytes told.
     (λ b left. left_around c.one_more_stands.ensures (record_of p.head p.redo) d after.0 bytes b ((c.self.invariant.kept shut_not).stands bytes here) waits.spelled_out.fits after.1 (subst (λ (rec : List ℕ). IsBeforeOrAfter (whole_records bytes) rec b) (sym waits.spelled_out.spelled) left)) in
     subst (λ (q : StoreRecord). LeavesOnly g.D.Disk.moment g.D.Disk.left_since c.args.self.now.disk c.put.new.journal.disk (LeftAround (whole_records bytes) q c.args.self.now.durable)) same
     (subst (λ (s : Store g.row.D.Denot). LeavesOnly g.D.Disk.moment g.D.Disk.left_since s.disk c.put.new.journal.disk (LeftAround (whole_records bytes) (record_of p.head p.redo) s.durable)) c.self.view_is run)
+
+pub returns-in_err-head-clause-reached : goal.returns-in_err-head-clause-reached
+returns-in_err-head-clause-reached g c = λ failed.
+    subst (λ (s : Store g.row.D.Denot). ReachesCall (g.D.Disk.setting s.disk) (g.D.Disk.calls s.disk) (g.D.Disk.calls c.put.new.journal.disk)) c.self.view_is c.in_err-head.ensures.reached
+
+pub returns-in_err-head-clause-left : goal.returns-in_err-head-clause-left
+returns-in_err-head-clause-left g c = λ failed r has bytes told.
+    let p = c.in-Some.prepared in
+    let is : c.self.inside.prepared ≡ Some p = sym c.replace.ensures.value ∙ c.in-Some.is in
+    let waits : Waits g.D.Disk.limit g.D.Disk.space c.self.inside.journal c.self.inside.state p = subst (WaitsReady g.D.Disk.limit g.D.Disk.space c.self.inside.journal c.self.inside.state) is c.self.invariant.ready in
+    let same : record_of p.head p.redo ≡ r = record_is c.self.inside.prepared p c.args.self.now.prepared r is (ap (λ (s : Store g.row.D.Denot). s.prepared) c.self.view_is) has in
+    let here : g.D.Disk.seen c.self.inside.journal.disk ≡ Some bytes = ap (λ (s : Store g.row.D.Denot). g.D.Disk.seen s.disk) c.self.view_is ∙ told in
+    let spelled : p.bytes ≡ record_bytes r = sym waits.spelled_out.spelled ∙ ap record_bytes same in
+    subst (λ (rec : List ℕ). LeavesByPick g.D.Disk.left_by g.D.Disk.calls g.D.Disk.setting (whole_records bytes) rec c.args.self.now.disk c.put.new.journal.disk) spelled
+    (subst (λ (s : Store g.row.D.Denot). LeavesByPick g.D.Disk.left_by g.D.Disk.calls g.D.Disk.setting (whole_records bytes) p.bytes s.disk c.put.new.journal.disk) c.self.view_is (c.in_err-head.ensures.left bytes here))
 
 pub returns-clause-any_moment : goal.returns-clause-any_moment
 returns-clause-any_moment g c = λ shut r has bytes told.
