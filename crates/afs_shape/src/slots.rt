@@ -226,8 +226,7 @@ impl Slot for Entry {
     #[inline]
     #[tactic(auto, unfolding(crate::specs::Reading::field_at))]
     fn read(alloc: Global, r: &mut Reader) -> Result<LocEntry, FieldFault> {
-        let value = read_entry(alloc, r)?;
-        Ok(value)
+        read_entry(alloc, r)
     }
 }
 
@@ -247,8 +246,7 @@ impl<const MOST: u32> Slot for Opaque<MOST> {
     #[inline]
     #[tactic(auto, unfolding(crate::specs::Reading::field_at))]
     fn read(alloc: Global, r: &mut Reader) -> Result<Octets, FieldFault> {
-        let value = read_octets(alloc, r, MOST)?;
-        Ok(value)
+        read_octets(alloc, r, MOST)
     }
 }
 
@@ -268,8 +266,7 @@ impl<const MOST: u32> Slot for Fids<MOST> {
     #[inline]
     #[tactic(auto, unfolding(crate::specs::Reading::field_at))]
     fn read(alloc: Global, r: &mut Reader) -> Result<FidList, FieldFault> {
-        let value = read_list(alloc, r, MOST)?;
-        Ok(value)
+        read_list(alloc, r, MOST)
     }
 }
 
@@ -289,8 +286,7 @@ impl<const MOST: u32> Slot for CallBacks<MOST> {
     #[inline]
     #[tactic(auto, unfolding(crate::specs::Reading::field_at))]
     fn read(alloc: Global, r: &mut Reader) -> Result<CallBackList, FieldFault> {
-        let value = read_list(alloc, r, MOST)?;
-        Ok(value)
+        read_list(alloc, r, MOST)
     }
 }
 
@@ -310,8 +306,7 @@ impl<const MOST: u32> Slot for Statuses<MOST> {
     #[inline]
     #[tactic(auto, unfolding(crate::specs::Reading::field_at))]
     fn read(alloc: Global, r: &mut Reader) -> Result<StatusList, FieldFault> {
-        let value = read_list(alloc, r, MOST)?;
-        Ok(value)
+        read_list(alloc, r, MOST)
     }
 }
 
@@ -331,7 +326,6 @@ impl<const MOST: u32> Slot for Volumes<MOST> {
     #[inline]
     #[tactic(auto, unfolding(crate::specs::Reading::field_at))]
     fn read(alloc: Global, r: &mut Reader) -> Result<ListedVolumes, FieldFault> {
-        let value = read_list(alloc, r, MOST)?;
-        Ok(value)
+        read_list(alloc, r, MOST)
     }
 }
