@@ -18,19 +18,6 @@ abbrev pub is_field : Kind → Bool
 is_field kinds.Nothing = false
 is_field _ = true
 
--- whether the fields of a kind are all of one size
-abbrev pub is_fixed : Kind → Bool
-is_fixed kinds.Word = true
-is_fixed kinds.Signed = true
-is_fixed kinds.VolumeKind = true
-is_fixed kinds.Server = true
-is_fixed kinds.Fid = true
-is_fixed kinds.StoreStatus = true
-is_fixed kinds.FetchStatus = true
-is_fixed kinds.CallBack = true
-is_fixed kinds.VolSync = true
-is_fixed _ = false
-
 -- the kinds before the first Nothing
 abbrev pub kinds_of : List Kind → List Kind
 kinds_of ks = take (prefix_len is_field ks) ks

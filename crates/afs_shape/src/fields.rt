@@ -1,13 +1,13 @@
 //! Fields by their kinds: one list of the kinds, from which both the reading and the writing of a field are made.
 
-ghost use Rattle.std.specs.Prelude.{◌≡◌, false, ◌++◌, ◌<◌, ◌^◌, length, OnOk, OnErr, FitsSigned};
+ghost use Rattle.std.specs.Prelude.{◌≡◌, ◌++◌, ◌<◌, ◌^◌, length, OnOk, OnErr, FitsSigned};
 ghost use Rattle.afs_xdr.specs.Reading.{Reads, KeepsEnd};
 ghost use Rattle.afs_xdr.specs.Words.{word, opaque, opaque_at, AreWords};
 ghost use Rattle.afs_shape.specs.Spelling.{field_spelled, entry, entry_words, site_words, Extends, IsSpellable};
 ghost use Rattle.std.specs.List.{AllByRecursion};
 ghost use Rattle.afs_shape.specs.Items.{entry_at};
 ghost use Rattle.afs_shape.specs.Parts.{field_of};
-ghost use Rattle.afs_shape.specs.Tables.{is_fixed, IsInRange};
+ghost use Rattle.afs_shape.specs.Tables.{IsInRange};
 ghost use Rattle.afs_shape.specs.Reading.{ReadsField, signed_at, field_at};
 ghost use Rattle.std.specs.Int.{w32, cast_unsigned};
 
@@ -61,34 +61,20 @@ macro_rules! with_kinds {
     };
 }
 
-/// The arms of the reading, for kinds of a fixed size.
-macro_rules! fixed_arms {
+/// The arms of the reading.
+macro_rules! reading_arms {
     (
         ($kind:expr, $alloc:expr, $r:expr)
         [$($fixed:ident($read:path, $write:path)),*]
-        $owned:tt
-        $limited:tt
-    ) => {
-        match $kind {
-            $(Kind::$fixed => match $read($r) {
-                Ok(value) => Ok(Field::$fixed(value)),
-                Err(fault) => Err(FieldFault::Xdr(fault)),
-            },)*
-            _ => read_owned_field($alloc, $kind, $r),
-        }
-    };
-}
-
-/// The arms of the reading, for the other kinds.
-macro_rules! owned_arms {
-    (
-        ($kind:expr, $alloc:expr, $r:expr)
-        $fixed:tt
         [$($owned:ident($read_owned:path, $write_owned:path)),*]
         [$($limited:ident($read_most:path, $write_all:path)),*]
     ) => {
         match $kind {
             Kind::Nothing => Err(FieldFault::Xdr(XdrFault::BadType)),
+            $(Kind::$fixed => match $read($r) {
+                Ok(value) => Ok(Field::$fixed(value)),
+                Err(fault) => Err(FieldFault::Xdr(fault)),
+            },)*
             $(Kind::$owned => match $read_owned($alloc, $r) {
                 Ok(value) => Ok(Field::$owned(value)),
                 Err(fault) => Err(fault),
@@ -97,7 +83,6 @@ macro_rules! owned_arms {
                 Ok(value) => Ok(Field::$limited(value)),
                 Err(fault) => Err(fault),
             },)*
-            _ => unreachable!(),
         }
     };
 }
@@ -197,23 +182,13 @@ fn write_entry(e: &LocEntry, w: &mut Writer) -> Mem<()>
     write_list(&e.sites, w)
 }
 
-/// Reads a field of a kind that isn't of a fixed size.
-#[tactic(auto, unfolding(crate::specs::Reading::field_at))]
-fn read_owned_field(alloc: Global, kind: Kind, r: &mut Reader) -> Result<Field, FieldFault>
-    requires { is_fixed kind ≡ false }
-    ensures value { ReadsField (field_at kind) (λ f. f) r.old r.new result }
-    ensures end { KeepsEnd r.old r.new }
-{
-    with_kinds!(owned_arms(kind, alloc, r))
-}
-
 /// Reads a field of this kind.
 #[tactic(auto, unfolding(crate::specs::Reading::field_at))]
 pub fn read_field(alloc: Global, kind: Kind, r: &mut Reader) -> Result<Field, FieldFault>
     ensures value { ReadsField (field_at kind) (λ f. f) r.old r.new result }
     ensures end { KeepsEnd r.old r.new }
 {
-    with_kinds!(fixed_arms(kind, alloc, r))
+    with_kinds!(reading_arms(kind, alloc, r))
 }
 
 /// Appends a field. After want of memory bytes of it may stand behind those from before.
