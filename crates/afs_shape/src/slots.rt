@@ -226,7 +226,8 @@ impl Slot for Entry {
     #[inline]
     #[tactic(auto, unfolding(crate::specs::Reading::field_at))]
     fn read(alloc: Global, r: &mut Reader) -> Result<LocEntry, FieldFault> {
-        read_entry(alloc, r)
+        let value = read_entry(alloc, r)?;
+        Ok(value)
     }
 }
 
@@ -246,7 +247,8 @@ impl<const MOST: u32> Slot for Opaque<MOST> {
     #[inline]
     #[tactic(auto, unfolding(crate::specs::Reading::field_at))]
     fn read(alloc: Global, r: &mut Reader) -> Result<Octets, FieldFault> {
-        read_octets(alloc, r, MOST)
+        let value = read_octets(alloc, r, MOST)?;
+        Ok(value)
     }
 }
 
@@ -266,7 +268,8 @@ impl<const MOST: u32> Slot for Fids<MOST> {
     #[inline]
     #[tactic(auto, unfolding(crate::specs::Reading::field_at))]
     fn read(alloc: Global, r: &mut Reader) -> Result<FidList, FieldFault> {
-        read_list(alloc, r, MOST)
+        let value = read_list(alloc, r, MOST)?;
+        Ok(value)
     }
 }
 
@@ -286,7 +289,8 @@ impl<const MOST: u32> Slot for CallBacks<MOST> {
     #[inline]
     #[tactic(auto, unfolding(crate::specs::Reading::field_at))]
     fn read(alloc: Global, r: &mut Reader) -> Result<CallBackList, FieldFault> {
-        read_list(alloc, r, MOST)
+        let value = read_list(alloc, r, MOST)?;
+        Ok(value)
     }
 }
 
@@ -306,7 +310,8 @@ impl<const MOST: u32> Slot for Statuses<MOST> {
     #[inline]
     #[tactic(auto, unfolding(crate::specs::Reading::field_at))]
     fn read(alloc: Global, r: &mut Reader) -> Result<StatusList, FieldFault> {
-        read_list(alloc, r, MOST)
+        let value = read_list(alloc, r, MOST)?;
+        Ok(value)
     }
 }
 
@@ -326,6 +331,7 @@ impl<const MOST: u32> Slot for Volumes<MOST> {
     #[inline]
     #[tactic(auto, unfolding(crate::specs::Reading::field_at))]
     fn read(alloc: Global, r: &mut Reader) -> Result<ListedVolumes, FieldFault> {
-        read_list(alloc, r, MOST)
+        let value = read_list(alloc, r, MOST)?;
+        Ok(value)
     }
 }
