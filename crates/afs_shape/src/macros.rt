@@ -81,7 +81,7 @@ macro_rules! written_of {
         [$($opcode:literal $name:ident { $($field:ident: $kind:ident $([$most:expr])?),* }),*]
     ) => {
         match $message {
-            $($enum::$name { $($field),* } => $crate::tables::write_row([$($crate::kinds::Part::$kind($field)),*], $w),)*
+            $($enum::$name { $($field),* } => $crate::tables::write_parts(&[$($crate::kinds::Part::$kind($field)),*], $w),)*
             $(_ => $other,)?
         }
     };

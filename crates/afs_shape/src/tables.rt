@@ -114,17 +114,6 @@ pub fn write_parts(parts: &[Part], w: &mut Writer) -> Mem<()>
     Ok(())
 }
 
-/// Appends the fields of one row.
-#[inline]
-pub fn write_row<const N: usize>(parts: [Part<'_>; N], w: &mut Writer) -> Mem<()>
-    requires { All (λ p. IsSpellable (field_of p)) parts }
-    ensures ok { OnOk result (w.new ≡ w.old ++ fields_spelled (fields_of parts)) }
-    ensures fits { OnOk result (AreInRange (fields_of parts)) }
-    ensures err { OnErr result (Extends w.old w.new) }
-{
-    write_parts(&parts, w)
-}
-
 /// The row of an opcode.
 fn row_in<const N: usize>(rows: &[Row<N>], opcode: u32) -> Option<&Row<N>>
     ensures { option_copied result ≡ find_row opcode rows.now }
