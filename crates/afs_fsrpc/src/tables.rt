@@ -1,11 +1,5 @@
 //! The two tables: a row for each opcode, with the message's name and its fields in order, each of its kind.
 
-ghost use Rattle.std.specs.Prelude.{◌≡◌, ◌≤◌, ◌++◌, [], ◌∷◌, OnOk, OnErr};
-ghost use Rattle.std.specs.List.{AllByRecursion};
-ghost use Rattle.afs_shape.specs.Rows.{message_of};
-ghost use Rattle.afs_shape.specs.Spelling.{fields_spelled, Extends, IsSpellable};
-ghost use Rattle.afs_shape.specs.Tables.{AreInRange};
-ghost use Rattle.afs_shape.specs.Taken.{IsNoneOf, row_fields_at, TakesRead};
 ghost use Rattle.afs_model.specs.FsRows.{fs_calls, fs_replies};
 ghost use Rattle.afs_model.proofs.FsMade.{calls_sound, replies_sound};
 
@@ -14,7 +8,7 @@ use afs_num::types::Mem;
 use afs_shape::faults::ShapeFault;
 use afs_shape::messages::Messages;
 use afs_shape::tables::{Shape, Table};
-use afs_shape::{of_group, room_of, shape_of, table_of};
+use afs_shape::{message_read, room_of, shape_of, table_of, written_of};
 use afs_xdr::reading::Reader;
 use afs_xdr::writing::Writer;
 use std::alloc::Global;
@@ -51,18 +45,14 @@ macro_rules! with_calls {
                 132 FetchStatus { fid: Fid },
                 133 StoreData { fid: Fid, status: StoreStatus, position: Signed, length: Signed, file_length: Signed, contents: Opaque[CONTENTS_LIMIT] },
                 134 StoreAcl { fid: Fid, acl: Opaque[ACL_LIMIT] },
-                135 StoreStatus { fid: Fid, status: StoreStatus }
-            ]
-            [
+                135 StoreStatus { fid: Fid, status: StoreStatus },
                 136 RemoveFile { directory: Fid, name: Opaque[NAME_LIMIT] },
                 137 CreateFile { directory: Fid, name: Opaque[NAME_LIMIT], status: StoreStatus },
                 138 Rename { old_directory: Fid, old_name: Opaque[NAME_LIMIT], new_directory: Fid, new_name: Opaque[NAME_LIMIT] },
                 139 Symlink { directory: Fid, name: Opaque[NAME_LIMIT], target: Opaque[TARGET_LIMIT], status: StoreStatus },
                 140 Link { directory: Fid, name: Opaque[NAME_LIMIT], existing: Fid },
                 141 MakeDir { directory: Fid, name: Opaque[NAME_LIMIT], status: StoreStatus },
-                142 RemoveDir { directory: Fid, name: Opaque[NAME_LIMIT] }
-            ]
-            [
+                142 RemoveDir { directory: Fid, name: Opaque[NAME_LIMIT] },
                 147 GiveUpCallBacks { fids: Fids[LIST_LIMIT], callbacks: CallBacks[LIST_LIMIT] },
                 149 GetVolumeStatus { volume: Word },
                 153 GetTime {},
@@ -86,18 +76,14 @@ macro_rules! with_replies {
                 132 FetchStatus { status: FetchStatus, callback: CallBack, sync: VolSync },
                 133 StoreData { status: FetchStatus, sync: VolSync },
                 134 StoreAcl { status: FetchStatus, sync: VolSync },
-                135 StoreStatus { status: FetchStatus, sync: VolSync }
-            ]
-            [
+                135 StoreStatus { status: FetchStatus, sync: VolSync },
                 136 RemoveFile { directory: FetchStatus, sync: VolSync },
                 137 CreateFile { fid: Fid, status: FetchStatus, directory: FetchStatus, callback: CallBack, sync: VolSync },
                 138 Rename { old_directory: FetchStatus, new_directory: FetchStatus, sync: VolSync },
                 139 Symlink { fid: Fid, status: FetchStatus, directory: FetchStatus, sync: VolSync },
                 140 Link { status: FetchStatus, directory: FetchStatus, sync: VolSync },
                 141 MakeDir { fid: Fid, status: FetchStatus, directory: FetchStatus, callback: CallBack, sync: VolSync },
-                142 RemoveDir { directory: FetchStatus, sync: VolSync }
-            ]
-            [
+                142 RemoveDir { directory: FetchStatus, sync: VolSync },
                 147 GiveUpCallBacks {},
                 149 GetVolumeStatus { volume: Word, kind: VolumeKind, quota: Word, blocks_used: Word, name: Opaque[NAME_LIMIT] },
                 153 GetTime { clock: Word, microseconds: Word },
@@ -117,48 +103,6 @@ pub const REPLIES: Table<20, 8> = with_replies!(table_of());
 /// The calls of the interface.
 pub struct FsCalls;
 
-impl FsCalls {
-    /// Reads a call of the second group, or of the third.
-    fn read_second(alloc: Global, opcode: u32, r: &mut Reader) -> Result<FsCall, ShapeFault>
-        requires { IsNoneOf (130 ∷ 131 ∷ 132 ∷ 133 ∷ 134 ∷ 135 ∷ []) opcode }
-        ensures { TakesRead (message_of fs_calls opcode) (row_fields_at fs_calls opcode r.old.left) result }
-    {
-        with_calls!(of_group(second, message_read(opcode, alloc, r, FsCall, Self::read_third(alloc, opcode, r))))
-    }
-
-    /// Reads a call of the third group.
-    fn read_third(alloc: Global, opcode: u32, r: &mut Reader) -> Result<FsCall, ShapeFault>
-        requires { IsNoneOf (130 ∷ 131 ∷ 132 ∷ 133 ∷ 134 ∷ 135 ∷ 136 ∷ 137 ∷ 138 ∷ 139 ∷ 140 ∷ 141 ∷ 142 ∷ []) opcode }
-        ensures { TakesRead (message_of fs_calls opcode) (row_fields_at fs_calls opcode r.old.left) result }
-    {
-        with_calls!(of_group(third, message_read(opcode, alloc, r, FsCall, Err(ShapeFault::NoRow(opcode)))))
-    }
-
-    /// Appends the fields of a call of the second group, or of the third.
-    #[tactic(auto, using(afs_shape::proofs::Spellable::parts_spellable))]
-    fn write_second(call: &FsCall, w: &mut Writer) -> Mem<()>
-        requires row { 136 ≤ (fs_calls.row call.now).opcode }
-        requires spellable { AllByRecursion IsSpellable (fs_calls.row call.now).fields }
-        ensures ok { OnOk result (w.new ≡ w.old ++ fields_spelled (fs_calls.row call.now).fields) }
-        ensures fits { OnOk result (AreInRange (fs_calls.row call.now).fields) }
-        ensures err { OnErr result (Extends w.old w.new) }
-    {
-        with_calls!(of_group(second, written_of(call, w, FsCall, Self::write_third(call, w))))
-    }
-
-    /// Appends the fields of a call of the third group.
-    #[tactic(auto, using(afs_shape::proofs::Spellable::parts_spellable))]
-    fn write_third(call: &FsCall, w: &mut Writer) -> Mem<()>
-        requires row { 147 ≤ (fs_calls.row call.now).opcode }
-        requires spellable { AllByRecursion IsSpellable (fs_calls.row call.now).fields }
-        ensures ok { OnOk result (w.new ≡ w.old ++ fields_spelled (fs_calls.row call.now).fields) }
-        ensures fits { OnOk result (AreInRange (fs_calls.row call.now).fields) }
-        ensures err { OnErr result (Extends w.old w.new) }
-    {
-        with_calls!(of_group(third, written_of(call, w, FsCall, unreachable!())))
-    }
-}
-
 impl Messages for FsCalls {
     type Message = FsCall;
 
@@ -171,7 +115,7 @@ impl Messages for FsCalls {
     }
 
     fn read(alloc: Global, opcode: u32, r: &mut Reader) -> Result<FsCall, ShapeFault> {
-        with_calls!(of_group(first, message_read(opcode, alloc, r, FsCall, Self::read_second(alloc, opcode, r))))
+        with_calls!(message_read(opcode, alloc, r, FsCall))
     }
 
     fn room(call: &FsCall) -> usize {
@@ -180,54 +124,12 @@ impl Messages for FsCalls {
 
     #[tactic(auto, using(afs_shape::proofs::Spellable::parts_spellable))]
     fn write(call: &FsCall, w: &mut Writer) -> Mem<()> {
-        with_calls!(of_group(first, written_of(call, w, FsCall, Self::write_second(call, w))))
+        with_calls!(written_of(call, w, FsCall))
     }
 }
 
 /// Its replies.
 pub struct FsReplies;
-
-impl FsReplies {
-    /// Reads a reply of the second group, or of the third.
-    fn read_second(alloc: Global, opcode: u32, r: &mut Reader) -> Result<FsReply, ShapeFault>
-        requires { IsNoneOf (130 ∷ 131 ∷ 132 ∷ 133 ∷ 134 ∷ 135 ∷ []) opcode }
-        ensures { TakesRead (message_of fs_replies opcode) (row_fields_at fs_replies opcode r.old.left) result }
-    {
-        with_replies!(of_group(second, message_read(opcode, alloc, r, FsReply, Self::read_third(alloc, opcode, r))))
-    }
-
-    /// Reads a reply of the third group.
-    fn read_third(alloc: Global, opcode: u32, r: &mut Reader) -> Result<FsReply, ShapeFault>
-        requires { IsNoneOf (130 ∷ 131 ∷ 132 ∷ 133 ∷ 134 ∷ 135 ∷ 136 ∷ 137 ∷ 138 ∷ 139 ∷ 140 ∷ 141 ∷ 142 ∷ []) opcode }
-        ensures { TakesRead (message_of fs_replies opcode) (row_fields_at fs_replies opcode r.old.left) result }
-    {
-        with_replies!(of_group(third, message_read(opcode, alloc, r, FsReply, Err(ShapeFault::NoRow(opcode)))))
-    }
-
-    /// Appends the fields of a reply of the second group, or of the third.
-    #[tactic(auto, using(afs_shape::proofs::Spellable::parts_spellable))]
-    fn write_second(reply: &FsReply, w: &mut Writer) -> Mem<()>
-        requires row { 136 ≤ (fs_replies.row reply.now).opcode }
-        requires spellable { AllByRecursion IsSpellable (fs_replies.row reply.now).fields }
-        ensures ok { OnOk result (w.new ≡ w.old ++ fields_spelled (fs_replies.row reply.now).fields) }
-        ensures fits { OnOk result (AreInRange (fs_replies.row reply.now).fields) }
-        ensures err { OnErr result (Extends w.old w.new) }
-    {
-        with_replies!(of_group(second, written_of(reply, w, FsReply, Self::write_third(reply, w))))
-    }
-
-    /// Appends the fields of a reply of the third group.
-    #[tactic(auto, using(afs_shape::proofs::Spellable::parts_spellable))]
-    fn write_third(reply: &FsReply, w: &mut Writer) -> Mem<()>
-        requires row { 147 ≤ (fs_replies.row reply.now).opcode }
-        requires spellable { AllByRecursion IsSpellable (fs_replies.row reply.now).fields }
-        ensures ok { OnOk result (w.new ≡ w.old ++ fields_spelled (fs_replies.row reply.now).fields) }
-        ensures fits { OnOk result (AreInRange (fs_replies.row reply.now).fields) }
-        ensures err { OnErr result (Extends w.old w.new) }
-    {
-        with_replies!(of_group(third, written_of(reply, w, FsReply, unreachable!())))
-    }
-}
 
 impl Messages for FsReplies {
     type Message = FsReply;
@@ -241,7 +143,7 @@ impl Messages for FsReplies {
     }
 
     fn read(alloc: Global, opcode: u32, r: &mut Reader) -> Result<FsReply, ShapeFault> {
-        with_replies!(of_group(first, message_read(opcode, alloc, r, FsReply, Self::read_second(alloc, opcode, r))))
+        with_replies!(message_read(opcode, alloc, r, FsReply))
     }
 
     fn room(reply: &FsReply) -> usize {
@@ -250,6 +152,6 @@ impl Messages for FsReplies {
 
     #[tactic(auto, using(afs_shape::proofs::Spellable::parts_spellable))]
     fn write(reply: &FsReply, w: &mut Writer) -> Mem<()> {
-        with_replies!(of_group(first, written_of(reply, w, FsReply, Self::write_second(reply, w))))
+        with_replies!(written_of(reply, w, FsReply))
     }
 }

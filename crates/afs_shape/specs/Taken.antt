@@ -1,5 +1,5 @@
 -- What is taken from the fields of a message while they are read.
-use Rattle.std.specs.Prelude.{◌≡◌, ◌≢◌, ℕ, ◌+◌, List, [], ◌∷◌, length, Option, Some, Result, Ok, Err}
+use Rattle.std.specs.Prelude.{◌≡◌, ℕ, ◌+◌, List, ◌∷◌, length, Option, Some, Result, Ok, Err}
 use Rattle.afs_xdr.specs.Words.{end_at}
 use Rattle.afs_shape.specs.declared.faults.ShapeFault.{ShapeFault}
 use Rattle.afs_shape.specs.declared.faults.ShapeFault.TheVariants as faults
@@ -31,8 +31,3 @@ TakesRead taken read (Err faults.OutOfMemory) = Unit {0}
 TakesRead taken read (Err (faults.Head f)) = read ≡ Err (faults.Head f)
 TakesRead taken read (Err (faults.NoRow n)) = read ≡ Err (faults.NoRow n)
 TakesRead taken read (Err (faults.Field i f)) = read ≡ Err (faults.Field i f)
-
--- the opcode is none of these
-abbrev pub IsNoneOf : List ℕ → ℕ → Type 0
-IsNoneOf [] opcode = Unit {0}
-IsNoneOf (n ∷ ns) opcode = (opcode ≢ n) × IsNoneOf ns opcode

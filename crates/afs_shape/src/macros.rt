@@ -1,6 +1,5 @@
 //! What an interface's list of messages is made into: the table of their shapes, the parts that one is written from,
-//! and how one is read. A list has a line a row: `136 RemoveFile { directory: Fid, name: Opaque[256] }`. A long list stands
-//! in two groups or three, since a function with a line for each row of it would take long to prove.
+//! and how one is read. A list has a line a row: `136 RemoveFile { directory: Fid, name: Opaque[256] }`.
 
 /// The first eight kinds.
 #[macro_export]
@@ -19,10 +18,10 @@ macro_rules! first_kinds {
 macro_rules! table_of {
     (
         ()
-        $([$($opcode:literal $name:ident { $($field:ident: $kind:ident $([$most:expr])?),* }),*])*
+        [$($opcode:literal $name:ident { $($field:ident: $kind:ident $([$most:expr])?),* }),*]
     ) => {
         $crate::tables::Table {
-            rows: [$($($crate::tables::Row {
+            rows: [$($crate::tables::Row {
                 opcode: $opcode,
                 shape: $crate::first_kinds!(
                     $($crate::kinds::Kind::$kind $(($most))?,)*
@@ -35,7 +34,7 @@ macro_rules! table_of {
                     $crate::kinds::Kind::Nothing,
                     $crate::kinds::Kind::Nothing
                 ),
-            },)*)*],
+            }),*],
         }
     };
 }
@@ -45,11 +44,11 @@ macro_rules! table_of {
 macro_rules! shape_of {
     (
         ($opcode:ident)
-        $([$($number:literal $name:ident { $($field:ident: $kind:ident $([$most:expr])?),* }),*])*
+        [$($number:literal $name:ident { $($field:ident: $kind:ident $([$most:expr])?),* }),*]
     ) => {{
         let nothing = $crate::kinds::Kind::Nothing;
         match $opcode {
-            $($($number => Ok($crate::first_kinds!(
+            $($number => Ok($crate::first_kinds!(
                 $($crate::kinds::Kind::$kind $(($most))?,)*
                 nothing,
                 nothing,
@@ -59,30 +58,21 @@ macro_rules! shape_of {
                 nothing,
                 nothing,
                 nothing
-            )),)*)*
+            )),)*
             _ => Err($crate::faults::ShapeFault::NoRow($opcode)),
         }
     }};
 }
 
-/// This of one group of a list.
-#[macro_export]
-macro_rules! of_group {
-    ((first, $arms:ident $value:tt) $first:tt $($more:tt)*) => { $crate::$arms! { $value $first } };
-    ((second, $arms:ident $value:tt) $first:tt $second:tt $($more:tt)*) => { $crate::$arms! { $value $second } };
-    ((third, $arms:ident $value:tt) $first:tt $second:tt $third:tt) => { $crate::$arms! { $value $third } };
-}
-
-/// Appends the fields of a message of this enum. One that has none of these rows is appended as the last word says.
+/// Appends the fields of a message of this enum.
 #[macro_export]
 macro_rules! written_of {
     (
-        ($message:ident, $w:ident, $enum:ident $(, $other:expr)?)
+        ($message:ident, $w:ident, $enum:ident)
         [$($opcode:literal $name:ident { $($field:ident: $kind:ident $([$most:expr])?),* }),*]
     ) => {
         match $message {
             $($enum::$name { $($field),* } => $crate::tables::write_parts(&[$($crate::kinds::Part::$kind($field)),*], $w),)*
-            $(_ => $other,)?
         }
     };
 }
@@ -117,10 +107,10 @@ macro_rules! room_with {
 macro_rules! room_of {
     (
         ($message:ident, $enum:ident, $fixed:expr)
-        $([$($opcode:literal $name:ident { $($field:ident: $kind:ident $([$most:expr])?),* }),*])*
+        [$($opcode:literal $name:ident { $($field:ident: $kind:ident $([$most:expr])?),* }),*]
     ) => {
         match $message {
-            $($($enum::$name { $($field: $crate::long_field!($kind $field)),* } => $crate::room_with!($fixed; $($kind $field)*),)*)*
+            $($enum::$name { $($field: $crate::long_field!($kind $field)),* } => $crate::room_with!($fixed; $($kind $field)*),)*
         }
     };
 }
@@ -143,11 +133,11 @@ macro_rules! message_with {
     };
 }
 
-/// Reads the message of this enum and opcode. One that has none of these rows is read as the last word says.
+/// Reads the message of this enum and opcode.
 #[macro_export]
 macro_rules! message_read {
     (
-        ($opcode:ident, $alloc:ident, $r:ident, $enum:ident, $other:expr)
+        ($opcode:ident, $alloc:ident, $r:ident, $enum:ident)
         [$($number:literal $name:ident { $($field:ident: $kind:ident $([$most:expr])?),* }),*]
     ) => {
         match $opcode {
@@ -155,7 +145,7 @@ macro_rules! message_read {
                 Ok(values) => Ok($crate::message_with!($enum $name [] values; $($field)*)),
                 Err(fault) => Err(fault),
             },)*
-            _ => $other,
+            _ => Err($crate::faults::ShapeFault::NoRow($opcode)),
         }
     };
 }

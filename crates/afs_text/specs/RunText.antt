@@ -1,5 +1,5 @@
 -- The text of the lines of a run whose clients take every act.
-use Rattle.std.specs.Prelude.{ℕ, List, Bool, true, false, codes}
+use Rattle.std.specs.Prelude.{ℕ, List, codes}
 use Rattle.std.specs.List.{flat_map}
 use Rattle.afs_model.specs.LineText.{answer_text, change_text, crash_text, drop_all_text, drop_text, fail_text, fault_text, full_text, given_text, grant_text, owe_text, quit_text, read_text, restart_text, settle_text, stop_text, tick_text, timeout_text, version_text}
 use Rattle.afs_history.specs.declared.lines.Line.{Line}
@@ -28,17 +28,6 @@ line_text (lines.Owe server client fid number) = owe_text server client fid numb
 line_text (lines.Settle server client number) = settle_text server client number
 line_text (lines.Quit server client number) = quit_text server client number
 line_text lines.Void = codes "void\n"
-
--- whether a line tells that something fails, or is there again
-abbrev pub is_failure : Line → Bool
-is_failure (lines.Timeout caller callee epoch number count) = true
-is_failure (lines.Stop node calls pick) = true
-is_failure (lines.Fail node calls) = true
-is_failure (lines.Crash node) = true
-is_failure (lines.Fault node) = true
-is_failure (lines.Restart node boot) = true
-is_failure (lines.Full node) = true
-is_failure _ = false
 
 unfoldable pub lines_text : List Line → List ℕ
 lines_text ls = flat_map line_text ls

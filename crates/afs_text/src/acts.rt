@@ -145,9 +145,7 @@ impl<'a> Print for &'a Act {
             Act::Link { target, path } => put_two(sink, "ln ", target, path),
             Act::Symlink { path, target } => put_two(sink, "symlink ", path, target),
             Act::SetMode { operand, mode } => put_two(sink, "chmod ", operand, Mode(*mode)),
-            Act::SetAccessList { operand, text } => {
-                put_two(sink, "setacl ", operand, text)
-            }
+            Act::SetAccessList { operand, text } => { put_two(sink, "setacl ", operand, text) }
             Act::GetAccessList { operand } => put_one(sink, "getacl ", operand),
             Act::GiveUp => "giveup".print(sink),
         }

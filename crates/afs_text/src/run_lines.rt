@@ -1,8 +1,7 @@
 //! The lines of a run whose clients take every act.
 
-ghost use Rattle.std.specs.Prelude.{◌≡◌, true};
 ghost use Rattle.afs_text.specs.Laying.{Lays};
-ghost use Rattle.afs_text.specs.RunText.{is_failure, line_text};
+ghost use Rattle.afs_text.specs.RunText.{line_text};
 
 use crate::acts::lay_begin;
 use crate::laying::{TextPiece, lay_short};
@@ -14,34 +13,6 @@ use crate::lines::{
 use crate::pieces::Print;
 use afs_history::lines::Line;
 use afs_outside::outside::{Failed, Sink, put_bytes};
-
-/// Lays a line that tells that something fails, or is there again.
-#[tactic(auto, unfolding(crate::specs::RunText::line_text))]
-fn lay_failure<K: Sink>(
-    sink: &mut K,
-    piece: &mut TextPiece,
-    line: &Line,
-) -> Result<(), Failed>
-    requires { is_failure line.now ≡ true }
-    ensures { Lays (line_text line.now) piece.old piece.new (K.held sink.old) (K.held sink.new) (K.faults sink.old) (K.faults sink.new) result }
-{
-    match line {
-        Line::Timeout {
-            caller,
-            callee,
-            epoch,
-            number,
-            count,
-        } => lay_timeout(sink, piece, *caller, *callee, *epoch, *number, *count),
-        Line::Stop { node, calls, pick } => lay_stop(sink, piece, *node, *calls, *pick),
-        Line::Fail { node, calls } => lay_fail(sink, piece, *node, *calls),
-        Line::Crash { node } => lay_crash(sink, piece, *node),
-        Line::Fault { node } => lay_fault(sink, piece, *node),
-        Line::Restart { node, boot } => lay_restart(sink, piece, *node, *boot),
-        Line::Full { node } => lay_full(sink, piece, *node),
-        _ => unreachable!(),
-    }
-}
 
 /// Lays a line.
 #[tactic(auto, unfolding(crate::specs::RunText::line_text))]
@@ -72,7 +43,20 @@ pub(crate) fn lay_line<K: Sink>(
             body,
         } => lay_read(sink, piece, *client, *fid, *index, *source, body),
         Line::Answer { node, code } => lay_answer(sink, piece, *node, *code),
+        Line::Timeout {
+            caller,
+            callee,
+            epoch,
+            number,
+            count,
+        } => lay_timeout(sink, piece, *caller, *callee, *epoch, *number, *count),
         Line::Tick { ticks } => lay_tick(sink, piece, *ticks),
+        Line::Stop { node, calls, pick } => lay_stop(sink, piece, *node, *calls, *pick),
+        Line::Fail { node, calls } => lay_fail(sink, piece, *node, *calls),
+        Line::Crash { node } => lay_crash(sink, piece, *node),
+        Line::Fault { node } => lay_fault(sink, piece, *node),
+        Line::Restart { node, boot } => lay_restart(sink, piece, *node, *boot),
+        Line::Full { node } => lay_full(sink, piece, *node),
         Line::Drop { client, fid } => lay_drop(sink, piece, *client, *fid),
         Line::DropAll { client, server } => lay_drop_all(sink, piece, *client, *server),
         Line::Owe {
@@ -92,13 +76,6 @@ pub(crate) fn lay_line<K: Sink>(
             number,
         } => lay_quit(sink, piece, *server, *client, *number),
         Line::Void => lay_short(sink, piece, &"void\n"),
-        Line::Timeout { .. }
-        | Line::Stop { .. }
-        | Line::Fail { .. }
-        | Line::Crash { .. }
-        | Line::Fault { .. }
-        | Line::Restart { .. }
-        | Line::Full { .. } => lay_failure(sink, piece, line),
     }
 }
 

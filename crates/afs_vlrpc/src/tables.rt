@@ -81,7 +81,7 @@ impl Messages for LocCalls {
     }
 
     fn read(alloc: Global, opcode: u32, r: &mut Reader) -> Result<LocCall, ShapeFault> {
-        with_calls!(message_read(opcode, alloc, r, LocCall, Err(ShapeFault::NoRow(opcode))))
+        with_calls!(message_read(opcode, alloc, r, LocCall))
     }
 
     fn room(call: &LocCall) -> usize {
@@ -109,7 +109,7 @@ impl Messages for LocReplies {
     }
 
     fn read(alloc: Global, opcode: u32, r: &mut Reader) -> Result<LocReply, ShapeFault> {
-        with_replies!(message_read(opcode, alloc, r, LocReply, Err(ShapeFault::NoRow(opcode))))
+        with_replies!(message_read(opcode, alloc, r, LocReply))
     }
 
     fn room(reply: &LocReply) -> usize {

@@ -1,11 +1,5 @@
 //! The two tables: a row for each opcode, with the message's name and its fields in order, each of its kind.
 
-ghost use Rattle.std.specs.Prelude.{◌≡◌, ◌≤◌, ◌++◌, [], ◌∷◌, OnOk, OnErr};
-ghost use Rattle.std.specs.List.{AllByRecursion};
-ghost use Rattle.afs_shape.specs.Rows.{message_of};
-ghost use Rattle.afs_shape.specs.Spelling.{fields_spelled, Extends, IsSpellable};
-ghost use Rattle.afs_shape.specs.Tables.{AreInRange};
-ghost use Rattle.afs_shape.specs.Taken.{IsNoneOf, row_fields_at, TakesRead};
 ghost use Rattle.afs_model.specs.VolRows.{vol_calls, vol_replies};
 ghost use Rattle.afs_model.proofs.VolMade.{calls_sound, replies_sound};
 
@@ -14,7 +8,7 @@ use afs_num::volume_calls::{VolCall, VolReply};
 use afs_shape::faults::ShapeFault;
 use afs_shape::messages::Messages;
 use afs_shape::tables::{Shape, Table};
-use afs_shape::{message_read, of_group, room_of, shape_of, table_of, written_of};
+use afs_shape::{message_read, room_of, shape_of, table_of, written_of};
 use afs_xdr::reading::Reader;
 use afs_xdr::writing::Writer;
 use std::alloc::Global;
@@ -44,9 +38,7 @@ macro_rules! with_calls {
                 101 DeleteVolume { family: Word, transaction: Word },
                 102 Restore { family: Word, transaction: Word, offset: Word, last: Word, piece: Opaque[PIECE_LIMIT] },
                 103 Forward { family: Word, transaction: Word, from: Word, server: Server, its_transaction: Word },
-                104 EndTrans { family: Word, transaction: Word }
-            ]
-            [
+                104 EndTrans { family: Word, transaction: Word },
                 105 Clone { family: Word, transaction: Word, volume: Word, name: Opaque[NAME_LIMIT], kind: VolumeKind },
                 106 SetFlags { family: Word, transaction: Word, flags: Word },
                 107 GetFlags { family: Word, transaction: Word },
@@ -93,28 +85,6 @@ pub const REPLIES: Table<14, 8> = with_replies!(table_of());
 /// The calls of the interface.
 pub struct VolCalls;
 
-impl VolCalls {
-    /// Reads a call of the second group.
-    fn read_second(alloc: Global, opcode: u32, r: &mut Reader) -> Result<VolCall, ShapeFault>
-        requires { IsNoneOf (100 ∷ 101 ∷ 102 ∷ 103 ∷ 104 ∷ []) opcode }
-        ensures { TakesRead (message_of vol_calls opcode) (row_fields_at vol_calls opcode r.old.left) result }
-    {
-        with_calls!(of_group(second, message_read(opcode, alloc, r, VolCall, Err(ShapeFault::NoRow(opcode)))))
-    }
-
-    /// Appends the fields of a call of the second group.
-    #[tactic(auto, using(afs_shape::proofs::Spellable::parts_spellable))]
-    fn write_second(call: &VolCall, w: &mut Writer) -> Mem<()>
-        requires row { 105 ≤ (vol_calls.row call.now).opcode }
-        requires spellable { AllByRecursion IsSpellable (vol_calls.row call.now).fields }
-        ensures ok { OnOk result (w.new ≡ w.old ++ fields_spelled (vol_calls.row call.now).fields) }
-        ensures fits { OnOk result (AreInRange (vol_calls.row call.now).fields) }
-        ensures err { OnErr result (Extends w.old w.new) }
-    {
-        with_calls!(of_group(second, written_of(call, w, VolCall, unreachable!())))
-    }
-}
-
 impl Messages for VolCalls {
     type Message = VolCall;
 
@@ -127,7 +97,7 @@ impl Messages for VolCalls {
     }
 
     fn read(alloc: Global, opcode: u32, r: &mut Reader) -> Result<VolCall, ShapeFault> {
-        with_calls!(of_group(first, message_read(opcode, alloc, r, VolCall, Self::read_second(alloc, opcode, r))))
+        with_calls!(message_read(opcode, alloc, r, VolCall))
     }
 
     fn room(call: &VolCall) -> usize {
@@ -136,7 +106,7 @@ impl Messages for VolCalls {
 
     #[tactic(auto, using(afs_shape::proofs::Spellable::parts_spellable))]
     fn write(call: &VolCall, w: &mut Writer) -> Mem<()> {
-        with_calls!(of_group(first, written_of(call, w, VolCall, Self::write_second(call, w))))
+        with_calls!(written_of(call, w, VolCall))
     }
 }
 
@@ -155,7 +125,7 @@ impl Messages for VolReplies {
     }
 
     fn read(alloc: Global, opcode: u32, r: &mut Reader) -> Result<VolReply, ShapeFault> {
-        with_replies!(message_read(opcode, alloc, r, VolReply, Err(ShapeFault::NoRow(opcode))))
+        with_replies!(message_read(opcode, alloc, r, VolReply))
     }
 
     fn room(reply: &VolReply) -> usize {
