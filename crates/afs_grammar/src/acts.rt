@@ -23,48 +23,38 @@ use afs_words::parts::Parts;
 use afs_words::words::{end, number, word};
 use std::alloc::Global;
 
+/// The act that holds this operand alone.
+macro_rules! holding {
+    ($read:expr, $act:ident { $field:ident }) => {
+        match $read {
+            Ok($field) => Ok(Act::$act { $field }),
+            Err(fault) => Err(fault),
+        }
+    };
+}
+
 /// The operands of a client's act.
 #[tactic(auto, unfolding(crate::specs::Acts::act_parts))]
 fn act_parts(alloc: Global, named: ActWord, words: &mut Parts<'_>) -> Result<Act, LineFault>
     ensures { ReadsInMemory (act_parts named) (λ a. a) words.old words.new result }
 {
     match named {
-        ActWord::Open => Ok(Act::Open {
-            operand: operand(alloc, words)?,
-        }),
-        ActWord::List => Ok(Act::ListNames {
-            operand: operand(alloc, words)?,
-        }),
-        ActWord::ReadLink => Ok(Act::ReadLink {
-            operand: operand(alloc, words)?,
-        }),
-        ActWord::Stat => Ok(Act::Stat {
-            operand: operand(alloc, words)?,
-        }),
-        ActWord::StatAll => Ok(Act::StatAll {
-            operand: operand(alloc, words)?,
-        }),
+        ActWord::Open => holding!(operand(alloc, words), Open { operand }),
+        ActWord::List => holding!(operand(alloc, words), ListNames { operand }),
+        ActWord::ReadLink => holding!(operand(alloc, words), ReadLink { operand }),
+        ActWord::Stat => holding!(operand(alloc, words), Stat { operand }),
+        ActWord::StatAll => holding!(operand(alloc, words), StatAll { operand }),
         ActWord::Close => close(alloc, words),
-        ActWord::Make => Ok(Act::Make {
-            path: act_path(alloc, words)?,
-        }),
-        ActWord::MkDir => Ok(Act::MakeDirectory {
-            path: act_path(alloc, words)?,
-        }),
-        ActWord::Rm => Ok(Act::Remove {
-            path: act_path(alloc, words)?,
-        }),
-        ActWord::RmDir => Ok(Act::RemoveDirectory {
-            path: act_path(alloc, words)?,
-        }),
+        ActWord::Make => holding!(act_path(alloc, words), Make { path }),
+        ActWord::MkDir => holding!(act_path(alloc, words), MakeDirectory { path }),
+        ActWord::Rm => holding!(act_path(alloc, words), Remove { path }),
+        ActWord::RmDir => holding!(act_path(alloc, words), RemoveDirectory { path }),
         ActWord::Mv => rename(alloc, words),
         ActWord::Ln => link(alloc, words),
         ActWord::Symlink => symlink(alloc, words),
         ActWord::ChMod => set_mode(alloc, words),
         ActWord::SetAcl => set_access_list(alloc, words),
-        ActWord::GetAcl => Ok(Act::GetAccessList {
-            operand: operand(alloc, words)?,
-        }),
+        ActWord::GetAcl => holding!(operand(alloc, words), GetAccessList { operand }),
         ActWord::GiveUp => Ok(Act::GiveUp),
     }
 }
@@ -193,16 +183,16 @@ fn admin_parts(
     match named {
         AdminWord::Create => create(counts, name, words),
         AdminWord::Restore => restore(alloc, counts, name, words),
-        AdminWord::AddSite => Ok(AdminAct::AddSite {
-            name,
-            server: server(words, counts)?,
-        }),
+        AdminWord::AddSite => {
+            let server = server(words, counts)?;
+            Ok(AdminAct::AddSite { name, server })
+        }
         AdminWord::Backup => Ok(AdminAct::Backup { name }),
         AdminWord::Release => Ok(AdminAct::Release { name }),
-        AdminWord::Move => Ok(AdminAct::Move {
-            name,
-            server: server(words, counts)?,
-        }),
+        AdminWord::Move => {
+            let server = server(words, counts)?;
+            Ok(AdminAct::Move { name, server })
+        }
         AdminWord::Dump => dump(alloc, name, words),
         AdminWord::Remove => Ok(AdminAct::Remove { name }),
         AdminWord::Recover => Ok(AdminAct::Recover { name }),

@@ -49,7 +49,6 @@ const LINES: u32 = 200_000;
 const LINE_BYTES: usize = 4_200_000;
 
 /// What the lines so far told.
-#[derive(Drop)]
 pub struct LinesRead {
     turn: u8,
     counts: Counts,
@@ -62,6 +61,24 @@ pub struct LinesRead {
     schedule: Option<Events>,
     // All ticks of the schedule.
     ticks: u64,
+}
+
+/// It ends by a drop of its own: a line that isn't read ends it.
+impl Drop for LinesRead {
+    fn drop(self) {
+        let LinesRead {
+            turn: _,
+            counts: _,
+            cache: _,
+            capacity: _,
+            users: _,
+            volumes: _,
+            tasks: _,
+            plans: _,
+            schedule: _,
+            ticks: _,
+        } = self;
+    }
 }
 
 impl Model for LinesRead {

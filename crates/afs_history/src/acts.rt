@@ -16,21 +16,37 @@ pub struct Path {
 }
 
 /// An object, by a path or by its fid.
-#[derive(Drop)]
 pub enum Operand {
     Path(Path),
     Fid(Fid),
 }
 
+/// An operand ends by a drop of its own: what holds one has one drop to prove where it ends, and not one for each part of a path.
+impl Drop for Operand {
+    fn drop(self) {
+        match self {
+            Operand::Path(path) => drop(path),
+            Operand::Fid(_) => {}
+        }
+    }
+}
+
 /// Bytes as a script writes them: digit by digit, or as one byte so many times. An act is told as it was written.
-#[derive(Drop)]
 pub enum Written {
     Hex(Octets),
     Fill { count: u32, byte: u8 },
 }
 
+impl Drop for Written {
+    fn drop(self) {
+        match self {
+            Written::Hex(bytes) => drop(bytes),
+            Written::Fill { count: _, byte: _ } => {}
+        }
+    }
+}
+
 /// An act of a client.
-#[derive(Drop)]
 pub enum Act {
     /// A file is shown.
     Open { operand: Operand },
@@ -66,6 +82,46 @@ pub enum Act {
     GetAccessList { operand: Operand },
     /// All that the client trusts is given up, and its servers are told so.
     GiveUp,
+}
+
+/// An act ends by a drop of its own, as its operands do.
+impl Drop for Act {
+    fn drop(self) {
+        match self {
+            Act::Open { operand }
+            | Act::ListNames { operand }
+            | Act::ReadLink { operand }
+            | Act::Stat { operand }
+            | Act::StatAll { operand }
+            | Act::SetMode { operand, mode: _ }
+            | Act::GetAccessList { operand } => drop(operand),
+            Act::Close { operand, contents } => {
+                drop(operand);
+                drop(contents);
+            }
+            Act::Make { path }
+            | Act::MakeDirectory { path }
+            | Act::Remove { path }
+            | Act::RemoveDirectory { path } => drop(path),
+            Act::Move { from, to } => {
+                drop(from);
+                drop(to);
+            }
+            Act::Link { target, path } => {
+                drop(target);
+                drop(path);
+            }
+            Act::Symlink { path, target } => {
+                drop(path);
+                drop(target);
+            }
+            Act::SetAccessList { operand, text } => {
+                drop(operand);
+                drop(text);
+            }
+            Act::GiveUp => {}
+        }
+    }
 }
 
 /// An act that several hold. A copy shares it.

@@ -5,7 +5,6 @@ use afs_num::sequences::{Octets, Sequence};
 use afs_num::types::Node;
 
 /// An act of an administrator, on the volume of this name. Each stands for the command of `vos` that has its name.
-#[derive(Drop)]
 pub enum AdminAct {
     /// A new volume, with a quota in blocks.
     Create {
@@ -47,6 +46,38 @@ pub enum AdminAct {
     Recover {
         name: Octets,
     },
+}
+
+/// An act ends by a drop of its own, as a client's does.
+impl Drop for AdminAct {
+    fn drop(self) {
+        match self {
+            AdminAct::Create {
+                name,
+                server: _,
+                quota: _,
+            }
+            | AdminAct::AddSite { name, server: _ }
+            | AdminAct::Backup { name }
+            | AdminAct::Release { name }
+            | AdminAct::Move { name, server: _ }
+            | AdminAct::Remove { name }
+            | AdminAct::Recover { name } => drop(name),
+            AdminAct::Restore {
+                name,
+                server: _,
+                label,
+            }
+            | AdminAct::Dump {
+                name,
+                label,
+                from: _,
+            } => {
+                drop(name);
+                drop(label);
+            }
+        }
+    }
 }
 
 /// An act, and the node that is to do it.

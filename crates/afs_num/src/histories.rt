@@ -5,12 +5,23 @@ use crate::sequences::{Octets, Sequence};
 use crate::types::{Fid, Node};
 
 /// What a version holds: a file's bytes, a directory's names, a link's text; or the vnode is gone.
-#[derive(Drop)]
 pub enum Body {
     File(Octets),
     Dir(Names),
     Link(Octets),
     Gone,
+}
+
+/// A body ends by a drop of its own: what holds one has one drop to prove where it ends, and not one for each kind of body.
+impl Drop for Body {
+    fn drop(self) {
+        match self {
+            Body::File(contents) => drop(contents),
+            Body::Dir(names) => drop(names),
+            Body::Link(text) => drop(text),
+            Body::Gone => {}
+        }
+    }
 }
 
 /// A version of a fid: the indexes of a fid are 1, 2, 3, ..
@@ -42,11 +53,21 @@ pub struct ReadStatus {
 }
 
 /// What a read shows: what its version holds, the vnode's status, or the text of a directory's access list.
-#[derive(Drop)]
 pub enum ReadBody {
     Contents(Body),
     Status(ReadStatus),
     AccessList(Octets),
+}
+
+/// It ends by a drop of its own, as a body does.
+impl Drop for ReadBody {
+    fn drop(self) {
+        match self {
+            ReadBody::Contents(body) => drop(body),
+            ReadBody::Status(_) => {}
+            ReadBody::AccessList(text) => drop(text),
+        }
+    }
 }
 
 /// Whose a step is: a node's, the clock's where it rises, or nobody's where nothing happened.

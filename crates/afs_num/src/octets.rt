@@ -14,10 +14,17 @@ enum Held {
 }
 
 /// Bytes; contracts see them as a list.
-#[derive(Debug, Drop)]
+#[derive(Debug)]
 pub struct Octets {
     alloc: Global,
     held: Held,
+}
+
+/// Bytes end by a drop of their own: what holds some has one drop to prove where it ends, wherever they lie.
+impl Drop for Octets {
+    fn drop(self) {
+        let Octets { alloc: _, held: _ } = self;
+    }
 }
 
 impl Model for Octets {

@@ -7,10 +7,10 @@ use Rattle.afs_shape.specs.declared.kinds.Part.TheVariants as parts
 
 -- the field that lies there
 abbrev pub field_of : Part → Field
-field_of (parts.Word n) = fields.Word n
-field_of (parts.Signed z) = fields.Signed z
-field_of (parts.VolumeKind n) = fields.VolumeKind n
-field_of (parts.Server n) = fields.Server n
+field_of (parts.Word n) = fields.Word n.now
+field_of (parts.Signed z) = fields.Signed z.now
+field_of (parts.VolumeKind n) = fields.VolumeKind n.now
+field_of (parts.Server n) = fields.Server n.now
 field_of (parts.Fid f) = fields.Fid f.now
 field_of (parts.StoreStatus s) = fields.StoreStatus s.now
 field_of (parts.FetchStatus s) = fields.FetchStatus s.now

@@ -145,28 +145,28 @@ pub(crate) fn read_entry(alloc: Global, r: &mut Reader) -> Result<LocEntry, Fiel
     })
 }
 
-fn write_word(n: u32, w: &mut Writer) -> Mem<()>
-    ensures ok { OnOk result (w.new ≡ w.old ++ word n) }
-    ensures fits { n < 2 ^ 32 }
+fn write_word(n: &u32, w: &mut Writer) -> Mem<()>
+    ensures ok { OnOk result (w.new ≡ w.old ++ word n.now) }
+    ensures fits { n.now < 2 ^ 32 }
     ensures err { OnErr result (w.new ≡ w.old) }
 {
-    w.word(n)
+    w.word(*n)
 }
 
-fn write_signed(z: i32, w: &mut Writer) -> Mem<()>
-    ensures ok { OnOk result (w.new ≡ w.old ++ word (cast_unsigned w32 z)) }
-    ensures fits { FitsSigned w32 z }
+fn write_signed(z: &i32, w: &mut Writer) -> Mem<()>
+    ensures ok { OnOk result (w.new ≡ w.old ++ word (cast_unsigned w32 z.now)) }
+    ensures fits { FitsSigned w32 z.now }
     ensures err { OnErr result (w.new ≡ w.old) }
 {
     w.word(z.cast_unsigned())
 }
 
-fn write_octets(bytes: &[u8], w: &mut Writer) -> Mem<()>
+fn write_octets(bytes: &Octets, w: &mut Writer) -> Mem<()>
     requires { length bytes.now < 2 ^ 32 }
     ensures ok { OnOk result (w.new ≡ w.old ++ opaque bytes.now) }
     ensures err { OnErr result (w.new ≡ w.old) }
 {
-    w.opaque(bytes)
+    w.opaque(bytes.as_slice())
 }
 
 /// Appends a location entry. After want of memory bytes of it may stand behind those from before.
@@ -179,7 +179,7 @@ fn write_entry(e: &LocEntry, w: &mut Writer) -> Mem<()>
 {
     w.opaque(e.name.as_slice())?;
     w.words(&[e.read_write, e.read_only, e.backup, e.flags])?;
-    write_list(e.sites.as_slice(), w)
+    write_list(&e.sites, w)
 }
 
 /// Reads a field of this kind.

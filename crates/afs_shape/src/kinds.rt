@@ -6,7 +6,7 @@ use afs_num::calls::{
 use afs_num::location_calls::LocEntry;
 use afs_num::sequences::{Octets, Sequence};
 use afs_num::types::Fid;
-use afs_num::volume_calls::{ListedVolume, ListedVolumes};
+use afs_num::volume_calls::ListedVolumes;
 
 /// What a field is. Behind a shape's last field stands `Nothing`.
 #[derive(Clone, Copy, Debug, PartialEq, Eq)]
@@ -74,21 +74,21 @@ pub type Fields = Sequence<Field>;
 /// The value of a field that lies elsewhere: what a message is written from.
 #[derive(Clone, Copy)]
 pub enum Part<'a> {
-    Word(u32),
-    Signed(i32),
-    VolumeKind(u32),
-    Server(u32),
+    Word(&'a u32),
+    Signed(&'a i32),
+    VolumeKind(&'a u32),
+    Server(&'a u32),
     Fid(&'a Fid),
     StoreStatus(&'a AfsStoreStatus),
     FetchStatus(&'a AfsFetchStatus),
     CallBack(&'a AfsCallBack),
     VolSync(&'a AfsVolSync),
     Entry(&'a LocEntry),
-    Opaque(&'a [u8]),
-    Fids(&'a [Fid]),
-    CallBacks(&'a [AfsCallBack]),
-    Statuses(&'a [AfsFetchStatus]),
-    Volumes(&'a [ListedVolume]),
+    Opaque(&'a Octets),
+    Fids(&'a Fids),
+    CallBacks(&'a CallBacks),
+    Statuses(&'a Statuses),
+    Volumes(&'a ListedVolumes),
 }
 
 impl Field {
@@ -99,21 +99,21 @@ impl Field {
         ensures { field_of result ≡ self.now }
     {
         match self {
-            Field::Word(n) => Part::Word(*n),
-            Field::Signed(z) => Part::Signed(*z),
-            Field::VolumeKind(n) => Part::VolumeKind(*n),
-            Field::Server(n) => Part::Server(*n),
+            Field::Word(n) => Part::Word(n),
+            Field::Signed(z) => Part::Signed(z),
+            Field::VolumeKind(n) => Part::VolumeKind(n),
+            Field::Server(n) => Part::Server(n),
             Field::Fid(fid) => Part::Fid(fid),
             Field::StoreStatus(status) => Part::StoreStatus(status),
             Field::FetchStatus(status) => Part::FetchStatus(status),
             Field::CallBack(callback) => Part::CallBack(callback),
             Field::VolSync(sync) => Part::VolSync(sync),
             Field::Entry(entry) => Part::Entry(entry),
-            Field::Opaque(octets) => Part::Opaque(octets.as_slice()),
-            Field::Fids(fids) => Part::Fids(fids.as_slice()),
-            Field::CallBacks(callbacks) => Part::CallBacks(callbacks.as_slice()),
-            Field::Statuses(statuses) => Part::Statuses(statuses.as_slice()),
-            Field::Volumes(volumes) => Part::Volumes(volumes.as_slice()),
+            Field::Opaque(octets) => Part::Opaque(octets),
+            Field::Fids(fids) => Part::Fids(fids),
+            Field::CallBacks(callbacks) => Part::CallBacks(callbacks),
+            Field::Statuses(statuses) => Part::Statuses(statuses),
+            Field::Volumes(volumes) => Part::Volumes(volumes),
         }
     }
 }

@@ -61,12 +61,12 @@ fn write_items<T: Item>(items: &[T], w: &mut Writer) -> Mem<()>
 }
 
 /// Appends a list. After want of memory bytes of it may stand behind those from before.
-pub fn write_list<T: Item>(items: &[T], w: &mut Writer) -> Mem<()>
+pub fn write_list<T: Item>(items: &Sequence<T>, w: &mut Writer) -> Mem<()>
     requires { length items.now < 2 ^ 32 }
     ensures ok { OnOk result (w.new ≡ w.old ++ list T.item items.now) }
     ensures fits { OnOk result (AllByRecursion T.InRange items.now) }
     ensures err { OnErr result (Extends w.old w.new) }
 {
     w.word(items.len() as u32)?;
-    write_items(items, w)
+    write_items(items.as_slice(), w)
 }

@@ -64,21 +64,6 @@ macro_rules! shape_of {
     }};
 }
 
-/// A part, by a reference to its value.
-#[macro_export]
-macro_rules! part_of {
-    (Word $value:ident) => { $crate::kinds::Part::Word(*$value) };
-    (Signed $value:ident) => { $crate::kinds::Part::Signed(*$value) };
-    (VolumeKind $value:ident) => { $crate::kinds::Part::VolumeKind(*$value) };
-    (Server $value:ident) => { $crate::kinds::Part::Server(*$value) };
-    (Opaque $value:ident) => { $crate::kinds::Part::Opaque($value.as_slice()) };
-    (Fids $value:ident) => { $crate::kinds::Part::Fids($value.as_slice()) };
-    (CallBacks $value:ident) => { $crate::kinds::Part::CallBacks($value.as_slice()) };
-    (Statuses $value:ident) => { $crate::kinds::Part::Statuses($value.as_slice()) };
-    (Volumes $value:ident) => { $crate::kinds::Part::Volumes($value.as_slice()) };
-    ($kind:ident $value:ident) => { $crate::kinds::Part::$kind($value) };
-}
-
 /// Appends the fields of a message of this enum.
 #[macro_export]
 macro_rules! written_of {
@@ -87,40 +72,45 @@ macro_rules! written_of {
         [$($opcode:literal $name:ident { $($field:ident: $kind:ident $([$most:expr])?),* }),*]
     ) => {
         match $message {
-            $($enum::$name { $($field),* } => $crate::tables::write_parts(&[$($crate::part_of!($kind $field)),*], $w),)*
+            $($enum::$name { $($field),* } => $crate::tables::write_parts(&[$($crate::kinds::Part::$kind($field)),*], $w),)*
         }
     };
 }
 
-/// How many bytes a field takes that lies there, or more.
+/// A field that isn't of a fixed size, where a message is taken apart.
 #[macro_export]
-macro_rules! room_for {
-    (Word $value:ident) => { 4usize };
-    (Signed $value:ident) => { 4usize };
-    (VolumeKind $value:ident) => { 4usize };
-    (Server $value:ident) => { 4usize };
-    (Fid $value:ident) => { 12usize };
-    (StoreStatus $value:ident) => { 24usize };
-    (FetchStatus $value:ident) => { 84usize };
-    (CallBack $value:ident) => { 12usize };
-    (VolSync $value:ident) => { 24usize };
-    (Entry $value:ident) => { 192usize };
-    (Opaque $value:ident) => { $value.len().saturating_add(8) };
-    (Fids $value:ident) => { $value.len().saturating_mul(12).saturating_add(4) };
-    (CallBacks $value:ident) => { $value.len().saturating_mul(12).saturating_add(4) };
-    (Statuses $value:ident) => { $value.len().saturating_mul(84).saturating_add(4) };
-    (Volumes $value:ident) => { $value.len().saturating_mul(16).saturating_add(4) };
+macro_rules! long_field {
+    (Opaque $value:ident) => { $value };
+    (Fids $value:ident) => { $value };
+    (CallBacks $value:ident) => { $value };
+    (Statuses $value:ident) => { $value };
+    (Volumes $value:ident) => { $value };
+    ($kind:ident $value:ident) => { _ };
 }
 
-/// How many bytes the fields of a message of this enum take, or more.
+/// So many bytes, and those of these fields that aren't of a fixed size.
+#[macro_export]
+macro_rules! room_with {
+    ($room:expr;) => { $room };
+    ($room:expr; Entry $value:ident $($more:ident)*) => { $crate::room_with!($room.saturating_add(192); $($more)*) };
+    ($room:expr; Opaque $value:ident $($more:ident)*) => { $crate::room_with!($room.saturating_add($value.len()); $($more)*) };
+    ($room:expr; Fids $value:ident $($more:ident)*) => { $crate::room_with!($room.saturating_add($value.len().saturating_mul(12)); $($more)*) };
+    ($room:expr; CallBacks $value:ident $($more:ident)*) => { $crate::room_with!($room.saturating_add($value.len().saturating_mul(12)); $($more)*) };
+    ($room:expr; Statuses $value:ident $($more:ident)*) => { $crate::room_with!($room.saturating_add($value.len().saturating_mul(84)); $($more)*) };
+    ($room:expr; Volumes $value:ident $($more:ident)*) => { $crate::room_with!($room.saturating_add($value.len().saturating_mul(16)); $($more)*) };
+    ($room:expr; $kind:ident $value:ident $($more:ident)*) => { $crate::room_with!($room; $($more)*) };
+}
+
+/// How many bytes the fields of a message of this enum take, or more. Those of a fixed size, and the lengths of the others, take so
+/// many at most.
 #[macro_export]
 macro_rules! room_of {
     (
-        ($message:ident, $enum:ident)
+        ($message:ident, $enum:ident, $fixed:expr)
         [$($opcode:literal $name:ident { $($field:ident: $kind:ident $([$most:expr])?),* }),*]
     ) => {
         match $message {
-            $($enum::$name { $($field),* } => 0usize$(.saturating_add($crate::room_for!($kind $field)))*,)*
+            $($enum::$name { $($field: $crate::long_field!($kind $field)),* } => $crate::room_with!($fixed; $($kind $field)*),)*
         }
     };
 }
@@ -134,11 +124,13 @@ macro_rules! slots_of {
     };
 }
 
-/// The values of fields, each beside those behind it.
+/// The message whose fields have these values, each beside those behind it.
 #[macro_export]
-macro_rules! values_of {
-    () => { () };
-    ($first:ident $(, $more:ident)*) => { ($first, $crate::values_of!($($more),*)) };
+macro_rules! message_with {
+    ($enum:ident $name:ident [$($made:tt)*] $values:expr;) => { $enum::$name { $($made)* } };
+    ($enum:ident $name:ident [$($made:tt)*] $values:expr; $first:ident $($more:ident)*) => {
+        $crate::message_with!($enum $name [$($made)* $first: $values.0,] $values.1; $($more)*)
+    };
 }
 
 /// Reads the message of this enum and opcode.
@@ -150,7 +142,7 @@ macro_rules! message_read {
     ) => {
         match $opcode {
             $($number => match $crate::taking::read_values::<$crate::slots_of!($($kind $([$most])?),*)>($alloc, $r) {
-                Ok($crate::values_of!($($field),*)) => Ok($enum::$name { $($field),* }),
+                Ok(values) => Ok($crate::message_with!($enum $name [] values; $($field)*)),
                 Err(fault) => Err(fault),
             },)*
             _ => Err($crate::faults::ShapeFault::NoRow($opcode)),

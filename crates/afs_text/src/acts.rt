@@ -106,30 +106,47 @@ impl<'a> Print for &'a Operand {
 
 // ---- acts
 
+/// Writes the word of an act, and its operand.
+fn put_one<K: Sink, P: Print + Drop>(sink: &mut K, word: &str, operand: P) -> Result<(), Failed>
+    ensures { Puts (word.now ++ P.text operand) (K.held sink.old) (K.held sink.new) (K.faults sink.old) (K.faults sink.new) result }
+{
+    row!(word, operand).print(sink)
+}
+
+/// Writes the word of an act, and its two operands.
+fn put_two<K: Sink, P: Print + Drop, Q: Print + Drop>(
+    sink: &mut K,
+    word: &str,
+    first: P,
+    second: Q,
+) -> Result<(), Failed>
+    ensures { Puts (word.now ++ (P.text first ++ (codes " " ++ Q.text second))) (K.held sink.old) (K.held sink.new) (K.faults sink.old) (K.faults sink.new) result }
+{
+    row!(word, first, " ", second).print(sink)
+}
+
 impl<'a> Print for &'a Act {
     ghost text = { λ act. act_text act.now };
 
     #[tactic(auto, unfolding(crate::specs::ActText::act_text))]
     fn print<K: Sink>(&self, sink: &mut K) -> Result<(), Failed> {
         match *self {
-            Act::Open { operand } => row!("open ", operand).print(sink),
-            Act::ListNames { operand } => row!("list ", operand).print(sink),
-            Act::ReadLink { operand } => row!("readlink ", operand).print(sink),
-            Act::Stat { operand } => row!("stat ", operand).print(sink),
-            Act::StatAll { operand } => row!("statall ", operand).print(sink),
-            Act::Close { operand, contents } => row!("close ", operand, " ", contents).print(sink),
-            Act::Make { path } => row!("make ", path).print(sink),
-            Act::MakeDirectory { path } => row!("mkdir ", path).print(sink),
-            Act::Remove { path } => row!("rm ", path).print(sink),
-            Act::RemoveDirectory { path } => row!("rmdir ", path).print(sink),
-            Act::Move { from, to } => row!("mv ", from, " ", to).print(sink),
-            Act::Link { target, path } => row!("ln ", target, " ", path).print(sink),
-            Act::Symlink { path, target } => row!("symlink ", path, " ", target).print(sink),
-            Act::SetMode { operand, mode } => row!("chmod ", operand, " ", Mode(*mode)).print(sink),
-            Act::SetAccessList { operand, text } => {
-                row!("setacl ", operand, " ", text).print(sink)
-            }
-            Act::GetAccessList { operand } => row!("getacl ", operand).print(sink),
+            Act::Open { operand } => put_one(sink, "open ", operand),
+            Act::ListNames { operand } => put_one(sink, "list ", operand),
+            Act::ReadLink { operand } => put_one(sink, "readlink ", operand),
+            Act::Stat { operand } => put_one(sink, "stat ", operand),
+            Act::StatAll { operand } => put_one(sink, "statall ", operand),
+            Act::Close { operand, contents } => put_two(sink, "close ", operand, contents),
+            Act::Make { path } => put_one(sink, "make ", path),
+            Act::MakeDirectory { path } => put_one(sink, "mkdir ", path),
+            Act::Remove { path } => put_one(sink, "rm ", path),
+            Act::RemoveDirectory { path } => put_one(sink, "rmdir ", path),
+            Act::Move { from, to } => put_two(sink, "mv ", from, to),
+            Act::Link { target, path } => put_two(sink, "ln ", target, path),
+            Act::Symlink { path, target } => put_two(sink, "symlink ", path, target),
+            Act::SetMode { operand, mode } => put_two(sink, "chmod ", operand, Mode(*mode)),
+            Act::SetAccessList { operand, text } => { put_two(sink, "setacl ", operand, text) }
+            Act::GetAccessList { operand } => put_one(sink, "getacl ", operand),
             Act::GiveUp => "giveup".print(sink),
         }
     }
