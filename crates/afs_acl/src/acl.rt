@@ -153,5 +153,5 @@ fn spelled(alloc: Global, list: &AccessList) -> Mem<Octets>
     put_number(alloc, &mut out, list.negative.len())?;
     put_entries(alloc, &mut out, list.positive.as_slice())?;
     put_entries(alloc, &mut out, list.negative.as_slice())?;
-    Ok(Octets::from_vec(out))
+    Octets::from_vec(out)
 }

@@ -23,5 +23,5 @@ fn filled(alloc: Global, count: u32, byte: u8) -> Mem<Octets>
 {
     let mut bytes = Vec::new(alloc);
     bytes.resize(count as usize, byte)?;
-    Ok(Octets::from_vec(bytes))
+    Octets::from_vec(bytes)
 }

@@ -108,7 +108,7 @@ fn encode_notice(alloc: Global, head: &Head) -> Mem<Octets>
     let mut w = Writer::new(alloc);
     write_head(head, &mut w)?;
     let bytes = w.into_vec()?;
-    Ok(Octets::from_vec(bytes))
+    Octets::from_vec(bytes)
 }
 
 #[tactic(auto, unfolding(afs_model::specs::Messages::spelled))]

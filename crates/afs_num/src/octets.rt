@@ -1,19 +1,20 @@
 //! Bytes.
 
-ghost use Rattle.std.specs.Prelude.{◌≡◌, ◌<◌, ◌^◌, ◌==◌, [], ◌∷◌, ◌++◌, length, IfOk, OnOk, OnErr};
+ghost use Rattle.std.specs.Prelude.{◌≡◌, ◌<◌, ◌^◌, ◌==◌, [], length, IfOk};
 
 use crate::short::Short;
 use std::alloc::{AllocError, Global};
 use std::marker::Model;
+use std::sync::ArcSlice;
 
-/// Where bytes lie: few of them in the value itself, so that a name takes no memory.
+/// Where bytes lie: few of them in the value itself, so that a name takes no memory; more in a block that copies share.
 #[derive(Debug, Drop)]
 enum Held {
     Few(Short),
-    Many(Vec<u8>),
+    Many(ArcSlice<u8, Global>),
 }
 
-/// Bytes; contracts see them as a list.
+/// Bytes, which don't change; contracts see them as a list.
 #[derive(Debug)]
 pub struct Octets {
     alloc: Global,
@@ -47,14 +48,16 @@ impl Octets {
         }
     }
 
-    /// The bytes of a `Vec`, without a copy and without memory.
-    pub fn from_vec(bytes: Vec<u8>) -> Octets
-        ensures { result ≡ bytes.items }
+    /// The bytes of a `Vec`. More than 30 of them stay where they lie, and what counts their copies takes memory.
+    pub fn from_vec(bytes: Vec<u8>) -> Result<Octets, AllocError>
+        ensures { IfOk result (λ o. o ≡ bytes.items) }
     {
-        Octets {
-            alloc: *bytes.allocator(),
-            held: Held::Many(bytes),
-        }
+        let alloc = *bytes.allocator();
+        let held = match Short::of(bytes.as_slice()) {
+            Some(short) => Held::Few(short),
+            None => Held::Many(ArcSlice::from_vec(bytes)?),
+        };
+        Ok(Octets { alloc, held })
     }
 
     /// A copy of these bytes. 30 of them and fewer take no memory.
@@ -63,7 +66,7 @@ impl Octets {
     {
         let held = match Short::of(bytes) {
             Some(short) => Held::Few(short),
-            None => Held::Many(Vec::from_slice(alloc, bytes)?),
+            None => Held::Many(ArcSlice::from_slice(alloc, bytes)?),
         };
         Ok(Octets { alloc, held })
     }
@@ -96,38 +99,14 @@ impl Octets {
         self.as_slice().is_empty()
     }
 
-    /// A copy.
+    /// A copy, which shares the bytes: it takes no memory. It is refused where they have as many copies as can be counted.
     pub fn copy(&self, alloc: Global) -> Result<Octets, AllocError>
         ensures { IfOk result (λ o. o ≡ self.now) }
     {
         let held = match &self.held {
             Held::Few(short) => Held::Few(short.copy()),
-            Held::Many(bytes) => Held::Many(Vec::from_slice(alloc, bytes.as_slice())?),
+            Held::Many(bytes) => Held::Many(bytes.clone()?),
         };
         Ok(Octets { alloc, held })
-    }
-
-    /// Appends one byte.
-    pub fn push(&mut self, byte: u8) -> Result<(), AllocError>
-        ensures ok { OnOk result (self.new ≡ self.old ++ byte ∷ []) }
-        ensures err { OnErr result (self.new ≡ self.old) }
-    {
-        match &mut self.held {
-            Held::Few(short) if !short.is_full() => {
-                short.push(byte);
-                Ok(())
-            }
-            Held::Few(short) => {
-                let mut bytes = Vec::with_capacity(self.alloc, 2 * short.as_slice().len())?;
-                bytes.extend_from_slice(short.as_slice())?;
-                bytes.push(byte)?;
-                self.held = Held::Many(bytes);
-                Ok(())
-            }
-            Held::Many(bytes) => match bytes.push(byte) {
-                Ok(()) => Ok(()),
-                Err(_) => Err(AllocError),
-            },
-        }
     }
 }

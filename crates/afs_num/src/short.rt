@@ -1,6 +1,6 @@
 //! Few bytes, which lie in the value itself.
 
-ghost use Rattle.std.specs.Prelude.{◌≡◌, ◌<◌, ◌≤◌, ◌==◌, [], ◌∷◌, ◌++◌, length, false, IfSome, IfNone};
+ghost use Rattle.std.specs.Prelude.{◌≡◌, ◌<◌, ◌≤◌, [], length, IfSome, IfNone};
 
 use std::marker::Model;
 
@@ -70,23 +70,5 @@ impl Short {
             len: self.len,
             bytes: self.bytes,
         }
-    }
-
-    #[inline]
-    pub fn is_full(&self) -> bool
-        ensures value { result ≡ (length self.now == 30) }
-        ensures room { result ≡ false → length self.now < 30 }
-    {
-        self.len as usize == MOST
-    }
-
-    /// Appends one byte.
-    #[inline]
-    pub fn push(&mut self, byte: u8)
-        requires { length self.old < 30 }
-        ensures { self.new ≡ self.old ++ byte ∷ [] }
-    {
-        self.bytes[self.len as usize] = byte;
-        self.len += 1;
     }
 }

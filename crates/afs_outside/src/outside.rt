@@ -94,6 +94,16 @@ fn read_piece<S: Source>(
     }
 }
 
+/// The bytes that were taken.
+fn as_octets(bytes: Vec<u8>) -> Result<Octets, ReadError>
+    ensures { result ≡ Ok bytes.items ⊎ result ≡ Err ReadError.OutOfMemory }
+{
+    match Octets::from_vec(bytes) {
+        Ok(bytes) => Ok(bytes),
+        Err(_) => Err(ReadError::OutOfMemory),
+    }
+}
+
 /// All that the source has left. It stops once one byte above the limit was taken.
 pub fn read_all<S: Source>(alloc: Global, source: &mut S, limit: u32) -> Result<Octets, ReadError>
     ensures all { IfOk result (λ bytes. HadAll (S.left source.old) bytes) }
@@ -110,10 +120,10 @@ pub fn read_all<S: Source>(alloc: Global, source: &mut S, limit: u32) -> Result<
     while bytes.len() <= limit {
         let most = limit + 1 - bytes.len();
         if read_piece(source, &mut bytes, most)? == 0 {
-            return Ok(Octets::from_vec(bytes));
+            return as_octets(bytes);
         }
     }
-    Err(ReadError::TooLong(Octets::from_vec(bytes)))
+    Err(ReadError::TooLong(as_octets(bytes)?))
 }
 
 /// Writes all of these bytes, piece by piece as the sink takes them.

@@ -42,7 +42,7 @@ pub fn encode_record(alloc: Global, rec: &StoreRecord) -> Mem<Octets>
     w.word(number_of(&rec.body))?;
     write_head(&rec.head, &mut w)?;
     write_body(&rec.body, &mut w)?;
-    Ok(Octets::from_vec(w.into_vec()?))
+    Octets::from_vec(w.into_vec()?)
 }
 
 /// The record that these bytes are, as it is read.

@@ -100,7 +100,7 @@ pub fn spell_call<M: Messages>(
     write_head(head, &mut w)?;
     w.opaque(user)?;
     M::write(call, &mut w)?;
-    Ok(Octets::from_vec(w.into_vec()?))
+    Octets::from_vec(w.into_vec()?)
 }
 
 /// The one spelling of a call.

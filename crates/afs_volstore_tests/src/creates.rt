@@ -68,7 +68,7 @@ fn told(alloc: Global) -> Mem<Octets> {
     out.push(2)?;
     put_volume(&mut out, first.as_slice(), 1)?;
     put_volume(&mut out, first.as_slice(), 2)?;
-    Ok(Octets::from_vec(out))
+    Octets::from_vec(out)
 }
 
 /// Whether a disk holds that record, behind its gate, its length and its number, and a closed gate.

@@ -50,7 +50,7 @@ fn with(alloc: Global, bytes: &Octets, place: usize, byte: u8) -> Mem<Octets> {
     if let Some(one) = changed.get_mut(place) {
         *one = byte;
     }
-    Ok(Octets::from_vec(changed))
+    Octets::from_vec(changed)
 }
 
 /// Bytes from one place up to another, as far as there are any.
@@ -67,7 +67,7 @@ fn many(alloc: Global, first: &[u8], count: u8) -> Mem<Octets> {
         bytes.push(id)?;
         bytes.extend_from_slice(part(first, NUMBER + 1, first.len()))?;
     }
-    Ok(Octets::from_vec(bytes))
+    Octets::from_vec(bytes)
 }
 
 /// The start without its last byte.

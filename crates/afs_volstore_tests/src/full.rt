@@ -167,7 +167,7 @@ pub(crate) fn full(alloc: Global) -> Mem<Octets> {
     put_words(&mut out, &[2, ID, ID, 0, 0, NEXT, 1, 0])?;
     put_numbers(&mut out)?;
     put_images(&mut out)?;
-    Ok(Octets::from_vec(out))
+    Octets::from_vec(out)
 }
 
 /// The directory with the number 3, with so many of its files and a further one.
@@ -189,7 +189,7 @@ fn further(alloc: Global, kept: u8, gone: &[u32]) -> Mem<Octets>
     put_with_further(&mut out, kept)?;
     put_file(&mut out, FURTHER, 3)?;
     put_words(&mut out, gone)?;
-    Ok(Octets::from_vec(out))
+    Octets::from_vec(out)
 }
 
 /// A change that makes a further file.

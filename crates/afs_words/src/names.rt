@@ -79,14 +79,14 @@ fn next_byte(spelled: &[u8]) -> Option<(u8, &[u8])>
 fn without_escapes(alloc: Global, spelled: &[u8]) -> Result<Option<Octets>, AllocError>
     ensures { IfOk result (λ name. name ≡ unescaped_from [] spelled.now) }
 {
-    let mut name = Octets::new(alloc);
+    let mut name = Vec::with_capacity(alloc, spelled.len())?;
     let mut rest = spelled;
     while let Some((byte, more)) = next_byte(rest) {
         name.push(byte)?;
         rest = more;
     }
     if rest.is_empty() {
-        Ok(Some(name))
+        Ok(Some(Octets::from_vec(name)?))
     } else {
         Ok(None)
     }

@@ -154,7 +154,7 @@ pub fn hex_byte(high: u8, low: u8) -> Option<u8>
 pub fn unhexed(alloc: Global, digits: &[u8]) -> Result<Option<Octets>, AllocError>
     ensures { IfOk result (λ bytes. bytes ≡ hex_from [] digits.now) }
 {
-    let mut bytes = Octets::new(alloc);
+    let mut bytes = Vec::with_capacity(alloc, digits.len() / 2)?;
     let mut rest = digits;
     while let Some((high, low, more)) = next_pair(rest) {
         match hex_byte(high, low) {
@@ -164,7 +164,7 @@ pub fn unhexed(alloc: Global, digits: &[u8]) -> Result<Option<Octets>, AllocErro
         rest = more;
     }
     if rest.is_empty() {
-        Ok(Some(bytes))
+        Ok(Some(Octets::from_vec(bytes)?))
     } else {
         Ok(None)
     }
