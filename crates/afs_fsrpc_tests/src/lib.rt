@@ -9,3 +9,5 @@ mod interfaces;
 mod messages;
 #[cfg(test)]
 mod samples;
+#[cfg(test)]
+mod tables;

@@ -1,20 +1,54 @@
 //! Messages as words, with where their fields end, their pads and their counts stand; and what each is refused with
 //! where it is changed.
 
-use afs_num::types::Half;
+use crate::tables::{
+    file_calls, file_replies, location_calls, location_replies, volume_calls, volume_replies,
+};
+use afs_num::sequences::Octets;
+use afs_num::types::{Half, Mem};
 use afs_shape::faults::ShapeFault;
 use afs_xdr::faults::XdrFault;
 use std::alloc::Global;
 use std::process::Abort;
 use std::test::Fail;
 
-/// A message: its words, the byte behind each field from place 0 on, its pad bytes with their fields, and its counts
-/// (the word, the field, the limit).
+/// A line of a table: the words of a message, the byte behind each field from place 0 on, its pad bytes with their fields, and its
+/// counts (the word, the field, the limit).
+#[derive(Drop)]
 pub struct Sample {
-    pub words: &'static [u32],
-    pub ends: &'static [usize],
-    pub pads: &'static [(usize, u32)],
-    pub counts: &'static [(usize, u32, u32)],
+    words: Vec<u32>,
+    ends: Vec<u32>,
+    pads: Vec<u32>,
+    counts: Vec<u32>,
+}
+
+fn number(word: &str) -> u32 {
+    match word.strip_prefix("0x") {
+        Some(digits) => u32::from_str_radix(digits, 16).unwrap_or(0),
+        None => u32::from_str_radix(word, 10).unwrap_or(0),
+    }
+}
+
+fn numbers(alloc: Global, text: Option<&str>) -> Mem<Vec<u32>> {
+    let mut all = Vec::new(alloc);
+    for word in text.unwrap_or("").split_whitespace() {
+        all.push(number(word))?;
+    }
+    Ok(all)
+}
+
+fn sample(alloc: Global, line: &str) -> Mem<Sample> {
+    let mut parts = line.split('|');
+    let words = numbers(alloc, parts.next())?;
+    let ends = numbers(alloc, parts.next())?;
+    let pads = numbers(alloc, parts.next())?;
+    let counts = numbers(alloc, parts.next())?;
+    Ok(Sample {
+        words,
+        ends,
+        pads,
+        counts,
+    })
 }
 
 /// An interface, by the functions of its crate.
@@ -23,6 +57,18 @@ pub enum Interface {
     Files,
     Volumes,
     Locations,
+}
+
+/// The table of its calls or of its replies.
+fn table(interface: Interface, half: Half) -> &'static str {
+    match (interface, half) {
+        (Interface::Files, Half::Call) => file_calls(),
+        (Interface::Files, _) => file_replies(),
+        (Interface::Volumes, Half::Call) => volume_calls(),
+        (Interface::Volumes, _) => volume_replies(),
+        (Interface::Locations, Half::Call) => location_calls(),
+        (Interface::Locations, _) => location_replies(),
+    }
 }
 
 /// The bytes of these words.
@@ -51,11 +97,108 @@ pub fn fault_of(
     }
 }
 
+/// What these words are refused with.
+pub fn refused(
+    alloc: Global,
+    interface: Interface,
+    half: Half,
+    words: &[u32],
+) -> Result<Option<ShapeFault>, Fail> {
+    let bytes = bytes_of(alloc, words)?;
+    Ok(fault_of(alloc, interface, half, &bytes))
+}
+
+// A message is let go by a call: where it went at the end of a scope, each such end would be proved for each kind of message.
+
+fn file_call_again(alloc: Global, bytes: &[u8]) -> Result<Octets, Fail> {
+    let (head, user, call) = afs_fsrpc::calls::decode_call(alloc, bytes)?;
+    let again = afs_fsrpc::calls::encode_call(alloc, &head, user.as_slice(), &call);
+    drop(call);
+    Ok(again?)
+}
+
+fn file_reply_again(alloc: Global, bytes: &[u8]) -> Result<Octets, Fail> {
+    let (head, code, reply) = afs_fsrpc::replies::decode_reply(alloc, bytes)?;
+    let again = afs_fsrpc::replies::encode_reply(alloc, &head, code, reply.as_ref());
+    drop(reply);
+    Ok(again?)
+}
+
+fn volume_call_again(alloc: Global, bytes: &[u8]) -> Result<Octets, Fail> {
+    let (head, user, call) = afs_volrpc::calls::decode_call(alloc, bytes)?;
+    let again = afs_volrpc::calls::encode_call(alloc, &head, user.as_slice(), &call);
+    drop(call);
+    Ok(again?)
+}
+
+fn volume_reply_again(alloc: Global, bytes: &[u8]) -> Result<Octets, Fail> {
+    let (head, code, reply) = afs_volrpc::replies::decode_reply(alloc, bytes)?;
+    let again = afs_volrpc::replies::encode_reply(alloc, &head, code, reply.as_ref());
+    drop(reply);
+    Ok(again?)
+}
+
+fn location_call_again(alloc: Global, bytes: &[u8]) -> Result<Octets, Fail> {
+    let (head, user, call) = afs_vlrpc::calls::decode_call(alloc, bytes)?;
+    let again = afs_vlrpc::calls::encode_call(alloc, &head, user.as_slice(), &call);
+    drop(call);
+    Ok(again?)
+}
+
+fn location_reply_again(alloc: Global, bytes: &[u8]) -> Result<Octets, Fail> {
+    let (head, code, reply) = afs_vlrpc::replies::decode_reply(alloc, bytes)?;
+    let again = afs_vlrpc::replies::encode_reply(alloc, &head, code, reply.as_ref());
+    drop(reply);
+    Ok(again?)
+}
+
+/// The bytes of what is read in these.
+fn again(alloc: Global, interface: Interface, half: Half, bytes: &[u8]) -> Result<Octets, Fail> {
+    match (interface, half) {
+        (Interface::Files, Half::Call) => file_call_again(alloc, bytes),
+        (Interface::Files, _) => file_reply_again(alloc, bytes),
+        (Interface::Volumes, Half::Call) => volume_call_again(alloc, bytes),
+        (Interface::Volumes, _) => volume_reply_again(alloc, bytes),
+        (Interface::Locations, Half::Call) => location_call_again(alloc, bytes),
+        (Interface::Locations, _) => location_reply_again(alloc, bytes),
+    }
+}
+
+fn keeps_one(
+    rt: &impl Abort,
+    alloc: Global,
+    interface: Interface,
+    half: Half,
+    line: &str,
+) -> Result<(), Fail> {
+    let sample = sample(alloc, line)?;
+    let bytes = bytes_of(alloc, &sample.words)?;
+    let again = again(alloc, interface, half, &bytes)?;
+    assert_eq!(rt; again.as_slice(), bytes.as_slice());
+    Ok(())
+}
+
+/// Reads each message of the table, of which there are so many, and writes it again.
+pub fn keeps_all(
+    rt: &impl Abort,
+    alloc: Global,
+    interface: Interface,
+    half: Half,
+    count: usize,
+) -> Result<(), Fail> {
+    let table = table(interface, half);
+    assert_eq!(rt; table.lines().count(), count);
+    for line in table.lines() {
+        keeps_one(rt, alloc, interface, half, line)?;
+    }
+    Ok(())
+}
+
 /// The field that a message is cut in, where it keeps so many bytes.
-fn place_of(ends: &[usize], kept: usize) -> u32 {
+fn place_of(ends: &[u32], kept: usize) -> u32 {
     let mut place = 0u32;
     for end in ends {
-        if *end <= kept {
+        if *end as usize <= kept {
             place = place.saturating_add(1);
         }
     }
@@ -71,6 +214,15 @@ pub fn changed(alloc: Global, words: &[u32], at: usize, word: u32) -> Result<Vec
     Ok(all)
 }
 
+/// What a message is refused with where it keeps so many bytes.
+fn fault_where_cut(sample: &Sample, kept: usize) -> ShapeFault {
+    if kept < 32 {
+        ShapeFault::Head(XdrFault::Short)
+    } else {
+        ShapeFault::Field(place_of(&sample.ends, kept), XdrFault::Short)
+    }
+}
+
 fn refuses_each_cut(
     rt: &impl Abort,
     alloc: Global,
@@ -78,16 +230,31 @@ fn refuses_each_cut(
     half: Half,
     sample: &Sample,
 ) -> Result<(), Fail> {
-    let bytes = bytes_of(alloc, sample.words)?;
+    let bytes = bytes_of(alloc, &sample.words)?;
     for kept in 0..bytes.len() {
         let fault = fault_of(alloc, interface, half, &bytes[..kept]);
-        if kept < 32 {
-            assert_eq!(rt; fault, Some(ShapeFault::Head(XdrFault::Short)));
-        } else {
-            let place = place_of(sample.ends, kept);
-            assert_eq!(rt; fault, Some(ShapeFault::Field(place, XdrFault::Short)));
-        }
+        assert_eq!(rt; fault, Some(fault_where_cut(sample, kept)));
     }
+    Ok(())
+}
+
+fn refuses_pad(
+    rt: &impl Abort,
+    alloc: Global,
+    interface: Interface,
+    half: Half,
+    sample: &Sample,
+    pad: &[u32],
+) -> Result<(), Fail> {
+    let [at, place] = pad else {
+        return Err("a pad byte has its place and its field".into());
+    };
+    let mut bytes = bytes_of(alloc, &sample.words)?;
+    if let Some(byte) = bytes.get_mut(*at as usize) {
+        *byte = 1;
+    }
+    let fault = fault_of(alloc, interface, half, &bytes);
+    assert_eq!(rt; fault, Some(ShapeFault::Field(*place, XdrFault::BadPad)));
     Ok(())
 }
 
@@ -98,14 +265,26 @@ fn refuses_each_pad(
     half: Half,
     sample: &Sample,
 ) -> Result<(), Fail> {
-    for (at, place) in sample.pads {
-        let mut bytes = bytes_of(alloc, sample.words)?;
-        if *at < bytes.len() {
-            bytes[*at] = 1;
-        }
-        let fault = fault_of(alloc, interface, half, &bytes);
-        assert_eq!(rt; fault, Some(ShapeFault::Field(*place, XdrFault::BadPad)));
+    for pad in sample.pads.chunks(2) {
+        refuses_pad(rt, alloc, interface, half, sample, pad)?;
     }
+    Ok(())
+}
+
+fn refuses_count(
+    rt: &impl Abort,
+    alloc: Global,
+    interface: Interface,
+    half: Half,
+    sample: &Sample,
+    count: &[u32],
+) -> Result<(), Fail> {
+    let [at, place, limit] = count else {
+        return Err("a count has its word, its field and its limit".into());
+    };
+    let words = changed(alloc, &sample.words, *at as usize, limit.saturating_add(1))?;
+    let fault = refused(alloc, interface, half, &words)?;
+    assert_eq!(rt; fault, Some(ShapeFault::Field(*place, XdrFault::TooLong)));
     Ok(())
 }
 
@@ -116,11 +295,8 @@ fn refuses_each_count(
     half: Half,
     sample: &Sample,
 ) -> Result<(), Fail> {
-    for (at, place, limit) in sample.counts {
-        let words = changed(alloc, sample.words, *at, limit.saturating_add(1))?;
-        let bytes = bytes_of(alloc, &words)?;
-        let fault = fault_of(alloc, interface, half, &bytes);
-        assert_eq!(rt; fault, Some(ShapeFault::Field(*place, XdrFault::TooLong)));
+    for count in sample.counts.chunks(3) {
+        refuses_count(rt, alloc, interface, half, sample, count)?;
     }
     Ok(())
 }
@@ -132,8 +308,8 @@ fn refuses_more(
     half: Half,
     sample: &Sample,
 ) -> Result<(), Fail> {
-    let mut bytes = bytes_of(alloc, sample.words)?;
-    let place = place_of(sample.ends, bytes.len());
+    let mut bytes = bytes_of(alloc, &sample.words)?;
+    let place = place_of(&sample.ends, bytes.len());
     bytes.extend_from_slice(&[0, 0, 0, 0])?;
     let fault = fault_of(alloc, interface, half, &bytes);
     assert_eq!(rt; fault, Some(ShapeFault::Field(place, XdrFault::Extra)));
@@ -141,15 +317,63 @@ fn refuses_more(
 }
 
 /// Refuses it where it is cut, where a pad byte is set, where a count is raised, and where more stands behind it.
+fn refuses_one(
+    rt: &impl Abort,
+    alloc: Global,
+    interface: Interface,
+    half: Half,
+    line: &str,
+) -> Result<(), Fail> {
+    let sample = sample(alloc, line)?;
+    refuses_each_cut(rt, alloc, interface, half, &sample)?;
+    refuses_each_pad(rt, alloc, interface, half, &sample)?;
+    refuses_each_count(rt, alloc, interface, half, &sample)?;
+    refuses_more(rt, alloc, interface, half, &sample)
+}
+
+/// Refuses each message of the table where it is changed.
 pub fn refuses_all(
     rt: &impl Abort,
     alloc: Global,
     interface: Interface,
     half: Half,
-    sample: &Sample,
 ) -> Result<(), Fail> {
-    refuses_each_cut(rt, alloc, interface, half, sample)?;
-    refuses_each_pad(rt, alloc, interface, half, sample)?;
-    refuses_each_count(rt, alloc, interface, half, sample)?;
-    refuses_more(rt, alloc, interface, half, sample)
+    for line in table(interface, half).lines() {
+        refuses_one(rt, alloc, interface, half, line)?;
+    }
+    Ok(())
+}
+
+fn has_no_row(rt: &impl Abort, alloc: Global, other: Interface, line: &str) -> Result<(), Fail> {
+    let sample = sample(alloc, line)?;
+    let opcode = sample.words.get(7).copied().unwrap_or(0);
+    let fault = refused(alloc, other, Half::Call, &sample.words)?;
+    assert_eq!(rt; fault, Some(ShapeFault::NoRow(opcode)));
+    Ok(())
+}
+
+/// Checks that no call of an interface has a row in another one.
+pub fn have_no_row(
+    rt: &impl Abort,
+    alloc: Global,
+    interface: Interface,
+    other: Interface,
+) -> Result<(), Fail> {
+    for line in table(interface, Half::Call).lines() {
+        has_no_row(rt, alloc, other, line)?;
+    }
+    Ok(())
+}
+
+/// How many words, ends, numbers of pad bytes and numbers of counts the messages of a table have.
+pub fn sizes(alloc: Global, interface: Interface, half: Half) -> Mem<[usize; 4]> {
+    let mut sizes = [0usize; 4];
+    for line in table(interface, half).lines() {
+        let sample = sample(alloc, line)?;
+        sizes[0] = sizes[0].saturating_add(sample.words.len());
+        sizes[1] = sizes[1].saturating_add(sample.ends.len());
+        sizes[2] = sizes[2].saturating_add(sample.pads.len());
+        sizes[3] = sizes[3].saturating_add(sample.counts.len());
+    }
+    Ok(sizes)
 }

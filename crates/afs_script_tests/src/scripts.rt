@@ -46,8 +46,9 @@ impl Ground for Barren {
 /// The first lines of most scripts here.
 const HEAD: &str = "cell 1\nservers 1\nclients 1\n";
 
-/// What stands behind them, the number of the first bad line, and its reason.
-const BAD: [(&str, u32, Reason); 30] = [
+/// What stands behind them, the number of the first bad line, and its reason. Each table stands in a test of its own, since a test is
+/// proved for all that its table holds at once.
+const BAD_HEADS: [(&str, u32, Reason); 14] = [
     ("", 4, Reason::Missing),
     ("end", 4, Reason::Missing),
     ("end\n\n", 5, Reason::Order),
@@ -62,6 +63,9 @@ const BAD: [(&str, u32, Reason); 30] = [
     ("file proj/a hex:61\n", 4, Reason::Path),
     ("file @1.2.3 hex:\n", 4, Reason::Name),
     ("file proj/a fill:70000:00 x\n", 4, Reason::Word),
+];
+
+const BAD_ACTS: [(&str, u32, Reason); 10] = [
     (
         "do c1 stat abcdefghijklmnopqrstuvwxyzabcdefg/%zz\n",
         4,
@@ -80,6 +84,9 @@ const BAD: [(&str, u32, Reason); 30] = [
     ),
     ("do c1 close proj/a fill:01:61\n", 4, Reason::Contents),
     ("do s1 open proj/a\n", 4, Reason::Node),
+];
+
+const BAD_EVENTS: [(&str, u32, Reason); 6] = [
     ("schedule\nact c1.1\n", 5, Reason::Node),
     ("schedule\ntimeout c1 c1\n", 5, Reason::Node),
     ("schedule\ntimeout s1 loc\n", 5, Reason::Node),
@@ -132,13 +139,41 @@ fn expect_bad(rt: &impl Abort, alloc: Global, form: Form, text: &str, number: u3
     }
 }
 
+/// Checks the number and the reason of the first bad line behind the first lines.
+fn expect_bad_behind(
+    rt: &impl Abort,
+    alloc: Global,
+    lines: &str,
+    number: u32,
+    reason: Reason,
+) -> Result<(), Fail> {
+    let mut text = String::from_str(alloc, HEAD)?;
+    text.push_str(lines)?;
+    expect_bad(rt, alloc, WHOLE, text.as_str(), number, reason);
+    Ok(())
+}
+
 #[test]
 fn bad_line_has_its_reason(rt: HostRuntime) -> Result<(), Fail> {
     expect_bad(&rt, rt.alloc(), WHOLE, "", 1, Reason::Missing);
-    for (lines, number, reason) in BAD {
-        let mut text = String::from_str(rt.alloc(), HEAD)?;
-        text.push_str(lines)?;
-        expect_bad(&rt, rt.alloc(), WHOLE, text.as_str(), number, reason);
+    for (lines, number, reason) in BAD_HEADS {
+        expect_bad_behind(&rt, rt.alloc(), lines, number, reason)?;
+    }
+    Ok(())
+}
+
+#[test]
+fn bad_act_has_its_reason(rt: HostRuntime) -> Result<(), Fail> {
+    for (lines, number, reason) in BAD_ACTS {
+        expect_bad_behind(&rt, rt.alloc(), lines, number, reason)?;
+    }
+    Ok(())
+}
+
+#[test]
+fn bad_event_has_its_reason(rt: HostRuntime) -> Result<(), Fail> {
+    for (lines, number, reason) in BAD_EVENTS {
+        expect_bad_behind(&rt, rt.alloc(), lines, number, reason)?;
     }
     Ok(())
 }
