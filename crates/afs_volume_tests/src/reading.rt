@@ -109,37 +109,49 @@ fn the_root_of_a_new_volume_is_an_empty_directory(rt: HostRuntime) -> Result<(),
     Ok(())
 }
 
+// What a volume counts, its numbers and its flags.
+fn counts_of(volume: &Volume) -> [u32; 10] {
+    let head = volume.head();
+    [
+        head.id,
+        head.family,
+        head.kind,
+        head.flags,
+        head.quota,
+        head.unique,
+        head.counter,
+        head.release,
+        volume.blocks(),
+        volume.vnodes().len() as u32,
+    ]
+}
+
+// The same of a new volume.
+fn new_counts(alloc: Global) -> Mem<[u32; 10]> {
+    let volume = proj(alloc)?;
+    let counts = counts_of(&volume);
+    drop(volume);
+    Ok(counts)
+}
+
+// The same once its flags were set.
+fn counts_with(alloc: Global, flags: u32) -> Mem<[u32; 10]> {
+    let mut volume = proj(alloc)?;
+    volume.set_flags(flags);
+    let counts = counts_of(&volume);
+    drop(volume);
+    Ok(counts)
+}
+
 #[test]
 fn a_new_volume_takes_one_block(rt: HostRuntime) -> Result<(), Fail> {
-    let volume = proj(rt.alloc())?;
-    let head = volume.head();
-    assert_eq!(rt;
-        [head.id, head.family, head.quota, volume.blocks()],
-        [ID, ID, 1_000, 1]
-    );
-    assert_eq!(rt;
-        [
-            head.kind,
-            head.flags,
-            head.unique,
-            head.counter,
-            head.release
-        ],
-        [0, 0, 2, 1, 0]
-    );
-    assert_eq!(rt; volume.vnodes().len(), 1);
+    assert_eq!(rt; new_counts(rt.alloc())?, [ID, ID, 0, 0, 1_000, 2, 1, 0, 1, 1]);
     Ok(())
 }
 
 #[test]
 fn flags_are_set_alone(rt: HostRuntime) -> Result<(), Fail> {
-    let mut volume = proj(rt.alloc())?;
-    volume.set_flags(2);
-    let head = volume.head();
-    assert_eq!(rt;
-        [head.flags, head.quota, head.unique, volume.blocks()],
-        [2, 1_000, 2, 1]
-    );
+    assert_eq!(rt; counts_with(rt.alloc(), 2)?, [ID, ID, 0, 2, 1_000, 2, 1, 0, 1, 1]);
     Ok(())
 }
 
