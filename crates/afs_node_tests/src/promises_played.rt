@@ -128,9 +128,19 @@ fn put_promise(out: &mut String, held: &Promise) {
     let _ = writeln!(out, "c{c} {}.{} {}", f.vnode, f.unique, held.expiry);
 }
 
-fn put_hits(out: &mut String, alloc: Global, promises: &Tried, file: (u32, u32), except: u8, now: u32) {
+fn put_hits(
+    out: &mut String,
+    alloc: Global,
+    promises: &Tried,
+    file: (u32, u32),
+    except: u8,
+    now: u32,
+) {
     let mut all = Vec::new(alloc);
-    if promises.hits(fid(file), Node::Client(except), now, &mut all).is_err() {
+    if promises
+        .hits(fid(file), Node::Client(except), now, &mut all)
+        .is_err()
+    {
         put_failed(out);
     }
     for held in &all {

@@ -110,8 +110,14 @@ fn bad_line_has_its_reason(rt: HostRuntime) -> Result<(), Fail> {
 const EARLY: [(u8, &str); 8] = [
     (3, "3 Word|cell 1\nservers 1\ncapacity 65536\n"),
     (3, "3 Word|cell 1\nservers 1\nuser c1 x\n"),
-    (4, "4 Word|cell 1\nservers 1\nclients 1\ndo c1 open proj/a\n"),
-    (4, "4 Word|cell 1\nservers 1\nclients 1\ndo c1 stat @1.2.2\n"),
+    (
+        4,
+        "4 Word|cell 1\nservers 1\nclients 1\ndo c1 open proj/a\n",
+    ),
+    (
+        4,
+        "4 Word|cell 1\nservers 1\nclients 1\ndo c1 stat @1.2.2\n",
+    ),
     (5, "3 Limit|cell 1\nservers 1\nclients 2\n"),
     (6, "2 Limit|cell 1\nservers 2\n"),
     (8, "3 Word|cell 1\nservers 2\nadmins 1\n"),
@@ -155,7 +161,8 @@ fn plans_are_read(rt: HostRuntime) {
 #[test]
 fn events_are_read(rt: HostRuntime) {
     let told = told(rt.alloc(), WHOLE, GOOD, Part::Events(0));
-    let want = "Act { node: Client(2) }\nDrain\nTimeout { node: Server(1), callee: Client(2) }\nCrashDisk { node: Loc, pick: 3 }\nCrash { node: Client(1) }\nTick { ticks: 1000000000 }\n";
+    let want =
+        "Act { node: Client(2) }\nDrain\nTimeout { node: Server(1), callee: Client(2) }\nCrashDisk { node: Loc, pick: 3 }\nCrash { node: Client(1) }\nTick { ticks: 1000000000 }\n";
     assert_eq!(rt; told.as_str(), want);
 }
 

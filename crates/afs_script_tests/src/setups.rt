@@ -79,10 +79,7 @@ fn lines_of_set_up_are_read(rt: HostRuntime) -> Result<(), Fail> {
 
 #[test]
 fn a_record_fits_to_the_last_byte(rt: HostRuntime) -> Result<(), Fail> {
-    let told = told(
-        rt.alloc(),
-        "volume other s2 1\nfile proj/a fill:65240:00\n",
-    )?;
+    let told = told(rt.alloc(), "volume other s2 1\nfile proj/a fill:65240:00\n")?;
     let want = "capacity 65536\n536870912 s1 file\n536870913 s2\n";
     assert_eq!(rt; told.as_str(), want);
     Ok(())

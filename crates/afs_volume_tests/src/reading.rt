@@ -145,13 +145,19 @@ fn counts_with(alloc: Global, flags: u32) -> Mem<[u32; 10]> {
 
 #[test]
 fn a_new_volume_takes_one_block(rt: HostRuntime) -> Result<(), Fail> {
-    assert_eq!(rt; new_counts(rt.alloc())?, [ID, ID, 0, 0, 1_000, 2, 1, 0, 1, 1]);
+    assert_eq!(rt;
+        new_counts(rt.alloc())?,
+        [ID, ID, 0, 0, 1_000, 2, 1, 0, 1, 1]
+    );
     Ok(())
 }
 
 #[test]
 fn flags_are_set_alone(rt: HostRuntime) -> Result<(), Fail> {
-    assert_eq!(rt; counts_with(rt.alloc(), 2)?, [ID, ID, 0, 2, 1_000, 2, 1, 0, 1, 1]);
+    assert_eq!(rt;
+        counts_with(rt.alloc(), 2)?,
+        [ID, ID, 0, 2, 1_000, 2, 1, 0, 1, 1]
+    );
     Ok(())
 }
 

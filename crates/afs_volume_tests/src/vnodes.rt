@@ -221,7 +221,11 @@ fn told(alloc: Global, steps: &[Step]) -> String {
 
 #[test]
 fn those_changed_later_are_listed(rt: HostRuntime) {
-    let steps = [Step::Put(2, 3), Step::ChangedSince(2), Step::ChangedSince(3)];
+    let steps = [
+        Step::Put(2, 3),
+        Step::ChangedSince(2),
+        Step::ChangedSince(3),
+    ];
     assert_eq!(rt; told(rt.alloc(), &steps).as_str(), "ok 2 changed changed ");
 }
 
