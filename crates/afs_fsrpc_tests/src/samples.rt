@@ -37,7 +37,7 @@ fn numbers(alloc: Global, text: Option<&str>) -> Mem<Vec<u32>> {
     Ok(all)
 }
 
-fn sample(alloc: Global, line: &str) -> Mem<Sample> {
+fn sample_of(alloc: Global, line: &str) -> Mem<Sample> {
     let mut parts = line.split('|');
     let words = numbers(alloc, parts.next())?;
     let ends = numbers(alloc, parts.next())?;
@@ -171,7 +171,7 @@ fn keeps_one(
     half: Half,
     line: &str,
 ) -> Result<(), Fail> {
-    let sample = sample(alloc, line)?;
+    let sample = sample_of(alloc, line)?;
     let bytes = bytes_of(alloc, &sample.words)?;
     let again = again(alloc, interface, half, &bytes)?;
     assert_eq!(rt; again.as_slice(), bytes.as_slice());
@@ -324,7 +324,7 @@ fn refuses_one(
     half: Half,
     line: &str,
 ) -> Result<(), Fail> {
-    let sample = sample(alloc, line)?;
+    let sample = sample_of(alloc, line)?;
     refuses_each_cut(rt, alloc, interface, half, &sample)?;
     refuses_each_pad(rt, alloc, interface, half, &sample)?;
     refuses_each_count(rt, alloc, interface, half, &sample)?;
@@ -345,7 +345,7 @@ pub fn refuses_all(
 }
 
 fn has_no_row(rt: &impl Abort, alloc: Global, other: Interface, line: &str) -> Result<(), Fail> {
-    let sample = sample(alloc, line)?;
+    let sample = sample_of(alloc, line)?;
     let opcode = sample.words.get(7).copied().unwrap_or(0);
     let fault = refused(alloc, other, Half::Call, &sample.words)?;
     assert_eq!(rt; fault, Some(ShapeFault::NoRow(opcode)));
@@ -369,7 +369,7 @@ pub fn have_no_row(
 pub fn sizes(alloc: Global, interface: Interface, half: Half) -> Mem<[usize; 4]> {
     let mut sizes = [0usize; 4];
     for line in table(interface, half).lines() {
-        let sample = sample(alloc, line)?;
+        let sample = sample_of(alloc, line)?;
         sizes[0] = sizes[0].saturating_add(sample.words.len());
         sizes[1] = sizes[1].saturating_add(sample.ends.len());
         sizes[2] = sizes[2].saturating_add(sample.pads.len());
