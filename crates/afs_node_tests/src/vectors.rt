@@ -5,7 +5,7 @@ use afs_num::types::Mem;
 use std::alloc::Global;
 
 /// The first record of the disk, behind its length and its number.
-fn record() -> &'static str {
+fn first_record() -> &'static str {
     "\
     120 1 1 0 0 0 0 0 0 1 4 70726f6a 0 2 20000000 20000000 0 3e8 3 1 0 2 1 1 2 2 3 1 1 2 1 1 2 0 0 1ed 0 0 0 0 0 1 \
     17 310a300a 73797374 656d3a61 6e797573 65720931 32370a00 14 1 1 61000000 2 2 3 2 2 1 1 1 1 0 0 1a4 0 0 0 1 1 1 0 \
@@ -62,7 +62,7 @@ fn spelled(alloc: Global, words: &str) -> Mem<Vec<u8>> {
 pub(crate) fn disk(alloc: Global) -> Mem<Vec<u8>> {
     let mut bytes = Vec::new(alloc);
     bytes.push(1)?;
-    put_words(&mut bytes, record())?;
+    put_words(&mut bytes, first_record())?;
     bytes.push(0)?;
     Ok(bytes)
 }

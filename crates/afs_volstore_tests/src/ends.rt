@@ -32,7 +32,7 @@ end
 ";
 
 /// Writes the final part.
-fn put_told(alloc: Global, told: &[Kept]) -> Option<Octets> {
+fn put_told(alloc: Global, told: &[Kept<'_>]) -> Option<Octets> {
     let mut sink = MemSink::new(alloc, b"");
     put_final(&mut sink, told).ok()?;
     Octets::from_slice(alloc, sink.as_slice()).ok()
