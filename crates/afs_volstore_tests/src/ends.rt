@@ -59,7 +59,8 @@ fn push_left<D: Disk + Drop>(
     if disk.capacity() > 268_435_456 {
         return Err(AllocError);
     }
-    left.push(read_disk(alloc, server, disk))
+    left.push(read_disk(alloc, server, disk))?;
+    Ok(())
 }
 
 /// The final part of three servers.
