@@ -258,26 +258,14 @@ key_in h = record { node = caller_or_loc h.caller; epoch = h.epoch; number = h.n
 abbrev pub change_lines : Node → Key → List Version → List Line
 change_lines server key versions = lines.Change server key (length versions) ∷ map lines.Version versions
 
--- the read-write volumes that a start deletes, by their numbers
-abbrev pub vanished : Durable → List ℕ
-vanished d = map (λ (p : ℕ × Stored). p.0) (filter (λ (p : ℕ × Stored). is_flagged p.1 && nat_eq p.1.volume.kind 0) d.volumes)
-
--- The lines of a change, and the read-write volumes that vanish.
-pub record Effect : Type 0 where
-  pub lines : List Line
-  pub vanished : List ℕ
-
-abbrev pub no_effect : Effect
-no_effect = record { lines = []; vanished = [] }
-
-abbrev pub effect_by : Node → RecordHead → RecordBody → Durable → Effect
+-- The lines of a record with this body. Only a change has some: set-up makes no volume that a start deletes.
+abbrev pub effect_by : Node → RecordHead → RecordBody → Durable → List Line
 effect_by server h (bodies.Change id counter unique vnodes removed) d =
-    record { lines = change_lines server (key_in h) (versions_told id vnodes removed (get id d.volumes)); vanished = [] }
-effect_by server h (bodies.Boot boot) d = record { lines = []; vanished = vanished d }
-effect_by server h body d = no_effect
+    change_lines server (key_in h) (versions_told id vnodes removed (get id d.volumes))
+effect_by server h body d = []
 
 -- of a record that is taken into this durable part
-abbrev pub effect_of : Node → StoreRecord → Durable → Effect
+abbrev pub effect_of : Node → StoreRecord → Durable → List Line
 effect_of server r d = effect_by server r.head r.body d
 
 -- ---- the mark: how many records stand on the disk, in its one generation

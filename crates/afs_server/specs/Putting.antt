@@ -76,7 +76,7 @@ IsFew d = Unit {0}
 
 -- What a restart tells of this record, where it stands on the disk, is what the row tells then of the step before its own lines.
 abbrev pub IsToldAgain : Node → ServerState → ℕ → Decision → StoreRecord → Durable → Type 0
-IsToldAgain me s clock d r durable = (ls : List Line) → (begun_after me s clock d).before ls ≡ map in_words (effect_of me r durable).lines ++ ls
+IsToldAgain me s clock d r durable = (ls : List Line) → (begun_after me s clock d).before ls ≡ map in_words (effect_of me r durable) ++ ls
 
 -- the record of what is decided, if it has one
 abbrev pub TellsAgain : {D : Type 0} → ℕ → Decision → Memory → Store D → Type 0
