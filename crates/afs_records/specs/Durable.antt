@@ -78,8 +78,17 @@ kept_for caller d = get (node_number caller) d.kept
 abbrev pub place_length : StoreRecord → ℕ
 place_length r = length (record_bytes r) + 9
 
+-- What it takes to put a record on the disk: so many device calls, and so long is the journal then.
+pub record Placing : Type 0 where
+  pub calls : ℕ
+  pub journal : ℕ
+
+-- its place is written and synced, and then its gate
+abbrev pub placing : Durable → StoreRecord → Placing
+placing d r = record { calls = 4; journal = d.journal + place_length r }
+
 abbrev pub has_room : Durable → StoreRecord → Bool
-has_room d r = not (nat_lt d.capacity (d.journal + place_length r))
+has_room d r = not (nat_lt d.capacity (placing d r).journal)
 
 -- ---- the fold: what a record changes. None where it can't be taken
 
@@ -179,12 +188,12 @@ with_reply (Some caller) h d = record d { kept = set (node_number caller) (kept_
 abbrev pub noted : RecordHead → Durable → Durable
 noted h d = with_reply h.caller h (with_stamp h d)
 
-abbrev pub longer : ℕ → Durable → Durable
-longer n d = record d { journal = d.journal + n }
+abbrev pub with_journal : ℕ → Durable → Durable
+with_journal n d = record d { journal = n }
 
 -- one record
 unfoldable pub folded : StoreRecord → Durable → Option Durable
-folded r d = body_taken r.body d >>= λ e. Some (longer (place_length r) (noted r.head e))
+folded r d = body_taken r.body d >>= λ e. Some (with_journal (placing d r).journal (noted r.head e))
 
 -- records from the first on: the first tells the volumes of set-up
 

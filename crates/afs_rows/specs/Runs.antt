@@ -195,15 +195,19 @@ blow_line i false = lines.Fault (Server i)
 abbrev pub decided_at : Cell → ℕ → Message → Decision
 decided_at c i m = decides (Server i) (c.hosts i).state c.clock (Whole m)
 
+-- how many device calls its step makes
+abbrev pub calls_at : Cell → ℕ → Message → ℕ
+calls_at c i m = device_calls (c.hosts i).state c.clock (decided_at c i m)
+
 -- a step is done, or its disk ends it
 abbrev pub server_served : Cell → ℕ → ℕ → Message → Option Blow → Moved
 server_served c i place m None =
-    server_moves c i (lowered (device_calls (decided_at c i m)) (c.hosts i).armed) (server_row (Server i) (c.hosts i).state c.clock place (Whole m))
+    server_moves c i (lowered (calls_at c i m) (c.hosts i).armed) (server_row (Server i) (c.hosts i).state c.clock place (Whole m))
 server_served c i place m (Some b) = server_falls c i (lines.Given place ∷ blow_line i b.stops ∷ []) (in_step m c.clock b)
 
 abbrev pub server_given : Cell → ℕ → ℕ → Luck → Message → Option Fall → Moved
 server_given c i place luck m (Some fall) = voided c
-server_given c i place luck m None = server_served c i place m (struck (c.hosts i).armed luck (device_calls (decided_at c i m)))
+server_given c i place luck m None = server_served c i place m (struck (c.hosts i).armed luck (calls_at c i m))
 
 -- a cell of so many clients has one of this number
 abbrev pub has_client : ℕ → ℕ → Bool

@@ -12,7 +12,7 @@ use Rattle.afs_shape.specs.Taking.{◌>>=◌}
 use Rattle.afs_journal.specs.Records.{blocks, journal_bytes, place_of}
 use Rattle.afs_records.specs.Records.{record_at, record_bytes}
 use Rattle.afs_xdr.specs.Words.{word}
-use Rattle.afs_records.specs.Durable.{Durable, bad_by, bad_from, body_taken, effect_by, effect_of, first_bad, first_folded, fold_all, fold_from, folded, is_first, longer, noted, nothing_on, place_length}
+use Rattle.afs_records.specs.Durable.{Durable, bad_by, bad_from, body_taken, effect_by, effect_of, first_bad, first_folded, fold_all, fold_from, folded, is_first, noted, nothing_on, place_length, with_journal}
 use Rattle.afs_volstore.specs.Folds.{fold_front, is_none_yet, places_length, read_taken, taken_as, wanted_lines, IsBadAt, IsFront, TakesOne, TellsOne}
 use Rattle.afs_volstore.specs.Opening.{last_effect, last_from}
 use Rattle.afs_memory.specs.States.{placed}
@@ -175,7 +175,7 @@ takes_one first bytes r old new read spelled is taken j c =
 
 folded_none : (r : StoreRecord) (j c : ℕ) (d : Durable) → body_taken r.body d ≡ None → folded r (placed j c d) ≡ None
 unfolding folded
-folded_none r j c d e = ap (λ (o : Option Durable). o >>= λ x. Some (longer (place_length r) (noted r.head x))) (taken_placed r.body j c d ∙ ap (option_map (placed j c)) e)
+folded_none r j c d e = ap (λ (o : Option Durable). o >>= λ x. Some (with_journal (j + place_length r) (noted r.head x))) (taken_placed r.body j c d ∙ ap (option_map (placed j c)) e)
 
 none_first : (b : Bool) (o : Option Durable) → o ≡ None → (if b then o else None) ≡ None
 none_first true o e = e
