@@ -23,6 +23,7 @@ use Rattle.afs_num.specs.declared.histories.Actor.{Actor}
 use Rattle.afs_rows.specs.ServerSteps.{server_row, back_timeout_row, wake_row, start_row}
 use Rattle.afs_records.specs.Changes.{at_set_up, can_boot, record_of_volumes}
 use Rattle.afs_records.specs.Durable.{Stored, place_length}
+use Rattle.afs_records.specs.Entries.{entry_of_line}
 use Rattle.afs_history.specs.declared.lines.Line.TheVariants as lines
 use Rattle.afs_num.specs.declared.histories.Actor.TheVariants as actors
 
@@ -393,7 +394,7 @@ first_server capacity volumes = record { lasting = first_lasting capacity (first
 
 abbrev pub location_by : Bool → VolumeLine → List Location → List Location
 location_by true v ls = ls
-location_by false v ls = record { name = v.name; id = v.id; server = v.server } ∷ ls
+location_by false v ls = entry_of_line v ∷ ls
 
 abbrev pub locations_in : List VolumeLine → List Location
 locations_in [] = []
