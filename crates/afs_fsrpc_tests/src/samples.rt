@@ -111,57 +111,35 @@ fn refused(
 
 // A message is let go by a call: where it went at the end of a scope, each such end would be proved for each kind of message.
 
-fn file_call_again(alloc: Global, bytes: &[u8]) -> Result<Octets, Fail> {
-    let (head, user, call) = afs_fsrpc::calls::decode_call(alloc, bytes)?;
-    let again = afs_fsrpc::calls::encode_call(alloc, &head, user.as_slice(), &call);
-    drop(call);
-    Ok(again?)
+/// The bytes of the call that is read in these, by the functions of an interface.
+macro_rules! call_again {
+    ($interface:ident, $alloc:expr, $bytes:expr) => {{
+        let (head, user, call) = $interface::calls::decode_call($alloc, $bytes)?;
+        let again = $interface::calls::encode_call($alloc, &head, user.as_slice(), &call);
+        drop(call);
+        Ok(again?)
+    }};
 }
 
-fn file_reply_again(alloc: Global, bytes: &[u8]) -> Result<Octets, Fail> {
-    let (head, code, reply) = afs_fsrpc::replies::decode_reply(alloc, bytes)?;
-    let again = afs_fsrpc::replies::encode_reply(alloc, &head, code, reply.as_ref());
-    drop(reply);
-    Ok(again?)
-}
-
-fn volume_call_again(alloc: Global, bytes: &[u8]) -> Result<Octets, Fail> {
-    let (head, user, call) = afs_volrpc::calls::decode_call(alloc, bytes)?;
-    let again = afs_volrpc::calls::encode_call(alloc, &head, user.as_slice(), &call);
-    drop(call);
-    Ok(again?)
-}
-
-fn volume_reply_again(alloc: Global, bytes: &[u8]) -> Result<Octets, Fail> {
-    let (head, code, reply) = afs_volrpc::replies::decode_reply(alloc, bytes)?;
-    let again = afs_volrpc::replies::encode_reply(alloc, &head, code, reply.as_ref());
-    drop(reply);
-    Ok(again?)
-}
-
-fn location_call_again(alloc: Global, bytes: &[u8]) -> Result<Octets, Fail> {
-    let (head, user, call) = afs_vlrpc::calls::decode_call(alloc, bytes)?;
-    let again = afs_vlrpc::calls::encode_call(alloc, &head, user.as_slice(), &call);
-    drop(call);
-    Ok(again?)
-}
-
-fn location_reply_again(alloc: Global, bytes: &[u8]) -> Result<Octets, Fail> {
-    let (head, code, reply) = afs_vlrpc::replies::decode_reply(alloc, bytes)?;
-    let again = afs_vlrpc::replies::encode_reply(alloc, &head, code, reply.as_ref());
-    drop(reply);
-    Ok(again?)
+/// The bytes of the reply that is read in these, by the functions of an interface.
+macro_rules! reply_again {
+    ($interface:ident, $alloc:expr, $bytes:expr) => {{
+        let (head, code, reply) = $interface::replies::decode_reply($alloc, $bytes)?;
+        let again = $interface::replies::encode_reply($alloc, &head, code, reply.as_ref());
+        drop(reply);
+        Ok(again?)
+    }};
 }
 
 /// The bytes of what is read in these.
 fn again(alloc: Global, interface: Interface, half: Half, bytes: &[u8]) -> Result<Octets, Fail> {
     match (interface, half) {
-        (Interface::Files, Half::Call) => file_call_again(alloc, bytes),
-        (Interface::Files, _) => file_reply_again(alloc, bytes),
-        (Interface::Volumes, Half::Call) => volume_call_again(alloc, bytes),
-        (Interface::Volumes, _) => volume_reply_again(alloc, bytes),
-        (Interface::Locations, Half::Call) => location_call_again(alloc, bytes),
-        (Interface::Locations, _) => location_reply_again(alloc, bytes),
+        (Interface::Files, Half::Call) => call_again!(afs_fsrpc, alloc, bytes),
+        (Interface::Files, _) => reply_again!(afs_fsrpc, alloc, bytes),
+        (Interface::Volumes, Half::Call) => call_again!(afs_volrpc, alloc, bytes),
+        (Interface::Volumes, _) => reply_again!(afs_volrpc, alloc, bytes),
+        (Interface::Locations, Half::Call) => call_again!(afs_vlrpc, alloc, bytes),
+        (Interface::Locations, _) => reply_again!(afs_vlrpc, alloc, bytes),
     }
 }
 
