@@ -4,8 +4,9 @@ ghost use Rattle.afs_volume_tests.specs.Calls.{AreHere, IsReading};
 use afs_num::calls::{AfsFetchStatus, FsCall, FsReply};
 use afs_num::sequences::Sequence;
 use afs_num::types::{Code, Fid, Mem};
+use afs_reads::faults::OpFault;
+use afs_reads::read;
 use afs_volume::Volume;
-use afs_volume::faults::OpFault;
 use std::alloc::Global;
 use std::test::Fail;
 
@@ -45,7 +46,11 @@ fn answer(alloc: Global, call: FsCall) -> Result<FsReply, OpFault>
     requires { IsReading call }
 {
     let answer = match proj(alloc) {
-        Ok(volume) => volume.read(&call, b"guest"),
+        Ok(volume) => {
+            let answer = read(&volume, &call, b"guest");
+            drop(volume);
+            answer
+        }
         Err(_) => Err(OpFault::OutOfMemory),
     };
     drop(call);
