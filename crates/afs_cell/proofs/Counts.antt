@@ -2,9 +2,9 @@
 use Rattle.std.proofs.Common.{arith, ap, ◌≡◌, ◌≤◌, ◌+◌, ◌-◌, ◌^◌, ◌⊎◌, inl, inr, ℕ, zero, suc, List, [], ◌∷◌, Some}
 use Rattle.afs_num.specs.Places.{at_place}
 use Rattle.afs_disk.specs.Disk.{Rose}
-use Rattle.afs_cell.specs.Places.{put_place}
+use Rattle.afs_clients.specs.Places.{put_place}
 use Rattle.afs_cell.specs.Worlds.{all_faults, seat_disk, Counts, OneIsFull, ServerSeat}
-use Rattle.afs_cell.proofs.Numbers.{some_is, none_some}
+use Rattle.afs_clients.proofs.Numbers.{some_is, none_some}
 
 module _ {D : Type 0} (faults : D → ℕ) where
   sum_put : (i : ℕ) (was now : ServerSeat D) (ss : List (ServerSeat D)) → at_place ss i ≡ Some was → all_faults faults (put_place i now ss) + faults (seat_disk was) ≡ all_faults faults ss + faults (seat_disk now)
