@@ -126,7 +126,7 @@ pub fn read(volume: &Volume, call: &FsCall, user: &[u8]) -> Result<FsReply, OpFa
         } => fetch_data(volume, &caller, fid, *position, *length),
         FsCall::FetchAcl { fid } => fetch_acl(volume, &caller, fid),
         FsCall::FetchStatus { fid } => fetch_status(volume, &caller, fid),
-        FsCall::GetVolumeStatus { volume } => volume_status(volume, &caller, *volume),
+        FsCall::GetVolumeStatus { volume: id } => volume_status(volume, &caller, *id),
         FsCall::BulkStatus { fids } => bulk_status(volume, &caller, fids.as_slice()),
         _ => unreachable!(),
     }
