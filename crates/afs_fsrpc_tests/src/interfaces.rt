@@ -91,7 +91,10 @@ fn put_volume_call(out: &mut String, call: &VolCall) -> Mem<()> {
             server,
             its_transaction,
             ..
-        } => write!(out, "forward {transaction} {from} {server} {its_transaction}"),
+        } => write!(
+            out,
+            "forward {transaction} {from} {server} {its_transaction}"
+        ),
         _ => out.push_str("another call"),
     }
 }
@@ -162,7 +165,11 @@ fn a_forward_goes_to_one_of_eight_servers(rt: HostRuntime) -> Result<(), Fail> {
 
 fn put_volumes(out: &mut String, volumes: &[ListedVolume]) -> Mem<()> {
     for it in volumes {
-        write!(out, "{} {} {} {} ", it.volume, it.kind, it.flags, it.release)?;
+        write!(
+            out,
+            "{} {} {} {} ",
+            it.volume, it.kind, it.flags, it.release
+        )?;
     }
     Ok(())
 }
@@ -216,10 +223,7 @@ fn the_reply_that_lists_volumes(rt: HostRuntime) -> Result<(), Fail> {
         rt.alloc(),
         "2 2 201 1 2 3 0 116 0 2 0x20000000 0 2 0 0x20000002 1 0 6",
     )?;
-    assert_eq!(rt;
-        told.as_str(),
-        "code 0: 536870912 0 2 0 536870914 1 0 6 "
-    );
+    assert_eq!(rt; told.as_str(), "code 0: 536870912 0 2 0 536870914 1 0 6 ");
     Ok(())
 }
 

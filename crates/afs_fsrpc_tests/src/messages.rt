@@ -23,11 +23,7 @@ fn put_sizes(
     Ok(())
 }
 
-fn put_sizes_of_both(
-    out: &mut String,
-    alloc: Global,
-    interface: Interface,
-) -> Result<(), Fail> {
+fn put_sizes_of_both(out: &mut String, alloc: Global, interface: Interface) -> Result<(), Fail> {
     put_sizes(out, alloc, interface, Half::Call)?;
     put_sizes(out, alloc, interface, Half::Reply)
 }

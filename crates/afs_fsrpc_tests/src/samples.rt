@@ -82,12 +82,7 @@ fn bytes_of(alloc: Global, words: &[u32]) -> Result<Vec<u8>, Fail> {
 }
 
 /// Why these bytes are no call, or no reply, of the interface.
-fn fault_of(
-    alloc: Global,
-    interface: Interface,
-    half: Half,
-    bytes: &[u8],
-) -> Option<ShapeFault> {
+fn fault_of(alloc: Global, interface: Interface, half: Half, bytes: &[u8]) -> Option<ShapeFault> {
     match (interface, half) {
         (Interface::Files, Half::Call) => afs_fsrpc::calls::decode_call(alloc, bytes).err(),
         (Interface::Files, _) => afs_fsrpc::replies::decode_reply(alloc, bytes).err(),
