@@ -10,7 +10,8 @@ use afs_history::scripts::{SetupLines, VolumeLine};
 use afs_num::faults::StoreFault;
 use afs_num::sequences::Octets;
 use afs_num::types::{Mem, Node};
-use afs_volstore::{VolStore, first_length};
+use afs_setup::{create, first_length};
+use afs_volstore::VolStore;
 use std::alloc::Global;
 use std::fmt::Write;
 use std::test::Fail;
@@ -35,9 +36,7 @@ fn set_up<D: Disk + Drop>(alloc: Global, disk: D) -> Result<VolStore<D>, (StoreF
         return Err((StoreFault::Closed, disk));
     }
     match (bare(alloc, 2), bare(alloc, 1)) {
-        (Ok(later), Ok(sooner)) => {
-            VolStore::create(alloc, disk, Node::Server(1), &[&later, &sooner])
-        }
+        (Ok(later), Ok(sooner)) => { create(alloc, disk, Node::Server(1), &[&later, &sooner]) }
         _ => Err((StoreFault::OutOfMemory, disk)),
     }
 }

@@ -27,24 +27,9 @@ use afs_num::volumes::VolumeHead;
 use afs_reads::faults::OpFault;
 use afs_record::records::encode_record;
 use afs_seats::Seats;
+use afs_volstore::creating::no_head;
 use afs_volume::Volume;
 use std::alloc::{AllocError, Global};
-
-/// The head of a record that raises no stamp and keeps no reply.
-#[tactic(auto, unfolding(afs_records::specs::Records::head_form))]
-pub(crate) fn no_head(alloc: Global) -> RecordHead
-    ensures value { result ≡ no_head }
-    ensures fits { head_form.Fits result }
-{
-    RecordHead {
-        family: 0,
-        stamp: 0,
-        caller: None,
-        epoch: 0,
-        number: 0,
-        reply: Octets::new(alloc),
-    }
-}
 
 /// Lays all lines, each of which is accepted behind those before it.
 fn lay_all(volume: &mut Volume, lines: &[SetupLine]) -> Mem<()>
@@ -154,7 +139,7 @@ fn volumes_told(alloc: Global, volumes: Seats<Volume>) -> Mem<StoredVolumes>
 }
 
 /// The first record of a disk with these volumes.
-pub(crate) fn first_record(alloc: Global, volumes: &[&VolumeLine]) -> Mem<StoreRecord>
+pub fn first_record(alloc: Global, volumes: &[&VolumeLine]) -> Mem<StoreRecord>
     requires { CanBeSetUp (map (λ l. l.now) volumes.now) }
     ensures value { IfOk result (λ r. first_record (map (λ l. l.now) volumes.now) ≡ Some r) }
     ensures fits { IfOk result (λ r. FitsRecord r) }
@@ -171,7 +156,7 @@ pub(crate) fn first_record(alloc: Global, volumes: &[&VolumeLine]) -> Mem<StoreR
 }
 
 /// How many bytes a record has.
-pub(crate) fn record_length(alloc: Global, rec: &StoreRecord) -> Mem<u64>
+pub fn record_length(alloc: Global, rec: &StoreRecord) -> Mem<u64>
     requires { FitsRecord rec.now }
     ensures value { IfOk result (λ n. n ≡ length (record_bytes rec.now)) }
     ensures small { IfOk result (λ n. n < 2 ^ 63) }

@@ -2,7 +2,7 @@ use Rattle.std.proofs.Common.{◌≡◌, drop}
 use Rattle.afs_records.specs.Changes.{laid_all}
 use Rattle.afs_volume.specs.Giving.{volume_of}
 use Rattle.afs_volume.specs.Taking.{IsAtSetUp}
-use Rattle.afs_volstore.proofs.setup.lay_all.Given as goal
+use Rattle.afs_setup.proofs.laying.lay_all.Given as goal
 
 abbrev pub invariant-loop-line : goal.invariant-loop-line
 invariant-loop-line l = record {

@@ -9,7 +9,7 @@ use Rattle.afs_seats.specs.Seated.{seen_as}
 use Rattle.afs_volume.specs.Taking.{stored_of}
 use Rattle.afs_volstore.specs.Laying.{AreLaid}
 use Rattle.afs_memory.specs.Numbered.{AreNumbered}
-use Rattle.afs_volstore.proofs.setup.volumes_told.Given as goal
+use Rattle.afs_setup.proofs.laying.volumes_told.Given as goal
 
 abbrev pub invariant-loop-item : goal.invariant-loop-item
 invariant-loop-item l = record {

@@ -1,9 +1,9 @@
 use Rattle.std.proofs.Common.{◌≡◌, ◌∷◌, ◌+◌, Bor, List, drop, map, subst}
 use Rattle.afs_history.specs.declared.scripts.VolumeLine.{VolumeLine}
 use Rattle.afs_volstore.specs.Laying.{HaveShortNames}
-use Rattle.afs_volstore.proofs.Laid.{next_of, next_volume, still_few, still_laid}
+use Rattle.afs_setup.proofs.Laid.{next_of, next_volume, still_few, still_laid}
 use Rattle.afs_memory.proofs.Redone.{now_numbered}
-use Rattle.afs_volstore.proofs.setup.volumes_laid.Goals as goal
+use Rattle.afs_setup.proofs.laying.volumes_laid.Goals as goal
 
 pub loop-line-preserved : goal.loop-line-preserved
 loop-line-preserved c =

@@ -4,8 +4,8 @@ use Rattle.afs_history.specs.declared.scripts.VolumeLine.{VolumeLine}
 use Rattle.afs_records.specs.Durable.{most_volumes}
 use Rattle.afs_seats.specs.Seated.{seen_as}
 use Rattle.afs_volume.specs.Taking.{stored_of}
-use Rattle.afs_volstore.proofs.Laid.{first_fits, first_is, first_taken}
-use Rattle.afs_volstore.proofs.setup.first_record.Goals as goal
+use Rattle.afs_setup.proofs.Laid.{first_fits, first_is, first_taken}
+use Rattle.afs_setup.proofs.laying.first_record.Goals as goal
 
 pub returns-clause-value : goal.returns-clause-value
 returns-clause-value c =

@@ -10,9 +10,9 @@ use Rattle.afs_records.specs.Records.{volume_form}
 use Rattle.afs_vnode.specs.Stores.{Held}
 use Rattle.afs_volume.specs.Assembling.{make_volume}
 use Rattle.afs_volume.specs.Seen.{FitsHead}
-use Rattle.afs_volstore.proofs.Laid.{are_told, is_stored, volume_fits, AreTold}
+use Rattle.afs_setup.proofs.Laid.{are_told, is_stored, volume_fits, AreTold}
 use Rattle.afs_memory.proofs.Readied.{made_again, told_again}
-use Rattle.afs_volstore.proofs.setup.volume_told.Goals as goal
+use Rattle.afs_setup.proofs.laying.volume_told.Goals as goal
 
 pub images_told-requires-clause-fits : goal.images_told-requires-clause-fits
 images_told-requires-clause-fits c =

@@ -4,7 +4,7 @@ use Rattle.afs_seats.specs.Seated.{seen_as}
 use Rattle.afs_volume.specs.Taking.{stored_of}
 use Rattle.afs_volstore.specs.Laying.{AreLaid, HaveShortNames}
 use Rattle.afs_memory.specs.Numbered.{AreNumbered}
-use Rattle.afs_volstore.proofs.setup.volumes_laid.Given as goal
+use Rattle.afs_setup.proofs.laying.volumes_laid.Given as goal
 
 abbrev pub invariant-loop-line : goal.invariant-loop-line
 invariant-loop-line l = record {

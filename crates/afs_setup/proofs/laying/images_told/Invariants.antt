@@ -4,7 +4,7 @@ use Rattle.std.specs.Vec.Iter.{into_iter_items}
 use Rattle.afs_num.specs.declared.vnodes.Vnode as image
 use Rattle.afs_ideal.specs.VnodeImage.{kind_fits, FitsImage}
 use Rattle.afs_records.specs.Forms.{HasImageForm}
-use Rattle.afs_volstore.proofs.setup.images_told.Given as goal
+use Rattle.afs_setup.proofs.laying.images_told.Given as goal
 
 abbrev pub invariant-loop-vnode : goal.invariant-loop-vnode
 invariant-loop-vnode l = record {

@@ -1,7 +1,7 @@
 use Rattle.std.proofs.Common.{◌∙◌, ap, is_some, sym}
 use Rattle.afs_volume.specs.Giving.{volume_of}
-use Rattle.afs_volstore.proofs.Laid.{is_laid_out, laid_so}
-use Rattle.afs_volstore.proofs.setup.volume_laid.Goals as goal
+use Rattle.afs_setup.proofs.Laid.{is_laid_out, laid_so}
+use Rattle.afs_setup.proofs.laying.volume_laid.Goals as goal
 
 pub lay_all-requires : goal.lay_all-requires
 lay_all-requires c =
