@@ -2,14 +2,13 @@
 
 ghost use Rattle.std.specs.Prelude.{◌≡◌, ◌≤◌, ◌<◌, ◌^◌, [], Some, true, is_some, length, map, IfOk, OnOk};
 ghost use Rattle.std.specs.List.{AllByRecursion};
-ghost use Rattle.afs_records.specs.Changes.{first_length, first_record, laid_all, no_head, stored_volume, volume_laid, volumes_laid};
+ghost use Rattle.afs_records.specs.Changes.{first_length, first_record, laid_all, stored_volume, volume_laid, volumes_laid};
 ghost use Rattle.afs_records.specs.Durable as durable;
 ghost use Rattle.afs_records.specs.Durable.{Durable, body_taken, is_first};
 ghost use Rattle.afs_records.specs.Forms.{HasImageForm};
-ghost use Rattle.afs_records.specs.Records.{head_form, record_bytes, volume_form, FitsRecord};
+ghost use Rattle.afs_records.specs.Records.{record_bytes, volume_form, FitsRecord};
 ghost use Rattle.afs_ideal.specs.VnodeImage.{image_words, kind_fits, FitsImage};
 ghost use Rattle.afs_seats.specs.Seated.{seen_as};
-ghost use Rattle.afs_vnode.specs.Stores.{table_of, AreVnodes};
 ghost use Rattle.afs_volume.specs.Giving.{volume_of};
 ghost use Rattle.afs_volume.specs.Taking.{stored_of, IsAtSetUp};
 ghost use Rattle.afs_xdr.specs.Words.{AreWords};
@@ -19,8 +18,7 @@ ghost use Rattle.afs_volstore.specs.Opening.{CanBeSetUp};
 
 use afs_history::scripts::{SetupLine, VolumeLine};
 use afs_laying::lay;
-use afs_num::records::{RecordBody, RecordHead, StoreRecord, StoredVolume, StoredVolumes};
-use afs_num::sequences::Octets;
+use afs_num::records::{RecordBody, StoreRecord, StoredVolume, StoredVolumes};
 use afs_num::types::Mem;
 use afs_num::vnodes::{Vnode, Vnodes};
 use afs_num::volumes::VolumeHead;
