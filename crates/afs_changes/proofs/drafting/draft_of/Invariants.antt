@@ -4,7 +4,7 @@ use Rattle.afs_changes.specs.Drawing.{all_freed, all_left, all_told, shown_by, C
 use Rattle.afs_changes.specs.Planning.{edits_seen}
 use Rattle.afs_volume.specs.Giving.{volume_of}
 use Rattle.afs_volume.specs.Listed.{listed_as}
-use Rattle.afs_changes.proofs.drafting.draft.Given as goal
+use Rattle.afs_changes.proofs.drafting.draft_of.Given as goal
 
 abbrev pub invariant-loop-edit : goal.invariant-loop-edit
 invariant-loop-edit l = record {
