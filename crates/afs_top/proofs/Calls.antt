@@ -9,7 +9,7 @@ use Rattle.afs_grammar.specs.Lines.{script_of}
 use Rattle.afs_grammar.proofs.TooLong.{longer_as_front}
 use Rattle.afs_outside.specs.Outside.{Gives, HadAll, TakesTooMuch}
 use Rattle.afs_top.specs.Forms.{form_in, Asks, HaveForm}
-use Rattle.afs_top.specs.Outside.{IsUnchanged, Outside, RoseBy, Span}
+use Rattle.afs_top.specs.Outside.{IsUnchanged, OneRose, Outside, RoseBy, Span}
 use Rattle.afs_top.specs.Parts.{refusal_status, IsLongRefusal, RefusedBy}
 use Rattle.afs_top.specs.Reading.{GivesNone, GivesScript}
 use Rattle.afs_top.specs.Top.{level, most_bytes, AtBankFault, DoesNothing, Ends, EndsReplay, EndsRun, IsBeforeReplay, IsScript, LendingFails, LendsAll}
@@ -119,12 +119,12 @@ is_before status is = subst IsBeforeReplay (sym is) tt
 pub replay_isnt_usage : (s : Script) (wire : Bool) (place : Place) (tells left : Type 0) (Unlent : ℕ → ℕ → Type 0) (o : Outside) (status : Status) → EndsReplay s wire place tells left Unlent o status → status ≡ statuses.Usage → ⊥
 replay_isnt_usage s wire place tells left Unlent o status ends is = replay_isnt_before s wire place tells left Unlent o status ends (is_before status is)
 
-no_bank_fault : (s : Script) (wire : Bool) (tells left : Type 0) (o : Outside) → AtBankFault s wire tells left o → (RoseBy 1 o.bank_faults → ⊥) → (RoseBy 1 o.disk_faults → ⊥) → ⊥
-no_bank_fault s wire tells left o (inl setting_up) bank disks = disks setting_up.rose
-no_bank_fault s wire tells left o (inr (inl reading)) bank disks = disks reading.rose
+no_bank_fault : (s : Script) (wire : Bool) (tells left : Type 0) (o : Outside) → AtBankFault s wire tells left o → (RoseBy 1 o.bank_faults → ⊥) → (OneRose o.disk_faults → ⊥) → ⊥
+no_bank_fault s wire tells left o (inl setting_up) bank disks = disks (setting_up.server, setting_up.rose)
+no_bank_fault s wire tells left o (inr (inl reading)) bank disks = disks (reading.server, reading.rose)
 no_bank_fault s wire tells left o (inr (inr returning)) bank disks = bank returning.rose
 
-pub completes_replayed : (s : Script) (wire : Bool) (place : Place) (tells left : Type 0) (Unlent : ℕ → ℕ → Type 0) (o : Outside) (status : Status) → EndsReplay s wire place tells left Unlent o status → (RoseBy 1 o.sink_faults → ⊥) → (RoseBy 1 o.bank_faults → ⊥) → (RoseBy 1 o.disk_faults → ⊥) → Completes status
+pub completes_replayed : (s : Script) (wire : Bool) (place : Place) (tells left : Type 0) (Unlent : ℕ → ℕ → Type 0) (o : Outside) (status : Status) → EndsReplay s wire place tells left Unlent o status → (RoseBy 1 o.sink_faults → ⊥) → (RoseBy 1 o.bank_faults → ⊥) → (OneRose o.disk_faults → ⊥) → Completes status
 completes_replayed s wire place tells left Unlent o status ends sink bank disks = either status ends.how where
   either : (status : Status) → LendingFails s place Unlent o status ⊎ (LendsAll s place o × EndsRun s wire tells left o status) → Completes status
   either statuses.Done how = inl refl

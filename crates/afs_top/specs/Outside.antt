@@ -19,7 +19,7 @@ IsUnchanged {A} span = span.after ≡ span.before
 
 -- What a call sees outside: the bytes that the sink holds, and after the call those that it has passed on; what the bank lent, and the
 -- disks that it was given back, each by its node and its bytes, where these are told. The counts are of faults: of the sink, of the bank,
--- and of all disks that it was given back.
+-- and, for each number of a node, of the disks of that node that the bank was given back.
 pub record Outside : Type 0 where
   pub sink : Span (Option (List ℕ))
   pub passed : Option (List ℕ)
@@ -27,7 +27,7 @@ pub record Outside : Type 0 where
   pub given : Span (Option (List (ℕ × List ℕ)))
   pub sink_faults : Span ℕ
   pub bank_faults : Span ℕ
-  pub disk_faults : Span ℕ
+  pub disk_faults : ℕ → Span ℕ
 
 -- The count rose by so many, or by more. One that stands at the last value of a counter counts as risen.
 abbrev pub RoseBy : ℕ → Span ℕ → Type 0
@@ -35,6 +35,10 @@ RoseBy n count = (count.before + n ≤ count.after) ⊎ (last_count ≤ count.af
 
 abbrev pub DidNotRise : Span ℕ → Type 0
 DidNotRise count = count.after ≤ count.before
+
+-- one of these counts rose
+abbrev pub OneRose : (ℕ → Span ℕ) → Type 0
+OneRose counts = (n : ℕ) × RoseBy 1 (counts n)
 
 -- So many failed: the count rose so, and where none failed it stands.
 abbrev pub SoManyFailed : ℕ → Span ℕ → Type 0
