@@ -1,12 +1,13 @@
 //! Where volumes are.
 
-ghost use Rattle.std.specs.Prelude.{◌≡◌, ◌<◌, ◌++◌, IfOk, IfSome, List, OnOk, find, length, nat_eq};
+ghost use Rattle.std.specs.Prelude.{◌≡◌, ◌<◌, ◌++◌, ◌∷◌, [], IfOk, IfSome, List, OnOk, find, length, nat_eq};
 ghost use Rattle.std.specs.List.{All, list_any};
 ghost use Rattle.std.specs.Option.{option_copied, option_map};
 ghost use Rattle.afs_history.specs.declared.scripts.VolumeLine.{VolumeLine};
 ghost use Rattle.afs_num.specs.Nodes.{IsNode};
 ghost use Rattle.std.specs.Str.{bytes_eq};
-ghost use Rattle.afs_rows.specs.States.{Location as Known};
+ghost use Rattle.afs_num.specs.declared.location_calls.LocEntry.{LocEntry as Known};
+ghost use Rattle.afs_records.specs.Entries.{entry_of_line, read_write_site};
 ghost use Rattle.afs_rows.specs.ClientRow.{server_at};
 ghost use Rattle.afs_rows.specs.Going.{at_one, at_two, homes_of, volume_at};
 ghost use Rattle.afs_rows.specs.Runs.{location_by, locations_in};
@@ -15,9 +16,16 @@ ghost use Rattle.afs_acts.specs.Acts.{HasServer, first_volume_line};
 use crate::types::{Homes, Location};
 use afs_history::acts::{Act, Operand, Path};
 use afs_history::scripts::{VolumeLine, VolumeLines};
+use afs_num::location_calls::{LocEntry, LocSite, LocSites};
 use afs_num::sequences::Octets;
 use afs_num::types::{Mem, Node};
 use std::alloc::Global;
+
+/// The flag of the site of a read-write volume.
+const READ_WRITE_SITE: u32 = 4;
+
+/// The flag of a family that has a read-write volume.
+const EXISTS_READ_WRITE: u32 = 4_096;
 
 fn next_line(lines: &[VolumeLine]) -> Option<(&VolumeLine, &[VolumeLine])>
     ensures value { option_map (λ r. (r.0.now, r.1.now)) result ≡ first_volume_line lines.now }
@@ -36,6 +44,33 @@ fn is_told(id: u32, lines: &[VolumeLine]) -> bool
     lines.iter().any(|line| line.id == id)
 }
 
+/// The one site of a volume at set-up.
+fn first_site(alloc: Global, server: u8) -> Mem<LocSites>
+    ensures { IfOk result (λ ss. ss ≡ record { server = server; flags = read_write_site } ∷ []) }
+{
+    let mut sites = LocSites::new(alloc);
+    sites.push(LocSite {
+        server: server as u32,
+        flags: READ_WRITE_SITE,
+    })?;
+    Ok(sites)
+}
+
+/// The entry of a volume at set-up. It has no copies.
+fn entry_of_line(alloc: Global, volume: &VolumeLine) -> Mem<LocEntry>
+    ensures { IfOk result (λ e. e ≡ entry_of_line volume.now) }
+{
+    let sites = first_site(alloc, volume.server)?;
+    Ok(LocEntry {
+        name: volume.name.copy(alloc)?,
+        read_write: volume.id,
+        read_only: 0,
+        backup: 0,
+        flags: EXISTS_READ_WRITE,
+        sites,
+    })
+}
+
 /// Adds where a volume is, if its line counts.
 fn add_place(
     alloc: Global,
@@ -49,9 +84,9 @@ fn add_place(
     if is_told_later {
         return Ok(());
     }
+    let entry = entry_of_line(alloc, volume)?;
     table.push(Location {
-        name: volume.name.copy(alloc)?,
-        id: volume.id,
+        entry,
         server: volume.server,
     })?;
     Ok(())
@@ -72,17 +107,17 @@ pub fn locations(alloc: Global, volumes: &VolumeLines) -> Mem<Vec<Location>>
 }
 
 fn with_id(table: &[Location], id: u32) -> Option<&Location>
-    ensures { option_copied result ≡ find (λ (l : Known). nat_eq l.id id) table.now }
+    ensures { option_copied result ≡ find (λ (l : Known). nat_eq l.read_write id) table.now }
 {
-    table.iter().find(|location| location.id == id)
+    table
+        .iter()
+        .find(|location| location.entry.read_write == id)
 }
 
 fn with_name<'a>(table: &'a [Location], name: &Octets) -> Option<&'a Location>
     ensures { option_copied result ≡ find (λ (l : Known). bytes_eq l.name name.now) table.now }
 {
-    table
-        .iter()
-        .find(|location| location.name.as_slice() == name.as_slice())
+    table.iter().find(|location| location.entry.name.as_slice() == name.as_slice())
 }
 
 /// The server of a volume; that of one which isn't known nobody asks for.
@@ -100,7 +135,7 @@ fn volume_named(table: &[Location], path: &Path) -> Option<u32>
     ensures { result ≡ volume_at table.now (Operand.Path path.now) }
 {
     match with_name(table, &path.volume) {
-        Some(location) => Some(location.id),
+        Some(location) => Some(location.entry.read_write),
         None => None,
     }
 }
@@ -111,7 +146,7 @@ fn volume_at(table: &[Location], operand: &Operand) -> Option<u32>
     match operand {
         Operand::Path(path) => volume_named(table, path),
         Operand::Fid(fid) => match with_id(table, fid.volume) {
-            Some(location) => Some(location.id),
+            Some(location) => Some(location.entry.read_write),
             None => None,
         },
     }

@@ -9,29 +9,31 @@ use crate::reads::most_reads;
 use afs_history::acts::SharedAct;
 use afs_num::calls::{Fids, FsCall};
 use afs_num::histories::ReadBody;
-use afs_num::sequences::{Octets, Sequence};
+use afs_num::location_calls::LocEntry;
+use afs_num::sequences::Sequence;
 use afs_num::types::{Fid, Mem};
 use std::alloc::Global;
 use std::marker::Model;
 
-/// Where a volume is: its name, its number, and the number of its server.
+/// What a client knows of a volume: the entry of the location database, and the server that it names, which is looked up once.
 #[derive(Drop)]
 pub struct Location {
-    pub name: Octets,
-    pub id: u32,
+    pub entry: LocEntry,
     pub server: u8,
 }
 
 impl Model for Location {
+    ghost use Rattle.std.specs.Prelude.{◌≡◌};
     ghost use Rattle.afs_num.specs.Nodes.{IsNode};
+    ghost use Rattle.afs_num.specs.declared.location_calls.LocEntry.{LocEntry};
     ghost use Rattle.afs_num.specs.declared.types.Node.{Node};
-    ghost use Rattle.afs_rows.specs.States.{Location};
+    ghost use Rattle.afs_rows.specs.ClientRow.{home_of};
 
-    ghost Value = { Location };
+    ghost Value = { LocEntry };
 
-    ghost view = { λ l. record { name = l.name; id = l.id; server = l.server } };
+    ghost view = { λ l. l.entry };
 
-    ghost invariant = { λ l. IsNode (Node.Server l.server) };
+    ghost invariant = { λ l. record { home : home_of l.entry ≡ l.server; node : IsNode (Node.Server l.server) } };
 }
 
 /// The numbers of the volumes of an act's operands; none where it has none, or the client doesn't know it.

@@ -1,5 +1,5 @@
 -- A client's step, in the world and in the cell for which it stands.
-use Rattle.std.proofs.Common.{refl, arith, ap, ap₂, sym, subst, ◌∙◌, ◌≡◌, ◌+◌, ◌⊎◌, inl, inr, ℕ, List, [], ◌∷◌, ◌++◌, drop, length, Bool, true, false, not, cond, ◌&&◌, ◌||◌, Option, Some, None, nat_eq, if◌then◌else◌}
+use Rattle.std.proofs.Common.{refl, arith, ap, ap₂, sym, subst, ◌∙◌, ◌≡◌, ◌+◌, ◌⊎◌, inl, inr, ℕ, List, [], ◌∷◌, ◌++◌, drop, length, Bool, true, false, not, cond, ◌&&◌, ◌||◌, Option, Some, None, nat_eq, slice_get, if◌then◌else◌}
 use Rattle.std.proofs.lemmas.Bool.{eq-eqb}
 use Rattle.afs_num.specs.Nodes.{same_node}
 use Rattle.afs_num.specs.Places.{at_place}
@@ -10,6 +10,7 @@ use Rattle.afs_num.specs.declared.types.Node.{Node}
 use Rattle.afs_num.specs.declared.types.Node.TheVariants.{Client}
 use Rattle.afs_num.specs.declared.types.Parcel.{Parcel}
 use Rattle.afs_history.specs.declared.acts.Act.{Act}
+use Rattle.afs_history.specs.declared.scripts.Task.{Task}
 use Rattle.afs_history.specs.declared.lines.Line.{Line}
 use Rattle.afs_history.specs.declared.lines.Line.TheVariants as lines
 use Rattle.afs_history.specs.declared.lines.Outs.{Outs}
@@ -20,7 +21,7 @@ use Rattle.afs_rows.specs.ClientRow.{begin_row, client_row, reborn, timeout_row}
 use Rattle.afs_rows.specs.Going.{ClientState, Going}
 use Rattle.afs_rows.specs.Runs.{begins, begun_by, client_falls, client_moves, client_rises, client_starts, client_stops, given_at, given_to, gives, has_client, is_away, message_at, moved, nothing, steady, turned, voided, waited_by, waits, Cell, Entry, Host, Input, Moved}
 use Rattle.afs_rows.specs.Steps.{Step}
-use Rattle.afs_schedule.specs.Schedules.{act_input, is_idle, left_by, timeout_input, IsInput, Turn}
+use Rattle.afs_schedule.specs.Schedules.{act_input, client_act, is_idle, left_by, timeout_input, IsInput, Turn}
 use Rattle.afs_text.specs.Telling.{told, sent_by}
 use Rattle.afs_cell.specs.Happening.{entry_of, ClientHears, ClientMakes, HasBegun, HasFallen, HasRisen, HasTimedOut, IsAsked, IsVoidClient}
 use Rattle.afs_cell.specs.Places.{put_place}
@@ -103,8 +104,8 @@ pub record ClientLinked (is : Input → Type 0) (t : Turn) (n : ℕ) (now : Clie
   pub moves : CellMoved t.cell n (moved t.cell input) now.client.state away (front ++ outs.lines) ms
   pub away_is : now.is_away ≡ away
   pub read : parcels_read outs.parcels ≡ messages_spelled ms
-  pub plan : left_by input t.left n ≡ now.plan
-  pub plans : (j : ℕ) → nat_eq n j ≡ false → left_by input t.left j ≡ t.left j
+  pub plan : left_by input t.left (Client n) ≡ now.plan
+  pub plans : (j : ℕ) → nat_eq n j ≡ false → left_by input t.left (Client j) ≡ t.left (Client j)
   pub harmless : falls input ≡ 0
 
 module _ {D : Type 0} (seen : D → Option (List ℕ)) (may_leave : D → List ℕ → Type 0) (faults limit : D → ℕ) where
@@ -125,7 +126,7 @@ module _ {D : Type 0} (seen : D → Option (List ℕ)) (may_leave : D → List �
       clock = link.moves.clock ∙ at.cell.clock;
     };
     acts =
-        each_put (λ (j : ℕ) (z : ClientSeat). t.left j ≡ z.plan) (λ (j : ℕ) (z : ClientSeat). left_by link.input t.left j ≡ z.plan) n now was w.clients found at.acts
+        each_put (λ (j : ℕ) (z : ClientSeat). t.left (Client j) ≡ z.plan) (λ (j : ℕ) (z : ClientSeat). left_by link.input t.left (Client j) ≡ z.plan) n now was w.clients found at.acts
         (λ j z apart h. link.plans j apart ∙ h) link.plan;
   }
 
@@ -152,7 +153,7 @@ unless b x y e = ap (λ (a : Bool). cond a x y) e
 
 -- a step that leaves the client up, and its acts but for those that the input takes
 makes_linked : (is : Input → Type 0) (t : Turn) (n : ℕ) (x : Input) (was now : ClientSeat) (front : List Line) (outs : Outs) (s : Step ClientState) → is x → moved t.cell x ≡ client_moves t.cell n s → IsClient was (t.cell.clients n) (t.cell.away n)
-    → ClientMakes front s was now outs → left_by x t.left n ≡ now.plan → ((j : ℕ) → nat_eq n j ≡ false → left_by x t.left j ≡ t.left j) → falls x ≡ 0 → ClientLinked is t n now front outs
+    → ClientMakes front s was now outs → left_by x t.left (Client n) ≡ now.plan → ((j : ℕ) → nat_eq n j ≡ false → left_by x t.left (Client j) ≡ t.left (Client j)) → falls x ≡ 0 → ClientLinked is t n now front outs
 makes_linked is t n x was now front outs s one moves here makes plan plans harmless = record {
   input = x;
   is_one = one;
@@ -170,8 +171,8 @@ makes_linked is t n x was now front outs s one moves here makes plan plans harml
   harmless = harmless;
 }
 
-begins_so : (c : Cell) (n : ℕ) (act : Act) (acts : List Act) → is_away c n ≡ false → (c.clients n).running ≡ None → act_input c n (act ∷ acts) ≡ begins n act
-begins_so c n act acts up idle = ap₂ (λ (a : Bool) (g : Option Going). if not a && is_idle g then begins n act else nothing) up idle
+begins_so : (c : Cell) (n : ℕ) (act : Act) → is_away c n ≡ false → (c.clients n).running ≡ None → act_input c n (Some act) ≡ begins n act
+begins_so c n act up idle = ap₂ (λ (a : Bool) (g : Option Going). if not a && is_idle g then begins n act else nothing) up idle
 
 moved_begun : (c : Cell) (n : ℕ) (act : Act) → is_away c n ≡ false → (c.clients n).running ≡ None → moved c (begins n act) ≡ client_moves c n (begin_row (Client n) (c.clients n) c.clock act)
 unfolding moved
@@ -206,11 +207,12 @@ module _ {D : Type 0} (seen : D → Option (List ℕ)) (may_leave : D → List �
   link_begun h =
       let up = is_up h.makes.up in
       let idle : (t.cell.clients n).running ≡ None = ap (λ (c : ClientState). c.running) (sym here.state_is) ∙ h.idle in
-      let plan : t.left n ≡ h.act ∷ now.plan = at.acts n was found ∙ h.plan in
+      let plan : t.left (Client n) ≡ was.plan = at.acts n was found in
+      let next : client_act (slice_get (t.left (Client n)) 0) ≡ Some h.act = ap (λ (ts : List Task). client_act (slice_get ts 0)) plan ∙ h.next in
       makes_linked (IsInput t (events.Act (Client n))) t n (begins n h.act) was now [] outs (begin_row (Client n) (t.cell.clients n) t.cell.clock h.act)
-      (sym (ap (act_input t.cell n) plan ∙ begins_so t.cell n h.act now.plan up idle)) (moved_begun t.cell n h.act up idle) here
+      (sym (ap (act_input t.cell n) next ∙ begins_so t.cell n h.act up idle)) (moved_begun t.cell n h.act up idle) here
       (subst (λ (c : ClientState). ClientMakes [] (begin_row (Client n) c t.cell.clock h.act) was now outs) here.state_is h.makes)
-      (put_here n (drop 1 (t.left n)) t.left ∙ ap (λ (acts : List Act). drop 1 acts) plan) (λ j e. put_there n (drop 1 (t.left n)) t.left j e) refl
+      (put_here n (drop 1 (t.left (Client n))) (λ (j : ℕ). t.left (Client j)) ∙ (ap (λ (ts : List Task). drop 1 ts) plan ∙ sym h.plan)) (λ j e. put_there n (drop 1 (t.left (Client n))) (λ (k : ℕ). t.left (Client k)) j e) refl
 
   pub link_timed_out : (callee : Node) → HasTimedOut n callee was now outs → ClientLinked (IsInput t (events.Timeout (Client n) callee)) t n now [] outs
   link_timed_out callee h =
@@ -288,11 +290,11 @@ no_begin n act a i (inl e) = ap (λ (b : Bool). if not b && i then begins n act 
 no_begin n act true i (inr e) = refl
 no_begin n act false i (inr e) = ap (λ (b : Bool). if b then begins n act else nothing) e
 
-no_act : (c : Cell) (n : ℕ) (acts : List Act) → (is_away c n ≡ true) ⊎ ((is_idle (c.clients n).running ≡ false) ⊎ (acts ≡ [])) → act_input c n acts ≡ nothing
-no_act c n [] none = refl
-no_act c n (act ∷ acts) (inl e) = no_begin n act (is_away c n) (is_idle (c.clients n).running) (inl e)
-no_act c n (act ∷ acts) (inr (inl e)) = no_begin n act (is_away c n) (is_idle (c.clients n).running) (inr e)
-no_act c n (act ∷ acts) (inr (inr e)) = absurd cc
+no_act : (c : Cell) (n : ℕ) (next : Option Act) → (is_away c n ≡ true) ⊎ ((is_idle (c.clients n).running ≡ false) ⊎ (next ≡ None)) → act_input c n next ≡ nothing
+no_act c n None none = refl
+no_act c n (Some act) (inl e) = no_begin n act (is_away c n) (is_idle (c.clients n).running) (inl e)
+no_act c n (Some act) (inr (inl e)) = no_begin n act (is_away c n) (is_idle (c.clients n).running) (inr e)
+no_act c n (Some act) (inr (inr e)) = absurd cc
 
 pub moved_nothing : (c : Cell) → moved c nothing ≡ voided c
 unfolding moved
@@ -326,14 +328,14 @@ heard_void c n place m at to away =
 pub void_heard : (t : Turn) (n place : ℕ) (m : Message) → message_at t.cell.sent place ≡ Some m → m.head.to ≡ Client n → (has_client t.cell.count n ≡ false) ⊎ (t.cell.away n ≡ true) → Voided (IsInput t (events.Deliver place)) t
 void_heard t n place m at to none = record { input = gives place steady; is_one = (steady, (refl, tt)); moves = heard_void t.cell n place m at to (absent t.cell n none); left = refl; harmless = refl }
 
-act_void : (t : Turn) (n : ℕ) → (is_away t.cell n ≡ true) ⊎ ((is_idle (t.cell.clients n).running ≡ false) ⊎ (t.left n ≡ [])) → Voided (IsInput t (events.Act (Client n))) t
-act_void t n none = record { input = nothing; is_one = sym (no_act t.cell n (t.left n) none); moves = moved_nothing t.cell; left = refl; harmless = refl }
+act_void : (t : Turn) (n : ℕ) → (is_away t.cell n ≡ true) ⊎ ((is_idle (t.cell.clients n).running ≡ false) ⊎ (client_act (slice_get (t.left (Client n)) 0) ≡ None)) → Voided (IsInput t (events.Act (Client n))) t
+act_void t n none = record { input = nothing; is_one = sym (no_act t.cell n (client_act (slice_get (t.left (Client n)) 0)) none); moves = moved_nothing t.cell; left = refl; harmless = refl }
 
 timed_harmless : (n : ℕ) (b : Bool) → falls (if b then waits n else nothing) ≡ 0
 timed_harmless n true = refl
 timed_harmless n false = refl
 
-timed_left : (n : ℕ) (b : Bool) (left : ℕ → List Act) → left_by (if b then waits n else nothing) left ≡ left
+timed_left : (n : ℕ) (b : Bool) (left : Node → List Task) → left_by (if b then waits n else nothing) left ≡ left
 timed_left n true left = refl
 timed_left n false left = refl
 
@@ -346,14 +348,14 @@ timed_void t n callee none = record {
   harmless = timed_harmless n (same_node (t.cell.clients n).callee callee);
 }
 
-module _ (t : Turn) (n : ℕ) (was : ClientSeat) (here : IsClient was (t.cell.clients n) (t.cell.away n)) (plan : t.left n ≡ was.plan) where
+module _ (t : Turn) (n : ℕ) (was : ClientSeat) (here : IsClient was (t.cell.clients n) (t.cell.away n)) (plan : t.left (Client n) ≡ was.plan) where
   is_down : was.is_away ≡ true → is_away t.cell n ≡ true
   is_down e = absent t.cell n (inr (sym here.away_is ∙ e))
 
-  act_by : IsVoidClient client.Act was → (is_away t.cell n ≡ true) ⊎ ((is_idle (t.cell.clients n).running ≡ false) ⊎ (t.left n ≡ []))
+  act_by : IsVoidClient client.Act was → (is_away t.cell n ≡ true) ⊎ ((is_idle (t.cell.clients n).running ≡ false) ⊎ (client_act (slice_get (t.left (Client n)) 0) ≡ None))
   act_by (inl e) = inl (is_down e)
   act_by (inr (inl busy)) = inr (inl (ap (λ (c : ClientState). is_idle c.running) (sym here.state_is) ∙ ap is_idle busy.1))
-  act_by (inr (inr e)) = inr (inr (plan ∙ e))
+  act_by (inr (inr e)) = inr (inr (ap (λ (ts : List Task). client_act (slice_get ts 0)) plan ∙ e))
 
   timed_by : (callee : Node) → IsVoidClient (client.TimeOut callee) was → (is_away t.cell n ≡ true) ⊎ (((t.cell.clients n).running ≡ None) ⊎ (same_node (t.cell.clients n).callee callee ≡ false))
   timed_by callee (inl e) = inl (is_down e)

@@ -2,6 +2,7 @@
 use Rattle.std.proofs.Common.{refl, arith, ap, ap₂, sym, subst, ◌∙◌, ◌≡◌, ◌+◌, ℕ, zero, suc, List, [], ◌∷◌, ◌++◌, length, false, Option, Some}
 use Rattle.std.specs.Prelude.{IsSome, ◌↔◌}
 use Rattle.afs_num.specs.Places.{at_place}
+use Rattle.afs_num.specs.declared.types.Node.TheVariants.{Client}
 use Rattle.afs_num.specs.declared.types.Parcel.{Parcel}
 use Rattle.afs_history.specs.declared.lines.Entry as kept
 use Rattle.afs_history.specs.declared.scripts.Script.{Script}
@@ -10,7 +11,7 @@ use Rattle.afs_grammar.specs.CellScripts.{IsCellScript}
 use Rattle.afs_rows.specs.Going.{ClientState}
 use Rattle.afs_rows.specs.Runs.{first_client, first_host, start}
 use Rattle.afs_host.specs.declared.seats.Seat.TheVariants.{Down, Up}
-use Rattle.afs_schedule.specs.Schedules.{acts_of}
+use Rattle.afs_schedule.specs.Schedules.{tasks_of}
 use Rattle.afs_cell.specs.FirstSeats.{AreFirstSeats, IsFirstSeat}
 use Rattle.afs_cell.specs.Places.{Each}
 use Rattle.afs_cell.specs.Refusing.{AreFirstClients}
@@ -132,7 +133,7 @@ module _ {D : Type 0} (seen : D → Option (List ℕ)) (may_leave : D → List �
       gone = refl;
       clock = refl;
       going = refl;
-      acts = each_client s (λ (n : ℕ) (c : ClientSeat). acts_of n s.tasks ≡ c.plan) cs (λ n c first. sym first.plan) clients;
+      acts = each_client s (λ (n : ℕ) (c : ClientSeat). tasks_of (Client n) s.tasks ≡ c.plan) cs (λ n c first. sym first.plan) clients;
       cell = λ tell. is_cell;
     }
 

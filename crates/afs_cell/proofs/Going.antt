@@ -1,8 +1,10 @@
 -- What a step of the world is in its run.
 use Rattle.std.proofs.Common.{arith, ap, ap₂, sym, subst, ◌∙◌, ◌≡◌, ◌+◌, ◌⊎◌, inl, inr, ℕ, List, [], ◌∷◌, ◌++◌, true, false, Option, Some, None, Result, Ok, Err}
 use Rattle.afs_num.specs.Places.{at_place}
+use Rattle.afs_num.specs.declared.types.Node.{Node}
+use Rattle.afs_num.specs.declared.types.Node.TheVariants.{Client}
 use Rattle.afs_num.specs.declared.types.Parcel.{Parcel}
-use Rattle.afs_history.specs.declared.acts.Act.{Act}
+use Rattle.afs_history.specs.declared.scripts.Task.{Task}
 use Rattle.afs_history.specs.declared.scripts.Script.{Script}
 use Rattle.afs_rows.specs.Runs.{moved, start, Cell, Entry, Input, Leads}
 use Rattle.afs_schedule.specs.Schedules.{Turn}
@@ -22,13 +24,14 @@ leads_behind c [] (f ∷ fs) end x h = absurd h
 leads_behind c (y ∷ ys) [] end x h = absurd h
 leads_behind c (y ∷ ys) (f ∷ fs) end x h = (h.0, leads_behind (moved c y).cell ys fs end x h.1)
 
--- the acts that the seats have left
-abbrev plan_or : Option ClientSeat → List Act
+-- the tasks that the seats have left
+abbrev plan_or : Option ClientSeat → List Task
 plan_or None = []
 plan_or (Some s) = s.plan
 
-abbrev plans_of : List ClientSeat → ℕ → List Act
-plans_of cs n = plan_or (at_place cs n)
+abbrev plans_of : List ClientSeat → Node → List Task
+plans_of cs (Client n) = plan_or (at_place cs n)
+plans_of cs n = []
 
 true_false : true ≡ false → ⊥
 true_false e = absurd cc

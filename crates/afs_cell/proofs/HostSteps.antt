@@ -6,7 +6,8 @@ use Rattle.afs_num.specs.declared.histories.Actor.{Actor}
 use Rattle.afs_num.specs.declared.histories.Actor.TheVariants as actors
 use Rattle.afs_num.specs.declared.messages.Message.{Message}
 use Rattle.afs_num.specs.declared.types.Node.TheVariants.{Server}
-use Rattle.afs_history.specs.declared.acts.Act.{Act}
+use Rattle.afs_num.specs.declared.types.Node.{Node}
+use Rattle.afs_history.specs.declared.scripts.Task.{Task}
 use Rattle.afs_history.specs.declared.lines.Line.{Line}
 use Rattle.afs_history.specs.declared.lines.Outs.{Outs}
 use Rattle.afs_rows.specs.Callbacks.{put}
@@ -42,7 +43,7 @@ module _ {D : Type 0} (seen : D → Option (List ℕ)) (may_leave : D → List �
       (subst (λ (b : Bool). IsHost seen may_leave limit i now (cond b s.host (c.hosts i))) (sym (eq-eqb i i refl)) good)
 
   -- the world stands for the cell after the step
-  at_placed : (w : WorldState D) (c : Cell) (left : ℕ → List Act) (i : ℕ) (was now : ServerSeat D) (front : List Line) (outs : Outs) (s : HostStep) → at_place w.servers i ≡ Some was → IsSeatStep seen may_leave limit i now front outs s
+  at_placed : (w : WorldState D) (c : Cell) (left : Node → List Task) (i : ℕ) (was now : ServerSeat D) (front : List Line) (outs : Outs) (s : HostStep) → at_place w.servers i ≡ Some was → IsSeatStep seen may_leave limit i now front outs s
       → IsAt seen may_leave limit w c left → IsAt seen may_leave limit (after_step w i now front outs) (placed c i s).cell left
   at_placed w c left i was now front outs s found good at = record {
     cell = record {
@@ -77,7 +78,7 @@ module _ {D : Type 0} (seen : D → Option (List ℕ)) (may_leave : D → List �
         (ap₂ (λ (ls : List Line) (ms : List Message). entry_with (actors.Node (Server i)) ls ms) link.good.lines (messages_of-read outs.parcels link.step.sent link.good.sent))
         ∙ ap (λ (m : Moved). told w.wire w.history ++ m.entry ∷ []) (sym link.moves);
     at =
-        subst (λ (left : ℕ → List Act). IsAt seen may_leave limit (after_step w i now front outs) (moved t.cell link.input).cell left) (sym link.left)
+        subst (λ (left : Node → List Task). IsAt seen may_leave limit (after_step w i now front outs) (moved t.cell link.input).cell left) (sym link.left)
         (subst (λ (m : Moved). IsAt seen may_leave limit (after_step w i now front outs) m.cell t.left) (sym link.moves) (at_placed w t.cell t.left i was now front outs link.step found link.good at));
     counts = counts_put faults i link.input (moved t.cell link.input).entry was now w.servers (ap (λ (m : Moved). m.entry.actor) link.moves) found le link.blames;
   }

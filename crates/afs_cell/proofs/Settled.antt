@@ -4,7 +4,8 @@ use Rattle.std.specs.Prelude.{IsSome}
 use Rattle.std.proofs.lemmas.List.{length-append}
 use Rattle.afs_num.specs.Places.{at_place}
 use Rattle.afs_num.specs.declared.types.Node.TheVariants.{Server}
-use Rattle.afs_history.specs.declared.acts.Act.{Act}
+use Rattle.afs_num.specs.declared.types.Node.{Node}
+use Rattle.afs_history.specs.declared.scripts.Task.{Task}
 use Rattle.afs_history.specs.declared.lines.Entry as kept
 use Rattle.afs_history.specs.declared.lines.Line.{Line}
 use Rattle.afs_history.specs.declared.lines.Outs.{Outs}
@@ -95,7 +96,7 @@ module _ {D : Type 0} (seen : D → Option (List ℕ)) (may_leave : D → List �
         told-still w.wire w.history void_entry all refl
         ∙ ap (λ (m : Moved). told w.wire w.history ++ m.entry ∷ []) (sym v.moves);
     at =
-        subst (λ (left : ℕ → List Act). IsAt seen may_leave limit (after_nothing w) (moved t.cell v.input).cell left) (sym v.left)
+        subst (λ (left : Node → List Task). IsAt seen may_leave limit (after_nothing w) (moved t.cell v.input).cell left) (sym v.left)
         (subst (λ (m : Moved). IsAt seen may_leave limit (after_nothing w) m.cell t.left) (sym v.moves)
         (record {
           cell = record { host_count = at.cell.host_count; hosts = at.cell.hosts; count = at.cell.count; clients = at.cell.clients; sent = at.cell.sent; clock = at.cell.clock };

@@ -1,7 +1,9 @@
 -- A client at set-up: its acts are within their limits, by the script.
-use Rattle.std.proofs.Common.{ap, sym, subst, ◌∙◌, ◌≡◌, ◌≤◌, ℕ, List, [], ◌∷◌, length, Bool, true, false, nat_eq, if◌then◌else◌}
+use Rattle.std.proofs.Common.{ap, sym, subst, ◌∙◌, ◌≡◌, ◌≤◌, ℕ, List, [], ◌∷◌, length, Bool, true, false, drop, slice_get, Some, if◌then◌else◌}
 use Rattle.std.specs.List.{All}
 use Rattle.std.proofs.lemmas.List.Elements.{All-cons, All-head, All-nil, All-tail}
+use Rattle.afs_num.specs.Nodes.{same_node}
+use Rattle.afs_num.specs.declared.types.Node.{Node}
 use Rattle.afs_num.specs.declared.types.Node.TheVariants.{Client}
 use Rattle.afs_history.specs.declared.acts.Act.{Act}
 use Rattle.afs_history.specs.declared.acts.Act.TheVariants as acts
@@ -13,11 +15,12 @@ use Rattle.afs_model.specs.FsRows.{name_limit}
 use Rattle.afs_rows.specs.ClientRow.{new_client}
 use Rattle.afs_rows.specs.Going.{ClientState}
 use Rattle.afs_rows.specs.Runs.{locations, user_at}
-use Rattle.afs_schedule.specs.Schedules.{acts_of}
+use Rattle.afs_schedule.specs.Schedules.{client_act, doer, tasks_of}
 use Rattle.afs_words.specs.declared.nodes.Counts.{Counts}
 use Rattle.afs_grammar.specs.CellScripts as script
 use Rattle.afs_grammar.specs.CellScripts.{counts_of, FitsTask, IsCellScript, IsName}
 use Rattle.afs_cell.specs.Seating.{IsFirstClient}
+use Rattle.afs_cell.specs.Worlds.{IsShortTask}
 use Rattle.afs_cell.specs.declared.clients.ClientSeat.{ClientSeat}
 
 abbrev IsShortName : List ℕ → Type 0
@@ -46,16 +49,33 @@ short_act (acts.SetAccessList o text) h = h.1
 short_act (acts.GetAccessList o) h = tt
 short_act acts.GiveUp h = tt
 
-kept : (b : Bool) (a : Act) (rest : List Act) → IsShortAct a → All IsShortAct rest → All IsShortAct (if b then a ∷ rest else rest)
-kept true a rest short all = All-cons IsShortAct a rest short all
-kept false a rest short all = all
+short_task : (c : Counts) (t : Task) → FitsTask c t → IsShortTask t
+short_task c (tasks.Client n a) h = short_act a h.1
+short_task c (tasks.Admin n a) h = tt
 
-acts_short : (c : Counts) (n : ℕ) (ts : List Task) → All (FitsTask c) ts → All IsShortAct (acts_of n ts)
-acts_short c n [] h = All-nil IsShortAct
-acts_short c n (tasks.Client m a ∷ ts) h = kept (nat_eq m n) a (acts_of n ts) (short_act a (All-head (FitsTask c) (tasks.Client m a) ts h).1) (acts_short c n ts (All-tail (FitsTask c) (tasks.Client m a) ts h))
-acts_short c n (tasks.Admin m a ∷ ts) h = acts_short c n ts (All-tail (FitsTask c) (tasks.Admin m a) ts h)
+kept : (b : Bool) (t : Task) (rest : List Task) → IsShortTask t → All IsShortTask rest → All IsShortTask (if b then t ∷ rest else rest)
+kept true t rest short all = All-cons IsShortTask t rest short all
+kept false t rest short all = all
 
-pub first_client : (s : Script) (n : ℕ) (seat : ClientSeat) → IsCellScript s → seat.client.node ≡ Client n → seat.client.state ≡ new_client 1 s.cache (user_at s n) (locations s) → seat.is_away ≡ false → seat.plan ≡ acts_of n s.tasks → seat.epoch ≡ 1 → IsFirstClient s n seat
+tasks_short : (c : Counts) (n : Node) (ts : List Task) → All (FitsTask c) ts → All IsShortTask (tasks_of n ts)
+tasks_short c n [] h = All-nil IsShortTask
+tasks_short c n (t ∷ ts) h = kept (same_node (doer t) n) t (tasks_of n ts) (short_task c t (All-head (FitsTask c) t ts h)) (tasks_short c n ts (All-tail (FitsTask c) t ts h))
+
+-- ---- the next act, and what is left after it
+
+some_is : {A : Type 0} (x y : A) → Some x ≡ Some y → x ≡ y
+some_is {A} x y e = cc
+
+pub first_short : (ts : List Task) (act : Act) → All IsShortTask ts → client_act (slice_get ts 0) ≡ Some act → IsShortAct act
+first_short [] act all e = absurd cc
+first_short (tasks.Client n a ∷ ts) act all e = subst IsShortAct (some_is a act e) (All-head IsShortTask (tasks.Client n a) ts all)
+first_short (tasks.Admin n a ∷ ts) act all e = absurd cc
+
+pub rest_short : (old new : List Task) → new ≡ drop 1 old → All IsShortTask old → All IsShortTask new
+rest_short [] new e all = subst (All IsShortTask) (sym e) all
+rest_short (t ∷ ts) new e all = subst (All IsShortTask) (sym e) (All-tail IsShortTask t ts all)
+
+pub first_client : (s : Script) (n : ℕ) (seat : ClientSeat) → IsCellScript s → seat.client.node ≡ Client n → seat.client.state ≡ new_client 1 s.cache (user_at s n) (locations s) → seat.is_away ≡ false → seat.plan ≡ tasks_of (Client n) s.tasks → seat.epoch ≡ 1 → IsFirstClient s n seat
 first_client s n seat h node state up plan epoch = record {
   state = state;
   up = up;
@@ -67,6 +87,6 @@ first_client s n seat h node state up plan epoch = record {
     capacity = ap (λ (c : ClientState). c.capacity) state;
     user = ap (λ (c : ClientState). c.user) state;
     table = ap (λ (c : ClientState). c.table) state;
-    acts = subst (λ (more : List Act). All IsShortAct more) (sym plan) (acts_short (counts_of s) n s.tasks h.tasks);
+    acts = subst (λ (more : List Task). All IsShortTask more) (sym plan) (tasks_short (counts_of s) (Client n) s.tasks h.tasks);
   };
 }

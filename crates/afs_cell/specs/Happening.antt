@@ -1,5 +1,5 @@
 -- What comes of an input at a node, and how it is told.
-use Rattle.std.specs.Prelude.{◌≡◌, ◌≤◌, ◌<◌, ◌+◌, ◌^◌, ◌⊎◌, ◌↔◌, ℕ, List, [], ◌∷◌, ◌++◌, Bool, true, false, length, Option, Some, None, Result, Ok, Err, IsSome}
+use Rattle.std.specs.Prelude.{◌≡◌, ◌≤◌, ◌<◌, ◌+◌, ◌^◌, ◌⊎◌, ◌↔◌, ℕ, List, [], ◌∷◌, ◌++◌, Bool, true, false, drop, length, slice_get, Option, Some, None, Result, Ok, Err, IsSome}
 use Rattle.afs_num.specs.Nodes.{same_node}
 use Rattle.afs_num.specs.Places.{at_place}
 use Rattle.afs_num.specs.declared.histories.Actor.TheVariants as actors
@@ -21,7 +21,7 @@ use Rattle.afs_rows.specs.Going.{ClientState, Going}
 use Rattle.afs_rows.specs.Runs.{server_waits, sets_fail, sets_stop, starts_again, stops, wakes, Fall, Host, Input, MayBegin, Outcome}
 use Rattle.afs_rows.specs.States.{BackCall}
 use Rattle.afs_rows.specs.Steps.{Step}
-use Rattle.afs_schedule.specs.Schedules.{IsInput, Turn}
+use Rattle.afs_schedule.specs.Schedules.{client_act, IsInput, Turn}
 use Rattle.afs_server.specs.Seen.{CanDraw}
 use Rattle.afs_host.specs.Hosts.{crashed, set_to_fail, set_to_stop, timed_out, woken, HostStep}
 use Rattle.afs_host.specs.Seats.{CanRun}
@@ -158,7 +158,8 @@ pub record ClientTells (line : Line) (outs : Outs) : Type 0 where
 
 pub record HasBegun (n clock : ℕ) (old new : ClientSeat) (outs : Outs) : Type 0 where
   pub act : Act
-  pub plan : old.plan ≡ act ∷ new.plan
+  pub next : client_act (slice_get old.plan 0) ≡ Some act
+  pub plan : new.plan ≡ drop 1 old.plan
   pub idle : old.client.state.running ≡ None
   pub makes : ClientMakes [] (begin_row (Client n) old.client.state clock act) old new outs
 
@@ -205,7 +206,7 @@ abbrev pub IsBusy : ClientState → Type 0
 IsBusy c = (act : Going) × (c.running ≡ Some act)
 
 abbrev pub IsVoidClient : ClientInput → ClientSeat → Type 0
-IsVoidClient client.Act seat = (seat.is_away ≡ true) ⊎ (IsBusy seat.client.state ⊎ (seat.plan ≡ []))
+IsVoidClient client.Act seat = (seat.is_away ≡ true) ⊎ (IsBusy seat.client.state ⊎ (client_act (slice_get seat.plan 0) ≡ None))
 IsVoidClient (client.TimeOut callee) seat = (seat.is_away ≡ true) ⊎ ((seat.client.state.running ≡ None) ⊎ (same_node seat.client.state.callee callee ≡ false))
 IsVoidClient client.Crash seat = seat.is_away ≡ true
 IsVoidClient client.Restart seat = seat.is_away ≡ false

@@ -3,14 +3,14 @@ use Rattle.std.specs.Prelude.{◌≡◌, ◌≤◌, ◌+◌, ℕ, Bool, false, O
 use Rattle.std.specs.List.{All}
 use Rattle.afs_num.specs.Nodes.{same_node}
 use Rattle.afs_num.specs.declared.types.Node.{Node}
+use Rattle.afs_num.specs.declared.types.Node.TheVariants.{Client}
 use Rattle.afs_history.specs.declared.scripts.Script.{Script}
-use Rattle.afs_acts.specs.Acts.{IsShortAct}
 use Rattle.afs_cache.specs.Lasting.{lasting}
 use Rattle.afs_rows.specs.ClientRow.{new_client}
 use Rattle.afs_rows.specs.Going.{ClientState, Going}
 use Rattle.afs_rows.specs.Runs.{locations, user_at}
-use Rattle.afs_schedule.specs.Schedules.{acts_of}
-use Rattle.afs_cell.specs.Worlds.{IsHanded}
+use Rattle.afs_schedule.specs.Schedules.{tasks_of}
+use Rattle.afs_cell.specs.Worlds.{IsHanded, IsShortTask}
 use Rattle.afs_cell.specs.declared.clients.ClientSeat.{ClientSeat}
 
 -- it waits for the reply of this node
@@ -24,12 +24,12 @@ pub record GoesOn (old new : ClientSeat) : Type 0 where
   pub kept : lasting new.client.state ≡ lasting old.client.state
   pub epoch : new.epoch ≡ old.epoch
   pub last : new.client.state.last ≤ old.client.state.last + 1
-  pub acts : All IsShortAct old.plan → All IsShortAct new.plan
+  pub acts : All IsShortTask old.plan → All IsShortTask new.plan
 
 -- a client at set-up
 pub record IsFirstClient (s : Script) (n : ℕ) (seat : ClientSeat) : Type 0 where
   pub state : seat.client.state ≡ new_client 1 s.cache (user_at s n) (locations s)
   pub up : seat.is_away ≡ false
-  pub plan : seat.plan ≡ acts_of n s.tasks
+  pub plan : seat.plan ≡ tasks_of (Client n) s.tasks
   pub epoch : seat.epoch ≡ 1
   pub handed : IsHanded s n seat

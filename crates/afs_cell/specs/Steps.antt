@@ -1,16 +1,16 @@
 -- What the calls of a world promise.
 use Rattle.std.specs.Prelude.{◌≡◌, ◌+◌, ◌⊎◌, ◌↔◌, ℕ, List, [], ◌∷◌, ◌++◌, length, Bool, true, false, Option, Some, None, Result, Ok, Err, IsSome}
-use Rattle.afs_history.specs.declared.acts.Act.{Act}
+use Rattle.afs_history.specs.declared.scripts.Task.{Task}
 use Rattle.afs_history.specs.declared.scripts.Script.{Script}
 use Rattle.afs_disk.specs.declared.disks.Lent.{Lent}
 use Rattle.afs_num.specs.declared.types.Node.{Node}
-use Rattle.afs_num.specs.declared.types.Node.TheVariants.{Server}
+use Rattle.afs_num.specs.declared.types.Node.TheVariants.{Client, Server}
 use Rattle.afs_rows.specs.Runs.{begun_by_disk, moved, start, Cell, Fall, Input, MayBegin}
 use Rattle.afs_rows.specs.States.{ServerState}
 use Rattle.afs_server.specs.Seen.{lasting_of}
 use Rattle.afs_records.specs.Durable.{Durable}
 use Rattle.afs_volstore.specs.Stands.{Stands}
-use Rattle.afs_schedule.specs.Schedules.{events_of, first_turn, left_by, acts_of, AreFirst, AreInputs, Turn}
+use Rattle.afs_schedule.specs.Schedules.{events_of, first_turn, left_by, tasks_of, AreFirst, AreInputs, Turn}
 use Rattle.afs_cell.specs.Places.{Each}
 use Rattle.afs_text.specs.Telling.{told}
 use Rattle.afs_cell.specs.Worlds.{falls_at, most_entries, none_gone, seat_disk, AllTell, Counts, IsCell, IsSafe, Runs, ServerSeat, WorldState}
@@ -35,15 +35,15 @@ pub record IsFirst {D : Type 0} (seen : D → Option (List ℕ)) (may_leave : D 
   pub gone : w.gone ≡ none_gone
   pub clock : w.clock ≡ 0
   pub going : w.is_lost ≡ false
-  pub acts : Each (λ (n : ℕ) (seat : ClientSeat). acts_of n s.tasks ≡ seat.plan) w.clients
+  pub acts : Each (λ (n : ℕ) (seat : ClientSeat). tasks_of (Client n) s.tasks ≡ seat.plan) w.clients
   pub cell : AllTell seen w.servers → IsCell seen may_leave limit w (start s)
 
 -- ---- one event
 
--- the world stands for this cell, and these acts of its clients are left
-pub record IsAt {D : Type 0} (seen : D → Option (List ℕ)) (may_leave : D → List ℕ → Type 0) (limit : D → ℕ) (w : WorldState D) (c : Cell) (left : ℕ → List Act) : Type 0 where
+-- the world stands for this cell, and these tasks of its nodes are left
+pub record IsAt {D : Type 0} (seen : D → Option (List ℕ)) (may_leave : D → List ℕ → Type 0) (limit : D → ℕ) (w : WorldState D) (c : Cell) (left : Node → List Task) : Type 0 where
   pub cell : IsCell seen may_leave limit w c
-  pub acts : Each (λ (n : ℕ) (s : ClientSeat). left n ≡ s.plan) w.clients
+  pub acts : Each (λ (n : ℕ) (s : ClientSeat). left (Client n) ≡ s.plan) w.clients
 
 -- One entry more, that of such an input; the world stands for what comes of it. Where a server's disk fails by itself, that disk counts it.
 pub record Plays {D : Type 0} (seen : D → Option (List ℕ)) (may_leave : D → List ℕ → Type 0) (faults limit : D → ℕ) (is : Input → Type 0) (t : Turn) (old new : WorldState D) : Type 0 where
@@ -70,7 +70,7 @@ pub record TellsNothing {D : Type 0} (old new : WorldState D) : Type 0 where
 pub record StandsStill {D : Type 0} (seen : D → Option (List ℕ)) (may_leave : D → List ℕ → Type 0) (limit : D → ℕ) (old new : WorldState D) : Type 0 where
   pub lost_as : new.is_lost ≡ old.is_lost
   pub clients : new.clients ≡ old.clients
-  pub at : (c : Cell) (left : ℕ → List Act) → IsAt seen may_leave limit old c left → IsAt seen may_leave limit new c left
+  pub at : (c : Cell) (left : Node → List Task) → IsAt seen may_leave limit old c left → IsAt seen may_leave limit new c left
 
 -- Memory was wanting: the world can't go on, or is what it was. Its last entry was made: nothing changes.
 abbrev pub Stays : {D : Type 0} → (D → Option (List ℕ)) → (D → List ℕ → Type 0) → (D → ℕ) → WorldState D → WorldState D → WorldFault → Type 0

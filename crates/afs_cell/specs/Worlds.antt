@@ -7,6 +7,8 @@ use Rattle.afs_num.specs.declared.types.Node.TheVariants.{Server, Client}
 use Rattle.afs_num.specs.declared.types.Parcel.{Parcel}
 use Rattle.afs_history.specs.declared.lines.Entry as kept
 use Rattle.afs_history.specs.declared.scripts.Script.{Script}
+use Rattle.afs_history.specs.declared.scripts.Task.{Task}
+use Rattle.afs_history.specs.declared.scripts.Task.TheVariants as tasks
 use Rattle.afs_grammar.specs.CellScripts.{IsCellScript}
 use Rattle.afs_model.specs.Messages.{messages_spelled, parcels_read}
 use Rattle.afs_rows.specs.Going.{ClientState}
@@ -84,6 +86,11 @@ abbrev pub IsReadySeat : {D : Type 0} → ℕ → ℕ → ServerSeat D → Type 
 IsReadySeat {D} i entries (Up r) = IsReady i entries r
 IsReadySeat {D} i entries (Down s) = Unit {0}
 
+-- an act of a client is within its limits
+abbrev pub IsShortTask : Task → Type 0
+IsShortTask (tasks.Client n act) = IsShortAct act
+IsShortTask (tasks.Admin n act) = Unit {0}
+
 -- What a client was handed at its start, or when it began again, is the script's; so are the acts that it has not begun.
 pub record IsHanded (s : Script) (n : ℕ) (seat : ClientSeat) : Type 0 where
   pub node : seat.client.node ≡ Client n
@@ -91,7 +98,7 @@ pub record IsHanded (s : Script) (n : ℕ) (seat : ClientSeat) : Type 0 where
   pub capacity : seat.client.state.capacity ≡ s.cache
   pub user : seat.client.state.user ≡ user_at s n
   pub table : seat.client.state.table ≡ locations s
-  pub acts : All IsShortAct seat.plan
+  pub acts : All IsShortTask seat.plan
 
 -- A client can be given what comes next, too: no step makes more than one call, or begins more than one epoch.
 pub record IsReadyClient (s : Script) (n entries : ℕ) (seat : ClientSeat) : Type 0 where

@@ -3,14 +3,13 @@
 ghost use Rattle.std.specs.Prelude.{◌≡◌, ◌≤◌, ◌<◌, ◌+◌, ℕ, true, codes, is_some, IfOk};
 ghost use Rattle.std.specs.List.{All};
 ghost use Rattle.afs_num.specs.declared.types.Node.TheVariants.{Client};
-ghost use Rattle.afs_acts.specs.Acts.{IsShortAct};
 ghost use Rattle.afs_cache.specs.Managing.{number_limit};
 ghost use Rattle.afs_grammar.specs.CellScripts.{IsCellScript};
 ghost use Rattle.afs_rows.specs.ClientRow.{new_client};
 ghost use Rattle.afs_rows.specs.Runs.{locations, user_at, user_in};
 ghost use Rattle.afs_cell.specs.Happening.{ClientGoes, ClientHappens, ClientHears, ClientTakes, IsVoidClient};
 ghost use Rattle.afs_cell.specs.Seating.{awaits, GoesOn, IsFirstClient};
-ghost use Rattle.afs_cell.specs.Worlds.{IsHanded};
+ghost use Rattle.afs_cell.specs.Worlds.{IsHanded, IsShortTask};
 ghost use Rattle.afs_cell.specs.declared.happening.ClientInput.TheVariants as input;
 
 use crate::happening::{ClientInput, Happened};
@@ -76,7 +75,7 @@ impl<'a> ClientSeat<'a> {
             client: manager(alloc, script, client, 1)?,
             epoch: 1,
             is_away: false,
-            plan: Plan::of(alloc, client, script.tasks.as_slice())?,
+            plan: Plan::of(alloc, Node::Client(client), script.tasks.as_slice())?,
         })
     }
 
@@ -98,17 +97,18 @@ impl<'a> ClientSeat<'a> {
     }
 
     /// It begins its next act, if it is up and idle.
+    #[tactic(auto, using(crate::proofs::Shortened::first_short, crate::proofs::Shortened::rest_short))]
     fn begin(&mut self, client: u8, now: u32) -> Happened
         requires node { self.old.client.node ≡ Client client }
         requires last { self.old.client.state.last < number_limit }
-        requires short { All IsShortAct self.old.plan }
+        requires short { All IsShortTask self.old.plan }
         ensures happens { ClientHappens (IsVoidClient input.Act) (ClientTakes client now input.Act) self.old self.new result }
         ensures goes_on { GoesOn self.old self.new }
     {
         if self.is_away || self.is_busy() {
             return Happened::Nothing;
         }
-        let Some(act) = self.plan.next() else {
+        let Some(act) = self.plan.next_act() else {
             return Happened::Nothing;
         };
         match self.client.act(act, now) {

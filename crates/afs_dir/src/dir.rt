@@ -156,7 +156,8 @@ impl Dir {
         let mut bytes = Writer::new(self.alloc);
         bytes.word(self.names.len() as u32)?;
         write_names(&self.names, &mut bytes)?;
-        Octets::from_vec(bytes.into_vec()?)
+        let spelled = Octets::from_vec(bytes.into_vec()?)?;
+        Ok(spelled)
     }
 
     /// The directory that the bytes spell. Memory is taken once the count is known to be within its limit.

@@ -131,7 +131,8 @@ pub fn spelled_with(
     out.extend_from_slice(front)?;
     put_name(&mut out, name, vnode, unique)?;
     out.extend_from_slice(back)?;
-    Octets::from_vec(out)
+    let spelled = Octets::from_vec(out)?;
+    Ok(spelled)
 }
 
 /// The spelling of these names without the one in this place; `bytes` spell all of them.
@@ -147,5 +148,6 @@ pub fn spelled_without(alloc: Global, names: &[Name], bytes: &[u8], place: usize
     put_word(&mut out, names.len() as u32 - 1)?;
     out.extend_from_slice(front)?;
     out.extend_from_slice(back)?;
-    Octets::from_vec(out)
+    let spelled = Octets::from_vec(out)?;
+    Ok(spelled)
 }

@@ -40,13 +40,13 @@ decided_one None some = absurd (some refl)
 decided_one (Some r) some = (r, refl)
 
 -- a step that makes a record makes four device calls
-pub saves_calls : (boot clock : ℕ) (d : Decision) → (record_decided boot clock d ≡ None → ⊥) → device_calls d ≡ 4
-saves_calls boot clock drops some = absurd (some refl)
-saves_calls boot clock (tells_boot head) some = absurd (some refl)
-saves_calls boot clock (repeats reply) some = absurd (some refl)
-saves_calls boot clock (refuses head code) some = absurd (some refl)
-saves_calls boot clock (shows head r) some = absurd (some refl)
-saves_calls boot clock (saves head c) some = refl
+pub saves_calls : (s : ServerState) (clock : ℕ) (d : Decision) → (record_decided s.lasting.boot clock d ≡ None → ⊥) → device_calls s clock d ≡ 4
+saves_calls s clock drops some = absurd (some refl)
+saves_calls s clock (tells_boot head) some = absurd (some refl)
+saves_calls s clock (repeats reply) some = absurd (some refl)
+saves_calls s clock (refuses head code) some = absurd (some refl)
+saves_calls s clock (shows head r) some = absurd (some refl)
+saves_calls s clock (saves head c) some = refl
 
 -- What is known of a step that its disk ended, and of what a crash leaves after it.
 pub record Ended {D : Type 0} (seen : D → Option (List ℕ)) (may_leave : D → List ℕ → Type 0) (moment : D → ℕ) (left_since : D → ℕ → List ℕ → Type 0) (clock : ℕ) (found : Received) (old : Running D) (before after : D) : Type 0 where

@@ -9,7 +9,7 @@ use Rattle.afs_num.specs.declared.records.StoreRecord.{StoreRecord}
 use Rattle.afs_num.specs.declared.types.Node.{Node}
 use Rattle.afs_history.specs.declared.lines.Line.{Line}
 use Rattle.afs_shape.specs.Taking.{◌>>=◌}
-use Rattle.afs_records.specs.Durable.{bad_by, bad_from, effect_of, first_bad, first_folded, fold_all, fold_from, folded, mark_of, nothing_on, Durable, Effect, StandFor}
+use Rattle.afs_records.specs.Durable.{bad_by, bad_from, effect_of, first_bad, first_folded, fold_all, fold_from, folded, mark_of, nothing_on, Durable, StandFor}
 use Rattle.afs_records.specs.Records.{record_at, record_bytes}
 use Rattle.afs_records.proofs.Forms.{bound, some_is}
 use Rattle.afs_rows.specs.Runs.{at_rest, begun_by_disk, in_boot, in_step, Fall, MayFind}
@@ -46,7 +46,7 @@ none_bad capacity (b ∷ bs) d h =
 
 -- ---- the effect of the last record
 
-effect_from : (me : Node) (bs : List (List ℕ)) (bytes : List ℕ) (r : StoreRecord) (c d x : Durable) (e : Effect) → fold_from bs c ≡ Some d → record_at bytes ≡ Some r → folded r d ≡ Some x → last_from me (bs ++ bytes ∷ []) c e ≡ Some (effect_of me r d)
+effect_from : (me : Node) (bs : List (List ℕ)) (bytes : List ℕ) (r : StoreRecord) (c d x : Durable) (e : List Line) → fold_from bs c ≡ Some d → record_at bytes ≡ Some r → folded r d ≡ Some x → last_from me (bs ++ bytes ∷ []) c e ≡ Some (effect_of me r d)
 effect_from me [] bytes r c d x e h is takes =
     let same = some_is c d h in
     let first : last_from me (bytes ∷ []) c e ≡ (folded r c >>= λ after. last_from me [] after (effect_of me r c)) = ap (λ (o : Option StoreRecord). o >>= λ q. (folded q c >>= λ after. last_from me [] after (effect_of me q c))) is in
@@ -79,13 +79,13 @@ same_mark_is a b e =
 other_mark : (bs : List (List ℕ)) (bytes : List ℕ) (mark : Mark) → mark_of bs ≡ mark → same_mark (mark_of (bs ++ bytes ∷ [])) mark ≡ false
 other_mark bs bytes mark e = subst (λ (m : Mark). same_mark (mark_of (bs ++ bytes ∷ [])) m ≡ false) e (ne_eqb (length (bs ++ bytes ∷ [])) (length bs) (λ same. omega (arith, same, length-append bs (bytes ∷ []))))
 
-none_told : (mark : Mark) (records : List (List ℕ)) (o : Option Effect) (front : List Line) → same_mark (mark_of records) mark ≡ true → option_map (lines_unless_told mark records) o ≡ Some front → front ≡ []
+none_told : (mark : Mark) (records : List (List ℕ)) (o : Option (List Line)) (front : List Line) → same_mark (mark_of records) mark ≡ true → option_map (lines_unless_told mark records) o ≡ Some front → front ≡ []
 none_told mark records None front same h = absurd cc
-none_told mark records (Some e) front same h = sym (some_is _ front h) ∙ ap (λ (t : Bool). if t then [] else map in_words e.lines) same
+none_told mark records (Some e) front same h = sym (some_is _ front h) ∙ ap (λ (t : Bool). if t then [] else map in_words e) same
 
-last_told : (mark : Mark) (records : List (List ℕ)) (o : Option Effect) (e : Effect) (front : List Line) → same_mark (mark_of records) mark ≡ false → o ≡ Some e → option_map (lines_unless_told mark records) o ≡ Some front → front ≡ map in_words e.lines
+last_told : (mark : Mark) (records : List (List ℕ)) (o : Option (List Line)) (e : List Line) (front : List Line) → same_mark (mark_of records) mark ≡ false → o ≡ Some e → option_map (lines_unless_told mark records) o ≡ Some front → front ≡ map in_words e
 last_told mark records o e front other is h =
-    sym (some_is (lines_unless_told mark records e) front (ap (option_map (lines_unless_told mark records)) (sym is) ∙ h)) ∙ ap (λ (t : Bool). if t then [] else map in_words e.lines) other
+    sym (some_is (lines_unless_told mark records e) front (ap (option_map (lines_unless_told mark records)) (sym is) ∙ h)) ∙ ap (λ (t : Bool). if t then [] else map in_words e) other
 
 -- ---- what is found
 

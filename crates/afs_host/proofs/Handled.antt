@@ -31,6 +31,9 @@ Moves {D} s t = t ≡ record s { durable = t.durable; disk = t.disk; prepared = 
 abbrev the_decision : {D : Type 0} → Running D → ℕ → List ℕ → Decision
 the_decision {D} old clock bytes = decides old.store.node (server_seen old.memory old.store) clock (received_by calls_served bytes)
 
+abbrev the_calls : {D : Type 0} → Running D → ℕ → List ℕ → ℕ
+the_calls {D} old clock bytes = device_calls (server_seen old.memory old.store) clock (the_decision old clock bytes)
+
 -- what is known of a step that was made
 pub record Passed {D : Type 0} (clock : ℕ) (bytes : List ℕ) (old new : Running D) (outs : Outs) : Type 0 where
   pub step : (place : ℕ) → Makes (server_row old.store.node (server_seen old.memory old.store) clock place (received_by calls_served bytes)) (lines.Given place ∷ []) new.memory new.store outs
@@ -39,26 +42,26 @@ pub record Passed {D : Type 0} (clock : ℕ) (bytes : List ℕ) (old new : Runni
   pub store : Moves old.store new.store
   pub drawn : new.store.drawn ≤ old.store.drawn + 204
   pub owed : new.memory.lists.last_owed + length new.memory.lists.promises ≤ old.memory.lists.last_owed + length old.memory.lists.promises + 50
-  pub armed : new.armed ≡ lowered (device_calls (the_decision old clock bytes)) old.armed
-  pub calls : new.store.disk.calls ≡ old.store.disk.calls + device_calls (the_decision old clock bytes)
+  pub armed : new.armed ≡ lowered (the_calls old clock bytes) old.armed
+  pub calls : new.store.disk.calls ≡ old.store.disk.calls + the_calls old clock bytes
   pub most : new.store.disk.calls ≤ old.store.disk.calls + 4
   pub passes : PassesAll (record { stop = old.store.disk.stop; fail = old.store.disk.fail }) old.store.disk.calls new.store.disk.calls
   pub stop : new.store.disk.stop ≡ old.store.disk.stop
   pub fail : new.store.disk.fail ≡ old.store.disk.fail
 
 passed_so : {D : Type 0} (clock : ℕ) (bytes : List ℕ) (old new : Running D) (outs : Outs) → Passed clock bytes old new outs →
-    PassesAll (record { stop = old.store.disk.stop; fail = old.store.disk.fail }) old.store.disk.calls (old.store.disk.calls + device_calls (the_decision old clock bytes))
+    PassesAll (record { stop = old.store.disk.stop; fail = old.store.disk.fail }) old.store.disk.calls (old.store.disk.calls + the_calls old clock bytes)
 passed_so {D} clock bytes old new outs p = subst (PassesAll (record { stop = old.store.disk.stop; fail = old.store.disk.fail }) old.store.disk.calls) p.calls p.passes
 
 pub passed_step : {D : Type 0} (clock : ℕ) (bytes : List ℕ) (old new : Running D) (outs : Outs) → CanRun old → Passed clock bytes old new outs → (h : Host) → IsUp old h → (m : Message) → received bytes ≡ Whole m → (place : ℕ) →
     IsStepUp new (lines.Given place ∷ []) outs (served old.store.node h clock place steady m)
 passed_step {D} clock bytes old new outs can p h up m whole place =
     up_step old new h up old.store.node clock place m (received_by calls_served bytes) (p.found m whole) outs (p.step place) p.armed
-    (unstruck old.armed old.store.disk (device_calls (the_decision old clock bytes)) can.set (passed_so clock bytes old new outs p))
+    (unstruck old.armed old.store.disk (the_calls old clock bytes) can.set (passed_so clock bytes old new outs p))
 
 -- whatever the bytes are, it is the step of the row
 pub row_made : {D : Type 0} (clock : ℕ) (bytes : List ℕ) (old new : Running D) (outs : Outs) →
-    ((place : ℕ) → Makes (server_row old.store.node (server_seen old.memory old.store) clock place (received_by calls_served bytes)) (lines.Given place ∷ []) new.memory new.store outs) → new.armed ≡ lowered (device_calls (the_decision old clock bytes)) old.armed →
+    ((place : ℕ) → Makes (server_row old.store.node (server_seen old.memory old.store) clock place (received_by calls_served bytes)) (lines.Given place ∷ []) new.memory new.store outs) → new.armed ≡ lowered (the_calls old clock bytes) old.armed →
     RunsRow old clock bytes new (Ok outs)
 row_made {D} clock bytes old new outs step armed = λ h up place.
     let makes = step place in
@@ -75,7 +78,7 @@ passed_goes_on {D} clock bytes old new outs can p = record {
     up = ap (λ (t : Store (Fused D)). t.closed) p.store ∙ can.up;
     serves = p.serves;
     set = subst (λ (a : Armed). IsSet a new.store.disk) (sym p.armed)
-        (lowered_set old.armed old.store.disk new.store.disk (device_calls (the_decision old clock bytes)) can.set (passed_so clock bytes old new outs p) p.stop p.fail p.calls);
+        (lowered_set old.armed old.store.disk new.store.disk (the_calls old clock bytes) can.set (passed_so clock bytes old new outs p) p.stop p.fail p.calls);
   };
   adds = record { device_calls = p.most; drawn = p.drawn; owed = p.owed };
 }

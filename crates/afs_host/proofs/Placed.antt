@@ -37,7 +37,7 @@ by_blow c i place m (Some b) =
 -- a message is given
 given_up : (c : Cell) (i place : ℕ) (luck : Luck) (m : Message) (down : Option Fall) → down ≡ None →
     server_given c i place luck m down ≡ placed c i (served (Server i) (c.hosts i) c.clock place luck m)
-given_up c i place luck m down e = subst (λ (d : Option Fall). server_given c i place luck m d ≡ placed c i (served (Server i) (c.hosts i) c.clock place luck m)) (sym e) (by_blow c i place m (struck (c.hosts i).armed luck (device_calls (decided (Server i) (c.hosts i) c.clock m))))
+given_up c i place luck m down e = subst (λ (d : Option Fall). server_given c i place luck m d ≡ placed c i (served (Server i) (c.hosts i) c.clock place luck m)) (sym e) (by_blow c i place m (struck (c.hosts i).armed luck (device_calls (c.hosts i).state c.clock (decided (Server i) (c.hosts i) c.clock m))))
 
 pub moved_served : (c : Cell) (i place : ℕ) (luck : Luck) (m : Message) → message_at c.sent place ≡ Some m → m.head.to ≡ Server i → has_host c i ≡ true → (c.hosts i).down ≡ None →
     moved c (gives place luck) ≡ placed c i (served (Server i) (c.hosts i) c.clock place luck m)

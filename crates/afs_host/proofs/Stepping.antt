@@ -191,30 +191,30 @@ lowered_set {D} armed f t n set passes stop fail calls = record {
 }
 
 -- a step makes a record, by four device calls, or none
-pub made_calls : {D : Type 0} (boot clock : ℕ) (d : Decision) (s t : Store D) → IsDone (record_decided boot clock d) s t → (t.count - s.count) * 4 ≡ device_calls d
-made_calls {D} boot clock drops s t done = omega (arith, done.1)
-made_calls {D} boot clock (tells_boot head) s t done = omega (arith, done.1)
-made_calls {D} boot clock (repeats reply) s t done = omega (arith, done.1)
-made_calls {D} boot clock (refuses head code) s t done = omega (arith, done.1)
-made_calls {D} boot clock (shows head r) s t done = omega (arith, done.1)
-made_calls {D} boot clock (saves head c) s t done = omega (arith, done.1)
+pub made_calls : {D : Type 0} (x : ServerState) (clock : ℕ) (d : Decision) (s t : Store D) → IsDone (record_decided x.lasting.boot clock d) s t → (t.count - s.count) * 4 ≡ device_calls x clock d
+made_calls {D} x clock drops s t done = omega (arith, done.1)
+made_calls {D} x clock (tells_boot head) s t done = omega (arith, done.1)
+made_calls {D} x clock (repeats reply) s t done = omega (arith, done.1)
+made_calls {D} x clock (refuses head code) s t done = omega (arith, done.1)
+made_calls {D} x clock (shows head r) s t done = omega (arith, done.1)
+made_calls {D} x clock (saves head c) s t done = omega (arith, done.1)
 
 -- the step was made: the host's, where nothing hit it
 pub up_step : {D : Type 0} (old new : Running D) (h : Host) → IsUp old h → (me : Node) (clock place : ℕ) (m : Message) (found : Received) → FoundBy calls_served m found → (outs : Outs) →
     Makes (server_row me (server_seen old.memory old.store) clock place found) (lines.Given place ∷ []) new.memory new.store outs →
-    new.armed ≡ lowered (device_calls (decides me (server_seen old.memory old.store) clock found)) old.armed →
-    struck old.armed steady (device_calls (decides me (server_seen old.memory old.store) clock found)) ≡ None →
+    new.armed ≡ lowered (device_calls (server_seen old.memory old.store) clock (decides me (server_seen old.memory old.store) clock found)) old.armed →
+    struck old.armed steady (device_calls (server_seen old.memory old.store) clock (decides me (server_seen old.memory old.store) clock found)) ≡ None →
     IsStepUp new (lines.Given place ∷ []) outs (served me h clock place steady m)
 up_step {D} old new h up me clock place m found by outs makes armed none =
     let s = server_seen old.memory old.store in
     let same = same_row me s clock m found by in
-    let nothing = subst (λ (d : Decision). struck old.armed steady (device_calls d) ≡ None) same.decision none in
+    let nothing = subst (λ (d : Decision). struck old.armed steady (device_calls s clock d) ≡ None) same.decision none in
     as_up old h (λ (x : Host). IsStepUp new (lines.Given place ∷ []) outs (served me x clock place steady m)) up
     (subst (λ (b : Option Blow). IsStepUp new (lines.Given place ∷ []) outs (served_by me (record { state = s; down = None; armed = old.armed }) clock place m b)) (sym nothing) (record {
       host = record {
         state = ap (λ (x : Step ServerState). x.state) (sym (same.row place)) ∙ sym makes.state;
         down = refl;
-        armed = ap (λ (d : Decision). lowered (device_calls d) old.armed) (sym same.decision) ∙ sym armed;
+        armed = ap (λ (d : Decision). lowered (device_calls s clock d) old.armed) (sym same.decision) ∙ sym armed;
       };
       lines = makes.lines ∙ ap (λ (x : Step ServerState). x.lines) (same.row place);
       sent = makes.sent ∙ ap (λ (x : Step ServerState). messages_spelled x.sent) (same.row place);

@@ -43,7 +43,7 @@ fall_line me false = lines.Fault me
 -- it makes the step of its row on what it finds in the bytes that it is given, and what its disk is set to is lowered by the
 -- device calls of that
 abbrev pub given : Node → Host → ℕ → ℕ → Received → HostStep
-given me h clock place found = goes (lowered (device_calls (decides me h.state clock found)) h.armed) (server_row me h.state clock place found)
+given me h clock place found = goes (lowered (device_calls h.state clock (decides me h.state clock found)) h.armed) (server_row me h.state clock place found)
 
 abbrev pub decided : Node → Host → ℕ → Message → Decision
 decided me h clock m = decides me h.state clock (Whole m)
@@ -55,7 +55,7 @@ served_by me h clock place m (Some b) = falls h (lines.Given place ∷ fall_line
 
 -- given the message of this place, with this luck of its disk
 abbrev pub served : Node → Host → ℕ → ℕ → Luck → Message → HostStep
-served me h clock place luck m = served_by me h clock place m (struck h.armed luck (device_calls (decided me h clock m)))
+served me h clock place luck m = served_by me h clock place m (struck h.armed luck (device_calls h.state clock (decided me h clock m)))
 
 -- the disk fails by itself at no call, or at one of the step's, from the first on
 abbrev pub IsLuck : Luck → Type 0

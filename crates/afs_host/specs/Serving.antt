@@ -74,7 +74,7 @@ pub record IsBroken {D : Type 0} (seen : D → Option (List ℕ)) (left_by : D �
   pub reached : ReachesCall (record { stop = old.store.disk.stop; fail = old.store.disk.fail }) old.store.disk.calls new.store.disk.calls
   pub left : (m : Message) (b : Blow) → found ≡ Whole m → IsSome (seen (disk_of new)) → Trips (record { stop = old.store.disk.stop; fail = old.store.disk.fail }) new.store.disk.calls → (pick : ℕ) (c : List ℕ) → left_by (disk_of new) pick ≡ Some c
       → LiesAs old.store.node (server_seen old.memory old.store) (in_step m clock b) (count_mark old.store.count) (is_left_whole (new.store.disk.calls - old.store.disk.calls) pick) (whole_records c)
-  pub saves : (m : Message) → found ≡ Whole m → device_calls (decides old.store.node (server_seen old.memory old.store) clock (Whole m)) ≡ 4
+  pub saves : (m : Message) → found ≡ Whole m → device_calls (server_seen old.memory old.store) clock (decides old.store.node (server_seen old.memory old.store) clock (Whole m)) ≡ 4
   pub few : new.store.disk.calls ≤ old.store.disk.calls + 4
   pub stop : new.store.disk.stop ≡ old.store.disk.stop
   pub fail : new.store.disk.fail ≡ old.store.disk.fail

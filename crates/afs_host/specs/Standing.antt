@@ -44,7 +44,7 @@ pub record LiesAfter (me : Node) (s : ServerState) (fall : Fall) (mark : Mark) (
   pub made : record_of_fall me s fall ≡ Some last
   pub read_again : record_at (record_bytes last) ≡ Some last
   pub after : StandsFor records (begun_by_disk me s true fall).state.lasting
-  pub told : (ls : List Line) → (begun_by_disk me s true fall).before ls ≡ map in_words (effect_of me last before.before.durable).lines ++ ls
+  pub told : (ls : List Line) → (begun_by_disk me s true fall).before ls ≡ map in_words (effect_of me last before.before.durable) ++ ls
 
 -- the one or the other
 abbrev pub LiesAs : Node → ServerState → Fall → Mark → Bool → List (List ℕ) → Type 0

@@ -233,19 +233,19 @@ lines_up server n (v ∷ vs) up = kept_up (nat_eq v.server server) n v (placed_l
 abbrev begun : ℕ → Table Stored → Durable
 begun capacity t = durable_of (first_lasting capacity t)
 
-taken_by : (o : Option Durable) (n : ℕ) (d : Durable) → (o >>= λ e. Some (record e { journal = e.journal + n })) ≡ Some d → (e : Durable) × ((o ≡ Some e) × (d ≡ record e { journal = e.journal + n }))
+taken_by : (o : Option Durable) (n : ℕ) (d : Durable) → (o >>= λ e. Some (record e { journal = n })) ≡ Some d → (e : Durable) × ((o ≡ Some e) × (d ≡ record e { journal = n }))
 taken_by None n d h = absurd (none_is d h)
-taken_by (Some e) n d h = (e, (refl, sym (some_of (record e { journal = e.journal + n }) d h)))
+taken_by (Some e) n d h = (e, (refl, sym (some_of (record e { journal = n }) d h)))
 
 put_first : (b : Bool) (capacity : ℕ) (t : Table Stored) (ls : List VolumeLine) (d : Durable) → t ≡ firsts ls → AscendBy 0 ls → cond b (first_folded (record_of_volumes t) (nothing_on capacity)) None ≡ Some d → d ≡ begun capacity (firsts ls)
 unfolding folded AllBelow
 put_first false capacity t ls d is up h = absurd (none_is d h)
 put_first true capacity t ls d is up h =
-    let n : ℕ = place_length (record_of_volumes t) in
+    let n : ℕ = 1 + place_length (record_of_volumes t) in
     let r = taken_by (with_volumes (told_all t) (nothing_on capacity)) n d h in
     let e : Durable = r.0 in
     let volumes : e ≡ record (nothing_on capacity) { volumes = firsts ls } = volumes_back ls (nothing_on capacity) e 0 tt up (ap (λ (u : Table Stored). with_volumes (told_all u) (nothing_on capacity)) (sym is) ∙ r.1.0) in
-    r.1.1 ∙ (ap (λ (a : Durable). record a { journal = a.journal + n }) volumes ∙ ap (λ (u : Table Stored). record (begun capacity (firsts ls)) { journal = 1 + place_length (record_of_volumes u) }) is)
+    r.1.1 ∙ (ap (λ (a : Durable). record a { journal = n }) volumes ∙ ap (λ (u : Table Stored). record (begun capacity (firsts ls)) { journal = 1 + place_length (record_of_volumes u) }) is)
 
 laid_by : (o : Option (Table Stored)) (capacity : ℕ) (ls : List VolumeLine) (d : Durable) → volumes_laid ls [] ≡ o → AscendBy 0 ls
     → ((o >>= λ t. Some (record_of_volumes t)) >>= λ r. cond (has_room (nothing_on capacity) r) (first_folded r (nothing_on capacity)) None) ≡ Some d → d ≡ begun capacity (firsts ls)

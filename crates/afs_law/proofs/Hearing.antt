@@ -33,8 +33,8 @@ use Rattle.afs_num.specs.declared.types.Node.TheVariants.{Admin, Client, Loc, Se
 use Rattle.afs_rows.specs.Callbacks.{risen_turn, expired, put, replies_of, turned_in}
 use Rattle.afs_rows.specs.ClientRow.{boot_of, client_row}
 use Rattle.afs_rows.specs.Going.{ClientState, Going}
-use Rattle.afs_rows.specs.Runs.{is_away, Armed, Blow, Cell, Entry, Fall, Host, Input, Leads, Luck, Moved, Outcome, RunsTo, at_rest, back_timed, begins, begun_by, begun_by_disk, blow_line, client_moves, client_starts, client_stops, comes_up, decided_at, fails_early, fails_midway, given_at, given_to, gives, has_host, in_boot, in_step, is_full, message_at, moved, nothing, server_armed, server_ends, server_falls, server_given, server_moves, server_restarted, server_served, server_stopped, server_timed, server_waits, server_wakes, sets_fail, sets_stop, settled, start, starts_again, stops, struck, ticks, unarmed, voided, waited_by, waits, wakes}
-use Rattle.afs_rows.specs.ServerRow.{Begun, Decision, admits, begun_after, decides, device_calls, does, drops, hears, is_client, not_served, refuses, repeats, reply_head, saves, seat_for, serves_call, shows, tells_boot, whole}
+use Rattle.afs_rows.specs.Runs.{is_away, Armed, Blow, Cell, Entry, Fall, Host, Input, Leads, Luck, Moved, Outcome, RunsTo, at_rest, back_timed, begins, begun_by, begun_by_disk, blow_line, client_moves, client_starts, client_stops, comes_up, calls_at, fails_early, fails_midway, given_at, given_to, gives, has_host, in_boot, in_step, is_full, message_at, moved, nothing, server_armed, server_ends, server_falls, server_given, server_moves, server_restarted, server_served, server_stopped, server_timed, server_waits, server_wakes, sets_fail, sets_stop, settled, start, starts_again, stops, struck, ticks, unarmed, voided, waited_by, waits, wakes}
+use Rattle.afs_rows.specs.ServerRow.{Begun, Decision, admits, begun_after, decides, does, drops, hears, is_client, not_served, refuses, repeats, reply_head, saves, seat_for, serves_call, shows, tells_boot, whole}
 use Rattle.afs_rows.specs.ServerSteps.{back_timeout_row, server_row, start_row, wake_row}
 use Rattle.afs_rows.specs.States.{BackCall, Seat, ServerState}
 use Rattle.afs_rows.specs.Steps.{Step}
@@ -457,7 +457,7 @@ served_hears c past i place m None H S up to at = serves_hears c past i place _ 
 served_hears c past i place m (Some b) H S up to at = cut_hears c past i place m b H S up to at
 
 received_hears : (c : Cell) (past : List Entry) (i place : ℕ) (luck : Luck) (m : Message) (d : Option Fall) → HearsIn c past → StandsIn c (lines_of past) → (c.hosts i).down ≡ d → m.head.to ≡ Server i → message_at c.sent place ≡ Some m → After past (server_given c i place luck m d)
-received_hears c past i place luck m None H S up to at = served_hears c past i place m (struck (c.hosts i).armed luck (device_calls (decided_at c i m))) H S up to at
+received_hears c past i place luck m None H S up to at = served_hears c past i place m (struck (c.hosts i).armed luck (calls_at c i m)) H S up to at
 received_hears c past i place luck m (Some fall) H S up to at = void_hears c past H
 
 -- down, where nothing is given

@@ -10,6 +10,7 @@ use Rattle.afs_num.specs.declared.calls.FsCall.{FsCall}
 use Rattle.afs_num.specs.declared.types.Head.{Head}
 use Rattle.afs_num.specs.declared.types.Node.{Node}
 use Rattle.afs_num.specs.declared.types.Node.TheVariants.{Server}
+use Rattle.afs_records.specs.Entries.{entry_of_line}
 use Rattle.afs_rows.specs.ClientRow.{server_at, server_or_first}
 use Rattle.afs_rows.specs.Runs.{Cell, Entry, counts_later, location_by, locations, locations_in}
 use Rattle.afs_rows.specs.States.{Location}
@@ -28,7 +29,7 @@ abbrev pub IsPlaced : ℕ → List VolumeLine → List Location → Type 0
 IsPlaced id vs table = is_at id (Server (server_at table id)) vs ⊎ ((q : Node) → is_at id q vs → ⊥)
 
 found_at : (t : Bool) (id : ℕ) (v : VolumeLine) (vs : List VolumeLine) (table : List Location) → nat_eq v.id id ≡ t → counts_later v.id vs ≡ false → IsPlaced id vs table
-    → (is_at id (Server (server_or_first (cond t (Some (record { name = v.name; id = v.id; server = v.server })) (find (λ (l : Location). nat_eq l.id id) table)))) (v ∷ vs)) ⊎ ((q : Node) → is_at id q (v ∷ vs) → ⊥)
+    → (is_at id (Server (server_or_first (cond t (Some (entry_of_line v)) (find (λ (l : Location). nat_eq l.read_write id) table)))) (v ∷ vs)) ⊎ ((q : Node) → is_at id q (v ∷ vs) → ⊥)
 found_at true id v vs table e f h = inl (inl (f, (eqb-true v.id id e, refl)))
 found_at false id v vs table e f (inl x) = inl (inr x)
 found_at false id v vs table e f (inr away) = inr (λ q z. elim z [

@@ -149,7 +149,7 @@ as_versioned (v ∷ vs) = ap (λ (ls : List Line). lines.Version v ∷ ls) (as_v
 
 -- what its record tells
 pub effect_told : (me : Node) (l : Lasting) (head : Head) (clock : ℕ) (c : Change) → get c.id l.volumes ≡ Some c.before → IsOneChange c.id c.edits c.before.volume → CanBeStored c.id c.edits c.before.volume →
-    (effect_of me (record_of l.boot head clock c) (durable_of l)).lines ≡ lines.Change me (key_of head) (length (made c)) ∷ versioned (made c) []
+    effect_of me (record_of l.boot head clock c) (durable_of l) ≡ lines.Change me (key_of head) (length (made c)) ∷ versioned (made c) []
 effect_told me l head clock c there one can =
     let before : Volume = c.before.volume in
     let after : Volume = counted (edited_all c.id c.edits before) in

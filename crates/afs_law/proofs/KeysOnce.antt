@@ -12,8 +12,8 @@ use Rattle.afs_law.specs.Once.{AreOnce, ChangesOnce, past_of}
 use Rattle.afs_law.specs.Past.{IsLatest, IsUpTo, HasCode, IsCall, answered_key, called_key, lines_of, onto, same_key}
 use Rattle.afs_rows.specs.Callbacks.{put, replies_of}
 use Rattle.afs_rows.specs.Going.{ClientState, Going}
-use Rattle.afs_rows.specs.Runs.{is_away, Armed, Blow, Cell, Entry, Fall, Host, Input, Leads, Luck, Moved, Outcome, RunsTo, at_rest, back_timed, begins, begun_by, begun_by_disk, blow_line, client_moves, client_starts, client_stops, comes_up, decided_at, fails_early, fails_midway, given_at, given_to, gives, has_host, in_boot, in_step, is_full, message_at, moved, nothing, server_armed, server_ends, server_given, server_moves, server_restarted, server_served, server_stopped, server_timed, server_waits, server_wakes, sets_fail, sets_stop, settled, start, starts_again, stops, struck, ticks, unarmed, voided, waited_by, waits, wakes}
-use Rattle.afs_rows.specs.ServerRow.{Begun, device_calls, key_of}
+use Rattle.afs_rows.specs.Runs.{is_away, Armed, Blow, Cell, Entry, Fall, Host, Input, Leads, Luck, Moved, Outcome, RunsTo, at_rest, back_timed, begins, begun_by, begun_by_disk, blow_line, client_moves, client_starts, client_stops, comes_up, calls_at, fails_early, fails_midway, given_at, given_to, gives, has_host, in_boot, in_step, is_full, message_at, moved, nothing, server_armed, server_ends, server_given, server_moves, server_restarted, server_served, server_stopped, server_timed, server_waits, server_wakes, sets_fail, sets_stop, settled, start, starts_again, stops, struck, ticks, unarmed, voided, waited_by, waits, wakes}
+use Rattle.afs_rows.specs.ServerRow.{Begun, key_of}
 use Rattle.afs_rows.specs.States.{Seat, BackCall, ServerState}
 use Rattle.afs_rows.specs.Steps.{Step}
 use Rattle.afs_model.specs.Calls as pairs
@@ -257,7 +257,7 @@ served_keeps c o i place m None S h =
 served_keeps c o i place m (Some b) S h = falls_keeps c o i (Some (in_step m c.clock b)) unarmed (lines.Given place ∷ blow_line i b.stops ∷ []) S (blow_none i b.stops) h
 
 received_keeps : (c : Cell) (o : List Line) (i place : ℕ) (luck : Luck) (m : Message) (d : Option Fall) → (S : StandsIn c o) → IfCall (λ h user call. IsKnown S.callees c.clients h.to (key_of h)) m → Keeps o (server_given c i place luck m d)
-received_keeps c o i place luck m None S h = served_keeps c o i place m (struck (c.hosts i).armed luck (device_calls (decided_at c i m))) S h
+received_keeps c o i place luck m None S h = served_keeps c o i place m (struck (c.hosts i).armed luck (calls_at c i m)) S h
 received_keeps c o i place luck m (Some fall) S h = nothing_keeps c o S
 
 stopped_keeps : (c : Cell) (o : List Line) (i : ℕ) (d : Option Fall) → StandsIn c o → Keeps o (server_stopped c i d)

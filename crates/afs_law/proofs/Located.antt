@@ -16,6 +16,7 @@ use Rattle.afs_num.specs.declared.histories.ReadBody.{ReadBody}
 use Rattle.afs_num.specs.declared.types.Fid.{Fid}
 use Rattle.afs_num.specs.declared.types.Node.TheVariants.{Server}
 use Rattle.afs_num.specs.declared.types.Node.{Node}
+use Rattle.afs_records.specs.Entries.{entry_of_line}
 use Rattle.afs_rows.specs.ClientRow.{server_at}
 use Rattle.afs_rows.specs.Going.{Going, Homes, began, homes_of, id_of, read_on, volume_at}
 use Rattle.afs_rows.specs.Runs.{counts_later, location_by, locations, locations_in}
@@ -30,22 +31,19 @@ use Rattle.std.specs.Str.{bytes_eq}
 abbrev pub IsLaid : List VolumeLine → ℕ → Type 0
 IsLaid vs id = (q : Node) × is_at id q vs
 
-abbrev location_of : VolumeLine → Location
-location_of v = record { name = v.name; id = v.id; server = v.server }
-
 abbrev IsFoundIn : (Location → Bool) → List VolumeLine → Location → Type 0
-IsFoundIn test vs l = IsLaid vs l.id × (test l ≡ true)
+IsFoundIn test vs l = IsLaid vs l.read_write × (test l ≡ true)
 
 found_later : (test : Location → Bool) (v : VolumeLine) (vs : List VolumeLine) (l : Location) → IsFoundIn test vs l → IsFoundIn test (v ∷ vs) l
 found_later test v vs l x = ((x.0.0, inr x.0.1), x.1)
 
-found_here : (t : Bool) (test : Location → Bool) (v : VolumeLine) (vs : List VolumeLine) (l : Location) → test (location_of v) ≡ t → counts_later v.id vs ≡ false → cond t (Some (location_of v)) (find test (locations_in vs)) ≡ Some l → (find test (locations_in vs) ≡ Some l → IsFoundIn test vs l) → IsFoundIn test (v ∷ vs) l
-found_here true test v vs l t c e w = subst (IsFoundIn test (v ∷ vs)) (some_of (location_of v) l e) ((Server v.server, inl (c, (refl, refl))), t)
+found_here : (t : Bool) (test : Location → Bool) (v : VolumeLine) (vs : List VolumeLine) (l : Location) → test (entry_of_line v) ≡ t → counts_later v.id vs ≡ false → cond t (Some (entry_of_line v)) (find test (locations_in vs)) ≡ Some l → (find test (locations_in vs) ≡ Some l → IsFoundIn test vs l) → IsFoundIn test (v ∷ vs) l
+found_here true test v vs l t c e w = subst (IsFoundIn test (v ∷ vs)) (some_of (entry_of_line v) l e) ((Server v.server, inl (c, (refl, refl))), t)
 found_here false test v vs l t c e w = found_later test v vs l (w e)
 
 found_by : (t : Bool) (test : Location → Bool) (v : VolumeLine) (vs : List VolumeLine) (l : Location) → counts_later v.id vs ≡ t → find test (location_by t v (locations_in vs)) ≡ Some l → (find test (locations_in vs) ≡ Some l → IsFoundIn test vs l) → IsFoundIn test (v ∷ vs) l
 found_by true test v vs l c e w = found_later test v vs l (w e)
-found_by false test v vs l c e w = found_here (test (location_of v)) test v vs l refl c e w
+found_by false test v vs l c e w = found_here (test (entry_of_line v)) test v vs l refl c e w
 
 found_in : (test : Location → Bool) (vs : List VolumeLine) (l : Location) → find test (locations_in vs) ≡ Some l → IsFoundIn test vs l
 found_in test [] l e = absurd cc
@@ -81,12 +79,12 @@ AreHomesOf K h (acts.SetAccessList o text) = IsHomeOf K h.first o
 AreHomesOf K h (acts.GetAccessList o) = IsHomeOf K h.first o
 AreHomesOf K h acts.GiveUp = ⊤
 
-laid_by : (test : Location → Bool) (vs : List VolumeLine) (o : Option Location) (id : ℕ) → find test (locations_in vs) ≡ o → id_of o ≡ Some id → (l : Location) × ((l.id ≡ id) × IsFoundIn test vs l)
+laid_by : (test : Location → Bool) (vs : List VolumeLine) (o : Option Location) (id : ℕ) → find test (locations_in vs) ≡ o → id_of o ≡ Some id → (l : Location) × ((l.read_write ≡ id) × IsFoundIn test vs l)
 laid_by test vs None id e is = absurd cc
-laid_by test vs (Some l) id e is = (l, (some_of l.id id is, found_in test vs l e))
+laid_by test vs (Some l) id e is = (l, (some_of l.read_write id is, found_in test vs l e))
 
 operand_laid : (vs : List VolumeLine) (o : Operand) → IsHomeOf (IsLaid vs) (volume_at (locations_in vs) o) o
-operand_laid vs (operands.Fid f) = λ id e. let x = laid_by (λ (l : Location). nat_eq l.id f.volume) vs (find (λ (l : Location). nat_eq l.id f.volume) (locations_in vs)) id refl e in subst (IsLaid vs) (eqb-true x.0.id f.volume x.1.1.1) x.1.1.0
+operand_laid vs (operands.Fid f) = λ id e. let x = laid_by (λ (l : Location). nat_eq l.read_write f.volume) vs (find (λ (l : Location). nat_eq l.read_write f.volume) (locations_in vs)) id refl e in subst (IsLaid vs) (eqb-true x.0.read_write f.volume x.1.1.1) x.1.1.0
 operand_laid vs (operands.Path p) = λ id e. let x = laid_by (λ (l : Location). bytes_eq l.name p.volume) vs (find (λ (l : Location). bytes_eq l.name p.volume) (locations_in vs)) id refl e in subst (IsLaid vs) x.1.0 x.1.1.0
 
 pub homes_laid : (vs : List VolumeLine) (act : Act) → AreHomesOf (IsLaid vs) (homes_of (locations_in vs) act) act

@@ -15,8 +15,8 @@ use Rattle.afs_num.specs.declared.types.Node.{Node}
 use Rattle.afs_num.specs.declared.types.Node.TheVariants.{Admin, Client, Loc, Server}
 use Rattle.afs_rows.specs.Callbacks.{put}
 use Rattle.afs_rows.specs.Going.{Going}
-use Rattle.afs_rows.specs.Runs.{Armed, Blow, Cell, Entry, Fall, Input, Leads, Luck, Moved, Outcome, RunsTo, back_timed, begins, begun_by, begun_by_disk, client_starts, client_stops, comes_up, decided_at, fails_early, fails_midway, given_at, given_to, gives, has_client, has_host, is_away, is_full, message_at, moved, nothing, server_armed, server_ends, server_given, server_restarted, server_served, server_stopped, server_timed, server_waits, server_wakes, sets_fail, sets_stop, settled, start, starts_again, stops, struck, ticks, voided, waited_by, waits, wakes}
-use Rattle.afs_rows.specs.ServerRow.{Begun, device_calls}
+use Rattle.afs_rows.specs.Runs.{Armed, Blow, Cell, Entry, Fall, Input, Leads, Luck, Moved, Outcome, RunsTo, back_timed, begins, begun_by, begun_by_disk, client_starts, client_stops, comes_up, calls_at, fails_early, fails_midway, given_at, given_to, gives, has_client, has_host, is_away, is_full, message_at, moved, nothing, server_armed, server_ends, server_given, server_restarted, server_served, server_stopped, server_timed, server_waits, server_wakes, sets_fail, sets_stop, settled, start, starts_again, stops, struck, ticks, voided, waited_by, waits, wakes}
+use Rattle.afs_rows.specs.ServerRow.{Begun}
 use Rattle.afs_rows.specs.States.{BackCall}
 use Rattle.std.proofs.Common.{zero, suc, ◌≡◌, ℕ, ◌<◌, ◌≤◌, arith, ltb-true, Bool, true, false, cond, List, [], ◌∷◌, Option, Some, None, refl, sym, subst, ◌∙◌}
 use Rattle.std.specs.Prelude.{not, ◌||◌}
@@ -75,7 +75,7 @@ served_stays s c i place m None H is = record { of = is; nodes = kept s c _ refl
 served_stays s c i place m (Some b) H is = record { of = is; nodes = kept s c _ refl refl refl H }
 
 received_stays : (s : Script) (c : Cell) (i place : ℕ) (luck : Luck) (m : Message) (d : Option Fall) → HasNodes s c → (1 ≤ i) × (i ≤ s.servers) → Stays s (server_given c i place luck m d)
-received_stays s c i place luck m None H is = served_stays s c i place m (struck (c.hosts i).armed luck (device_calls (decided_at c i m))) H is
+received_stays s c i place luck m None H is = served_stays s c i place m (struck (c.hosts i).armed luck (calls_at c i m)) H is
 received_stays s c i place luck m (Some fall) H is = void_stays s c H
 
 to_stays : (s : Script) (c : Cell) (place : ℕ) (luck : Luck) (m : Message) (to : Node) → HasNodes s c → Stays s (given_to c place luck m to)

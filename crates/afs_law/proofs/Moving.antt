@@ -8,8 +8,7 @@ use Rattle.afs_num.specs.declared.types.Node.{Node}
 use Rattle.afs_num.specs.declared.types.Node.TheVariants.{Admin, Client, Loc, Server}
 use Rattle.afs_rows.specs.ClientRow.{begin_row, client_row, timeout_row}
 use Rattle.afs_rows.specs.Going.{Going}
-use Rattle.afs_rows.specs.Runs.{Armed, Blow, Cell, Entry, Fall, Input, Leads, Luck, Moved, Outcome, at_rest, back_timed, begins, begun_by, begun_by_disk, blow_line, client_falls, client_moves, client_rises, client_starts, client_stops, comes_up, decided_at, fails_early, fails_midway, given_at, given_to, gives, has_host, in_boot, in_step, is_away, is_full, message_at, moved, nothing, server_armed, server_ends, server_falls, server_given, server_moves, server_restarted, server_rises, server_served, server_set, server_stays, server_stopped, server_timed, server_waits, server_wakes, sets_fail, sets_stop, settled, starts_again, stops, struck, ticked, ticks, voided, waited_by, waits, wakes}
-use Rattle.afs_rows.specs.ServerRow.{device_calls}
+use Rattle.afs_rows.specs.Runs.{Armed, Blow, Cell, Entry, Fall, Input, Leads, Luck, Moved, Outcome, at_rest, back_timed, begins, begun_by, begun_by_disk, blow_line, client_falls, client_moves, client_rises, client_starts, client_stops, comes_up, calls_at, fails_early, fails_midway, given_at, given_to, gives, has_host, in_boot, in_step, is_away, is_full, message_at, moved, nothing, server_armed, server_ends, server_falls, server_given, server_moves, server_restarted, server_rises, server_served, server_set, server_stays, server_stopped, server_timed, server_waits, server_wakes, sets_fail, sets_stop, settled, starts_again, stops, struck, ticked, ticks, voided, waited_by, waits, wakes}
 use Rattle.afs_rows.specs.ServerSteps.{back_timeout_row, server_row, wake_row}
 use Rattle.afs_rows.specs.States.{BackCall}
 use Rattle.std.proofs.Common.{zero, suc, ◌≡◌, ℕ, Bool, true, false, cond, List, [], ◌∷◌, Option, Some, None, refl, sym, subst}
@@ -51,7 +50,7 @@ served_by Q M E c past i place m None h up at to = E.served c past i place m _ h
 served_by Q M E c past i place m (Some b) h up at to = E.cut c past i place m b h up at to
 
 received_by : (Q : Cell → List Entry → Type 0) (M : Cell → List Entry → Moved → Type 0) (E : EachMove Q M) (c : Cell) (past : List Entry) (i place : ℕ) (luck : Luck) (m : Message) (d : Option Fall) → Q c past → (c.hosts i).down ≡ d → message_at c.sent place ≡ Some m → m.head.to ≡ Server i → M c past (server_given c i place luck m d)
-received_by Q M E c past i place luck m None h up at to = served_by Q M E c past i place m (struck (c.hosts i).armed luck (device_calls (decided_at c i m))) h up at to
+received_by Q M E c past i place luck m None h up at to = served_by Q M E c past i place m (struck (c.hosts i).armed luck (calls_at c i m)) h up at to
 received_by Q M E c past i place luck m (Some fall) h up at to = E.void c past h
 
 to_by : (Q : Cell → List Entry → Type 0) (M : Cell → List Entry → Moved → Type 0) (E : EachMove Q M) (c : Cell) (past : List Entry) (place : ℕ) (luck : Luck) (m : Message) (to : Node) → Q c past → message_at c.sent place ≡ Some m → m.head.to ≡ to → M c past (given_to c place luck m to)

@@ -35,7 +35,7 @@ use Rattle.afs_num.specs.declared.types.Fid.{Fid}
 use Rattle.afs_num.specs.declared.types.Head.{Head}
 use Rattle.afs_num.specs.declared.types.Node.{Node}
 use Rattle.afs_num.specs.declared.types.Node.TheVariants.{Admin, Client, Loc, Server}
-use Rattle.afs_rows.specs.ClientRow.{Walked, admits_call, asking, awaits, begin_row, begins_by, behind_batch, body_told, breaks, call_by, call_of, callee_by, client_row, counts, dropped, ended, entries_told, entry_told, find_cached, gift_of, gifts_to, given, gives_by, goes_by, hears, in_order, is_awaited, is_below, is_busy_code, is_older, is_spent, is_trusted, joined, left_after, left_in, look_at, looked, most_busy, most_reads, put_entries, put_entry, read_lines, refreshed, runs_carried, server_at, server_or_first, status_told, status_look, takes, takes_bulk, takes_data, takes_entry, takes_given, takes_list, takes_set, takes_shown, takes_status, timeout_row, trusted_in, untrusted_in, used_first, volume_asked, walked, walks_on, whole, with_statuses}
+use Rattle.afs_rows.specs.ClientRow.{Walked, admits_call, asking, awaits, begin_row, begins_by, behind_batch, body_told, breaks, call_by, call_of, callee_by, client_row, counts, dropped, ended, entries_told, entry_told, find_cached, gift_of, gifts_to, given, gives_by, goes_by, hears, in_order, is_awaited, is_below, is_busy_code, is_older, is_spent, is_trusted, joined, left_after, left_in, look_at, looked, most_busy, most_reads, put_entries, put_entry, read_lines, refreshed, runs_carried, server_at, home_of, server_or_first, status_told, status_look, takes, takes_bulk, takes_data, takes_entry, takes_given, takes_list, takes_set, takes_shown, takes_status, timeout_row, trusted_in, untrusted_in, used_first, volume_asked, walked, walks_on, whole, with_statuses}
 use Rattle.afs_rows.specs.Going.{ClientState, Going, Need, answers, began, call_for, gives_back, next, with_read}
 use Rattle.afs_rows.specs.Runs.{counts_later, location_by, locations, locations_in}
 use Rattle.afs_rows.specs.Scopes.{is_in_scope}
@@ -306,7 +306,7 @@ trusted_ours' clock es h = ours_filter (is_trusted clock) es h
 
 abbrev AreAt : List Location → Type 0
 AreAt [] = ⊤
-AreAt (l ∷ ls) = IsOurs (Server l.server) × AreAt ls
+AreAt (l ∷ ls) = IsOurs (Server (home_of l)) × AreAt ls
 
 located : (t : Bool) (v : VolumeLine) (ls : List Location) → IsOurs (Server v.server) → AreAt ls → AreAt (location_by t v ls)
 located true v ls h k = k
@@ -316,13 +316,13 @@ all_located : (n : ℕ) (vs : List VolumeLine) → n ≤ 8 → AreInCell n vs �
 all_located n [] le h = tt
 all_located n (v ∷ vs) le h = located (counts_later v.id vs) v (locations_in vs) (h.0.0, (let a : v.server ≤ n = h.0.1 in omega arith)) (all_located n vs le h.1)
 
-near_by : (t : Bool) (l : Location) (o : Option Location) → IsOurs (Server l.server) → IsOurs (Server (server_or_first o)) → IsOurs (Server (server_or_first (cond t (Some l) o)))
+near_by : (t : Bool) (l : Location) (o : Option Location) → IsOurs (Server (home_of l)) → IsOurs (Server (server_or_first o)) → IsOurs (Server (server_or_first (cond t (Some l) o)))
 near_by true l o h k = h
 near_by false l o h k = k
 
 near_in : (ls : List Location) (id : ℕ) → AreAt ls → IsOurs (Server (server_at ls id))
 near_in [] id h = (omega arith, omega arith)
-near_in (l ∷ ls) id h = near_by (nat_eq l.id id) l (find (λ x. nat_eq x.id id) ls) h.0 (near_in ls id h.1)
+near_in (l ∷ ls) id h = near_by (nat_eq l.read_write id) l (find (λ x. nat_eq x.read_write id) ls) h.0 (near_in ls id h.1)
 
 pub near_all : (s : Script) → IsOfCell s → (id : ℕ) → IsOurs (Server (server_at (locations s) id))
 near_all s h id = near_in (locations s) id (all_located s.servers s.volumes h.servers h.volumes)

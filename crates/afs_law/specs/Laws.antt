@@ -268,7 +268,7 @@ ChangesAreFolded = (l : Lasting) (head : Head) (clock : ℕ) (c : Change) → ge
 -- What the record of one change tells, as a restart tells it after a step that was interrupted, is what the step tells of it.
 abbrev pub EffectsAreTold : Type 0
 EffectsAreTold = (me : Node) (l : Lasting) (head : Head) (clock : ℕ) (c : Change) → get c.id l.volumes ≡ Some c.before → IsOneChange c.id c.edits c.before.volume → CanBeStored c.id c.edits c.before.volume →
-    (effect_of me (record_of l.boot head clock c) (durable_of l)).lines ≡ lines.Change me (key_of head) (length (made c)) ∷ versioned (made c) []
+    effect_of me (record_of l.boot head clock c) (durable_of l) ≡ lines.Change me (key_of head) (length (made c)) ∷ versioned (made c) []
 
 -- what a start leaves is the fold of its record
 abbrev pub StartsAreFolded : Type 0

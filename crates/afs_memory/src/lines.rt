@@ -241,7 +241,7 @@ impl State {
     /// What a record tells, before it is done.
     pub fn lines(&self, server: Node, head: &RecordHead, redo: &Redo) -> Mem<Lines>
         requires { IsReady redo.now }
-        ensures { IfOk result (λ ls. ls ≡ map in_words (effect_by server head.now (body_of redo.now) (parts_of self.now)).lines) }
+        ensures { IfOk result (λ ls. ls ≡ map in_words (effect_by server head.now (body_of redo.now) (parts_of self.now))) }
     {
         match redo {
             Redo::Change(id, change) => {

@@ -2,7 +2,7 @@
 //! rises only where a call fails: so neither a fault that didn't come nor one that did can be told otherwise by a caller. The sources and
 //! sinks over a process's streams do the counting, and no contract says when a stream fails.
 
-ghost use Rattle.std.specs.Prelude.{◌≡◌, ◌≢◌, ◌+◌, ◌<◌, ◌≤◌, [], Err, length, IfOk, OnOk, OnErr, Option, List, ℕ};
+ghost use Rattle.std.specs.Prelude.{◌≡◌, ◌≢◌, ◌+◌, ◌<◌, ◌≤◌, [], Err, length, IfErr, IfOk, OnOk, OnErr, Option, List, ℕ};
 ghost use Rattle.std.specs.Io.{ReadsAtMost, WritesAtMost};
 ghost use Rattle.std.specs.Io.KnownBytes.{Appends, IsAtEnd, Keeps, ReadConsumes, WriteAppends};
 ghost use Rattle.afs_outside.specs.Outside.{Rose, HasCause, HadAll, IfTooLong, UnlessFailed, TakesTooMuch, TakesAtMost, TakesPiece, AppendsFront, Puts};
@@ -96,7 +96,8 @@ fn read_piece<S: Source>(
 
 /// The bytes that were taken.
 fn as_octets(bytes: Vec<u8>) -> Result<Octets, ReadError>
-    ensures { result ≡ Ok bytes.items ⊎ result ≡ Err ReadError.OutOfMemory }
+    ensures ok { IfOk result (λ octets. octets ≡ bytes.items) }
+    ensures err { IfErr result (λ e. e ≡ ReadError.OutOfMemory) }
 {
     match Octets::from_vec(bytes) {
         Ok(bytes) => Ok(bytes),

@@ -10,7 +10,7 @@ use Rattle.afs_num.specs.declared.records.RecordBody.{RecordBody}
 use Rattle.afs_num.specs.declared.records.RecordBody.TheVariants as bodies
 use Rattle.afs_num.specs.declared.records.StoreRecord.{StoreRecord}
 use Rattle.afs_records.specs.Records.{record_bytes, record_at, FitsRecord}
-use Rattle.afs_records.specs.Durable.{Stored, Durable, nothing_on, place_length, with_stored, stored_of, with_volumes, changed_stored, replaced, booted, body_taken, with_stamp, with_reply, noted, longer, folded, first_folded, fold_from, fold_all, StandFor}
+use Rattle.afs_records.specs.Durable.{Stored, Durable, nothing_on, placing, with_journal, with_stored, stored_of, with_volumes, changed_stored, replaced, booted, body_taken, with_stamp, with_reply, noted, folded, first_folded, fold_from, fold_all, StandFor}
 use Rattle.afs_records.proofs.Forms.{bound, some_is}
 use Rattle.afs_records.proofs.Spelled.{record_read}
 
@@ -59,8 +59,8 @@ noted_keeps h d = reply_keeps h.caller h (with_stamp h d) ∙ stamp_keeps (nat_e
 folded_keeps : (r : StoreRecord) (d e : Durable) → folded r d ≡ Some e → e.capacity ≡ d.capacity
 unfolding folded
 folded_keeps r d e h =
-    let a = bound (body_taken r.body d) (λ f. Some (longer (place_length r) (noted r.head f))) e h in
-    ap (λ (x : Durable). x.capacity) (sym (some_is (longer (place_length r) (noted r.head a.0)) e a.1.1)) ∙ (noted_keeps r.head a.0 ∙ body_keeps r.body d a.0 a.1.0)
+    let a = bound (body_taken r.body d) (λ f. Some (with_journal (placing d r).journal (noted r.head f))) e h in
+    ap (λ (x : Durable). x.capacity) (sym (some_is (with_journal (placing d r).journal (noted r.head a.0)) e a.1.1)) ∙ (noted_keeps r.head a.0 ∙ body_keeps r.body d a.0 a.1.0)
 
 -- ---- one more record
 

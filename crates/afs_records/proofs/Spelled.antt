@@ -11,9 +11,10 @@ use Rattle.afs_shape.specs.Taking.{◌>>=◌}
 use Rattle.afs_shape.proofs.Codecs.{IsBytes, Takes, Takes-then}
 use Rattle.afs_num.specs.declared.records.RecordBody.{RecordBody}
 use Rattle.afs_num.specs.declared.records.RecordBody.TheVariants as bodies
+use Rattle.afs_num.specs.declared.records.RecordHead.{RecordHead}
 use Rattle.afs_num.specs.declared.records.StoreRecord.{StoreRecord}
 use Rattle.afs_records.specs.Forms.{Form, word_form, text_form, image_form, ◌before◌, many_at, list_form}
-use Rattle.afs_records.specs.Records.{most_name, most_dump, most_reply, between, mark_form, kind_form, server_form, flag_number, flag_of, flag_form, caller_number, caller_of, caller_form, head_parts, head_made, head_form, volume_mark, vnode_mark, listed_form, marked_form, listed, are_listed, are_whole, vnodes_form, volume_parts, volume_made, volume_form, made_at_end, made_behind, row, each, made_in, body_at, record_bytes, record_at, FitsRecord}
+use Rattle.afs_records.specs.Records.{most_name, most_dump, most_reply, between, mark_form, kind_form, server_form, flag_number, flag_of, flag_form, caller_number, caller_of, caller_form, head_parts, head_made, head_form, volume_mark, vnode_mark, listed_form, marked_form, listed, are_listed, are_whole, vnodes_form, volume_parts, volume_made, volume_form, made_at_end, made_behind, row, each, made_in, body_at, body_in, read_in, record_bytes, record_at, spelled_in, store_record, store_table, FitsIn, FitsRecord, RecordTable}
 use Rattle.afs_records.proofs.Forms.{IsSoundForm, bound, some_is, word_sound, text_sound, before_sound, known_sound, only_sound, many_takes, many_again, list_sound}
 use Rattle.afs_records.proofs.Images.{image_sound}
 
@@ -202,13 +203,19 @@ behind_again : {A F X : Type 0} (form : Form A) → IsSoundForm form → (make :
 behind_again {A} {F} {X} form p make maker a rest fits = ap (λ (o : Option (A × List ℕ)). o >>= λ y. make (maker y.0) y.1) (p.again a rest fits)
 
 -- the bytes are those of this body, in this row
-pub record IsRow (number : ℕ) (bytes : List ℕ) (x : RecordBody) : Type 0 where
-  pub numbered : (row x).number ≡ number
-  pub spelled : bytes ≡ (row x).spelled
-  pub fits : (row x).Fits
+pub record IsRowOf {X : Type 0} (table : RecordTable X) (number : ℕ) (bytes : List ℕ) (x : X) : Type 0 where
+  pub numbered : (table.row x).number ≡ number
+  pub spelled : bytes ≡ (table.row x).spelled
+  pub fits : (table.row x).Fits
+
+abbrev IsRow : ℕ → List ℕ → RecordBody → Type 0
+IsRow number bytes x = IsRowOf store_table number bytes x
+
+abbrev pub RowIsSoundIn : {X : Type 0} → RecordTable X → X → Type 0
+RowIsSoundIn {X} table d = (bytes : List ℕ) (x : X) → IsBytes bytes → (table.row d).make bytes ≡ Some x → IsRowOf table (table.row d).number bytes x
 
 abbrev RowIsSound : RecordBody → Type 0
-RowIsSound d = (bytes : List ℕ) (x : RecordBody) → IsBytes bytes → (row d).make bytes ≡ Some x → IsRow (row d).number bytes x
+RowIsSound d = RowIsSoundIn store_table d
 
 first_row : (bytes : List ℕ) (x : RecordBody) → (TakesField (list_form volume_form) TakesEnd) bodies.First bytes x → IsRow (row (bodies.First [])).number bytes x
 first_row bytes x t = subst (λ (y : RecordBody). IsRow (row (bodies.First [])).number bytes y) {x = bodies.First t.0} t.1.1.1.1.1 (record { numbered = refl; spelled = t.1.1.0 ∙ ap (λ (s : List ℕ). (list_form volume_form).spelled t.0 ++ s) (t.1.1.1.1.0); fits = (t.1.1.1.0, tt) })
@@ -270,15 +277,15 @@ stamp_row bytes x t = subst (λ (y : RecordBody). IsRow (row (bodies.Stamp)).num
 stamp_sound : RowIsSound (bodies.Stamp)
 stamp_sound bytes x fits e = stamp_row bytes x (at_end bodies.Stamp bytes x fits e)
 
-in_rows : (number : ℕ) (bytes : List ℕ) (x : RecordBody) (ds : List RecordBody) → AllByRecursion RowIsSound ds → IsBytes bytes → made_in number bytes ds ≡ Some x → IsRow number bytes x
-in_rows number bytes x [] h fits e = absurd (none_is_some x e)
-in_rows number bytes x (d ∷ ds) h fits e = elim (chosen (nat_eq number (row d).number) ((row d).make bytes) (made_in number bytes ds) (Some x) e) [
-  | inl a ↦ subst (λ (n : ℕ). IsRow n bytes x) (sym (eqb-true number (row d).number a.0)) (h.0 bytes x fits a.1)
-  | inr a ↦ in_rows number bytes x ds h.1 fits a.1
+pub in_rows : {X : Type 0} (table : RecordTable X) (number : ℕ) (bytes : List ℕ) (x : X) (ds : List X) → AllByRecursion (RowIsSoundIn table) ds → IsBytes bytes → made_in table.row number bytes ds ≡ Some x → IsRowOf table number bytes x
+in_rows {X} table number bytes x [] h fits e = absurd (none_is_some x e)
+in_rows {X} table number bytes x (d ∷ ds) h fits e = elim (chosen (nat_eq number (table.row d).number) ((table.row d).make bytes) (made_in table.row number bytes ds) (Some x) e) [
+  | inl a ↦ subst (λ (n : ℕ). IsRowOf table n bytes x) (sym (eqb-true number (table.row d).number a.0)) (h.0 bytes x fits a.1)
+  | inr a ↦ in_rows table number bytes x ds h.1 fits a.1
 ]
 
 body_takes : (number : ℕ) (bytes : List ℕ) (x : RecordBody) → IsBytes bytes → body_at number bytes ≡ Some x → IsRow number bytes x
-body_takes number bytes x fits e = in_rows number bytes x each (first_sound, (change_sound, (boot_sound, (create_sound, (delete_sound, (clone_sound, (restore_sound, (flags_sound, (forward_sound, (stamp_sound, tt)))))))))) fits e
+body_takes number bytes x fits e = in_rows store_table number bytes x each (first_sound, (change_sound, (boot_sound, (create_sound, (delete_sound, (clone_sound, (restore_sound, (flags_sound, (forward_sound, (stamp_sound, tt)))))))))) fits e
 
 body_again : (x : RecordBody) → (row x).Fits → body_at (row x).number (row x).spelled ≡ Some x
 body_again (bodies.First v1) fits = (behind_again (list_form volume_form) (list_sound volume_form volume_sound) made_at_end (bodies.First) v1 [] fits.0)
@@ -304,25 +311,55 @@ number_small (bodies.Flags _ _) = lit< tt
 number_small (bodies.Forward _ _) = lit< tt
 number_small bodies.Stamp = lit< tt
 
--- ---- records
+-- ---- records of a table
+
+-- bodies that are read are spelled so, and what is spelled is read
+pub record IsSoundTable {X : Type 0} (table : RecordTable X) : Type 0 where
+  pub takes : (number : ℕ) (bytes : List ℕ) (x : X) → IsBytes bytes → body_in table number bytes ≡ Some x → IsRowOf table number bytes x
+  pub again : (x : X) → (table.row x).Fits → body_in table (table.row x).number (table.row x).spelled ≡ Some x
+  pub small : (x : X) → (table.row x).number < 2 ^ 32
+
+pub table_read : {X R : Type 0} (table : RecordTable X) → IsSoundTable table → (make : RecordHead → X → R) (h : RecordHead) (b : X) → FitsIn table h b → read_in table make (spelled_in table h b) ≡ Some (make h b)
+table_read {X} {R} table sound make h b fits =
+    rw (word_sound.again (table.row b).number (head_form.spelled h ++ (table.row b).spelled) (sound.small b), head_sound.again h (table.row b).spelled fits.head, sound.again b fits.body) refl
+
+-- a record that was read: its head and its body
+pub record HasRead {X R : Type 0} (table : RecordTable X) (make : RecordHead → X → R) (bytes : List ℕ) (r : R) : Type 0 where
+  pub head : RecordHead
+  pub body : X
+  pub is : make head body ≡ r
+  pub fits : FitsIn table head body
+  pub spelled : spelled_in table head body ≡ bytes
+
+pub table_spelled : {X R : Type 0} (table : RecordTable X) → IsSoundTable table → (make : RecordHead → X → R) (bytes : List ℕ) (r : R) → IsBytes bytes → read_in table make bytes ≡ Some r → HasRead table make bytes r
+table_spelled {X} {R} table sound make bytes r fits e =
+    let a = bound (word_form.at bytes) (λ number. (head_form.at number.1 >>= λ head. (body_in table number.0 head.1 >>= λ body. Some (make head.0 body)))) r e in
+    let b = bound (head_form.at a.0.1) (λ head. (body_in table a.0.0 head.1 >>= λ body. Some (make head.0 body))) r a.1.1 in
+    let c = bound (body_in table a.0.0 b.0.1) (λ body. Some (make b.0.0 body)) r b.1.1 in
+    let t = word_sound.takes bytes a.0.0 a.0.1 fits a.1.0 in
+    let u = head_sound.takes a.0.1 b.0.0 b.0.1 t.0.rest_fits b.1.0 in
+    let w = sound.takes a.0.0 b.0.1 c.0 u.0.rest_fits c.1.0 in
+    record {
+      head = b.0.0;
+      body = c.0;
+      is = some_is (make b.0.0 c.0) r c.1.1;
+      fits = record { head = u.1; body = w.fits };
+      spelled =
+          ap (λ (n : ℕ). word_form.spelled n ++ (head_form.spelled b.0.0 ++ (table.row c.0).spelled)) w.numbered
+          ∙ sym (t.0.parts ∙ ap (λ (s : List ℕ). word_form.spelled a.0.0 ++ s) (u.0.parts ∙ ap (λ (s : List ℕ). head_form.spelled b.0.0 ++ s) w.spelled));
+    }
+
+-- ---- a server's records
+
+pub store_sound : IsSoundTable store_table
+store_sound = record { takes = body_takes; again = body_again; small = number_small }
 
 pub record_read : (r : StoreRecord) → FitsRecord r → record_at (record_bytes r) ≡ Some r
 unfolding record_at record_bytes
-record_read r fits =
-    let number_fits : (row r.body).number < 2 ^ 32 = number_small r.body in
-    rw (word_sound.again (row r.body).number (head_form.spelled r.head ++ (row r.body).spelled) number_fits, head_sound.again r.head (row r.body).spelled fits.head, body_again r.body fits.body) refl
+record_read r fits = table_read store_table store_sound store_record r.head r.body fits
 
 pub record_spelled : (bytes : List ℕ) (r : StoreRecord) → IsBytes bytes → record_at bytes ≡ Some r → FitsRecord r × (record_bytes r ≡ bytes)
 unfolding record_at record_bytes
 record_spelled bytes r fits e =
-    let a = bound (word_form.at bytes) (λ number. (head_form.at number.1 >>= λ head. (body_at number.0 head.1 >>= λ body. Some (record { head = head.0; body = body })))) r e in
-    let b = bound (head_form.at a.0.1) (λ head. (body_at a.0.0 head.1 >>= λ body. Some (record { head = head.0; body = body }))) r a.1.1 in
-    let c = bound (body_at a.0.0 b.0.1) (λ body. Some (record { head = b.0.0; body = body })) r b.1.1 in
-    let t = word_sound.takes bytes a.0.0 a.0.1 fits a.1.0 in
-    let u = head_sound.takes a.0.1 b.0.0 b.0.1 t.0.rest_fits b.1.0 in
-    let w = body_takes a.0.0 b.0.1 c.0 u.0.rest_fits c.1.0 in
-    let made : StoreRecord = record { head = b.0.0; body = c.0 } in
-    let is : word_form.spelled (row c.0).number ++ (head_form.spelled b.0.0 ++ (row c.0).spelled) ≡ bytes =
-    ap (λ (n : ℕ). word_form.spelled n ++ (head_form.spelled b.0.0 ++ (row c.0).spelled)) w.numbered
-    ∙ sym (t.0.parts ∙ ap (λ (s : List ℕ). word_form.spelled a.0.0 ++ s) (u.0.parts ∙ ap (λ (s : List ℕ). head_form.spelled b.0.0 ++ s) w.spelled)) in
-    subst (λ (y : StoreRecord). FitsRecord y × ((word_form.spelled (row y.body).number ++ (head_form.spelled y.head ++ (row y.body).spelled)) ≡ bytes)) (some_is made r c.1.1) (record { head = u.1; body = w.fits }, is)
+    let a = table_spelled store_table store_sound store_record bytes r fits e in
+    subst (λ (y : StoreRecord). FitsIn store_table y.head y.body × (spelled_in store_table y.head y.body ≡ bytes)) {x = store_record a.head a.body} a.is (a.fits, a.spelled)

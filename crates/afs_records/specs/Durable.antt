@@ -78,8 +78,17 @@ kept_for caller d = get (node_number caller) d.kept
 abbrev pub place_length : StoreRecord → ℕ
 place_length r = length (record_bytes r) + 9
 
+-- What it takes to put a record on the disk: so many device calls, and so long is the journal then.
+pub record Placing : Type 0 where
+  pub calls : ℕ
+  pub journal : ℕ
+
+-- its place is written and synced, and then its gate
+abbrev pub placing : Durable → StoreRecord → Placing
+placing d r = record { calls = 4; journal = d.journal + place_length r }
+
 abbrev pub has_room : Durable → StoreRecord → Bool
-has_room d r = not (nat_lt d.capacity (d.journal + place_length r))
+has_room d r = not (nat_lt d.capacity (placing d r).journal)
 
 -- ---- the fold: what a record changes. None where it can't be taken
 
@@ -179,12 +188,12 @@ with_reply (Some caller) h d = record d { kept = set (node_number caller) (kept_
 abbrev pub noted : RecordHead → Durable → Durable
 noted h d = with_reply h.caller h (with_stamp h d)
 
-abbrev pub longer : ℕ → Durable → Durable
-longer n d = record d { journal = d.journal + n }
+abbrev pub with_journal : ℕ → Durable → Durable
+with_journal n d = record d { journal = n }
 
 -- one record
 unfoldable pub folded : StoreRecord → Durable → Option Durable
-folded r d = body_taken r.body d >>= λ e. Some (longer (place_length r) (noted r.head e))
+folded r d = body_taken r.body d >>= λ e. Some (with_journal (placing d r).journal (noted r.head e))
 
 -- records from the first on: the first tells the volumes of set-up
 
@@ -258,26 +267,14 @@ key_in h = record { node = caller_or_loc h.caller; epoch = h.epoch; number = h.n
 abbrev pub change_lines : Node → Key → List Version → List Line
 change_lines server key versions = lines.Change server key (length versions) ∷ map lines.Version versions
 
--- the read-write volumes that a start deletes, by their numbers
-abbrev pub vanished : Durable → List ℕ
-vanished d = map (λ (p : ℕ × Stored). p.0) (filter (λ (p : ℕ × Stored). is_flagged p.1 && nat_eq p.1.volume.kind 0) d.volumes)
-
--- The lines of a change, and the read-write volumes that vanish.
-pub record Effect : Type 0 where
-  pub lines : List Line
-  pub vanished : List ℕ
-
-abbrev pub no_effect : Effect
-no_effect = record { lines = []; vanished = [] }
-
-abbrev pub effect_by : Node → RecordHead → RecordBody → Durable → Effect
+-- The lines of a record with this body. Only a change has some: set-up makes no volume that a start deletes.
+abbrev pub effect_by : Node → RecordHead → RecordBody → Durable → List Line
 effect_by server h (bodies.Change id counter unique vnodes removed) d =
-    record { lines = change_lines server (key_in h) (versions_told id vnodes removed (get id d.volumes)); vanished = [] }
-effect_by server h (bodies.Boot boot) d = record { lines = []; vanished = vanished d }
-effect_by server h body d = no_effect
+    change_lines server (key_in h) (versions_told id vnodes removed (get id d.volumes))
+effect_by server h body d = []
 
 -- of a record that is taken into this durable part
-abbrev pub effect_of : Node → StoreRecord → Durable → Effect
+abbrev pub effect_of : Node → StoreRecord → Durable → List Line
 effect_of server r d = effect_by server r.head r.body d
 
 -- ---- the mark: how many records stand on the disk, in its one generation

@@ -13,7 +13,7 @@ use Rattle.afs_num.specs.declared.records.RecordHead.{RecordHead}
 use Rattle.afs_num.specs.declared.records.StoreRecord.{StoreRecord}
 use Rattle.afs_records.specs.Records.{head_form, record_bytes, record_at, FitsRecord}
 use Rattle.afs_records.specs.Sound.{is_sound}
-use Rattle.afs_records.specs.Durable.{Stored, Durable, place_length, folded, StandFor, noted, longer, is_flagged, versions_told}
+use Rattle.afs_records.specs.Durable.{Stored, Durable, folded, StandFor, noted, placing, with_journal, is_flagged, versions_told}
 use Rattle.afs_records.specs.Changes.{change_record, stored_after, boot_record, images_left, numbers_gone}
 
 -- a record within the limits is read again from its bytes
@@ -65,7 +65,7 @@ volume_put id s d = record d { volumes = set id s d.volumes }
 abbrev pub ChangesAreKept : Type 0
 ChangesAreKept = (head : RecordHead) (id time : ℕ) (es : List Edit) (s : Stored) (d : Durable) → get id d.volumes ≡ Some s → CanBeStored id es s.volume →
     folded (change_record head id time es s.volume) d
-    ≡ Some (longer (place_length (change_record head id time es s.volume)) (noted head (volume_put id (stored_after id time es s) d)))
+    ≡ Some (with_journal (placing d (change_record head id time es s.volume)).journal (noted head (volume_put id (stored_after id time es s) d)))
 
 -- What the record of one change tells are the versions that its edits make.
 abbrev pub ChangesAreTold : Type 0
@@ -75,7 +75,7 @@ ChangesAreTold = (id time : ℕ) (es : List Edit) (s : Stored) → IsOneChange i
 
 -- what a start leaves
 abbrev pub started : Durable → Durable
-started d = longer (place_length (boot_record (d.boot + 1))) (record d {
+started d = with_journal (placing d (boot_record (d.boot + 1))).journal (record d {
   boot = d.boot + 1;
   volumes = filter (λ (p : ℕ × Stored). not (is_flagged p.1)) d.volumes;
 })

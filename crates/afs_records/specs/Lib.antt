@@ -1,4 +1,5 @@
 pub mod Forms
+pub mod Entries
 pub mod Records
 pub mod Sound
 pub mod Durable

@@ -190,6 +190,38 @@ pub record Row (X : Type 0) : Type 1 where
 abbrev pub numbered : {F X : Type 0} → ℕ → F → Slots F X → Row X
 numbered number maker slots = record { number = number; spelled = slots.spelled; Fits = slots.Fits; make = slots.make maker }
 
+-- ---- a journal's table: the row of each body, and one body of each row, whatever its fields hold
+
+pub record RecordTable (X : Type 0) : Type 1 where
+  pub row : X → Row X
+  pub each : List X
+
+-- what the first of these rows with this number makes of the bytes
+abbrev pub made_in : {X : Type 0} → (X → Row X) → ℕ → List ℕ → List X → Option X
+made_in {X} row number bytes [] = None
+made_in {X} row number bytes (d ∷ ds) = if nat_eq number (row d).number then (row d).make bytes else made_in row number bytes ds
+
+-- the body of this kind, to the last byte
+abbrev pub body_in : {X : Type 0} → RecordTable X → ℕ → List ℕ → Option X
+body_in {X} table number bytes = made_in table.row number bytes table.each
+
+-- a record: its kind, its head, its fields
+abbrev pub spelled_in : {X : Type 0} → RecordTable X → RecordHead → X → List ℕ
+spelled_in {X} table head body = word_form.spelled (table.row body).number ++ (head_form.spelled head ++ (table.row body).spelled)
+
+-- what `make` makes of the record that these bytes are, if they are one
+abbrev pub read_in : {X R : Type 0} → RecordTable X → (RecordHead → X → R) → List ℕ → Option R
+read_in {X} {R} table make bytes = do
+  number ← word_form.at bytes
+  head ← head_form.at number.1
+  body ← body_in table number.0 head.1
+  Some (make head.0 body)
+
+-- within the limits
+pub record FitsIn {X : Type 0} (table : RecordTable X) (h : RecordHead) (b : X) : Type 0 where
+  pub head : head_form.Fits h
+  pub body : (table.row b).Fits
+
 -- ---- the fields of the rows
 
 abbrev pub word : ℕ → Slot ℕ
@@ -239,29 +271,25 @@ each =
     bodies.First [] ∷ bodies.Change 0 0 0 [] [] ∷ bodies.Boot 0 ∷ bodies.Create 0 0 [] 0 0 0 false ∷ bodies.Delete 0
     ∷ bodies.Clone 0 0 [] 0 0 ∷ bodies.Restore 0 [] ∷ bodies.Flags 0 0 ∷ bodies.Forward 0 0 ∷ bodies.Stamp ∷ []
 
--- what the first of these rows with this number makes of the bytes
-abbrev pub made_in : ℕ → List ℕ → List RecordBody → Option RecordBody
-made_in number bytes [] = None
-made_in number bytes (d ∷ ds) = if nat_eq number (row d).number then (row d).make bytes else made_in number bytes ds
+abbrev pub store_table : RecordTable RecordBody
+store_table = record { row = row; each = each }
 
 -- the body of this kind, to the last byte
 abbrev pub body_at : ℕ → List ℕ → Option RecordBody
-body_at number bytes = made_in number bytes each
+body_at number bytes = body_in store_table number bytes
 
--- ---- a record: its kind, its head, its fields
+-- ---- a server's record
 
 unfoldable pub record_bytes : StoreRecord → List ℕ
-record_bytes r = word_form.spelled (row r.body).number ++ (head_form.spelled r.head ++ (row r.body).spelled)
+record_bytes r = spelled_in store_table r.head r.body
+
+abbrev pub store_record : RecordHead → RecordBody → StoreRecord
+store_record head body = record { head = head; body = body }
 
 -- the record that these bytes are, if they are one
 unfoldable pub record_at : List ℕ → Option StoreRecord
-record_at bytes = do
-  number ← word_form.at bytes
-  head ← head_form.at number.1
-  body ← body_at number.0 head.1
-  Some (record { head = head.0; body = body })
+record_at bytes = read_in store_table store_record bytes
 
 -- within the limits: it has a spelling
-pub record FitsRecord (r : StoreRecord) : Type 0 where
-  pub head : head_form.Fits r.head
-  pub body : (row r.body).Fits
+abbrev pub FitsRecord : StoreRecord → Type 0
+FitsRecord r = FitsIn store_table r.head r.body

@@ -29,6 +29,7 @@ use Rattle.afs_num.specs.declared.types.Half.TheVariants as halves
 use Rattle.afs_num.specs.declared.types.Head.{Head}
 use Rattle.afs_num.specs.declared.types.Node.{Node}
 use Rattle.afs_num.specs.declared.types.Node.TheVariants.{Server, Client}
+use Rattle.afs_records.specs.Entries.{exists_read_write, read_write_site}
 use Rattle.afs_rows.specs.ClientRow.{begin_row, client_row, new_client, call_head, timeout_row}
 use Rattle.afs_rows.specs.Going.{ClientState, Going}
 use Rattle.afs_rows.specs.ServerRow.{replied}
@@ -44,8 +45,11 @@ at n = record { volume = home; vnode = n; unique = n }
 abbrev me : Node
 me = Client 1
 
+abbrev known_entry : List ℕ → ℕ → ℕ → Location
+known_entry name id server = record { name = name; read_write = id; read_only = 0; backup = 0; flags = exists_read_write; sites = record { server = server; flags = read_write_site } ∷ [] }
+
 abbrev proj : List Location
-proj = record { name = codes "proj"; id = home; server = 1 } ∷ record { name = codes "more"; id = 7; server = 2 } ∷ []
+proj = known_entry (codes "proj") home 1 ∷ known_entry (codes "more") 7 2 ∷ []
 
 abbrev client : ClientState
 client = new_client 1 64 (codes "guest") proj

@@ -6,6 +6,7 @@ use Rattle.afs_ideal.specs.Operations.{volume_called, volume_changed, is_number}
 use Rattle.afs_rows.specs.Going.{reads_of, ClientState, Going, Need, reads, reads_status, gives_back, answers, next, call_for, began, with_read}
 use Rattle.afs_rows.specs.Scopes.{is_in_scope}
 use Rattle.afs_rows.specs.ServerRow.{replied, boot_told, seat_for, not_served, bad_fields}
+use Rattle.afs_records.specs.Entries.{site_of}
 use Rattle.afs_rows.specs.States.{CacheEntry, Gift, KnownBoot, Location, Seat}
 use Rattle.afs_rows.specs.Steps.{Step}
 use Rattle.afs_history.specs.declared.acts.Act.{Act}
@@ -121,13 +122,20 @@ entries_told server sync fs ss cs = []
 
 -- ---- calls
 
--- where a volume is. An act asks of none that the table lacks
+-- where a volume is. An act asks of none that the table lacks, or that has no site
+abbrev pub or_first : Option ℕ → ℕ
+or_first None = 1
+or_first (Some i) = i
+
+abbrev pub home_of : Location → ℕ
+home_of l = or_first (site_of l)
+
 abbrev pub server_or_first : Option Location → ℕ
 server_or_first None = 1
-server_or_first (Some l) = l.server
+server_or_first (Some l) = home_of l
 
 abbrev pub server_at : List Location → ℕ → ℕ
-server_at table id = server_or_first (find (λ l. nat_eq l.id id) table)
+server_at table id = server_or_first (find (λ l. nat_eq l.read_write id) table)
 
 abbrev pub number_or_none : Option ℕ → ℕ
 number_or_none None = 0

@@ -282,12 +282,12 @@ asked g = call_for (next g)
 -- ---- where volumes are
 
 abbrev pub id_of : Option Location → Option ℕ
-id_of o = option_map (λ (l : Location). l.id) o
+id_of o = option_map (λ (l : Location). l.read_write) o
 
 -- a path names its volume, a fid has its number
 abbrev pub volume_at : List Location → Operand → Option ℕ
 volume_at t (operands.Path p) = id_of (find (λ l. bytes_eq l.name p.volume) t)
-volume_at t (operands.Fid f) = id_of (find (λ l. nat_eq l.id f.volume) t)
+volume_at t (operands.Fid f) = id_of (find (λ l. nat_eq l.read_write f.volume) t)
 
 abbrev pub at_one : List Location → Operand → Homes
 at_one t o = record { first = volume_at t o; second = None }

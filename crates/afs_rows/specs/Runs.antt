@@ -23,6 +23,7 @@ use Rattle.afs_num.specs.declared.histories.Actor.{Actor}
 use Rattle.afs_rows.specs.ServerSteps.{server_row, back_timeout_row, wake_row, start_row}
 use Rattle.afs_records.specs.Changes.{at_set_up, can_boot, record_of_volumes}
 use Rattle.afs_records.specs.Durable.{Stored, place_length}
+use Rattle.afs_records.specs.Entries.{entry_of_line}
 use Rattle.afs_history.specs.declared.lines.Line.TheVariants as lines
 use Rattle.afs_num.specs.declared.histories.Actor.TheVariants as actors
 
@@ -195,15 +196,19 @@ blow_line i false = lines.Fault (Server i)
 abbrev pub decided_at : Cell → ℕ → Message → Decision
 decided_at c i m = decides (Server i) (c.hosts i).state c.clock (Whole m)
 
+-- how many device calls its step makes
+abbrev pub calls_at : Cell → ℕ → Message → ℕ
+calls_at c i m = device_calls (c.hosts i).state c.clock (decided_at c i m)
+
 -- a step is done, or its disk ends it
 abbrev pub server_served : Cell → ℕ → ℕ → Message → Option Blow → Moved
 server_served c i place m None =
-    server_moves c i (lowered (device_calls (decided_at c i m)) (c.hosts i).armed) (server_row (Server i) (c.hosts i).state c.clock place (Whole m))
+    server_moves c i (lowered (calls_at c i m) (c.hosts i).armed) (server_row (Server i) (c.hosts i).state c.clock place (Whole m))
 server_served c i place m (Some b) = server_falls c i (lines.Given place ∷ blow_line i b.stops ∷ []) (in_step m c.clock b)
 
 abbrev pub server_given : Cell → ℕ → ℕ → Luck → Message → Option Fall → Moved
 server_given c i place luck m (Some fall) = voided c
-server_given c i place luck m None = server_served c i place m (struck (c.hosts i).armed luck (device_calls (decided_at c i m)))
+server_given c i place luck m None = server_served c i place m (struck (c.hosts i).armed luck (calls_at c i m))
 
 -- a cell of so many clients has one of this number
 abbrev pub has_client : ℕ → ℕ → Bool
@@ -389,7 +394,7 @@ first_server capacity volumes = record { lasting = first_lasting capacity (first
 
 abbrev pub location_by : Bool → VolumeLine → List Location → List Location
 location_by true v ls = ls
-location_by false v ls = record { name = v.name; id = v.id; server = v.server } ∷ ls
+location_by false v ls = entry_of_line v ∷ ls
 
 abbrev pub locations_in : List VolumeLine → List Location
 locations_in [] = []

@@ -35,7 +35,7 @@ use Rattle.afs_model.specs.Calls.{Admitted, admitted, call_seated}
 use Rattle.afs_model.specs.Messages.{spelled}
 use Rattle.afs_num.specs.declared.records.StoreRecord.{StoreRecord}
 use Rattle.afs_records.specs.Changes.{keeping, change_record, stored_after, boot_record}
-use Rattle.afs_records.specs.Durable.{Stored, time_in, place_length, has_room, is_flagged}
+use Rattle.afs_records.specs.Durable.{Stored, time_in, placing, has_room, is_flagged}
 use Rattle.afs_shape.specs.Reading.{◌>>=◌}
 use Rattle.afs_shape.specs.Rows.{no_callback, no_sync}
 use Rattle.afs_num.specs.declared.calls.FsCall.TheVariants as calls
@@ -332,15 +332,17 @@ seat_placed seat (s ∷ seats) =
     if same_node s.caller seat.caller then seat ∷ seats
     else (if nat_lt (node_number seat.caller) (node_number s.caller) then seat ∷ s ∷ seats else s ∷ seat_placed seat seats)
 
-abbrev pub longer : StoreRecord → Lasting → Lasting
-longer r l = record l { journal = l.journal + place_length r }
+-- how long the journal is once this record stands in it
+abbrev pub journal_with : StoreRecord → Lasting → ℕ
+journal_with r l = (placing (durable_of l) r).journal
 
 -- what a change leaves on the disk: the volume, and the reply
 abbrev pub lasting_after : Head → ℕ → Change → Lasting → Lasting
-lasting_after head clock c l = longer (record_of l.boot head clock c) (record l {
+lasting_after head clock c l = record l {
   volumes = set c.id (stored_by clock c) l.volumes;
   kept = seat_placed (seat_for head (change_reply_to l.boot head clock c)) l.kept;
-})
+  journal = journal_with (record_of l.boot head clock c) l;
+}
 
 abbrev pub saved : Head → ℕ → Change → ServerState → ServerState
 saved head clock c s = record s {
@@ -389,10 +391,10 @@ does me s clock place (saves head c) tail = saves_step me s clock place head c t
 
 -- ---- the disk, in numbers of its calls
 
--- a step makes four device calls for its record, and none where it has none
-abbrev pub device_calls : Decision → ℕ
-device_calls (saves head c) = 4
-device_calls d = 0
+-- a step makes the calls that its record takes, and none where it has none
+abbrev pub device_calls : ServerState → ℕ → Decision → ℕ
+device_calls s clock (saves head c) = (placing (durable_of s.lasting) (record_of s.lasting.boot head clock c)).calls
+device_calls s clock d = 0
 
 -- ---- a restart
 
@@ -401,7 +403,7 @@ is_unflagged p = not (is_flagged p.1)
 
 -- what a start leaves on the disk: the next boot number, and the volumes but those with the flag of delete on salvage
 abbrev pub lasting_started : Lasting → Lasting
-lasting_started l = longer (boot_record (l.boot + 1)) (record l { boot = l.boot + 1; volumes = filter is_unflagged l.volumes })
+lasting_started l = record l { boot = l.boot + 1; volumes = filter is_unflagged l.volumes; journal = journal_with (boot_record (l.boot + 1)) l }
 
 -- each caller falls back to its last call that changed something. That read-write volumes vanish so is told once volumes have
 -- flags; set-up makes none

@@ -2,6 +2,7 @@
 use Rattle.std.specs.Prelude.{ℕ, List, Option, Bool, [], map, Some, None}
 use Rattle.afs_num.specs.declared.types.Fid.{Fid}
 use Rattle.afs_num.specs.declared.types.Node.{Node}
+use Rattle.afs_num.specs.declared.location_calls.LocEntry.{LocEntry}
 use Rattle.afs_num.specs.declared.messages.Message.{Message}
 use Rattle.afs_num.specs.declared.histories.Body.{Body}
 use Rattle.afs_num.specs.declared.histories.ReadStatus.{ReadStatus}
@@ -19,11 +20,9 @@ use Rattle.afs_records.specs.Durable.{Stored, Kept, Durable}
 abbrev pub Seat : Type 0
 Seat = CallSeat Message
 
--- what a client knows of a volume: its name, its number, and that of its server
-pub record Location : Type 0 where
-  pub name : List ℕ
-  pub id : ℕ
-  pub server : ℕ
+-- what a client knows of a volume: the entry of the location database
+abbrev pub Location : Type 0
+Location = LocEntry
 
 -- the boot number of a server, as a client was told it
 pub record KnownBoot : Type 0 where

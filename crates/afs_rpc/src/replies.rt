@@ -154,7 +154,8 @@ pub fn spell_reply<M: Messages>(
     write_head(head, &mut w)?;
     w.word(code.0.cast_unsigned())?;
     write_answer::<M>(reply, &mut w)?;
-    Octets::from_vec(w.into_vec()?)
+    let bytes = Octets::from_vec(w.into_vec()?)?;
+    Ok(bytes)
 }
 
 /// The one spelling of a reply. A refusal may answer a call whose opcode has no row; it is then spelled, and

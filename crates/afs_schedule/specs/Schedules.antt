@@ -1,5 +1,5 @@
 -- How a schedule is played: which input an event is.
-use Rattle.std.specs.Prelude.{◌≡◌, ◌≤◌, ℕ, zero, suc, ◌+◌, List, [], ◌∷◌, length, drop, Bool, true, false, not, ◌&&◌, Option, Some, None, nat_eq, if◌then◌else◌}
+use Rattle.std.specs.Prelude.{◌≡◌, ◌≤◌, ℕ, zero, suc, ◌+◌, List, [], ◌∷◌, length, drop, Bool, true, false, not, ◌&&◌, Option, Some, None, nat_eq, slice_get, if◌then◌else◌}
 use Rattle.std.specs.List.{list_any}
 use Rattle.afs_num.specs.Nodes.{same_node}
 use Rattle.afs_num.specs.declared.types.Node.{Node}
@@ -10,25 +10,35 @@ use Rattle.afs_history.specs.declared.scripts.Event.TheVariants as events
 use Rattle.afs_history.specs.declared.scripts.Script.{Script}
 use Rattle.afs_history.specs.declared.scripts.Task.{Task}
 use Rattle.afs_history.specs.declared.scripts.Task.TheVariants as tasks
-use Rattle.afs_rows.specs.Callbacks.{put}
+use Rattle.afs_rows.specs.Callbacks.{put_at}
 use Rattle.afs_rows.specs.Going.{ClientState, Going}
 use Rattle.afs_rows.specs.Runs.{begins, client_starts, client_stops, gives, gives_out, is_away, moved, nothing, server_waits, sets_fail, sets_stop, start, starts_again, steady, stops, ticks, waits, wakes, Cell, Entry, Input, Leads, Luck, MayBegin, Outcome}
 
--- ---- a schedule under way: the cell, the acts that each client has not begun, and the places that a deliver named
+-- ---- a schedule under way: the cell, what each client and each administrator has not begun, and the places that a deliver named
 
 pub record Turn : Type 0 where
   pub cell : Cell
-  pub left : ℕ → List Act
+  pub left : Node → List Task
   pub named : List ℕ
 
--- the acts of a client, in the script's order
-abbrev pub acts_of : ℕ → List Task → List Act
-acts_of n [] = []
-acts_of n (tasks.Client m act ∷ ts) = if nat_eq m n then act ∷ acts_of n ts else acts_of n ts
-acts_of n (tasks.Admin m act ∷ ts) = acts_of n ts
+-- who is to do it
+abbrev pub doer : Task → Node
+doer (tasks.Client n act) = Client n
+doer (tasks.Admin n act) = Admin n
+
+-- what a node is to do, in the script's order
+abbrev pub tasks_of : Node → List Task → List Task
+tasks_of n [] = []
+tasks_of n (t ∷ ts) = if same_node (doer t) n then t ∷ tasks_of n ts else tasks_of n ts
+
+-- the act of a client, where a task is one
+abbrev pub client_act : Option Task → Option Act
+client_act None = None
+client_act (Some (tasks.Client n act)) = Some act
+client_act (Some (tasks.Admin n act)) = None
 
 abbrev pub first_turn : Script → Turn
-first_turn s = record { cell = start s; left = λ n. acts_of n s.tasks; named = [] }
+first_turn s = record { cell = start s; left = λ n. tasks_of n s.tasks; named = [] }
 
 -- ---- drains
 
@@ -61,9 +71,9 @@ is_idle None = true
 is_idle (Some act) = false
 
 -- a client that is up and idle begins its next act; else nothing happens
-abbrev pub act_input : Cell → ℕ → List Act → Input
-act_input c n [] = nothing
-act_input c n (act ∷ acts) = if not (is_away c n) && is_idle (c.clients n).running then begins n act else nothing
+abbrev pub act_input : Cell → ℕ → Option Act → Input
+act_input c n None = nothing
+act_input c n (Some act) = if not (is_away c n) && is_idle (c.clients n).running then begins n act else nothing
 
 -- only the call to this node times out
 abbrev pub timeout_input : ClientState → ℕ → Node → Input
@@ -78,7 +88,7 @@ IsLuck (gives_out call) = 1 ≤ call
 -- interrupted step or after it as the blow tells that ended it, where the disk was set to that, and this is open where it failed by
 -- itself. The location database and administrators have no steps yet.
 abbrev pub IsInput : Turn → Event → Input → Type 0
-IsInput t (events.Act (Client n)) x = x ≡ act_input t.cell n (t.left n)
+IsInput t (events.Act (Client n)) x = x ≡ act_input t.cell n (client_act (slice_get (t.left (Client n)) 0))
 IsInput t (events.Act node) x = x ≡ nothing
 IsInput t (events.Deliver place) x = (luck : Luck) × ((x ≡ gives place luck) × IsLuck luck)
 IsInput t events.Drain x = ⊥
@@ -102,8 +112,8 @@ IsInput t (events.Fail node call) x = x ≡ nothing
 -- ---- a schedule is a list of inputs
 
 -- an act that has begun is no longer left
-abbrev pub left_by : Input → (ℕ → List Act) → ℕ → List Act
-left_by (begins n act) left = put n (drop 1 (left n)) left
+abbrev pub left_by : Input → (Node → List Task) → Node → List Task
+left_by (begins n act) left = put_at (Client n) (drop 1 (left (Client n))) left
 left_by x left = left
 
 -- a deliver names its place, whether something is there or not

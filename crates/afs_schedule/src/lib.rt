@@ -1,5 +1,5 @@
-//! The schedule of a script: the events that are left, with each drain as its deliveries, and the acts that each client has
-//! not begun.
+//! The schedule of a script: the events that are left, with each drain as its deliveries, and what each client and each
+//! administrator has not begun.
 #![tactic(auto)]
 
 mod plans;

@@ -1,70 +1,91 @@
-//! What a client has yet to do.
+//! What a node has yet to do.
 
 ghost use Rattle.std.specs.Prelude.{◌≡◌, drop, length, map, slice_get, IfOk};
 ghost use Rattle.std.specs.Option.{option_copied};
-ghost use Rattle.afs_schedule.specs.Schedules.{acts_of};
+ghost use Rattle.afs_schedule.specs.Schedules.{client_act, doer, tasks_of};
 
 use afs_history::acts::Act;
 use afs_history::scripts::Task;
-use afs_num::types::Mem;
+use afs_num::types::{Mem, Node};
 use std::alloc::Global;
 use std::marker::Model;
 
-/// The acts that a client has not begun, in the script's order.
+/// What a client or an administrator has not begun, in the script's order.
 #[derive(Drop)]
 pub struct Plan<'a> {
-    acts: Vec<&'a Act>,
+    tasks: Vec<&'a Task>,
     begun: usize,
 }
 
 impl<'a> Model for Plan<'a> {
     ghost use Rattle.std.specs.Prelude.{List, ◌≤◌, drop, length, map};
-    ghost use Rattle.afs_history.specs.declared.acts.Act.{Act};
+    ghost use Rattle.afs_history.specs.declared.scripts.Task.{Task};
 
-    ghost Value = { List Act };
+    ghost Value = { List Task };
 
-    ghost view = { λ p. drop p.begun (map (λ a. a.now) p.acts.items) };
+    ghost view = { λ p. drop p.begun (map (λ t. t.now) p.tasks.items) };
 
-    ghost invariant = { λ p. p.begun ≤ length p.acts.items };
+    ghost invariant = { λ p. p.begun ≤ length p.tasks.items };
 }
 
-fn nth<'a>(acts: &[&'a Act], n: usize) -> Option<&'a Act>
-    ensures { option_copied result ≡ slice_get (map (λ a. a.now) acts.now) n }
+/// Who is to do it.
+fn doer(task: &Task) -> Node
+    ensures { result ≡ doer task.now }
 {
-    match acts.get(n) {
-        Some(act) => Some(*act),
+    match task {
+        Task::Client { client, .. } => Node::Client(*client),
+        Task::Admin { admin, .. } => Node::Admin(*admin),
+    }
+}
+
+fn nth<'a>(tasks: &[&'a Task], n: usize) -> Option<&'a Task>
+    ensures { option_copied result ≡ slice_get (map (λ t. t.now) tasks.now) n }
+{
+    match tasks.get(n) {
+        Some(task) => Some(*task),
         None => None,
     }
 }
 
 impl<'a> Plan<'a> {
-    /// All acts of this client.
-    pub fn of(alloc: Global, client: u8, tasks: &'a [Task]) -> Mem<Plan<'a>>
-        ensures { IfOk result (λ p. p ≡ acts_of client tasks.entry.now) }
+    /// All tasks of this node.
+    pub fn of(alloc: Global, node: Node, tasks: &'a [Task]) -> Mem<Plan<'a>>
+        ensures { IfOk result (λ p. p ≡ tasks_of node tasks.entry.now) }
     {
-        let mut acts = Vec::new(alloc);
+        let mut own = Vec::new(alloc);
         for task in tasks {
-            if let Task::Client { client: n, act } = task {
-                if *n == client {
-                    acts.push(act)?;
-                }
+            if doer(task).is(&node) {
+                own.push(task)?;
             }
         }
-        Ok(Plan { acts, begun: 0 })
+        Ok(Plan {
+            tasks: own,
+            begun: 0,
+        })
     }
 
-    /// The next act; none where each has begun.
-    pub fn next(&self) -> Option<&'a Act>
+    /// The next task; none where each has begun.
+    pub fn next(&self) -> Option<&'a Task>
         ensures { option_copied result ≡ slice_get self.now 0 }
     {
-        nth(&self.acts, self.begun)
+        nth(&self.tasks, self.begun)
     }
 
-    /// The next act has begun.
+    /// The act that a client begins next; none where each has begun.
+    pub fn next_act(&self) -> Option<&'a Act>
+        ensures { option_copied result ≡ client_act (slice_get self.now 0) }
+    {
+        match self.next() {
+            Some(Task::Client { act, .. }) => Some(act),
+            _ => None,
+        }
+    }
+
+    /// The next task has begun.
     pub fn advance(&mut self)
         ensures { self.new ≡ drop 1 self.old }
     {
-        if self.begun < self.acts.len() {
+        if self.begun < self.tasks.len() {
             self.begun += 1;
         }
     }

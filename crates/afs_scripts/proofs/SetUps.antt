@@ -21,7 +21,7 @@ use Rattle.afs_ideal.proofs.Basics.{both_true}
 use Rattle.afs_ideal.proofs.Laid as setting
 use Rattle.afs_ideal.proofs.Tables.{get_below}
 use Rattle.afs_records.specs.Changes.{accepted, at_set_up, first_record, images_of, laid_all, no_head, record_of_volumes, set_up, stored_volume, volume_laid, volumes_laid}
-use Rattle.afs_records.specs.Durable.{allowed, by_number, first_folded, folded, has_room, longer, most_volumes, noted, nothing_on, or_zero, place_length, stored_of, times_of, volume_with, with_stored, with_volumes, Durable, Stored}
+use Rattle.afs_records.specs.Durable.{allowed, by_number, first_folded, folded, has_room, most_volumes, noted, nothing_on, or_zero, place_length, stored_of, times_of, volume_with, with_journal, with_stored, with_volumes, Durable, Stored}
 use Rattle.afs_records.specs.Sound.{is_sound}
 use Rattle.afs_records.proofs.Kept.{value_back}
 use Rattle.afs_records.proofs.Tested.{passes}
@@ -238,8 +238,8 @@ folds : (capacity : ℕ) (ls : List VolumeLine) (n : ℕ) → AscendBy n ls → 
 unfolding folded AllBelow
 folds capacity ls n up few =
     let r : StoreRecord = record_of_volumes (firsts ls) in (
-      longer (place_length r) (noted no_head (record (nothing_on capacity) { volumes = firsts ls })),
-      ap (λ (o : Option Durable). o >>= λ e. Some (longer (place_length r) (noted no_head e))) (volumes_back ls (nothing_on capacity) n tt up (omega (arith, few))),
+      with_journal (1 + place_length r) (noted no_head (record (nothing_on capacity) { volumes = firsts ls })),
+      ap (λ (o : Option Durable). o >>= λ e. Some (with_journal (1 + place_length r) (noted no_head e))) (volumes_back ls (nothing_on capacity) n tt up (omega (arith, few))),
     )
 
 sets_up : (capacity : ℕ) (ls : List VolumeLine) (n : ℕ) → AscendBy n ls → AreTaken ls → length ls ≤ most_volumes → fits_server capacity ls ≡ true → (d : Durable) × (set_up capacity ls ≡ Some d)

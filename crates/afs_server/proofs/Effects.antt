@@ -48,7 +48,7 @@ images_of_words : (vs : List image.Vnode) → AllByRecursion HasImageForm vs →
 images_of_words [] all = tt
 images_of_words (v ∷ vs) all = (all.0.words, images_of_words vs all.1)
 
-record_told : (me : Node) (clock id : ℕ) (head : Head) (c : Change) (x : made_of.Change) (bytes : List ℕ) (d : Durable) → get id d.volumes ≡ Some c.before → IsMade clock id c x → (effect_of me (change_kept head id x bytes) d).lines ≡ change_lines me (key_of head) (made c)
+record_told : (me : Node) (clock id : ℕ) (head : Head) (c : Change) (x : made_of.Change) (bytes : List ℕ) (d : Durable) → get id d.volumes ≡ Some c.before → IsMade clock id c x → effect_of me (change_kept head id x bytes) d ≡ change_lines me (key_of head) (made c)
 record_told me clock id head c x bytes d there is =
     ap (λ (o : Option Stored). change_lines me (key_of head) (versions_told id x.vnodes x.removed o)) there ∙ ap (change_lines me (key_of head)) (is.told ∙ is.versions)
 
@@ -59,4 +59,4 @@ told_again me clock id head c x bytes s d r there is fits same ls =
     let counted : AreCounted (made c) = subst AreCounted is.versions (is.counted words) in
     ap (λ (ks : List Line). lines.Change me (key_of head) (length (made c)) ∷ ks) (versioned_first (made c) ls)
     ∙ (ap (λ (ks : List Line). ks ++ ls) (sym (ap (map in_words) (record_told me clock id head c x bytes d there is) ∙ lines_as_they_are me (key_of head) (made c) counted))
-    ∙ ap (λ (q : StoreRecord). map in_words (effect_of me q d).lines ++ ls) same)
+    ∙ ap (λ (q : StoreRecord). map in_words (effect_of me q d) ++ ls) same)

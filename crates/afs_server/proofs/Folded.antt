@@ -12,7 +12,7 @@ use Rattle.afs_num.specs.declared.volumes.Change as made
 use Rattle.afs_ideal.specs.Tables.{get, set, Table}
 use Rattle.afs_records.specs.Changes.{keeping}
 use Rattle.afs_records.specs.Durable as disk
-use Rattle.afs_records.specs.Durable.{changed_stored, folded, longer, place_length, Durable, Stored}
+use Rattle.afs_records.specs.Durable.{changed_stored, folded, place_length, placing, with_journal, Durable, Stored}
 use Rattle.afs_rows.specs.ServerRow.{carried_by, change_reply_to, key_of, lasting_after, promise_ticks, record_of, replied, result, seat_for, seat_placed, stored_by, Change}
 use Rattle.afs_rows.specs.States.{Lasting, Seat}
 use Rattle.afs_server_parts.specs.Kept.{message_in, Spells}
@@ -46,7 +46,7 @@ kept_reply head bytes = record { epoch = head.epoch; number = head.number; reply
 
 abbrev pub durable_saved : Head → ℕ → made.Change → List ℕ → Stored → Durable → Durable
 durable_saved head id x bytes st d =
-    longer (place_length (change_kept head id x bytes)) (record d { volumes = set id st d.volumes; kept = set (node_number head.from) (kept_reply head bytes) d.kept })
+    with_journal (placing d (change_kept head id x bytes)).journal (record d { volumes = set id st d.volumes; kept = set (node_number head.from) (kept_reply head bytes) d.kept })
 
 pub folds : (head : Head) (id : ℕ) (x : made.Change) (bytes : List ℕ) (before st : Stored) (d : Durable) → get id d.volumes ≡ Some before → changed_stored x.counter x.unique x.vnodes x.removed before ≡ Some st → folded (change_kept head id x bytes) d ≡ Some (durable_saved head id x bytes st d)
 unfolding folded

@@ -68,10 +68,10 @@ module _ {D : Type 0} (seen : D → Option (List ℕ)) (left_by : D → ℕ → 
   not_down {T} decided (Err nodes.OutOfMemory) still down = absurd cc
   not_down {T} decided (Err nodes.Down) still down = still
 
-  none_more : {T : Type 0} (decided : Option StoreRecord) (old new : D) (result : Result T NodeFault) → IsStill decided result → calls new ≡ calls old → OnOk result (calls new ≡ calls old + calls_for decided)
-  none_more {T} None old new (Ok x) still same = omega (arith, same)
-  none_more {T} (Some r) old new (Ok x) still same = absurd cc
-  none_more {T} decided old new (Err fault) still same = tt
+  none_more : {T : Type 0} (decided : Option StoreRecord) (d : Durable) (old new : D) (result : Result T NodeFault) → IsStill decided result → calls new ≡ calls old → OnOk result (calls new ≡ calls old + calls_for d decided)
+  none_more {T} None d old new (Ok x) still same = omega (arith, same)
+  none_more {T} (Some r) d old new (Ok x) still same = absurd cc
+  none_more {T} decided d old new (Err fault) still same = tt
 
   ran_none : {T : Type 0} (decided : Option StoreRecord) (old new : D) (result : Result T NodeFault) → IsStill decided result → Counts old new → Ran (setting old) (calls old) (calls new) (faults old) (faults new) (own_faults old) (own_faults new) result
   ran_none {T} decided old new (Ok x) still counts = record {
@@ -99,7 +99,7 @@ module _ {D : Type 0} (seen : D → Option (List ℕ)) (left_by : D → ℕ → 
     fits = λ r is. absurd (not_written decided r result still is);
     most = let e = counts.same_calls in (omega (arith, e), omega (arith, e));
     limited = counts.same_limit;
-    called = none_more decided old new result still counts.same_calls;
+    called = none_more decided d old new result still counts.same_calls;
     ran = ran_none decided old new result still counts;
     set = counts.same_setting;
   }
@@ -148,7 +148,7 @@ module _ {D : Type 0} (seen : D → Option (List ℕ)) (left_by : D → ℕ → 
     fits = then.fits;
     most = subst (λ (n : ℕ). (n ≤ calls new) × (calls new ≤ n + 4)) counts.same_calls then.most;
     limited = then.limited ∙ counts.same_limit;
-    called = subst (λ (n : ℕ). OnOk result (calls new ≡ n + calls_for decided)) counts.same_calls then.called;
+    called = subst (λ (n : ℕ). OnOk result (calls new ≡ n + calls_for d decided)) counts.same_calls then.called;
     ran =
         subst (λ (s : Setting). Ran s (calls old) (calls new) (faults old) (faults new) (own_faults old) (own_faults new) result) counts.same_setting
         (subst (λ (n : ℕ). Ran (setting mid) n (calls new) (faults old) (faults new) (own_faults old) (own_faults new) result) counts.same_calls

@@ -134,13 +134,13 @@ told_after {D} clock d turn old new s t (Ok outs) is r written = is.effects r wr
 told_after {D} clock d turn old new s t (Err faults.OutOfMemory) is r written = absurd written
 told_after {D} clock d turn old new s t (Err faults.Down) is r written = is.effects r written
 
-pub calls_decided : (boot clock : ℕ) (d : Decision) → calls_for (record_decided boot clock d) ≡ device_calls d
-calls_decided boot clock drops = refl
-calls_decided boot clock (tells_boot head) = refl
-calls_decided boot clock (repeats reply) = refl
-calls_decided boot clock (refuses head code) = refl
-calls_decided boot clock (shows head r) = refl
-calls_decided boot clock (saves head c) = refl
+pub calls_decided : (s : ServerState) (p : Durable) (clock : ℕ) (d : Decision) → calls_for p (record_decided s.lasting.boot clock d) ≡ device_calls s clock d
+calls_decided s p clock drops = refl
+calls_decided s p clock (tells_boot head) = refl
+calls_decided s p clock (repeats reply) = refl
+calls_decided s p clock (refuses head code) = refl
+calls_decided s p clock (shows head r) = refl
+calls_decided s p clock (saves head c) = refl
 
 -- ---- few numbers are drawn
 
@@ -178,6 +178,6 @@ draws_after {D} clock d m old new s t (Err fault) is = tt
 
 -- ---- the disk's calls
 
-pub called_after : {T : Type 0} (boot clock : ℕ) (d : Decision) (result : Result T NodeFault) (before now : ℕ) → OnOk result (now ≡ before + calls_for (record_decided boot clock d)) → OnOk result (now ≡ before + device_calls d)
-called_after {T} boot clock d (Ok x) before now is = is ∙ ap (λ (k : ℕ). before + k) (calls_decided boot clock d)
-called_after {T} boot clock d (Err fault) before now is = tt
+pub called_after : {T : Type 0} (s : ServerState) (p : Durable) (clock : ℕ) (d : Decision) (result : Result T NodeFault) (before now : ℕ) → OnOk result (now ≡ before + calls_for p (record_decided s.lasting.boot clock d)) → OnOk result (now ≡ before + device_calls s clock d)
+called_after {T} s p clock d (Ok x) before now is = is ∙ ap (λ (k : ℕ). before + k) (calls_decided s p clock d)
+called_after {T} s p clock d (Err fault) before now is = tt

@@ -8,7 +8,7 @@ use Rattle.afs_history.specs.declared.lines.Line.{Line}
 use Rattle.afs_history.specs.declared.lines.Outs.{Outs}
 use Rattle.afs_num.specs.declared.records.StoreRecord.{StoreRecord}
 use Rattle.afs_num.specs.declared.types.Node.{Node}
-use Rattle.afs_records.specs.Durable.{effect_of, folded, Durable}
+use Rattle.afs_records.specs.Durable.{effect_of, folded, placing, Durable}
 use Rattle.afs_records.specs.Records.{record_bytes, FitsRecord}
 use Rattle.afs_rows.specs.Callbacks as row
 use Rattle.afs_rows.specs.ServerRow.{begun_after, does, shows, Decision}
@@ -24,10 +24,10 @@ use Rattle.afs_server.specs.declared.faults.NodeFault.TheVariants.{Down}
 
 -- ---- the disk
 
--- a record is put on it by four calls
-abbrev pub calls_for : Option StoreRecord → ℕ
-calls_for None = 0
-calls_for (Some r) = 4
+-- the calls that a step makes, which has this record or none
+abbrev pub calls_for : Durable → Option StoreRecord → ℕ
+calls_for d None = 0
+calls_for d (Some r) = (placing d r).calls
 
 -- What a step that has this record, or none, does to the disk of a store that keeps this. Without a record, or where memory was
 -- wanting, it leaves the disk alone; else a crash at any moment leaves what was kept before, or what is kept with the record.
@@ -43,7 +43,7 @@ pub record OnDisk {D T : Type 0} (seen : D → Option (List ℕ)) (left_by : D �
   pub fits : (r : StoreRecord) → IsWritten r decided result → FitsRecord r
   pub most : (calls old ≤ calls new) × (calls new ≤ calls old + 4)
   pub limited : limit new ≡ limit old
-  pub called : OnOk result (calls new ≡ calls old + calls_for decided)
+  pub called : OnOk result (calls new ≡ calls old + calls_for d decided)
   pub ran : Ran (setting old) (calls old) (calls new) (faults old) (faults new) (own_faults old) (own_faults new) result
   pub set : setting new ≡ setting old
 
@@ -76,7 +76,7 @@ IsFew d = Unit {0}
 
 -- What a restart tells of this record, where it stands on the disk, is what the row tells then of the step before its own lines.
 abbrev pub IsToldAgain : Node → ServerState → ℕ → Decision → StoreRecord → Durable → Type 0
-IsToldAgain me s clock d r durable = (ls : List Line) → (begun_after me s clock d).before ls ≡ map in_words (effect_of me r durable).lines ++ ls
+IsToldAgain me s clock d r durable = (ls : List Line) → (begun_after me s clock d).before ls ≡ map in_words (effect_of me r durable) ++ ls
 
 -- the record of what is decided, if it has one
 abbrev pub TellsAgain : {D : Type 0} → ℕ → Decision → Memory → Store D → Type 0

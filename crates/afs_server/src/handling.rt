@@ -322,11 +322,11 @@ impl FileServer {
 
         // What a restart tells of this record is what the row tells then of the step.
         ensures effects { (r : records.StoreRecord) → IsWritten r (record_decided store.old.durable.boot now (decides store.old.node (server_seen self.old store.old) now (received_by calls_served bytes.now))) result
-            → (ls : List Line) → (begun_after store.old.node (server_seen self.old store.old) now (decides store.old.node (server_seen self.old store.old) now (received_by calls_served bytes.now))).before ls ≡ map in_words (effect_of store.old.node r store.old.durable).lines ++ ls }
+            → (ls : List Line) → (begun_after store.old.node (server_seen self.old store.old) now (decides store.old.node (server_seen self.old store.old) now (received_by calls_served bytes.now))).before ls ≡ map in_words (effect_of store.old.node r store.old.durable) ++ ls }
 
         ensures most { (D.calls store.old.disk ≤ D.calls store.new.disk) × (D.calls store.new.disk ≤ D.calls store.old.disk + 4) }
         ensures limit { D.limit store.new.disk ≡ D.limit store.old.disk }
-        ensures calls { OnOk result (D.calls store.new.disk ≡ D.calls store.old.disk + device_calls (decides store.old.node (server_seen self.old store.old) now (received_by calls_served bytes.now))) }
+        ensures calls { OnOk result (D.calls store.new.disk ≡ D.calls store.old.disk + device_calls (server_seen self.old store.old) now (decides store.old.node (server_seen self.old store.old) now (received_by calls_served bytes.now))) }
         ensures ran { Ran (D.setting store.old.disk) (D.calls store.old.disk) (D.calls store.new.disk) (D.faults store.old.disk) (D.faults store.new.disk) (D.own_faults store.old.disk) (D.own_faults store.new.disk) result }
         ensures setting { D.setting store.new.disk ≡ D.setting store.old.disk }
     {

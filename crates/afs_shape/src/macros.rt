@@ -124,13 +124,11 @@ macro_rules! slots_of {
     };
 }
 
-/// The message whose fields have these values, each beside those behind it.
+/// The values of fields, each beside those behind it.
 #[macro_export]
-macro_rules! message_with {
-    ($enum:ident $name:ident [$($made:tt)*] $values:expr;) => { $enum::$name { $($made)* } };
-    ($enum:ident $name:ident [$($made:tt)*] $values:expr; $first:ident $($more:ident)*) => {
-        $crate::message_with!($enum $name [$($made)* $first: $values.0,] $values.1; $($more)*)
-    };
+macro_rules! values_of {
+    () => { () };
+    ($first:ident $(, $more:ident)*) => { ($first, $crate::values_of!($($more),*)) };
 }
 
 /// Reads the message of this enum and opcode.
@@ -142,7 +140,7 @@ macro_rules! message_read {
     ) => {
         match $opcode {
             $($number => match $crate::taking::read_values::<$crate::slots_of!($($kind $([$most])?),*)>($alloc, $r) {
-                Ok(values) => Ok($crate::message_with!($enum $name [] values; $($field)*)),
+                Ok($crate::values_of!($($field),*)) => Ok($enum::$name { $($field),* }),
                 Err(fault) => Err(fault),
             },)*
             _ => Err($crate::faults::ShapeFault::NoRow($opcode)),

@@ -9,7 +9,7 @@ use Rattle.afs_num.specs.declared.types.Node.{Node}
 use Rattle.afs_disk.specs.Disk.{Setting}
 use Rattle.afs_journal.specs.Log.{IsJournal}
 use Rattle.afs_journal.specs.Records.{journal_bytes, whole_records}
-use Rattle.afs_records.specs.Durable.{Durable, Effect, fold_all, StandFor}
+use Rattle.afs_records.specs.Durable.{Durable, fold_all, StandFor}
 use Rattle.afs_volstore.specs.Stands.{Stands}
 use Rattle.afs_volstore.specs.Folds.{places_length, wanted_lines, TellsLast}
 use Rattle.afs_volstore.specs.Opening.{last_effect, lines_begun, same_mark, IsAttachFault, IsFoldFault}
@@ -91,7 +91,7 @@ counted_taken_up count found before seen may_leave counted is rests told bytes a
 
 -- ---- the lines of a restart
 
-by_mark : (b : Bool) (o : Option Effect) → option_map (λ (e : Effect). if b then [] else map in_words e.lines) o ≡ option_map (wanted_lines (not b)) o
+by_mark : (b : Bool) (o : Option (List Line)) → option_map (λ (e : List Line). if b then [] else map in_words e) o ≡ option_map (wanted_lines (not b)) o
 by_mark true None = refl
 by_mark true (Some e) = refl
 by_mark false None = refl
@@ -102,7 +102,7 @@ pub are_begun : (node : Node) (told : Mark) (c count : ℕ) (records found : Lis
 are_begun node told c count records found b ls is counted mark tells =
     let same : same_mark (record { generation = 0; records = length records }) told ≡ b =
     ap (λ (n : ℕ). same_mark (record { generation = 0; records = n }) told) (ap length (sym is) ∙ sym counted) ∙ sym mark in
-    ap (λ (m : Bool). option_map (λ (e : Effect). if m then [] else map in_words e.lines) (last_effect node c records)) same
+    ap (λ (m : Bool). option_map (λ (e : List Line). if m then [] else map in_words e) (last_effect node c records)) same
     ∙ (by_mark b (last_effect node c records) ∙ (ap (λ (rs : List (List ℕ)). option_map (wanted_lines (not b)) (last_effect node c rs)) (sym is) ∙ tells c))
 
 -- ---- faults

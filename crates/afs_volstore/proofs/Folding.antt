@@ -11,7 +11,7 @@ use Rattle.afs_num.specs.declared.records.StoreRecord.{StoreRecord}
 use Rattle.afs_shape.specs.Taking.{◌>>=◌}
 use Rattle.afs_ideal.specs.Tables.{get, set}
 use Rattle.afs_journal.specs.Records.{whole_records, IsBeforeOrAfter}
-use Rattle.afs_records.specs.Durable.{Durable, Stored, body_taken, changed_stored, folded, has_room, longer, most_volumes, noted, place_length, replaced, stored_of, with_reply, with_stamp, with_stored, with_volumes, StandFor}
+use Rattle.afs_records.specs.Durable.{Durable, Stored, body_taken, changed_stored, folded, has_room, most_volumes, noted, place_length, replaced, stored_of, with_reply, with_stamp, with_journal, with_stored, with_volumes, StandFor}
 use Rattle.afs_records.specs.Laws.{OneMoreStands}
 use Rattle.afs_records.specs.Records.{record_bytes, FitsRecord}
 use Rattle.afs_volstore.specs.Stands.{Stands}
@@ -70,10 +70,10 @@ pub noted_placed : (h : RecordHead) (j c : ℕ) (d : Durable) → noted h (place
 noted_placed h j c d = ap (with_reply h.caller h) (stamp_placed h j c d (nat_eq h.stamp 0)) ∙ reply_placed h.caller h j c (with_stamp h d)
 
 folded_by : (r : StoreRecord) (j c : ℕ) (o : Option Durable) (e : Durable) → option_map (noted r.head) o ≡ Some e
-    → (option_map (placed j c) o >>= λ d. Some (longer (place_length r) (noted r.head d))) ≡ Some (placed (j + place_length r) c e)
+    → (option_map (placed j c) o >>= λ d. Some (with_journal (j + place_length r) (noted r.head d))) ≡ Some (placed (j + place_length r) c e)
 folded_by r j c None e is = absurd cc
 folded_by r j c (Some d) e is =
-    ap (λ (x : Durable). Some (longer (place_length r) x)) (noted_placed r.head j c d) ∙ ap (λ (x : Durable). Some (placed (j + place_length r) c x)) (some_is (noted r.head d) e is)
+    ap (λ (x : Durable). Some (with_journal (j + place_length r) x)) (noted_placed r.head j c d) ∙ ap (λ (x : Durable). Some (placed (j + place_length r) c x)) (some_is (noted r.head d) e is)
   where
     some_is : (x y : Durable) → Some x ≡ Some y → x ≡ y
     some_is x y e = cc
@@ -82,13 +82,13 @@ folded_by r j c (Some d) e is =
 pub folded_is : (r : StoreRecord) (j c : ℕ) (d e : Durable) → option_map (noted r.head) (body_taken r.body d) ≡ Some e → folded r (placed j c d) ≡ Some (placed (j + place_length r) c e)
 unfolding folded
 folded_is r j c d e is =
-    ap (λ (o : Option Durable). o >>= λ x. Some (longer (place_length r) (noted r.head x))) (taken_placed r.body j c d) ∙ folded_by r j c (body_taken r.body d) e is
+    ap (λ (o : Option Durable). o >>= λ x. Some (with_journal (j + place_length r) (noted r.head x))) (taken_placed r.body j c d) ∙ folded_by r j c (body_taken r.body d) e is
 
 -- ---- a record can be taken as its body can
 
-fold_some : (r : StoreRecord) (o : Option Durable) → is_some (o >>= λ e. Some (longer (place_length r) (noted r.head e))) ≡ is_some o
-fold_some r None = refl
-fold_some r (Some e) = refl
+fold_some : (r : StoreRecord) (n : ℕ) (o : Option Durable) → is_some (o >>= λ e. Some (with_journal n (noted r.head e))) ≡ is_some o
+fold_some r n None = refl
+fold_some r n (Some e) = refl
 
 mapped_some : (f : Durable → Durable) (o : Option Durable) → is_some (option_map f o) ≡ is_some o
 mapped_some f None = refl
@@ -97,7 +97,7 @@ mapped_some f (Some e) = refl
 pub body_is_taken : (r : StoreRecord) (j c : ℕ) (d : Durable) → is_some (folded r (placed j c d)) ≡ is_some (body_taken r.body d)
 unfolding folded
 body_is_taken r j c d =
-    fold_some r (body_taken r.body (placed j c d)) ∙ (ap is_some (taken_placed r.body j c d) ∙ mapped_some (placed j c) (body_taken r.body d))
+    fold_some r (j + place_length r) (body_taken r.body (placed j c d)) ∙ (ap is_some (taken_placed r.body j c d) ∙ mapped_some (placed j c) (body_taken r.body d))
 
 -- ---- room
 

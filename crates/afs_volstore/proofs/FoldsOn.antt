@@ -12,7 +12,7 @@ use Rattle.afs_shape.specs.Taking.{◌>>=◌}
 use Rattle.afs_journal.specs.Records.{blocks, journal_bytes, place_of}
 use Rattle.afs_records.specs.Records.{record_at, record_bytes}
 use Rattle.afs_xdr.specs.Words.{word}
-use Rattle.afs_records.specs.Durable.{Durable, Effect, bad_by, bad_from, body_taken, effect_by, effect_of, first_bad, first_folded, fold_all, fold_from, folded, is_first, longer, noted, nothing_on, place_length}
+use Rattle.afs_records.specs.Durable.{Durable, bad_by, bad_from, body_taken, effect_by, effect_of, first_bad, first_folded, fold_all, fold_from, folded, is_first, noted, nothing_on, place_length, with_journal}
 use Rattle.afs_volstore.specs.Folds.{fold_front, is_none_yet, places_length, read_taken, taken_as, wanted_lines, IsBadAt, IsFront, TakesOne, TellsOne}
 use Rattle.afs_volstore.specs.Opening.{last_effect, last_from}
 use Rattle.afs_memory.specs.States.{placed}
@@ -135,13 +135,13 @@ tells_last : (node : Node) (w : Bool) (b : List ℕ) (ls : List Line) (first : B
 tells_last node w b ls first None d e is tells taken = absurd cc
 tells_last node w b ls first (Some r) d e is tells taken = ap (λ (x : Option Durable). option_map (wanted_lines w) (x >>= λ after. last_from node [] after (effect_of node r d))) taken ∙ ap (λ (l : List Line). Some l) (sym (tells r is))
 
-last_by : (node : Node) (w : Bool) (ls : List Line) (bs : List (List ℕ)) (b : List ℕ) (d : Durable) (f : Effect) (o : Option Durable) → ((y : Durable) (g : Effect) → fold_from bs y ≡ Some d → option_map (wanted_lines w) (last_from node (bs ++ b ∷ []) y g) ≡ Some ls) → (o >>= fold_from bs) ≡ Some d
+last_by : (node : Node) (w : Bool) (ls : List Line) (bs : List (List ℕ)) (b : List ℕ) (d : Durable) (f : List Line) (o : Option Durable) → ((y : Durable) (g : List Line) → fold_from bs y ≡ Some d → option_map (wanted_lines w) (last_from node (bs ++ b ∷ []) y g) ≡ Some ls) → (o >>= fold_from bs) ≡ Some d
     → option_map (wanted_lines w) (o >>= λ after. last_from node (bs ++ b ∷ []) after f) ≡ Some ls
 last_by node w ls bs b d f None later folds = absurd cc
 last_by node w ls bs b d f (Some y) later folds = later y f folds
 
-last_read : (node : Node) (w : Bool) (ls : List Line) (bs : List (List ℕ)) (b : List ℕ) (d : Durable) (g : StoreRecord → Option Durable) (h : StoreRecord → Effect) (o : Option StoreRecord)
-    → ((y : Durable) (f : Effect) → fold_from bs y ≡ Some d → option_map (wanted_lines w) (last_from node (bs ++ b ∷ []) y f) ≡ Some ls) → (o >>= λ r. (g r >>= fold_from bs)) ≡ Some d
+last_read : (node : Node) (w : Bool) (ls : List Line) (bs : List (List ℕ)) (b : List ℕ) (d : Durable) (g : StoreRecord → Option Durable) (h : StoreRecord → List Line) (o : Option StoreRecord)
+    → ((y : Durable) (f : List Line) → fold_from bs y ≡ Some d → option_map (wanted_lines w) (last_from node (bs ++ b ∷ []) y f) ≡ Some ls) → (o >>= λ r. (g r >>= fold_from bs)) ≡ Some d
     → option_map (wanted_lines w) (o >>= λ r. (g r >>= λ after. last_from node (bs ++ b ∷ []) after (h r))) ≡ Some ls
 last_read node w ls bs b d g h None later folds = absurd cc
 last_read node w ls bs b d g h (Some r) later folds = last_by node w ls bs b d (h r) (g r) later folds
@@ -149,7 +149,7 @@ last_read node w ls bs b d g h (Some r) later folds = last_by node w ls bs b d (
 some_durable : (y z : Durable) → Some y ≡ Some z → y ≡ z
 some_durable y z q = cc
 
-last_behind : (node : Node) (w : Bool) (ls : List Line) (bs : List (List ℕ)) (b : List ℕ) (x d e : Durable) (f : Effect) → fold_from bs x ≡ Some d → read_taken false b d ≡ Some e → TellsOne node w b d ls → option_map (wanted_lines w) (last_from node (bs ++ b ∷ []) x f) ≡ Some ls
+last_behind : (node : Node) (w : Bool) (ls : List Line) (bs : List (List ℕ)) (b : List ℕ) (x d e : Durable) (f : List Line) → fold_from bs x ≡ Some d → read_taken false b d ≡ Some e → TellsOne node w b d ls → option_map (wanted_lines w) (last_from node (bs ++ b ∷ []) x f) ≡ Some ls
 last_behind node w ls [] b x d e f folds taken tells =
     ap (λ (y : Durable). option_map (wanted_lines w) (record_at b >>= λ r. (folded r y >>= λ after. last_from node [] after (effect_of node r y)))) (some_durable x d folds) ∙ tells_last node w b ls false (record_at b) d e refl tells taken
 last_behind node w ls (a ∷ bs) b x d e f folds taken tells =
@@ -175,7 +175,7 @@ takes_one first bytes r old new read spelled is taken j c =
 
 folded_none : (r : StoreRecord) (j c : ℕ) (d : Durable) → body_taken r.body d ≡ None → folded r (placed j c d) ≡ None
 unfolding folded
-folded_none r j c d e = ap (λ (o : Option Durable). o >>= λ x. Some (longer (place_length r) (noted r.head x))) (taken_placed r.body j c d ∙ ap (option_map (placed j c)) e)
+folded_none r j c d e = ap (λ (o : Option Durable). o >>= λ x. Some (with_journal (j + place_length r) (noted r.head x))) (taken_placed r.body j c d ∙ ap (option_map (placed j c)) e)
 
 none_first : (b : Bool) (o : Option Durable) → o ≡ None → (if b then o else None) ≡ None
 none_first true o e = e

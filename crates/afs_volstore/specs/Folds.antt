@@ -6,7 +6,7 @@ use Rattle.afs_num.specs.declared.types.Node.{Node}
 use Rattle.afs_num.specs.declared.records.StoreRecord.{StoreRecord}
 use Rattle.afs_shape.specs.Taking.{◌>>=◌}
 use Rattle.afs_records.specs.Records.{record_at}
-use Rattle.afs_records.specs.Durable.{Durable, Effect, effect_of, first_folded, fold_all, folded, nothing_on}
+use Rattle.afs_records.specs.Durable.{Durable, effect_of, first_folded, fold_all, folded, nothing_on}
 use Rattle.afs_volstore.specs.Opening.{last_effect}
 use Rattle.afs_memory.specs.Telling.{in_words}
 use Rattle.afs_memory.specs.States.{placed}
@@ -38,8 +38,8 @@ abbrev pub IsFront : List (List ℕ) → Durable → Type 0
 IsFront records d = (capacity : ℕ) → fold_front capacity records ≡ Some (placed (1 + places_length records) capacity d)
 
 -- the lines of a record, where they are wanted
-abbrev pub wanted_lines : Bool → Effect → List Line
-wanted_lines wanted e = if wanted then map in_words e.lines else []
+abbrev pub wanted_lines : Bool → List Line → List Line
+wanted_lines wanted e = if wanted then map in_words e else []
 
 -- what the last record tells
 abbrev pub TellsLast : Node → Bool → List (List ℕ) → List Line → Type 0

@@ -13,18 +13,18 @@ use Rattle.afs_disk.specs.Disk.{Setting}
 use Rattle.afs_journal.specs.Records.{whole_records}
 use Rattle.afs_records.specs.Changes.{set_up, volumes_laid}
 use Rattle.afs_volstore.specs.Stands.{Stands}
-use Rattle.afs_records.specs.Durable.{Durable, Effect, effect_of, first_folded, folded, mark_of, most_volumes, nothing_on}
+use Rattle.afs_records.specs.Durable.{Durable, effect_of, first_folded, folded, mark_of, most_volumes, nothing_on}
 use Rattle.afs_volstore.specs.Laying.{HaveShortNames}
 use Rattle.afs_memory.specs.Telling.{in_words}
 
 -- ---- the last record
 
 -- what the last of these records tells, each taken after the one before
-abbrev pub last_from : Node → List (List ℕ) → Durable → Effect → Option Effect
+abbrev pub last_from : Node → List (List ℕ) → Durable → List Line → Option (List Line)
 last_from node [] d e = Some e
 last_from node (bytes ∷ rest) d e = record_at bytes >>= λ r. (folded r d >>= λ after. last_from node rest after (effect_of node r d))
 
-abbrev pub last_effect : Node → ℕ → List (List ℕ) → Option Effect
+abbrev pub last_effect : Node → ℕ → List (List ℕ) → Option (List Line)
 last_effect node capacity [] = None
 last_effect node capacity (bytes ∷ rest) =
     record_at bytes >>= λ r. (first_folded r (nothing_on capacity) >>= λ after. last_from node rest after (effect_of node r (nothing_on capacity)))
@@ -33,8 +33,8 @@ abbrev pub same_mark : Mark → Mark → Bool
 same_mark a b = nat_eq a.generation b.generation && nat_eq a.records b.records
 
 -- A restart begins with the lines of the last record where the mark of the disk isn't the one that was told.
-abbrev pub lines_unless_told : Mark → List (List ℕ) → Effect → List Line
-lines_unless_told told records e = if same_mark (mark_of records) told then [] else map in_words e.lines
+abbrev pub lines_unless_told : Mark → List (List ℕ) → List Line → List Line
+lines_unless_told told records e = if same_mark (mark_of records) told then [] else map in_words e
 
 abbrev pub lines_begun : Node → Mark → ℕ → List (List ℕ) → Option (List Line)
 lines_begun node told capacity records = option_map (lines_unless_told told records) (last_effect node capacity records)

@@ -309,7 +309,7 @@ impl<D: Disk> VolStore<D> {
     pub fn boot(&mut self) -> Result<Lines, StoreFault>
         requires { self.old.closed ≡ false }
         ensures started { OnOk result (self.new ≡ record self.old { durable = started self.old.durable; disk = self.new.disk; prepared = None; count = self.old.count + 1 }) }
-        ensures lines { IfOk result (λ ls. ls ≡ (effect_of self.old.node (boot_record (self.old.durable.boot + 1)) self.old.durable).lines) }
+        ensures lines { IfOk result (λ ls. ls ≡ effect_of self.old.node (boot_record (self.old.durable.boot + 1)) self.old.durable) }
         ensures full { (used capacity : ℕ) → IsErrOf result (faults.Full used capacity) → (can_boot self.old.durable ≡ false) × (used ≡ self.old.durable.journal) × (capacity ≡ self.old.durable.capacity) }
         ensures room { can_boot self.old.durable ≡ false → IfErr result (λ e. (e ≡ faults.OutOfMemory) ⊎ IsErrOf result (faults.Full self.old.durable.journal self.old.durable.capacity)) × (IsOk result → ⊥) }
         ensures early { IsEarly result (SameBut self.old self.new) }

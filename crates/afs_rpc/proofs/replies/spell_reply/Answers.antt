@@ -13,7 +13,7 @@ write_answer-requires g c = answer_spellable g.M.Messages.table c.args.code.0 (o
 
 pub returns-clause-spelled : goal.returns-clause-spelled
 returns-clause-spelled g c =
-    let bytes : c.from_vec.result ≡ c.write_answer.new.w = search rules in
+    let bytes : c.in_ok-bytes.bytes ≡ c.write_answer.new.w = search rules in
     let head : c.write_head.new.w ≡ words (head_words c.args.head.now) = search rules in
     let code : c.word.new.self ≡ c.write_head.new.w ++ word (signed c.args.code.0) = search rules in
     let answer : c.write_answer.new.w ≡ c.word.new.self ++ fields_spelled (answer_fields g.M.Messages.table (option_copied c.args.reply)) = search rules in

@@ -32,8 +32,8 @@ returns-in-Ok-clause-handled g c =
     let can = subst CanRun (sym c.self.view_is) c.requires.can_run in
     let e = c.in-Ok.ensures in
     let d = decides inside.store.node (server_seen inside.server inside.store) c.args.now (received_by calls_served c.args.bytes.now) in
-    let made : c.saturating_sub-made.result * 4 ≡ device_calls d = ap (λ (n : ℕ). n * 4) (c.saturating_sub-made.ensures ∙ (ap (λ (m : Mark). m.records - c.mark-before.result.records) c.mark.ensures.value ∙ ap (λ (m : Mark). new.store.count - m.records) c.mark-before.ensures.value))
-    ∙ made_calls inside.store.durable.boot c.args.now d inside.store c.handle.new.store e.kept in
+    let made : c.saturating_sub-made.result * 4 ≡ device_calls (server_seen inside.server inside.store) c.args.now d = ap (λ (n : ℕ). n * 4) (c.saturating_sub-made.ensures ∙ (ap (λ (m : Mark). m.records - c.mark-before.result.records) c.mark.ensures.value ∙ ap (λ (m : Mark). new.store.count - m.records) c.mark-before.ensures.value))
+    ∙ made_calls (server_seen inside.server inside.store) c.args.now d inside.store c.handle.new.store e.kept in
     let passed : Passed c.args.now c.args.bytes.now old new c.in-Ok.outs = record {
       step = e.step;
       found = e.found;
@@ -58,8 +58,8 @@ returns-in-Ok-clause-row g c =
     let new : Running g.row.D.Denot = record { memory = c.handle.new.self; store = c.handle.new.store; armed = armed_seen c.lowered-self-inside.result } in
     let e = c.in-Ok.ensures in
     let d = decides inside.store.node (server_seen inside.server inside.store) c.args.now (received_by calls_served c.args.bytes.now) in
-    let made : c.saturating_sub-made.result * 4 ≡ device_calls d = ap (λ (n : ℕ). n * 4) (c.saturating_sub-made.ensures ∙ (ap (λ (m : Mark). m.records - c.mark-before.result.records) c.mark.ensures.value ∙ ap (λ (m : Mark). new.store.count - m.records) c.mark-before.ensures.value))
-    ∙ made_calls inside.store.durable.boot c.args.now d inside.store c.handle.new.store e.kept in
+    let made : c.saturating_sub-made.result * 4 ≡ device_calls (server_seen inside.server inside.store) c.args.now d = ap (λ (n : ℕ). n * 4) (c.saturating_sub-made.ensures ∙ (ap (λ (m : Mark). m.records - c.mark-before.result.records) c.mark.ensures.value ∙ ap (λ (m : Mark). new.store.count - m.records) c.mark-before.ensures.value))
+    ∙ made_calls (server_seen inside.server inside.store) c.args.now d inside.store c.handle.new.store e.kept in
     subst (λ (x : Running g.row.D.Denot). RunsRow x c.args.now c.args.bytes.now new (Ok c.in-Ok.outs)) c.self.view_is
     (row_made c.args.now c.args.bytes.now old new c.in-Ok.outs e.step (c.lowered-self-inside.ensures ∙ ap (λ (n : ℕ). lowered n (armed_seen inside.armed)) made))
 
@@ -134,7 +134,7 @@ returns-in-Err-Down-clause-handled g c =
       left = λ m b whole told trips pick x left.
           ended_left g.D.Disk.seen g.D.Disk.left_by g.D.Disk.may_leave g.D.Disk.moment g.D.Disk.left_since g.met.D.Disk.counts_now g.met.D.Disk.leaves c.args.now found old inside.store.disk.disk c.handle.new.store.disk.disk ended m (e.found m whole) b told
           (c.handle.new.store.disk.calls - inside.store.disk.calls) (λ r w bytes seen. e.left err r w bytes seen trips) pick x left;
-      saves = λ m whole. ap device_calls (sym (same_row inside.store.node s c.args.now m found (e.found m whole)).decision) ∙ saves_calls inside.store.durable.boot c.args.now (decides inside.store.node s c.args.now found) some;
+      saves = λ m whole. ap (device_calls s c.args.now) (sym (same_row inside.store.node s c.args.now m found (e.found m whole)).decision) ∙ saves_calls s c.args.now (decides inside.store.node s c.args.now found) some;
       few = e.most.1;
       stop = ap (λ (x : Setting). x.stop) e.setting;
       fail = ap (λ (x : Setting). x.fail) e.setting;

@@ -20,5 +20,5 @@ returns-in_ok-versions-in-Change c =
     (λ ls is. is
     ∙ (lines_are c.args.server c.key_in.result full c.in_ok-versions-in-Change.versions (c.in_ok-versions-in-Change.ensures ∙ ap (λ (x : Change). map version_within (told x)) c.change.ensures)
     ∙ (ap (λ (k : Key). map in_words (change_lines c.args.server k full)) c.key_in.ensures
-    ∙ sym (ap (λ (r : Redo). map in_words (effect_by c.args.server c.args.head.now (body_of r) (parts_of c.args.self.now)).lines) c.in-Change.is))))
+    ∙ sym (ap (λ (r : Redo). map in_words (effect_by c.args.server c.args.head.now (body_of r) (parts_of c.args.self.now))) c.in-Change.is))))
     c.change_lines.ensures

@@ -3,4 +3,4 @@ use Rattle.std.proofs.lemmas.List.{drop-drop}
 use Rattle.afs_schedule.proofs.plans.Plan.advance.Goals as goal
 
 pub returns-then-self-len : goal.returns-then-self-len
-returns-then-self-len c = sym (drop-drop 1 c.self.inside.begun (map (λ a. a.now) c.self.inside.acts.items)) ∙ ap (drop 1) c.self.view_is
+returns-then-self-len c = sym (drop-drop 1 c.self.inside.begun (map (λ t. t.now) c.self.inside.tasks.items)) ∙ ap (drop 1) c.self.view_is

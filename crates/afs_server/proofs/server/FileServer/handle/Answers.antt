@@ -94,4 +94,4 @@ pub returns-clause-calls : goal.returns-clause-calls
 returns-clause-calls g c =
     let s = c.args.store.now in
     let d = decides s.node (server_seen c.args.self.now s) c.args.now (received_by calls_served c.args.bytes.now) in
-    called_after s.durable.boot c.args.now d c.take_bytes.result _ _ c.take_bytes.ensures.disk.called
+    called_after (server_seen c.args.self.now s) s.durable c.args.now d c.take_bytes.result _ _ c.take_bytes.ensures.disk.called
