@@ -18,7 +18,7 @@ needed() {
     for below in $(sed -n "s/^$1://p" crates.txt); do needed "$below"; done
 }
 
-below='afs_num afs_dir afs_vnode afs_volume'
+below='afs_num afs_dir afs_vnode afs_volume afs_changes'
 mkdir "$work/crates"
 if [ -f HANDLES ]; then cp HANDLES "$work"; fi
 for crate in $(for name in $below; do needed "$name"; done | sort -u); do

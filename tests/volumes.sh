@@ -33,7 +33,7 @@ needed() {
     for below in $(sed -n "s/^$1://p" crates.txt); do needed "$below"; done
 }
 
-below='afs_num afs_xdr afs_fsrpc afs_vnode afs_volume'
+below='afs_num afs_xdr afs_fsrpc afs_vnode afs_volume afs_reads afs_changes'
 mkdir "$work/crates"
 cp HANDLES "$work"
 for crate in $(for name in $below; do needed "$name"; done | sort -u); do

@@ -23,17 +23,17 @@ use Rattle.afs_rows.specs.Runs.{begins, begun_by, client_falls, client_moves, cl
 use Rattle.afs_rows.specs.Steps.{Step}
 use Rattle.afs_schedule.specs.Schedules.{act_input, client_act, is_idle, left_by, timeout_input, IsInput, Turn}
 use Rattle.afs_text.specs.Telling.{told, sent_by}
-use Rattle.afs_cell.specs.Happening.{entry_of, ClientHears, ClientMakes, HasBegun, HasFallen, HasRisen, HasTimedOut, IsAsked, IsVoidClient}
-use Rattle.afs_cell.specs.Places.{put_place}
+use Rattle.afs_clients.specs.Happening.{entry_of, ClientHears, ClientMakes, HasBegun, HasFallen, HasRisen, HasTimedOut, IsAsked, IsVoidClient}
+use Rattle.afs_clients.specs.Places.{put_place}
 use Rattle.afs_cell.specs.Steps.{IsAt, Plays}
 use Rattle.afs_cell.specs.Worlds.{falls, IsClient, IsHost, WorldState}
-use Rattle.afs_cell.specs.declared.clients.ClientSeat.{ClientSeat}
-use Rattle.afs_cell.specs.declared.happening.ClientInput.{ClientInput}
-use Rattle.afs_cell.specs.declared.happening.ClientInput.TheVariants as client
+use Rattle.afs_clients.specs.declared.clients.ClientSeat.{ClientSeat}
+use Rattle.afs_clients.specs.declared.happening.ClientInput.{ClientInput}
+use Rattle.afs_clients.specs.declared.happening.ClientInput.TheVariants as client
 use Rattle.afs_cell.proofs.Counts.{counts_still}
 use Rattle.afs_cell.proofs.Links.{cond_same, message_found, Voided}
 use Rattle.afs_cell.proofs.Parcels.{messages_of-read, messages_spelled-append, parcels_read-append, told-push}
-use Rattle.afs_cell.proofs.Numbers.{client_there, each_put, length_put}
+use Rattle.afs_clients.proofs.Numbers.{client_there, each_put, length_put}
 use Rattle.afs_cell.proofs.HostSteps.{entry_with}
 
 -- the world once a client's step was told

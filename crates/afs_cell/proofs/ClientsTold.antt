@@ -11,20 +11,21 @@ use Rattle.afs_history.specs.declared.scripts.Event.TheVariants as events
 use Rattle.afs_history.specs.declared.scripts.Script.{Script}
 use Rattle.afs_rows.specs.Runs.{Input}
 use Rattle.afs_schedule.specs.Schedules.{IsInput, Turn}
-use Rattle.afs_cell.specs.Happening.{entry_of, front_lines, void_entry, ClientGoes, ClientHappened, ClientHears, ClientsHappened, ClientTakes, IsAsked, IsVoidClient, Settles}
-use Rattle.afs_cell.specs.Places.{put_place}
+use Rattle.afs_clients.specs.Happening.{entry_of, front_lines, void_entry, ClientGoes, ClientHappened, ClientHears, ClientsHappened, ClientTakes, IsAsked, IsVoidClient}
+use Rattle.afs_cell.specs.Happening.{Settles}
+use Rattle.afs_clients.specs.Places.{put_place}
 use Rattle.afs_cell.specs.Steps.{IsAt, Stepped}
 use Rattle.afs_cell.specs.Worlds.{most_entries, AllTell, IsReadyClient, IsSafe, WorldState}
-use Rattle.afs_cell.specs.declared.clients.ClientSeat.{ClientSeat}
+use Rattle.afs_clients.specs.declared.clients.ClientSeat.{ClientSeat}
 use Rattle.afs_cell.specs.declared.faults.WorldFault.{WorldFault}
 use Rattle.afs_cell.specs.declared.faults.WorldFault.TheVariants as faulty
-use Rattle.afs_cell.specs.declared.happening.ClientInput.{ClientInput}
-use Rattle.afs_cell.specs.declared.happening.ClientInput.TheVariants as client
-use Rattle.afs_cell.specs.declared.happening.Happened.{Happened}
-use Rattle.afs_cell.specs.declared.happening.Happened.TheVariants as happened
+use Rattle.afs_clients.specs.declared.happening.ClientInput.{ClientInput}
+use Rattle.afs_clients.specs.declared.happening.ClientInput.TheVariants as client
+use Rattle.afs_clients.specs.declared.happening.Happened.{Happened}
+use Rattle.afs_clients.specs.declared.happening.Happened.TheVariants as happened
 use Rattle.afs_cell.proofs.ClientSteps.{after_client, client_plays, link_begun, link_fallen, link_heard, link_risen, link_timed_out, void_asked, void_heard, ClientLinked}
 use Rattle.afs_cell.proofs.Links.{message_found, Voided}
-use Rattle.afs_cell.proofs.Numbers.{each_put, length_put, no_client, put_same}
+use Rattle.afs_clients.proofs.Numbers.{each_put, length_put, no_client, put_same}
 use Rattle.afs_cell.proofs.Parcels.{sent_by-push}
 use Rattle.afs_cell.proofs.Settled.{client_more, nothing_changes, nothing_happens, one_longer, servers_more, ReadyClients}
 

@@ -5,8 +5,8 @@ use Rattle.afs_history.specs.declared.lines.Line.{Line}
 use Rattle.afs_cell.specs.Happening.{NothingSettles, Settles}
 use Rattle.afs_cell.specs.Worlds.{WorldState}
 use Rattle.afs_cell.specs.declared.faults.WorldFault.{WorldFault}
-use Rattle.afs_cell.specs.declared.happening.Happened.{Happened}
-use Rattle.afs_cell.specs.declared.happening.Happened.TheVariants as happened
+use Rattle.afs_clients.specs.declared.happening.Happened.{Happened}
+use Rattle.afs_clients.specs.declared.happening.Happened.TheVariants as happened
 
 abbrev clock_in : {D : Type 0} → WorldState D → ℕ
 clock_in {D} w = w.clock

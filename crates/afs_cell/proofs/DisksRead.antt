@@ -5,11 +5,11 @@ use Rattle.afs_volstore.specs.Stores.{Store}
 use Rattle.afs_host.specs.declared.seats.Seat.TheVariants.{Down, Up}
 use Rattle.afs_final.specs.Reading.{AreFound, IsRead}
 use Rattle.afs_final.specs.declared.reading.Left.{Left}
-use Rattle.afs_cell.specs.Places.{Each}
+use Rattle.afs_clients.specs.Places.{Each}
 use Rattle.afs_cell.specs.Readable.{AreReadable, IsOpen, IsReadable}
 use Rattle.afs_cell.specs.Steps.{lent_from}
 use Rattle.afs_cell.specs.Worlds.{seat_disk, AllHold, IsReadySeat, IsSafe, ServerSeat, WorldState}
-use Rattle.afs_cell.proofs.Handed.{server_is_node}
+use Rattle.afs_clients.proofs.Handed.{server_is_node}
 
 -- ---- each can be read
 

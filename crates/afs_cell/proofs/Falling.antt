@@ -16,13 +16,14 @@ use Rattle.afs_host.specs.Hosts.{HostStep}
 use Rattle.afs_host.specs.Seats.{disk_of, IsStepDown, IsUp, Resting, Running}
 use Rattle.afs_host.specs.Serving.{HasFallen, HasServed}
 use Rattle.afs_host.specs.declared.seats.Seat.TheVariants.{Down, Up}
-use Rattle.afs_cell.specs.Happening.{ClientTells, HasHeard, IsFallen, IsSeatOf, SeatGoes, SeatHappens, SeatKeeps, ServersHappened}
+use Rattle.afs_clients.specs.Happening.{ClientTells}
+use Rattle.afs_cell.specs.Happening.{HasHeard, IsFallen, IsSeatOf, SeatGoes, SeatHappens, SeatKeeps, ServersHappened}
 use Rattle.afs_cell.specs.Hearing.{IsUpAt, IsUpSeat, OneFalls, SeatBecomes, SeatFalls}
-use Rattle.afs_cell.specs.Places.{put_place, IsLifted, Room}
+use Rattle.afs_clients.specs.Places.{put_place, IsLifted, Room}
 use Rattle.afs_cell.specs.Worlds.{ServerSeat}
-use Rattle.afs_cell.specs.declared.happening.Happened.{Happened}
-use Rattle.afs_cell.specs.declared.happening.Happened.TheVariants as happened
-use Rattle.afs_cell.proofs.Numbers.{at_here, some_is}
+use Rattle.afs_clients.specs.declared.happening.Happened.{Happened}
+use Rattle.afs_clients.specs.declared.happening.Happened.TheVariants as happened
+use Rattle.afs_clients.proofs.Numbers.{at_here, some_is}
 use Rattle.afs_cell.proofs.Seats.{heard_down}
 
 -- what is put twice at one number stands there as it was put last

@@ -25,8 +25,8 @@ use Rattle.afs_host.specs.Seats.{CanRun, Running}
 use Rattle.afs_cell.specs.Ends.{IsLeftAt}
 use Rattle.afs_cell.specs.FirstSeats.{IsBack, IsCausedAt, IsFirstServer, IsFirstStore, IsRefusedAt}
 use Rattle.afs_cell.specs.Refusing.{refused_as}
-use Rattle.afs_cell.proofs.Handed.{server_is_node}
-use Rattle.afs_cell.proofs.Numbers.{none_some, some_is}
+use Rattle.afs_clients.proofs.Handed.{server_is_node}
+use Rattle.afs_clients.proofs.Numbers.{none_some, some_is}
 
 no_set_up : (o : Option Durable) (d : Durable) → o ≡ Some d → o ≡ None → ⊥
 no_set_up o d some none = absurd (none_some d (sym none ∙ some))

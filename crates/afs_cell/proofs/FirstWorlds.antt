@@ -13,14 +13,13 @@ use Rattle.afs_rows.specs.Runs.{first_client, first_host, start}
 use Rattle.afs_host.specs.declared.seats.Seat.TheVariants.{Down, Up}
 use Rattle.afs_schedule.specs.Schedules.{tasks_of}
 use Rattle.afs_cell.specs.FirstSeats.{AreFirstSeats, IsFirstSeat}
-use Rattle.afs_cell.specs.Places.{Each}
-use Rattle.afs_cell.specs.Refusing.{AreFirstClients}
-use Rattle.afs_cell.specs.Seating.{IsFirstClient}
+use Rattle.afs_clients.specs.Places.{Each}
+use Rattle.afs_clients.specs.Seating.{AreFirstClients, IsFirstClient}
 use Rattle.afs_cell.specs.Steps.{AreLent, IsFirst, LentTell}
 use Rattle.afs_cell.specs.Worlds.{none_gone, seat_disk, AllTell, IsCell, IsClient, IsHost, IsReadyClient, IsReadySeat, IsSafe, IsWorld, LetGo, ServerSeat, WorldState}
-use Rattle.afs_cell.specs.declared.clients.ClientSeat.{ClientSeat}
+use Rattle.afs_clients.specs.declared.clients.ClientSeat.{ClientSeat}
 use Rattle.afs_cell.proofs.FirstSeated.{count_seats}
-use Rattle.afs_cell.proofs.Numbers.{none_some, some_is}
+use Rattle.afs_clients.proofs.Numbers.{none_some, some_is}
 use Rattle.afs_cell.proofs.UnderWay.{runs_none}
 
 -- ---- each of a list
@@ -58,12 +57,6 @@ each_behind {A} P i (y ∷ ys) x h one =
     (h.0, each_behind P (i + 1) ys x h.1 (subst (λ (k : ℕ). P k x) here one))
 
 -- ---- clients
-
-pub client_more : (s : Script) (i j : ℕ) (cs : List ClientSeat) (c : ClientSeat) → AreFirstClients s i cs → j ≡ i + length cs → IsFirstClient s j c → AreFirstClients s i (cs ++ c ∷ [])
-client_more s i j [] c h at one =
-    let here : j ≡ i = omega (arith, at) in
-    (subst (λ (k : ℕ). IsFirstClient s k c) here one, tt)
-client_more s i j (k ∷ cs) c h at one = (h.0, client_more s (i + 1) j cs c h.1 (omega (arith, at)) one)
 
 clients_from : (s : Script) (Q : ℕ → ClientSeat → Type 0) (i : ℕ) (cs : List ClientSeat) → ((n : ℕ) (c : ClientSeat) → IsFirstClient s n c → Q n c) → AreFirstClients s i cs → EachFrom Q i cs
 clients_from s Q i [] f h = tt

@@ -19,7 +19,7 @@ use Rattle.afs_host.specs.declared.seats.Seat.TheVariants.{Down, Up}
 use Rattle.afs_cell.specs.FirstSeats.{AreKeptSeats, IsKeptSeat}
 use Rattle.afs_cell.specs.Steps.{lent_from, AreLent, AreStanding, IsReadAfter, MayBeRead}
 use Rattle.afs_cell.specs.Worlds.{seat_disk, AllHold, IsCell, IsHost, IsReadySeat, IsSafe, ServerSeat, WorldState}
-use Rattle.afs_cell.proofs.Numbers.{none_some, some_is}
+use Rattle.afs_clients.proofs.Numbers.{none_some, some_is}
 
 -- ---- a step leaves the capacity as it is
 

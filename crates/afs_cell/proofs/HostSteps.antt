@@ -15,13 +15,14 @@ use Rattle.afs_rows.specs.Runs.{moved, Cell, Entry, Input, Moved}
 use Rattle.afs_schedule.specs.Schedules.{left_by, Turn}
 use Rattle.afs_text.specs.Telling.{told, sent_by}
 use Rattle.afs_host.specs.Hosts.{placed, HostStep}
-use Rattle.afs_cell.specs.Happening.{entry_of, IsSeatStep}
-use Rattle.afs_cell.specs.Places.{put_place, Each}
+use Rattle.afs_clients.specs.Happening.{entry_of}
+use Rattle.afs_cell.specs.Happening.{IsSeatStep}
+use Rattle.afs_clients.specs.Places.{put_place, Each}
 use Rattle.afs_cell.specs.Steps.{IsAt, Plays}
 use Rattle.afs_cell.specs.Worlds.{falls, seat_disk, IsHost, ServerSeat, WorldState}
 use Rattle.afs_cell.proofs.Counts.{counts_put, Blames}
 use Rattle.afs_cell.proofs.Parcels.{messages_of-read, messages_spelled-append, parcels_read-append, told-push}
-use Rattle.afs_cell.proofs.Numbers.{each_put, length_put}
+use Rattle.afs_clients.proofs.Numbers.{each_put, length_put}
 
 -- the world once a server's step was told
 abbrev pub after_step : {D : Type 0} → WorldState D → ℕ → ServerSeat D → List Line → Outs → WorldState D

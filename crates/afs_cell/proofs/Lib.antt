@@ -1,5 +1,4 @@
 mod Parcels
-mod Numbers
 mod Counts
 mod Falling
 mod HostSteps
@@ -8,8 +7,6 @@ mod Settled
 mod ServersTold
 mod ClientSteps
 mod ClientsTold
-mod Handed
-mod Heard
 mod Seats
 mod Lifted
 mod Going
@@ -22,7 +19,6 @@ mod Parts
 mod Meant
 mod Ticked
 mod Picked
-mod Shortened
 mod NextEvents
 pub mod UnderWay
 mod FirstStores

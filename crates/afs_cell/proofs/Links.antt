@@ -14,13 +14,14 @@ use Rattle.afs_schedule.specs.Schedules.{left_by, IsInput, IsLuck, Turn}
 use Rattle.afs_host.specs.Hosts as host
 use Rattle.afs_host.specs.Hosts.{crashed, restarted, served, set_to_fail, set_to_stop, timed_out, woken, Fails, GivesOut, HostStep}
 use Rattle.afs_host.proofs.Placed.{moved_crashed, moved_restarted, moved_served, moved_set_to_fail, moved_set_to_stop, moved_timed_out, moved_woken}
-use Rattle.afs_cell.specs.Happening.{HasHeard, HasStep, IsFallen, IsGiven, IsSeatStep, IsVoidServer}
+use Rattle.afs_clients.specs.Happening.{IsGiven}
+use Rattle.afs_cell.specs.Happening.{HasHeard, HasStep, IsFallen, IsSeatStep, IsVoidServer}
 use Rattle.afs_cell.specs.Worlds.{falls, seat_disk, IsCell, ServerSeat, WorldState}
-use Rattle.afs_cell.specs.declared.happening.ServerInput.{ServerInput}
-use Rattle.afs_cell.specs.declared.happening.ServerInput.TheVariants as server
+use Rattle.afs_clients.specs.declared.happening.ServerInput.{ServerInput}
+use Rattle.afs_clients.specs.declared.happening.ServerInput.TheVariants as server
 use Rattle.afs_cell.proofs.Counts.{Blames}
 use Rattle.afs_cell.proofs.Parcels.{places_agree, AtPlace, Carries}
-use Rattle.afs_cell.proofs.Numbers.{host_there}
+use Rattle.afs_clients.proofs.Numbers.{host_there}
 use Rattle.afs_cell.proofs.HostSteps.{Linked}
 
 -- ---- the same words of two crates

@@ -5,15 +5,16 @@ use Rattle.afs_history.specs.declared.scripts.Event.TheVariants as events
 use Rattle.afs_grammar.specs.CellScripts.{counts_of, FitsEvent}
 use Rattle.afs_grammar.specs.Lines.{ticks_of}
 use Rattle.afs_schedule.specs.Schedules.{IsInput, Turn}
-use Rattle.afs_cell.specs.Happening.{IsAsked, IsGiven, NothingSettles}
-use Rattle.afs_cell.specs.Meaning.{IsMeant}
+use Rattle.afs_clients.specs.Happening.{IsAsked, IsGiven}
+use Rattle.afs_cell.specs.Happening.{NothingSettles}
+use Rattle.afs_clients.specs.Meaning.{IsMeant}
 use Rattle.afs_cell.specs.Steps.{Stays, Stepped}
 use Rattle.afs_cell.specs.Worlds.{most_entries, most_ticks, IsSafe, WorldState}
-use Rattle.afs_cell.specs.declared.events.Given.TheVariants as given
+use Rattle.afs_clients.specs.declared.events.Given.TheVariants as given
 use Rattle.afs_cell.specs.declared.faults.WorldFault.{WorldFault}
 use Rattle.afs_cell.specs.declared.faults.WorldFault.TheVariants as faulty
-use Rattle.afs_cell.specs.declared.happening.ClientInput.{ClientInput}
-use Rattle.afs_cell.specs.declared.happening.ServerInput.{ServerInput}
+use Rattle.afs_clients.specs.declared.happening.ClientInput.{ClientInput}
+use Rattle.afs_clients.specs.declared.happening.ServerInput.{ServerInput}
 use Rattle.afs_cell.proofs.Eventful.{skip_steps, stepped_as}
 
 module _ {D : Type 0} (seen : D → Option (List ℕ)) (may_leave : D → List ℕ → Type 0) (faults limit : D → ℕ) (w new : WorldState D) (result : Result (Unit {0}) WorldFault) (event : Event) where

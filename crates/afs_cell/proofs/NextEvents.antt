@@ -10,7 +10,7 @@ use Rattle.afs_grammar.specs.Lines.{ticks_in, ticks_of}
 use Rattle.afs_schedule.specs.Schedules.{lowest, named_by, next_event}
 use Rattle.afs_schedule.specs.Taking.{IsLeft, IsTaken}
 use Rattle.afs_schedule.specs.declared.schedule.Schedule.{Schedule}
-use Rattle.afs_cell.proofs.Numbers.{none_some, some_is}
+use Rattle.afs_clients.proofs.Numbers.{none_some, some_is}
 
 -- a place has a number from 1 on
 abbrev IsLow : Option ℕ → Type 0

@@ -7,15 +7,17 @@ use Rattle.afs_history.specs.declared.lines.Line.TheVariants as lines
 use Rattle.afs_history.specs.declared.scripts.Event.TheVariants as events
 use Rattle.afs_grammar.specs.CellScripts.{IsCellScript}
 use Rattle.afs_schedule.specs.Schedules.{IsInput, Turn}
-use Rattle.afs_cell.specs.Happening.{ClientHears, ClientsHappened, ClientTakes, HasHeard, HasStep, IsAsked, IsFallen, IsGiven, IsVoidClient, IsVoidServer, NothingSettles, ServersHappened, Settles}
-use Rattle.afs_cell.specs.Ready.{AllCanStep, AllReady}
+use Rattle.afs_clients.specs.Happening.{ClientHears, ClientsHappened, ClientTakes, IsAsked, IsGiven, IsVoidClient}
+use Rattle.afs_cell.specs.Happening.{HasHeard, HasStep, IsFallen, IsVoidServer, NothingSettles, ServersHappened, Settles}
+use Rattle.afs_clients.specs.Ready.{AllReady}
+use Rattle.afs_cell.specs.Ready.{AllCanStep}
 use Rattle.afs_cell.specs.Steps.{Stepped}
 use Rattle.afs_cell.specs.Worlds.{most_entries, IsSafe, ServerSeat, WorldState}
-use Rattle.afs_cell.specs.declared.clients.ClientSeat.{ClientSeat}
+use Rattle.afs_clients.specs.declared.clients.ClientSeat.{ClientSeat}
 use Rattle.afs_cell.specs.declared.faults.WorldFault.{WorldFault}
-use Rattle.afs_cell.specs.declared.happening.ClientInput.{ClientInput}
-use Rattle.afs_cell.specs.declared.happening.Happened.{Happened}
-use Rattle.afs_cell.specs.declared.happening.ServerInput.{ServerInput}
+use Rattle.afs_clients.specs.declared.happening.ClientInput.{ClientInput}
+use Rattle.afs_clients.specs.declared.happening.Happened.{Happened}
+use Rattle.afs_clients.specs.declared.happening.ServerInput.{ServerInput}
 use Rattle.afs_cell.proofs.Able.{all_can, all_ready}
 use Rattle.afs_cell.proofs.ClientsTold.{asked_settles, heard_settles}
 use Rattle.afs_cell.proofs.Eventful.{no_message, skip_as, to_admin, to_loc}

@@ -9,15 +9,15 @@ use Rattle.afs_host.specs.declared.seats.Seat.TheVariants.{Up}
 use Rattle.afs_server.specs.Handling.{server_seen}
 use Rattle.afs_cell.specs.Happening.{HasStep, IsVoidServer, ServersHappened, Settles}
 use Rattle.afs_cell.specs.Picks.{IsPicked, LeavesPick, OneLeavesPick}
-use Rattle.afs_cell.specs.Places.{IsLifted, Room}
+use Rattle.afs_clients.specs.Places.{IsLifted, Room}
 use Rattle.afs_cell.specs.Worlds.{IsHost, ServerSeat, WorldState}
-use Rattle.afs_cell.specs.declared.events.Given.TheVariants as given
+use Rattle.afs_clients.specs.declared.events.Given.TheVariants as given
 use Rattle.afs_cell.specs.declared.faults.WorldFault.{WorldFault}
-use Rattle.afs_cell.specs.declared.happening.Happened.{Happened}
-use Rattle.afs_cell.specs.declared.happening.Happened.TheVariants as happened
-use Rattle.afs_cell.specs.declared.happening.ServerInput.{ServerInput}
-use Rattle.afs_cell.specs.declared.happening.ServerInput.TheVariants as server
-use Rattle.afs_cell.proofs.Numbers.{at_here}
+use Rattle.afs_clients.specs.declared.happening.Happened.{Happened}
+use Rattle.afs_clients.specs.declared.happening.Happened.TheVariants as happened
+use Rattle.afs_clients.specs.declared.happening.ServerInput.{ServerInput}
+use Rattle.afs_clients.specs.declared.happening.ServerInput.TheVariants as server
+use Rattle.afs_clients.proofs.Numbers.{at_here}
 
 some_is : {A : Type 0} (x y : A) → Some x ≡ Some y → x ≡ y
 some_is x y e = cc

@@ -18,10 +18,11 @@ use Rattle.afs_host.specs.Serving.{HasServed}
 use Rattle.afs_host.specs.Starting.{HasStarted}
 use Rattle.afs_host.specs.declared.seats.Seat.TheVariants.{Down, Up}
 use Rattle.afs_host.proofs.Stepping.{waits_some}
-use Rattle.afs_cell.specs.Happening.{ClientTells, HasHeard, HasStep, IsFallen, IsSeatOf, IsSeatStep, IsVoidServer, SeatHappens}
+use Rattle.afs_clients.specs.Happening.{ClientTells}
+use Rattle.afs_cell.specs.Happening.{HasHeard, HasStep, IsFallen, IsSeatOf, IsSeatStep, IsVoidServer, SeatHappens}
 use Rattle.afs_cell.specs.Worlds.{ServerSeat}
-use Rattle.afs_cell.specs.declared.happening.Happened.TheVariants as happened
-use Rattle.afs_cell.specs.declared.happening.ServerInput.TheVariants as input
+use Rattle.afs_clients.specs.declared.happening.Happened.TheVariants as happened
+use Rattle.afs_clients.specs.declared.happening.ServerInput.TheVariants as input
 
 module _ {D : Type 0} (seen : D → Option (List ℕ)) (may_leave : D → List ℕ → Type 0) (faults limit : D → ℕ) where
   pub step_up : (i : ℕ) (r : Running D) (before : List Line) (outs : Outs) (s : HostStep) → IsStepUp r before outs s → IsSeatStep seen may_leave limit i (Up r) before outs s

@@ -12,16 +12,17 @@ use Rattle.afs_disk.specs.Disk.{Rose}
 use Rattle.afs_rows.specs.Runs.{has_host, Host, Input}
 use Rattle.afs_schedule.specs.Schedules.{IsInput, Turn}
 use Rattle.afs_host.specs.Hosts.{HostStep}
-use Rattle.afs_cell.specs.Happening.{entry_of, front_lines, void_entry, HasHeard, HasStep, IsFallen, IsGiven, IsSeatStep, IsVoidServer, OneHappened, ServersHappened, Settles}
+use Rattle.afs_clients.specs.Happening.{entry_of, front_lines, void_entry, IsGiven}
+use Rattle.afs_cell.specs.Happening.{HasHeard, HasStep, IsFallen, IsSeatStep, IsVoidServer, OneHappened, ServersHappened, Settles}
 use Rattle.afs_cell.specs.Steps.{IsAt, Stepped}
 use Rattle.afs_cell.specs.Worlds.{most_entries, seat_disk, AllTell, IsSafe, ServerSeat, WorldState}
 use Rattle.afs_cell.specs.declared.faults.WorldFault.{WorldFault}
 use Rattle.afs_cell.specs.declared.faults.WorldFault.TheVariants as faulty
-use Rattle.afs_cell.specs.declared.happening.Happened.{Happened}
-use Rattle.afs_cell.specs.declared.happening.Happened.TheVariants as happened
-use Rattle.afs_cell.specs.declared.happening.ServerInput.{ServerInput}
+use Rattle.afs_clients.specs.declared.happening.Happened.{Happened}
+use Rattle.afs_clients.specs.declared.happening.Happened.TheVariants as happened
+use Rattle.afs_clients.specs.declared.happening.ServerInput.{ServerInput}
 use Rattle.afs_cell.proofs.Links.{link_input, link_message, link_void, link_void_message, message_found, Voided}
-use Rattle.afs_cell.proofs.Numbers.{no_host, put_same}
+use Rattle.afs_clients.proofs.Numbers.{no_host, put_same}
 use Rattle.afs_cell.proofs.HostSteps.{Linked}
 use Rattle.afs_cell.proofs.Settled.{nothing_changes, nothing_happens, step_loses, step_told, step_wants}
 

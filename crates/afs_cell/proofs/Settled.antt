@@ -14,17 +14,18 @@ use Rattle.afs_rows.specs.Runs.{moved, voided, Cell, Entry, Host, Input, Moved}
 use Rattle.afs_schedule.specs.Schedules.{Turn}
 use Rattle.afs_text.specs.Telling.{told, sent_by}
 use Rattle.afs_host.specs.declared.seats.Seat.TheVariants.{Up, Down}
-use Rattle.afs_cell.specs.Happening.{entry_of, void_entry, SeatGoes, SeatKeeps}
-use Rattle.afs_cell.specs.Places.{put_place, Each}
+use Rattle.afs_clients.specs.Happening.{entry_of, void_entry}
+use Rattle.afs_cell.specs.Happening.{SeatGoes, SeatKeeps}
+use Rattle.afs_clients.specs.Places.{put_place, Each}
 use Rattle.afs_cell.specs.Steps.{IsAt, Plays, Stepped}
 use Rattle.afs_cell.specs.Worlds.{most_entries, seat_disk, AllHold, AllTell, IsHost, IsReadyClient, IsReadySeat, IsSafe, ServerSeat, WorldState}
-use Rattle.afs_cell.specs.declared.clients.ClientSeat.{ClientSeat}
+use Rattle.afs_clients.specs.declared.clients.ClientSeat.{ClientSeat}
 use Rattle.afs_cell.specs.declared.faults.WorldFault.TheVariants as faulty
-use Rattle.afs_cell.specs.declared.happening.Happened.TheVariants as happened
+use Rattle.afs_clients.specs.declared.happening.Happened.TheVariants as happened
 use Rattle.afs_cell.proofs.Counts.{counts_kept, counts_still}
 use Rattle.afs_cell.proofs.Links.{Voided}
 use Rattle.afs_cell.proofs.Parcels.{sent_by-push, told-still}
-use Rattle.afs_cell.proofs.Numbers.{each_back, each_map, each_put, length_put}
+use Rattle.afs_clients.proofs.Numbers.{each_back, each_map, each_put, length_put}
 use Rattle.afs_cell.proofs.HostSteps.{after_step, server_plays, Linked}
 
 -- ---- what one entry more leaves

@@ -15,19 +15,21 @@ use Rattle.afs_history.specs.declared.scripts.Event.TheVariants as events
 use Rattle.afs_wire.specs.Sent as wire
 use Rattle.afs_wire.specs.Sent.{Sent}
 use Rattle.afs_schedule.specs.Schedules.{IsInput, Turn}
-use Rattle.afs_cell.specs.Happening.{ClientHears, ClientsHappened, ClientTakes, HasHeard, HasStep, IsAsked, IsFallen, IsGiven, IsVoidClient, IsVoidServer, NothingSettles, ServersHappened, Settles}
+use Rattle.afs_clients.specs.Happening.{ClientHears, ClientsHappened, ClientTakes, IsAsked, IsGiven, IsVoidClient}
+use Rattle.afs_cell.specs.Happening.{HasHeard, HasStep, IsFallen, IsVoidServer, NothingSettles, ServersHappened, Settles}
 use Rattle.afs_cell.specs.Noting.{Notes}
-use Rattle.afs_cell.specs.Ready.{AllCanStep, AllReady}
-use Rattle.afs_cell.specs.Meaning.{IsMeant}
+use Rattle.afs_clients.specs.Ready.{AllReady}
+use Rattle.afs_cell.specs.Ready.{AllCanStep}
+use Rattle.afs_clients.specs.Meaning.{IsMeant}
 use Rattle.afs_cell.specs.Since.{whole, DeliversKept, IsBefore, IsSafeSince, Keeps, LetsGo, SteppedSince}
 use Rattle.afs_cell.specs.Worlds.{most_entries, most_ticks, HistoryTold, LetGo, ServerSeat, WorldState}
-use Rattle.afs_cell.specs.declared.clients.ClientSeat.{ClientSeat}
-use Rattle.afs_cell.specs.declared.events.Given.TheVariants as given
+use Rattle.afs_clients.specs.declared.clients.ClientSeat.{ClientSeat}
+use Rattle.afs_clients.specs.declared.events.Given.TheVariants as given
 use Rattle.afs_cell.specs.declared.faults.WorldFault.{WorldFault}
-use Rattle.afs_cell.specs.declared.happening.ClientInput.{ClientInput}
-use Rattle.afs_cell.specs.declared.happening.Happened.{Happened}
-use Rattle.afs_cell.specs.declared.happening.Happened.TheVariants as happened
-use Rattle.afs_cell.specs.declared.happening.ServerInput.{ServerInput}
+use Rattle.afs_clients.specs.declared.happening.ClientInput.{ClientInput}
+use Rattle.afs_clients.specs.declared.happening.Happened.{Happened}
+use Rattle.afs_clients.specs.declared.happening.Happened.TheVariants as happened
+use Rattle.afs_clients.specs.declared.happening.ServerInput.{ServerInput}
 use Rattle.afs_cell.proofs.Parts.{admin_heard, asked, can_all, inside_clients, loc_heard, message_heard, message_served, nobody_heard, ready_all, served}
 use Rattle.afs_cell.proofs.Meant.{as_nothing}
 use Rattle.afs_cell.proofs.Ticked.{not_ticked, ticked}

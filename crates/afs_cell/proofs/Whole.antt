@@ -8,13 +8,14 @@ use Rattle.afs_num.specs.declared.types.Parcel.{Parcel}
 use Rattle.afs_history.specs.declared.lines.Entry as kept
 use Rattle.afs_history.specs.declared.lines.Line.{Line}
 use Rattle.afs_text.specs.Telling.{sent_by}
-use Rattle.afs_cell.specs.Happening.{entry_of, front_lines, void_entry, NothingSettles, Settles}
+use Rattle.afs_clients.specs.Happening.{entry_of, front_lines, void_entry}
+use Rattle.afs_cell.specs.Happening.{NothingSettles, Settles}
 use Rattle.afs_cell.specs.Noting.{one_entry, Notes}
 use Rattle.afs_cell.specs.Since.{whole, IsBefore, LetsGo}
 use Rattle.afs_cell.specs.Worlds.{most_entries, HistoryTold, IsSafe, WorldState}
 use Rattle.afs_cell.specs.declared.faults.WorldFault.{WorldFault}
-use Rattle.afs_cell.specs.declared.happening.Happened.{Happened}
-use Rattle.afs_cell.specs.declared.happening.Happened.TheVariants as happened
+use Rattle.afs_clients.specs.declared.happening.Happened.{Happened}
+use Rattle.afs_clients.specs.declared.happening.Happened.TheVariants as happened
 use Rattle.afs_cell.proofs.Parcels.{sent_by-push}
 
 -- ---- what is told behind a step

@@ -4,11 +4,11 @@ use Rattle.afs_num.specs.Places.{at_place}
 use Rattle.afs_history.specs.declared.lines.Line.{Line}
 use Rattle.afs_host.specs.Serving.{HasFallen}
 use Rattle.afs_host.specs.declared.seats.Seat.TheVariants.{Up, Down}
-use Rattle.afs_cell.specs.Happening.{ClientTells}
-use Rattle.afs_cell.specs.Places.{put_place}
+use Rattle.afs_clients.specs.Happening.{ClientTells}
+use Rattle.afs_clients.specs.Places.{put_place}
 use Rattle.afs_cell.specs.Worlds.{ServerSeat}
-use Rattle.afs_cell.specs.declared.happening.Happened.{Happened}
-use Rattle.afs_cell.specs.declared.happening.Happened.TheVariants as happened
+use Rattle.afs_clients.specs.declared.happening.Happened.{Happened}
+use Rattle.afs_clients.specs.declared.happening.Happened.TheVariants as happened
 
 abbrev pub IsUpSeat : {D : Type 0} → ServerSeat D → Type 0
 IsUpSeat {D} (Up r) = Unit {0}

@@ -1,13 +1,9 @@
-pub mod Places
-pub mod PlaceLends
 pub mod Worlds
 pub mod Steps
 pub mod Happening
 pub mod Hearing
-pub mod Seating
 pub mod Readable
 pub mod Ready
-pub mod Meaning
 pub mod Noting
 pub mod Picks
 pub mod Ends

@@ -5,10 +5,10 @@ use Rattle.afs_host.specs.Seats.{disk_of, Running}
 use Rattle.afs_host.specs.declared.seats.Seat.TheVariants.{Up}
 use Rattle.afs_cell.specs.Worlds.{seat_disk, ServerSeat}
 use Rattle.afs_cell.specs.declared.faults.WorldFault.{WorldFault}
-use Rattle.afs_cell.specs.declared.happening.Happened.{Happened}
-use Rattle.afs_cell.specs.declared.happening.Happened.TheVariants as happened
-use Rattle.afs_cell.specs.declared.happening.ServerInput.{ServerInput}
-use Rattle.afs_cell.specs.declared.happening.ServerInput.TheVariants as server
+use Rattle.afs_clients.specs.declared.happening.Happened.{Happened}
+use Rattle.afs_clients.specs.declared.happening.Happened.TheVariants as happened
+use Rattle.afs_clients.specs.declared.happening.ServerInput.{ServerInput}
+use Rattle.afs_clients.specs.declared.happening.ServerInput.TheVariants as server
 
 -- where a server crashes with this pick, its disk keeps what a crash with that pick leaves of it
 abbrev pub LeavesPick : {D : Type 0} → (D → Option (List ℕ)) → (D → ℕ → Option (List ℕ)) → Happened → ServerInput → ServerSeat D → ServerSeat D → Type 0

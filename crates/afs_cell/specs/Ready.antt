@@ -1,13 +1,10 @@
--- What the seats of a cell must be for the next input.
-use Rattle.std.specs.Prelude.{◌≤◌, ◌<◌, ℕ, List}
+-- What the seats of a cell's servers must be for the next input.
+use Rattle.std.specs.Prelude.{◌≤◌, ℕ, List}
 use Rattle.afs_num.specs.Nodes.{IsNode}
 use Rattle.afs_num.specs.declared.types.Node.TheVariants.{Server}
-use Rattle.afs_history.specs.declared.scripts.Script.{Script}
-use Rattle.afs_cache.specs.Managing.{number_limit}
 use Rattle.afs_cell.specs.Happening.{CanStep, IsSeatOf}
-use Rattle.afs_cell.specs.Places.{Each}
-use Rattle.afs_cell.specs.Worlds.{seat_disk, IsHanded, ServerSeat}
-use Rattle.afs_cell.specs.declared.clients.ClientSeat.{ClientSeat}
+use Rattle.afs_clients.specs.Places.{Each}
+use Rattle.afs_cell.specs.Worlds.{seat_disk, ServerSeat}
 
 -- a server can be given something, and is that of its number
 pub record CanTake {D : Type 0} (limit : D → ℕ) (i : ℕ) (seat : ServerSeat D) : Type 0 where
@@ -18,13 +15,3 @@ pub record CanTake {D : Type 0} (limit : D → ℕ) (i : ℕ) (seat : ServerSeat
 
 abbrev pub AllCanStep : {D : Type 0} → (D → ℕ) → List (ServerSeat D) → Type 0
 AllCanStep {D} limit servers = Each (λ (i : ℕ) (seat : ServerSeat D). CanTake limit i seat) servers
-
--- a client can
-pub record IsReadySeatOf (s : Script) (n : ℕ) (seat : ClientSeat) : Type 0 where
-  pub handed : IsHanded s n seat
-  pub number : (1 ≤ n) × (n ≤ 16)
-  pub last : seat.client.state.last < number_limit
-  pub epoch : seat.epoch < 4294967295
-
-abbrev pub AllReady : Script → List ClientSeat → Type 0
-AllReady s clients = Each (λ (n : ℕ) (seat : ClientSeat). IsReadySeatOf s n seat) clients

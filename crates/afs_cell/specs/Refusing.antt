@@ -1,12 +1,9 @@
 -- How set-up begins, and how it is refused.
-use Rattle.std.specs.Prelude.{◌≡◌, ◌≤◌, ◌+◌, ℕ, List, [], ◌∷◌}
+use Rattle.std.specs.Prelude.{◌≡◌, ◌≤◌, ℕ, []}
 use Rattle.std.specs.Vec.{vec_capacity}
 use Rattle.afs_num.specs.declared.faults.StoreFault.{StoreFault}
 use Rattle.afs_num.specs.declared.faults.StoreFault.TheVariants as store
 use Rattle.afs_num.specs.declared.types.Node.{Node}
-use Rattle.afs_history.specs.declared.scripts.Script.{Script}
-use Rattle.afs_cell.specs.Seating.{IsFirstClient}
-use Rattle.afs_cell.specs.declared.clients.ClientSeat.{ClientSeat}
 use Rattle.afs_cell.specs.declared.faults.SetupFault.{SetupFault}
 use Rattle.afs_cell.specs.declared.faults.SetupFault.TheVariants as setup
 use Rattle.afs_cell.specs.declared.setup.Rooms.{Rooms}
@@ -22,8 +19,3 @@ pub record HaveRoom {D : Type 0} (n : ℕ) (r : Rooms D) : Type 0 where
   pub none_back : r.back.items ≡ []
   pub for_seats : n ≤ vec_capacity r.seats
   pub for_back : n ≤ vec_capacity r.back
-
--- clients at set-up, in order of number from this one on
-abbrev pub AreFirstClients : Script → ℕ → List ClientSeat → Type 0
-AreFirstClients s n [] = Unit {0}
-AreFirstClients s n (c ∷ cs) = IsFirstClient s n c × AreFirstClients s (n + 1) cs

@@ -11,10 +11,10 @@ use Rattle.afs_server.specs.Seen.{lasting_of}
 use Rattle.afs_records.specs.Durable.{Durable}
 use Rattle.afs_volstore.specs.Stands.{Stands}
 use Rattle.afs_schedule.specs.Schedules.{events_of, first_turn, left_by, tasks_of, AreFirst, AreInputs, Turn}
-use Rattle.afs_cell.specs.Places.{Each}
+use Rattle.afs_clients.specs.Places.{Each}
 use Rattle.afs_text.specs.Telling.{told}
 use Rattle.afs_cell.specs.Worlds.{falls_at, most_entries, none_gone, seat_disk, AllTell, Counts, IsCell, IsSafe, Runs, ServerSeat, WorldState}
-use Rattle.afs_cell.specs.declared.clients.ClientSeat.{ClientSeat}
+use Rattle.afs_clients.specs.declared.clients.ClientSeat.{ClientSeat}
 use Rattle.afs_cell.specs.declared.faults.WorldFault.{WorldFault}
 use Rattle.afs_cell.specs.declared.faults.WorldFault.TheVariants as faults
 

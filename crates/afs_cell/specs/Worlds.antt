@@ -1,25 +1,22 @@
 -- The program's cell, and the cell of the definitions that it stands for.
 use Rattle.std.specs.Prelude.{◌≡◌, ◌≤◌, ◌⊎◌, ◌+◌, ◌-◌, ◌*◌, ◌^◌, ℕ, List, [], ◌∷◌, Bool, false, not, nat_eq, if◌then◌else◌, Option, length, IsSome}
-use Rattle.std.specs.List.{All}
 use Rattle.afs_num.specs.declared.histories.Actor.{Actor}
 use Rattle.afs_num.specs.declared.histories.Actor.TheVariants as actors
-use Rattle.afs_num.specs.declared.types.Node.TheVariants.{Server, Client}
+use Rattle.afs_num.specs.declared.types.Node.TheVariants.{Server}
 use Rattle.afs_num.specs.declared.types.Parcel.{Parcel}
 use Rattle.afs_history.specs.declared.lines.Entry as kept
 use Rattle.afs_history.specs.declared.scripts.Script.{Script}
-use Rattle.afs_history.specs.declared.scripts.Task.{Task}
-use Rattle.afs_history.specs.declared.scripts.Task.TheVariants as tasks
 use Rattle.afs_grammar.specs.CellScripts.{IsCellScript}
 use Rattle.afs_model.specs.Messages.{messages_spelled, parcels_read}
 use Rattle.afs_rows.specs.Going.{ClientState}
-use Rattle.afs_rows.specs.Runs.{fails_early, fails_midway, gives, gives_out, locations, start, starts_again, user_at, Cell, Entry, Host, Input, Leads}
-use Rattle.afs_acts.specs.Acts.{IsShortAct}
+use Rattle.afs_rows.specs.Runs.{fails_early, fails_midway, gives, gives_out, start, starts_again, Cell, Entry, Host, Input, Leads}
 use Rattle.afs_host.specs.Seats.{CanRun, IsDown, IsUp, Resting, Running}
 use Rattle.afs_host.specs.declared.seats.Seat.{Seat}
 use Rattle.afs_host.specs.declared.seats.Seat.TheVariants.{Up, Down}
-use Rattle.afs_cell.specs.Places.{Each}
+use Rattle.afs_clients.specs.Places.{Each}
 use Rattle.afs_text.specs.Telling.{told, sent_by, AreRead}
-use Rattle.afs_cell.specs.declared.clients.ClientSeat.{ClientSeat}
+use Rattle.afs_clients.specs.declared.clients.ClientSeat.{ClientSeat}
+use Rattle.afs_clients.specs.Seating.{IsHanded}
 
 abbrev pub ServerSeat : Type 0 → Type 0
 ServerSeat D = Seat (Running D) (Resting D)
@@ -85,20 +82,6 @@ pub record IsReady {D : Type 0} (i entries : ℕ) (r : Running D) : Type 0 where
 abbrev pub IsReadySeat : {D : Type 0} → ℕ → ℕ → ServerSeat D → Type 0
 IsReadySeat {D} i entries (Up r) = IsReady i entries r
 IsReadySeat {D} i entries (Down s) = Unit {0}
-
--- an act of a client is within its limits
-abbrev pub IsShortTask : Task → Type 0
-IsShortTask (tasks.Client n act) = IsShortAct act
-IsShortTask (tasks.Admin n act) = Unit {0}
-
--- What a client was handed at its start, or when it began again, is the script's; so are the acts that it has not begun.
-pub record IsHanded (s : Script) (n : ℕ) (seat : ClientSeat) : Type 0 where
-  pub node : seat.client.node ≡ Client n
-  pub epoch : seat.client.state.epoch ≡ seat.epoch
-  pub capacity : seat.client.state.capacity ≡ s.cache
-  pub user : seat.client.state.user ≡ user_at s n
-  pub table : seat.client.state.table ≡ locations s
-  pub acts : All IsShortTask seat.plan
 
 -- A client can be given what comes next, too: no step makes more than one call, or begins more than one epoch.
 pub record IsReadyClient (s : Script) (n entries : ℕ) (seat : ClientSeat) : Type 0 where

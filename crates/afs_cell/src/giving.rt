@@ -1,20 +1,18 @@
-//! One node of the cell is given something.
+//! One server of the cell is given something.
 
-ghost use Rattle.std.specs.Prelude.{◌≡◌, ◌≤◌, ℕ, true, [], ◌∷◌};
+ghost use Rattle.std.specs.Prelude.{◌≤◌, ℕ, [], ◌∷◌};
 ghost use Rattle.afs_num.specs.declared.types.Node.TheVariants.{Server};
 ghost use Rattle.afs_history.specs.declared.lines.Line.TheVariants as lines;
-ghost use Rattle.afs_grammar.specs.CellScripts.{IsCellScript};
-ghost use Rattle.afs_cell.specs.Happening.{ClientHears, ClientsHappened, ClientTakes, HasHeard, HasStep, IsDue, IsFallen, IsVoidClient, IsVoidServer, ServersHappened};
+ghost use Rattle.afs_clients.specs.Happening.{IsDue};
+ghost use Rattle.afs_cell.specs.Happening.{HasHeard, HasStep, IsFallen, IsVoidServer, ServersHappened};
 ghost use Rattle.afs_cell.specs.Hearing.{OneFalls, IsUpAt};
 ghost use Rattle.afs_cell.specs.Picks.{OneLeavesPick};
-ghost use Rattle.afs_cell.specs.Ready.{AllCanStep, AllReady};
+ghost use Rattle.afs_cell.specs.Ready.{AllCanStep};
 
-use crate::clients::ClientSeat;
-use crate::happening::{ClientInput, Happened, ServerInput};
-use crate::places::Places;
 use crate::servers;
+use afs_clients::happening::{Happened, ServerInput};
+use afs_clients::places::Places;
 use afs_disk::Disk;
-use afs_history::scripts::Script;
 use afs_host::ServerSeat;
 use std::alloc::Global;
 
@@ -74,41 +72,4 @@ pub fn server_takes<D: Disk>(
     let (seat, happened) = servers::take(alloc, seat, server, clients, now, given);
     servers.put(server, seat);
     happened
-}
-
-/// A client is given a message.
-pub fn client_hears<'a>(
-    clients: &mut Places<ClientSeat<'a>>,
-    script: &Script,
-    client: u8,
-    bytes: &[u8],
-    now: u32,
-) -> Happened
-    requires ready { AllReady script.now clients.old.items }
-    ensures { (place : ℕ) → ClientsHappened script.now client (λ seat. seat.is_away ≡ true) (ClientHears client now place bytes.now) clients.old.items clients.new.items result }
-{
-    let _script = script;
-    let Some(i) = clients.find(client) else {
-        return Happened::Nothing;
-    };
-    clients.at(i).hear(client, bytes, now)
-}
-
-/// A client is given something that is no message.
-pub fn client_takes<'a>(
-    alloc: Global,
-    clients: &mut Places<ClientSeat<'a>>,
-    script: &Script,
-    client: u8,
-    now: u32,
-    given: ClientInput,
-) -> Happened
-    requires script { IsCellScript script.now }
-    requires ready { AllReady script.now clients.old.items }
-    ensures { ClientsHappened script.now client (IsVoidClient given) (ClientTakes client now given) clients.old.items clients.new.items result }
-{
-    let Some(i) = clients.find(client) else {
-        return Happened::Nothing;
-    };
-    clients.at(i).take(alloc, script, client, now, given)
 }

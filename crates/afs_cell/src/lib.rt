@@ -1,19 +1,14 @@
 //! The cell in one thread: its servers with their disks, its clients, the messages under way, and what is told of its run.
 #![tactic(auto)]
 
-mod clients;
 mod disks;
 mod ending;
-mod events;
 pub mod faults;
 mod giving;
-mod happening;
-mod places;
 mod playing;
 mod reading;
 mod servers;
 mod setup;
-mod telling;
 mod world;
 
 pub use playing::Played;

@@ -1,24 +1,22 @@
 //! A cell at set-up.
 
-ghost use Rattle.std.specs.Prelude.{◌≡◌, ◌≤◌, ◌<◌, ◌+◌, ◌↔◌, ◌++◌, ◌∷◌, [], length, map, IfErr, IfOk};
+ghost use Rattle.std.specs.Prelude.{◌≡◌, ◌≤◌, ◌<◌, ◌+◌, ◌↔◌, ◌++◌, ◌∷◌, [], length, IfErr, IfOk};
 ghost use Rattle.std.specs.Vec.{vec_capacity};
-ghost use Rattle.afs_num.specs.declared.faults.StoreFault.TheVariants as faults;
 ghost use Rattle.afs_grammar.specs.CellScripts.{IsCellScript};
-ghost use Rattle.afs_grammar.specs.Lines.{volumes_at};
 ghost use Rattle.afs_host.specs.declared.seats.Seat.TheVariants.{Up};
 ghost use Rattle.afs_cell.specs.Ends.{AreLeft, IsRefused};
-ghost use Rattle.afs_cell.specs.FirstSeats.{AreBack, AreFirstSeats, IsFirstServer, IsFirstStore, IsRefusedAt};
-ghost use Rattle.afs_cell.specs.Refusing.{refused_as, AreFirstClients, HaveRoom};
+ghost use Rattle.afs_cell.specs.FirstSeats.{AreFirstSeats, IsFirstServer, IsFirstStore, IsRefusedAt};
+ghost use Rattle.afs_cell.specs.Refusing.{refused_as, HaveRoom};
 ghost use Rattle.afs_cell.specs.Steps.{AreLent, IsFirst, LentTell};
 ghost use Rattle.afs_cell.specs.Worlds.{AllTell, IsWorld};
 
-use crate::clients::ClientSeat;
 use crate::disks::{give, give_back, give_rest};
 use crate::faults::SetupFault;
-use crate::places::Places;
 use crate::world::{Gone, World};
+use afs_clients::places::Places;
+use afs_clients::setup::{clients_at_first, lines_at};
 use afs_disk::{Disk, Disks, Fuse, Lent};
-use afs_history::scripts::{Script, VolumeLine};
+use afs_history::scripts::Script;
 use afs_host::{Running, Seat, ServerSeat};
 use afs_law::laws::set_ups_are_first;
 use afs_num::faults::StoreFault;
@@ -30,19 +28,6 @@ use afs_wire::Wire;
 use std::alloc::Global;
 
 // ---- one server
-
-/// The volumes of a server, in the script's order.
-fn lines_at(alloc: Global, script: &Script, server: u8) -> Mem<Vec<&VolumeLine>>
-    ensures { IfOk result (λ ls. map (λ l. l.now) ls.items ≡ volumes_at server script.now.volumes) }
-{
-    let mut lines = Vec::new(alloc);
-    for line in script.volumes.as_slice() {
-        if line.server == server {
-            lines.push(line)?;
-        }
-    }
-    Ok(lines)
-}
 
 /// Why a server's disk couldn't be set up. That it has no room can't be, by the script.
 fn refusal(fault: StoreFault, node: Node) -> SetupFault
@@ -167,21 +152,6 @@ fn servers_at_first<D: Disk + Drop>(
         }
     }
     Ok(Rooms { seats, back })
-}
-
-// ---- the clients
-
-/// The clients at set-up, in order of number.
-fn clients_at_first<'a>(alloc: Global, script: &'a Script) -> Mem<Vec<ClientSeat<'a>>>
-    requires script { IsCellScript script.now }
-    ensures first { IfOk result (λ cs. AreFirstClients script.now 1 cs.items) }
-    ensures count { IfOk result (λ cs. length cs.items ≡ script.now.clients) }
-{
-    let mut clients = Vec::with_capacity(alloc, script.clients as usize)?;
-    for before in 0..script.clients {
-        clients.push(ClientSeat::new(alloc, script, before + 1)?)?;
-    }
-    Ok(clients)
 }
 
 // ---- the cell

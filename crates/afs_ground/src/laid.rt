@@ -5,17 +5,18 @@ ghost use Rattle.afs_num.specs.Names.{volume_name_ok};
 ghost use Rattle.afs_ideal.specs.SetUp.{first_volume, laid};
 ghost use Rattle.afs_ideal.specs.Volumes.{Volume as Ideal};
 ghost use Rattle.afs_history.specs.declared.scripts.VolumeLine.{VolumeLine};
-ghost use Rattle.afs_volume.specs.Filled.{IsCodeOf};
+ghost use Rattle.afs_laying.specs.Filled.{IsCodeOf};
 ghost use Rattle.afs_words.specs.Reads.{Gives};
 ghost use Rattle.afs_grammar.specs.Lines.{setup_accepts, setup_reason, with_line};
 ghost use Rattle.afs_ground.specs.Grounds.{names_size, sizes_at, IsLaid};
 
 use crate::sizes::{filled_up, volume_size};
 use afs_history::scripts::{SetupLine, VolumeLine};
+use afs_laying::lay;
 use afs_num::scripts::Reason;
 use afs_num::types::{Code, Mem};
+use afs_reads::faults::OpFault;
 use afs_volume::Volume;
-use afs_volume::faults::OpFault;
 use afs_words::faults::LineFault;
 use std::alloc::Global;
 
@@ -70,7 +71,7 @@ impl Laid {
         ensures laid { OnOk result ((l : VolumeLine) → IsLaid self.old l → IsLaid self.new (with_line line.now l)) }
         ensures server { self.new.server ≡ self.old.server }
     {
-        match self.volume.lay(line) {
+        match lay(&mut self.volume, line) {
             Ok(()) => {}
             Err(fault) => return Err(refusal(fault)),
         }

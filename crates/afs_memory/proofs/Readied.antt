@@ -25,7 +25,7 @@ use Rattle.afs_volume.specs.Seen.{all_seen, seen, volume_seen, FitsHead}
 use Rattle.afs_volume.specs.Taking.{stored_with, times_in}
 use Rattle.afs_volume.specs.declared.volume.Volume.{Volume}
 use Rattle.afs_volume.proofs.Folded.{value_seen}
-use Rattle.afs_volume.proofs.Renamed.{same_length}
+use Rattle.afs_volume.proofs.Upward.{same_length}
 use Rattle.afs_volume.proofs.Taken.{not_full}
 use Rattle.afs_memory.specs.Redos.{told, IsMadeAgain}
 

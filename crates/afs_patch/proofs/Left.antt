@@ -21,7 +21,7 @@ use Rattle.afs_volume.specs.Taking.{is_among, put_but, stored_of, stored_with, w
 use Rattle.afs_volume.specs.declared.volume.Volume.{Volume}
 use Rattle.afs_volume.proofs.Folded.{goes, puts}
 use Rattle.afs_volume.proofs.Readable.{all_read, readable_kind, reads_all}
-use Rattle.afs_volume.proofs.Renamed.{same_length}
+use Rattle.afs_volume.proofs.Upward.{same_length}
 use Rattle.afs_volume.proofs.Taken.{put_each, removed_first, set_readable, unset_readable}
 use Rattle.afs_volume.proofs.Soundly.{in_order}
 use Rattle.afs_patch.specs.Changing.{is_in, CantBeLeft}

@@ -22,9 +22,9 @@ use Rattle.afs_ideal.specs.Volumes.{a_directory, edit_number, edited_all, Edit, 
 use Rattle.afs_ideal.proofs.Laid.{new_is_sound}
 use Rattle.afs_ideal.proofs.Preserved.{operations_leave_sound}
 use Rattle.afs_ideal.proofs.Tables.{ascends_lower, ascends_set}
-use Rattle.afs_volume.specs.Filled.{at_once}
-use Rattle.afs_volume.proofs.Called.{can_be_laid}
-use Rattle.afs_volume.proofs.Few.{few_after, set_there}
+use Rattle.afs_laying.specs.Filled.{at_once}
+use Rattle.afs_laying.proofs.Called.{can_be_laid}
+use Rattle.afs_changes.proofs.Few.{few_after, set_there}
 
 -- ---- a call
 

@@ -18,12 +18,12 @@ use Rattle.afs_ideal.proofs.Basics.{both}
 use Rattle.afs_ideal.proofs.Looks.{one_edit}
 use Rattle.afs_ideal.proofs.Proper.{operations_change}
 use Rattle.afs_ideal.proofs.Tellings.{FindEach, Finds}
-use Rattle.afs_volume.specs.Changes.{after, IsChangeBy}
-use Rattle.afs_volume.specs.Drawing.{after_edit, all_left, all_told, before_edit, left_at, told_between}
+use Rattle.afs_changes.specs.Changes.{after, IsChangeBy}
+use Rattle.afs_changes.specs.Drawing.{after_edit, all_left, all_told, before_edit, left_at, told_between}
 use Rattle.afs_volume.specs.Giving.{volume_of}
 use Rattle.afs_volume.specs.declared.volume.Volume as volumes
-use Rattle.afs_volume.proofs.Changed.{not_last, within}
-use Rattle.afs_volume.proofs.Drawn.{each_leaves, imaged, images_are, versions_are}
+use Rattle.afs_changes.proofs.Changed.{not_last, within}
+use Rattle.afs_changes.proofs.Drawn.{each_leaves, imaged, images_are, versions_are}
 use Rattle.afs_server.specs.Deciding.{AreCounted, IsCounted, IsOfWords}
 use Rattle.afs_server.proofs.Written.{few_versions}
 

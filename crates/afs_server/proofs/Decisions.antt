@@ -28,11 +28,13 @@ use Rattle.afs_rows.specs.ServerRow as row
 use Rattle.afs_rows.specs.ServerRow.{decided, granted_by, in_volume, reading_in, refuses, shows, Decision}
 use Rattle.afs_rows.specs.States.{ServerState}
 use Rattle.afs_server_parts.specs.Telling.{grants_seen}
-use Rattle.afs_volume.specs.Changes.{after, Applies}
-use Rattle.afs_volume.specs.Giving.{is_changing, is_reading, refusal_of, reply_of, time_in, times_of, volume_of, FitsReply, Replies}
+use Rattle.afs_changes.specs.Changes.{after, Applies}
+use Rattle.afs_changes.specs.Planning.{is_changing}
+use Rattle.afs_reads.specs.Replying.{is_reading, refusal_of, reply_of, time_in, times_of, FitsReply, Replies}
+use Rattle.afs_volume.specs.Giving.{volume_of}
 use Rattle.afs_volume.specs.Taking.{stored_of, times_in, CanTakeIn}
-use Rattle.afs_volume.specs.declared.faults.OpFault.{OpFault}
-use Rattle.afs_volume.specs.declared.faults.OpFault.TheVariants as faults
+use Rattle.afs_reads.specs.declared.faults.OpFault.{OpFault}
+use Rattle.afs_reads.specs.declared.faults.OpFault.TheVariants as faults
 use Rattle.afs_volume.specs.declared.volume.Volume.{Volume}
 use Rattle.afs_volume.proofs.Soundly.{volume_sound}
 use Rattle.afs_server.specs.Deciding.{granted_in, CanBeTold, ChangesAs, Decides, FitsDecided, IsReading, ReadsAs}

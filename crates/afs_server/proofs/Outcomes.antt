@@ -14,8 +14,8 @@ use Rattle.afs_ideal.proofs.Tables.{ascends_lower}
 use Rattle.afs_ideal.proofs.Tellings.{FindEach, Finds}
 use Rattle.afs_records.specs.Changes.{gone_between}
 use Rattle.afs_records.specs.Durable.{outcome_versions, with_outcomes, with_removed}
-use Rattle.afs_volume.specs.Drawing.{after_edit, all_freed, all_left, all_told, before_edit, left_at, told_between}
-use Rattle.afs_volume.proofs.Drawn.{imaged}
+use Rattle.afs_changes.specs.Drawing.{after_edit, all_freed, all_left, all_told, before_edit, left_at, told_between}
+use Rattle.afs_changes.proofs.Drawn.{imaged}
 
 -- ---- a table whose numbers all stand below this one
 

@@ -18,12 +18,12 @@ use Rattle.afs_ideal.proofs.Tables.{ascends_lower, get_set, get_unset}
 use Rattle.afs_records.specs.Durable.{allowed, changed_stored, counted_as, is_there, versions_told, with_image, with_images, without, Stored}
 use Rattle.afs_records.specs.Sound.{is_sound}
 use Rattle.afs_ideal.specs.VnodeMaps.{most_vnodes}
-use Rattle.afs_volume.specs.Changes.{after, IsChangeBy, IsKeptAs}
-use Rattle.afs_volume.specs.Drawing.{after_edit, all_left, all_told, left_at}
+use Rattle.afs_changes.specs.Changes.{after, IsChangeBy, IsKeptAs}
+use Rattle.afs_changes.specs.Drawing.{after_edit, all_left, all_told, left_at}
 use Rattle.afs_volume.specs.Giving.{volume_of}
 use Rattle.afs_volume.specs.Taking.{stored_of}
 use Rattle.afs_volume.specs.declared.volume.Volume as volumes
-use Rattle.afs_volume.proofs.Drawn.{each_leaves, imaged, images_are, numbers_are, versions_are, LeavesIn}
+use Rattle.afs_changes.proofs.Drawn.{each_leaves, imaged, images_are, numbers_are, versions_are, LeavesIn}
 use Rattle.afs_server.proofs.Outcomes.{outcomes_told, up_by, IsReadBack, Up}
 
 -- ---- a disk that keeps the volume reads each image as the vnode that stands there then

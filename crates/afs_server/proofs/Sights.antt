@@ -24,10 +24,11 @@ use Rattle.afs_rows.specs.ServerRow.{refuses, several, sight_by, sight_status, s
 use Rattle.afs_rows.specs.States.{ServerState}
 use Rattle.afs_server_parts.specs.Telling.{grants_seen}
 use Rattle.afs_server_parts.specs.declared.telling.Grant.{Grant}
-use Rattle.afs_volume.specs.Giving.{refusal_of, reply_of, volume_of, Replies}
+use Rattle.afs_reads.specs.Replying.{refusal_of, reply_of, Replies}
+use Rattle.afs_volume.specs.Giving.{volume_of}
 use Rattle.afs_volume.specs.Taking.{stored_of}
-use Rattle.afs_volume.specs.declared.faults.OpFault.{OpFault}
-use Rattle.afs_volume.specs.declared.faults.OpFault.TheVariants as faults
+use Rattle.afs_reads.specs.declared.faults.OpFault.{OpFault}
+use Rattle.afs_reads.specs.declared.faults.OpFault.TheVariants as faults
 use Rattle.afs_volume.specs.declared.volume.Volume.{Volume}
 use Rattle.afs_server.specs.Deciding.{CanBeTold, Decides, FitsDecided}
 use Rattle.afs_server.specs.Several.{behind, or_first, seen_in, sync_seen, sync_told, AreFirst, AreSeen, AreTold, IsFault, IsRefused, IsSeen, IsSight, IsStatusRead, Sees, SeesAll, TellsOne, ToldAs}

@@ -16,7 +16,7 @@ use Rattle.afs_shape.specs.Tables.{IsCount}
 use Rattle.afs_model.specs.CellRows.{cell_calls, cell_replies, reply_number}
 use Rattle.afs_model.specs.Heads.{is_zero, IsSoundHead}
 use Rattle.afs_model.specs.Messages.{HasSpelling}
-use Rattle.afs_volume.specs.Giving.{FitsCall, FitsReply}
+use Rattle.afs_reads.specs.Replying.{FitsCall, FitsReply}
 use Rattle.afs_rows.specs.ServerRow.{boot_told, promised_in, promise_until, refusal, replied}
 
 pub told_spelled : (boot : ℕ) (head : Head) → IsSoundHead head → HasSpelling (boot_told boot head)

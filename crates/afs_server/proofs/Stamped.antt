@@ -14,12 +14,12 @@ use Rattle.afs_ideal.proofs.Proper.{operations_change}
 use Rattle.afs_ideal.proofs.Tables.{get_set, get_unset}
 use Rattle.afs_records.specs.Changes.{gone_between, images_left, numbers_gone, set_times, stored_after, unset_times}
 use Rattle.afs_records.specs.Durable.{or_zero, time_in, Stored}
-use Rattle.afs_volume.specs.Drafts.{numbers_shown, IsLeftIn}
+use Rattle.afs_changes.specs.Drafts.{numbers_shown, IsLeftIn}
 use Rattle.afs_ideal.specs.Images.{Image}
-use Rattle.afs_volume.specs.Drawing.{all_left}
-use Rattle.afs_volume.proofs.Changed.{shown_there}
-use Rattle.afs_volume.proofs.Drawn.{each_leaves, imaged, images_are, sees, versions_are}
-use Rattle.afs_volume.proofs.Replied.{reply_same, stamped_left, status_same, FoundAlike, SameStatus}
+use Rattle.afs_changes.specs.Drawing.{all_left}
+use Rattle.afs_changes.proofs.Changed.{shown_there}
+use Rattle.afs_changes.proofs.Drawn.{each_leaves, imaged, images_are, sees, versions_are}
+use Rattle.afs_changes.proofs.Replied.{reply_same, stamped_left, status_same, FoundAlike, SameStatus}
 
 some_there : {A : Type 0} (o : Option A) → is_some o ≡ true → (x : A) × (o ≡ Some x)
 some_there {A} None h = absurd cc

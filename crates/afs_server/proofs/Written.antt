@@ -30,7 +30,7 @@ use Rattle.afs_rows.specs.ServerRow.{is_client, key_of}
 use Rattle.afs_records.specs.Changes.{gone_between, image_left, images_left, keeping, numbers_gone}
 use Rattle.afs_records.specs.Forms.{HasImageForm}
 use Rattle.afs_records.specs.Records.{caller_form, head_form, FitsRecord}
-use Rattle.afs_volume.specs.Changes.{after, IsChangeBy}
+use Rattle.afs_changes.specs.Changes.{after, IsChangeBy}
 use Rattle.afs_volume.specs.Giving.{volume_of}
 use Rattle.afs_volume.specs.Taking.{CanTakeIn}
 use Rattle.afs_volume.specs.declared.volume.Volume as volumes

@@ -10,8 +10,8 @@ use Rattle.afs_ideal.specs.Replies.{sync_of}
 use Rattle.afs_shape.specs.Rows.{no_callback, no_sync}
 use Rattle.afs_rows.specs.ServerRow.{sight_status, Sight}
 use Rattle.afs_server_parts.specs.Telling.{grants_seen}
-use Rattle.afs_volume.specs.declared.faults.OpFault.{OpFault}
-use Rattle.afs_volume.specs.declared.faults.OpFault.TheVariants as faults
+use Rattle.afs_reads.specs.declared.faults.OpFault.{OpFault}
+use Rattle.afs_reads.specs.declared.faults.OpFault.TheVariants as faults
 use Rattle.afs_server.specs.declared.decided.Decided.{Decided}
 use Rattle.afs_server.specs.declared.decided.Decided.TheVariants as decided
 use Rattle.afs_server.specs.declared.several.Seen.{Seen}

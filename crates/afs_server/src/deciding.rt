@@ -8,7 +8,9 @@ ghost use Rattle.afs_model.specs.Calls.{admitted, call_seat, paired};
 ghost use Rattle.afs_model.specs.CellRows.{call_number};
 ghost use Rattle.afs_model.specs.Messages.{IsSoundCarried};
 ghost use Rattle.afs_ideal.specs.Operations.{op, the_user, volume_called};
-ghost use Rattle.afs_volume.specs.Giving.{is_changing, is_reading, volume_of, FitsCall};
+ghost use Rattle.afs_changes.specs.Planning.{is_changing};
+ghost use Rattle.afs_reads.specs.Replying.{is_reading, FitsCall};
+ghost use Rattle.afs_volume.specs.Giving.{volume_of};
 ghost use Rattle.afs_volume.specs.Taking.{stored_of};
 ghost use Rattle.afs_server_parts.specs.Kept.{Says};
 ghost use Rattle.afs_rows.specs.ServerRow.{admits, called, code_of_unreadable, decided, in_volume, is_client, runs, runs_carried, runs_received, serves, serves_call, with_volume};
@@ -19,16 +21,18 @@ ghost use Rattle.afs_server.specs.Seen.{Serves};
 use crate::decided::Decided;
 use crate::server::FileServer;
 use afs_call::Admit;
+use afs_changes::apply_ready;
 use afs_disk::Disk;
 use afs_num::calls::{AfsFetchStatus, FsCall, FsReply};
 use afs_num::messages::{Call, Carried, Received};
 use afs_num::sequences::Sequence;
 use afs_num::types::{Fid, Head, Mem, Node};
+use afs_reads::faults::OpFault;
+use afs_reads::read;
 use afs_server_parts::few::Few;
 use afs_server_parts::spelled::SpelledMessage;
 use afs_server_parts::telling::Grant;
 use afs_volstore::VolStore;
-use afs_volume::faults::OpFault;
 use afs_volume::{ReadyChange, Volume};
 use std::alloc::{AllocError, Global};
 
@@ -216,7 +220,7 @@ impl FileServer {
         let _ = store.boot_number();
         let _ = head.opcode;
         let _ = now;
-        let read = volume.read(call, user);
+        let read = read(volume, call, user);
         let decided = read_as(self.alloc, call, read)?;
         Ok(decided)
     }
@@ -243,7 +247,7 @@ impl FileServer {
         let _ = store.boot_number();
         let _ = head.opcode;
         let _ = self.alloc;
-        let applied = volume.apply_ready(call, user, now);
+        let applied = apply_ready(volume, call, user, now);
         let decided = change_as(volume.head().id, applied)?;
         Ok(decided)
     }

@@ -19,11 +19,12 @@ use afs_num::calls::{
 };
 use afs_num::sequences::Sequence;
 use afs_num::types::{Code, Fid, Head, Mem};
+use afs_reads::faults::OpFault;
+use afs_reads::read;
 use afs_server_parts::few::Few;
 use afs_server_parts::telling::Grant;
 use afs_volstore::VolStore;
 use afs_volume::Volume;
-use afs_volume::faults::OpFault;
 use std::alloc::{AllocError, Global};
 
 /// No such volume here.
@@ -120,7 +121,7 @@ fn see_in(volume: &Volume, user: &[u8], fid: &Fid) -> Result<Seen, OpFault>
     requires { volume.now.head.id ≡ fid.now.volume }
     ensures { Sees (the_user user.now) fid.now (sight_in (the_user user.now) fid.now (Some (stored_of volume.now))) result }
 {
-    let read = volume.read(&FsCall::FetchStatus { fid: *fid }, user);
+    let read = read(volume, &FsCall::FetchStatus { fid: *fid }, user);
     seen_in(read)
 }
 

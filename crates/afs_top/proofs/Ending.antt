@@ -19,7 +19,7 @@ use Rattle.afs_law.specs.Cells.{IsOfCell}
 use Rattle.afs_law.specs.Laws.{RunsAreLegal, RunsEndWell}
 use Rattle.afs_text.specs.Telling.{told}
 use Rattle.afs_volstore.specs.Stores.{Store}
-use Rattle.afs_cell.specs.Places.{Each}
+use Rattle.afs_clients.specs.Places.{Each}
 use Rattle.afs_cell.specs.Steps.{lent_from, AreStanding, HasPlayed, MayBeRead}
 use Rattle.afs_cell.specs.Worlds.{most_entries, own_falls, seat_disk, AllTell, IsCell, ServerSeat, WorldState}
 use Rattle.afs_final.specs.Reading.{fault_in, kept_disk, part, AreFound, IsRead}

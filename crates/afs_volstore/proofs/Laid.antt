@@ -37,7 +37,7 @@ use Rattle.afs_records.specs.Records.{are_listed, are_whole, ascend_from, head_f
 use Rattle.afs_seats.specs.Seated.{seen_as}
 use Rattle.afs_seats.proofs.Places.{set_seen}
 use Rattle.afs_vnode.specs.Stores.{AreVnodes}
-use Rattle.afs_volume.specs.Filled.{code_in}
+use Rattle.afs_laying.specs.Filled.{code_in}
 use Rattle.afs_volume.specs.Giving.{volume_of}
 use Rattle.afs_volume.specs.Seen.{all_seen, kind_seen, seen, volume_seen, AreReadable, FitsHead, IsReadable}
 use Rattle.afs_volume.specs.Taking.{stored_of, times_in, IsAtSetUp}

@@ -18,15 +18,16 @@ ghost use Rattle.afs_memory.specs.Numbered.{AreNumbered};
 ghost use Rattle.afs_volstore.specs.Opening.{CanBeSetUp};
 
 use afs_history::scripts::{SetupLine, VolumeLine};
+use afs_laying::lay;
 use afs_num::records::{RecordBody, RecordHead, StoreRecord, StoredVolume, StoredVolumes};
 use afs_num::sequences::Octets;
 use afs_num::types::Mem;
 use afs_num::vnodes::{Vnode, Vnodes};
 use afs_num::volumes::VolumeHead;
+use afs_reads::faults::OpFault;
 use afs_record::records::encode_record;
 use afs_seats::Seats;
 use afs_volume::Volume;
-use afs_volume::faults::OpFault;
 use std::alloc::{AllocError, Global};
 
 /// The head of a record that raises no stamp and keeps no reply.
@@ -53,7 +54,7 @@ fn lay_all(volume: &mut Volume, lines: &[SetupLine]) -> Mem<()>
     ensures id { volume.new.head.id ≡ volume.old.head.id }
 {
     for line in lines {
-        match volume.lay(line) {
+        match lay(volume, line) {
             Ok(()) => {}
             Err(OpFault::OutOfMemory) => return Err(AllocError),
             Err(OpFault::Code(_)) => unreachable!(),

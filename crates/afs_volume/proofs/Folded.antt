@@ -22,7 +22,7 @@ use Rattle.afs_records.specs.Durable.{Stored, allowed, changed_stored, counted_a
 use Rattle.afs_records.specs.Sound.{is_sound}
 use Rattle.afs_volume.specs.Seen.{all_seen, contents_seen, kind_seen, list_read, list_seen, list_spelled, names_read, names_seen, names_spelled, seen, volume_seen}
 use Rattle.afs_volume.specs.Taking.{put_but, stored_of, stored_with, times_in, without_all}
-use Rattle.afs_volume.proofs.Renamed.{same_length}
+use Rattle.afs_volume.proofs.Upward.{same_length}
 use Rattle.afs_volume.proofs.Taken.{mapped_set, mapped_unset, put_each, removed_first, seen_set, seen_unset}
 
 -- ---- an image that has a value is seen as it

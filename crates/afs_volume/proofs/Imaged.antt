@@ -1,14 +1,11 @@
--- An image that can be seen is the image of what it is seen as.
-use Rattle.std.proofs.Common.{◌≡◌, ℕ, List, [], ◌∷◌, map, true, is_ok, refl, sym, ap, ◌∙◌}
-use Rattle.std.specs.List.{AllByRecursion}
+-- An image that can be seen is that of the vnode as which it is seen.
+use Rattle.std.proofs.Common.{◌≡◌, ℕ, List, true, is_ok, refl, sym}
 use Rattle.afs_num.specs.declared.vnodes.Vnode as image
 use Rattle.afs_ideal.specs.AccessLists.{acl_at}
 use Rattle.afs_ideal.specs.Directories.{directory_bytes}
 use Rattle.afs_ideal.specs.Images.{acl_by, image_of}
 use Rattle.afs_ideal.specs.Volumes.{Kind, a_directory, a_file, a_link, bytes_by, Vnode}
-use Rattle.afs_volume.specs.Drawing.{shown_by, IsLeft}
 use Rattle.afs_volume.specs.Seen.{seen, kind_seen, contents_seen, list_seen, names_seen, names_spelled, text_by, IsReadable}
-use Rattle.afs_volume.proofs.Drawn.{imaged}
 use Rattle.afs_volume.proofs.Texts.{text_is_list}
 
 acl_again : (k : Kind) (x : Vnode) (text : List ℕ) → x.acl ≡ list_seen k text → (k ≡ a_directory → is_ok (acl_at text) ≡ true) → text_by k text ≡ text → acl_by k x ≡ text
@@ -26,10 +23,3 @@ unfolding seen
 image_again x h =
     let k = kind_seen x.kind in
     rw (acl_again k (seen x) x.acl refl h.1.1.0 h.1.1.1, bytes_again k (seen x) x.contents refl refl h.1.0, h.0) refl
-
-left_again : (time : ℕ) (x : image.Vnode) → IsLeft time x → image_of x.vnode time (seen x) ≡ x
-left_again time x h = ap (λ (t : ℕ). image_of x.vnode t (seen x)) (sym h.time) ∙ image_again x h.readable
-
-pub images_again : (time : ℕ) (xs : List image.Vnode) → AllByRecursion (IsLeft time) xs → map (imaged time) (shown_by xs) ≡ xs
-images_again time [] h = refl
-images_again time (x ∷ xs) h = rw (left_again time x h.0, images_again time xs h.1) refl

@@ -10,7 +10,7 @@ use Rattle.afs_ideal.specs.AccessLists.{acl_at}
 use Rattle.afs_ideal.specs.Directories.{directory_bytes, directory_of}
 use Rattle.afs_ideal.specs.Images.{directory_value, value_of, values_of, with_value}
 use Rattle.afs_ideal.specs.Tables.{Table, get, AscendsFrom}
-use Rattle.afs_ideal.specs.Volumes.{a_directory, a_file, a_link, blocks_in, blocks_of, type_of, Kind}
+use Rattle.afs_ideal.specs.Volumes.{a_directory, a_file, a_link, blocks_in, type_of, Kind}
 use Rattle.afs_ideal.specs.Volumes as ideal
 use Rattle.afs_volume.specs.Assembling.{are_read, blocks_in_place, can_be_read, make_volume, IsReadablePlace}
 use Rattle.afs_volume.specs.Seen.{all_seen, kind_seen, names_spelled, text_by, AreReadable, IsReadable}
@@ -19,7 +19,7 @@ use Rattle.afs_volume.specs.declared.faults.AssembleFault.TheVariants as faults
 use Rattle.afs_volume.specs.declared.volume.Volume as volumes
 use Rattle.afs_volume.proofs.Soundly.{in_order}
 use Rattle.afs_volume.proofs.Taken.{later_by}
-use Rattle.afs_volume.proofs.Values.{names_again}
+use Rattle.afs_volume.proofs.Spelled.{names_again}
 
 -- ---- one vnode
 

@@ -1,13 +1,24 @@
 -- The bytes that spell the names of a directory.
-use Rattle.std.proofs.Common.{◌≡◌, ℕ, Bool, true, false, List, Option, Some, None, Ok, if◌then◌else◌, refl, sym, ap, ◌∙◌}
+use Rattle.std.proofs.Common.{◌≡◌, ℕ, List, [], Result, Ok, Err, refl, sym, ap, ◌∙◌, arith, true}
 use Rattle.afs_num.specs.declared.directories.Name.{Name}
+use Rattle.afs_ideal.specs.Directories.{directory_bytes, directory_of}
+use Rattle.afs_ideal.proofs.DirectoryBytes.{spelled_is_read}
+use Rattle.afs_volume.specs.Seen.{names_read, names_spelled, kind_seen, names_seen, seen, IsReadable}
 use Rattle.afs_num.specs.declared.vnodes.Vnode as image
-use Rattle.afs_ideal.specs.Directories.{add_refused, directory_of}
-use Rattle.afs_ideal.specs.Operations.{adds_name, first_failing, is_kind}
+use Rattle.afs_ideal.specs.Operations.{is_kind}
 use Rattle.afs_ideal.specs.Volumes.{a_directory, a_file, a_link, Kind}
-use Rattle.afs_volume.specs.Seen.{kind_seen, names_seen, seen, IsReadable}
-use Rattle.afs_volume.proofs.Placed.{added_by}
-use Rattle.afs_volume.proofs.Values.{names_again}
+
+nothing_read : directory_of (directory_bytes []) ≡ Ok []
+nothing_read = spelled_is_read [] (record { ordered = refl; few = omega arith }) tt
+
+read_by : (bytes : List ℕ) (r : Result (List Name) ℕ) → directory_of bytes ≡ r → directory_bytes (names_read r) ≡ bytes → directory_of bytes ≡ Ok (names_read r)
+read_by bytes (Ok names) is spelled = is
+read_by bytes (Err e) is spelled = ap directory_of (sym spelled) ∙ nothing_read
+
+-- bytes that spell the names as which they are read, are read as these
+pub names_again : (bytes : List ℕ) → directory_bytes (names_spelled bytes) ≡ bytes → directory_of bytes ≡ Ok (names_spelled bytes)
+unfolding names_spelled
+names_again bytes spelled = read_by bytes (directory_of bytes) refl spelled
 
 kind_is : (k : Kind) → is_kind k a_directory ≡ true → k ≡ a_directory
 kind_is a_directory e = refl
@@ -19,11 +30,3 @@ unfolding seen
 contents_read x readable is =
     let kind = kind_is (kind_seen x.kind) is in
     names_again x.contents (readable.1.0 kind) ∙ ap (λ (k : Kind). Ok (names_seen k x.contents)) (sym kind)
-
--- a name that passes the tests may be added
-may_by : (good : Bool) (refused : Option ℕ) → (if good then refused else Some 22) ≡ None → refused ≡ None
-may_by true refused e = e
-may_by false refused e = absurd cc
-
-pub may_be_added : (name : List ℕ) (names : List Name) (good : Bool) → first_failing (adds_name name names good) ≡ None → add_refused name names ≡ None
-may_be_added name names good e = may_by good (add_refused name names) (sym (added_by name names good) ∙ e)

@@ -6,12 +6,11 @@ use Rattle.std.proofs.lemmas.Bool.Decides.{nat_tests}
 use Rattle.afs_num.specs.declared.vnodes.Vnode as image
 use Rattle.afs_ideal.specs.Tables.{Table, get, set, unset, AscendsFrom}
 use Rattle.afs_ideal.specs.VnodeMaps.{most_vnodes, is_full_for}
-use Rattle.afs_ideal.proofs.Tables.{get_set, get_unset, ascends_set, ascends_unset}
+use Rattle.afs_ideal.proofs.Tables.{get_set, get_unset, ascends_set, ascends_unset, get_below}
 use Rattle.afs_records.proofs.Kept.{same_tables}
 use Rattle.afs_ideal.specs.Directories.{directory_bytes}
 use Rattle.afs_ideal.specs.VnodeImage.{FitsImage}
 use Rattle.afs_ideal.specs.Volumes.{Kind, a_file, a_directory, a_link, bytes_by, blocks_of, blocks_in}
-use Rattle.afs_ideal.proofs.Tables.{get_below}
 use Rattle.afs_vnode.specs.Stores.{AreVnodes}
 use Rattle.afs_volume.specs.Counting.{blocks_at}
 use Rattle.afs_volume.specs.Seen.{all_seen, contents_seen, kind_seen, names_seen, names_spelled, seen, AreReadable, IsReadable}

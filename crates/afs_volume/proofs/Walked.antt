@@ -1,5 +1,5 @@
 -- Going through a list place by place.
-use Rattle.std.proofs.Common.{◌≡◌, ℕ, zero, suc, ◌+◌, ◌≤◌, Bool, true, false, List, [], ◌∷◌, length, drop, Some, slice_get, if◌then◌else◌, refl, sym, ap, ◌∙◌, arith}
+use Rattle.std.proofs.Common.{◌≡◌, ℕ, zero, suc, ◌+◌, ◌≤◌, Bool, true, false, List, [], ◌∷◌, length, drop, Some, slice_get, if◌then◌else◌, refl, sym, ap, ◌∙◌, arith, ◌-◌, ◌<◌, get_or}
 use Rattle.std.specs.Prelude.{◌&&◌, nat_eq, nat_lt, is_some, not}
 use Rattle.std.specs.List.{list_all}
 use Rattle.afs_num.specs.declared.vnodes.Vnode as image
@@ -53,3 +53,9 @@ pub from_one : (t : Table image.Vnode) → AscendsFrom 0 t → ascends_from 1 (a
 unfolding all_seen
 from_one [] up = refl
 from_one (p ∷ ps) up = first_by p ps (nat_eq p.0 0) refl up.1
+
+-- the names from this place on
+pub from_place : {A : Type 0} (xs : List A) (i : ℕ) (x : A) → i < length xs → (d : A) → x ≡ get_or xs i d → drop i xs ≡ x ∷ drop (i + 1) xs
+from_place {A} [] i x lt d is = absurd (omega (arith, lt))
+from_place {A} (y ∷ ys) zero x lt d is = ap (λ (z : A). z ∷ ys) (sym is)
+from_place {A} (y ∷ ys) (suc i) x lt d is = from_place ys i x (omega (arith, lt)) d is ∙ ap (λ (zs : List A). x ∷ zs) (sym (next_drop y ys i))

@@ -1,13 +1,7 @@
-pub mod Bulk
-pub mod Changes
+pub mod Assembling
 pub mod Counting
-pub mod Drafts
-pub mod Drawing
+pub mod Given
 pub mod Giving
-pub mod Images
+pub mod Listed
 pub mod Seen
 pub mod Taking
-pub mod Assembling
-pub mod Filled
-pub mod Listed
-pub mod Given

@@ -10,9 +10,9 @@ ghost use Rattle.afs_volume.specs.Seen.{all_seen, volume_seen, AreReadable, Fits
 ghost use Rattle.afs_volume.specs.declared.faults.AssembleFault.TheVariants.{NotSound};
 
 use crate::Volume;
+use crate::bodies::blocks_of;
 use crate::directories::Directories;
 use crate::faults::AssembleFault;
-use crate::limits::blocks_of;
 use crate::soundness::Parts;
 use afs_num::volumes::VolumeHead;
 use afs_vnode::store::VnodeStore;

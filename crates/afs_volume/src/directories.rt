@@ -10,7 +10,8 @@ ghost use Rattle.afs_volume.specs.Seen.{all_seen, AreReadable};
 ghost use Rattle.afs_volume.specs.declared.faults.AssembleFault.TheVariants.{NotSound};
 
 use crate::faults::AssembleFault;
-use crate::finding::{is_directory, names_of};
+use crate::finding::names_of;
+use crate::is_directory;
 use crate::ready::read_vnode;
 use afs_dir::Listing;
 use afs_num::types::Mem;

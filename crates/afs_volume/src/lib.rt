@@ -1,38 +1,19 @@
-//! Volumes: every operation of a file server on one of them.
+//! Volumes: what a file server keeps of one, and what a change makes of it.
 #![tactic(auto)]
 
-mod amending;
-mod applying;
 mod assembling;
-mod bulk;
-mod callers;
-mod checks;
-mod creating;
-mod directories;
-mod drafting;
-mod drawing;
-pub mod edits;
+pub mod bodies;
+pub mod directories;
 pub mod faults;
-mod finding;
-mod laying;
-mod laying_calls;
-mod limits;
+pub mod finding;
 mod listed;
-mod making;
-mod naming;
 mod new;
-mod operations;
-mod planning;
-mod reading;
 mod ready;
-mod removing;
-mod renaming;
-mod replies;
-mod rights;
-mod sights;
+mod shown;
 mod soundness;
 pub mod standing;
 mod taking;
+mod versions;
 mod volume;
 
 pub use finding::is_directory;

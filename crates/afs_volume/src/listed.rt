@@ -24,7 +24,7 @@ impl Model for ReadyNames {
 
 impl ReadyNames {
     /// Those of no vnode.
-    pub(crate) fn new(alloc: Global) -> ReadyNames
+    pub fn new(alloc: Global) -> ReadyNames
         ensures { result ≡ [] }
     {
         ReadyNames {
@@ -33,7 +33,7 @@ impl ReadyNames {
     }
 
     /// Those of one vnode more.
-    pub(crate) fn push(&mut self, names: Option<Listing>) -> Mem<()>
+    pub fn push(&mut self, names: Option<Listing>) -> Mem<()>
         ensures { OnOk result (self.new ≡ self.old ++ names ∷ []) }
     {
         match self.names.push(names) {
@@ -43,14 +43,14 @@ impl ReadyNames {
     }
 
     /// The names of each. It takes no memory.
-    pub(crate) fn as_slice(&self) -> &[Option<Listing>]
+    pub fn as_slice(&self) -> &[Option<Listing>]
         ensures { result.now ≡ self.now }
     {
         self.names.as_slice()
     }
 
     /// The names of each. It takes no memory.
-    pub(crate) fn into_vec(self) -> Vec<Option<Listing>>
+    pub fn into_vec(self) -> Vec<Option<Listing>>
         ensures { result.items ≡ self }
     {
         let ReadyNames { names } = self;

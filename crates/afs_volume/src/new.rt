@@ -11,10 +11,10 @@ ghost use Rattle.afs_volume.specs.Seen.{all_seen, list_spelled, seen, AreReadabl
 ghost use Rattle.afs_volume.specs.Taking.{times_in, IsAtSetUp};
 
 use crate::Volume;
+use crate::bodies::spelled;
 use crate::directories::Directories;
 use crate::faults::AssembleFault;
 use crate::finding::DIRECTORY;
-use crate::making::spelled;
 use afs_dir::Dir;
 use afs_num::sequences::Octets;
 use afs_num::types::Mem;

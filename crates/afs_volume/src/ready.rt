@@ -10,10 +10,10 @@ ghost use Rattle.afs_volume.specs.Listed.{listed_as};
 ghost use Rattle.afs_volume.specs.Seen.{names_spelled, IsReadable};
 ghost use Rattle.afs_volume.specs.declared.faults.AssembleFault.TheVariants.{NotSound, OutOfMemory};
 
+use crate::ReadyNames;
+use crate::bodies::is_acl;
 use crate::faults::AssembleFault;
 use crate::finding::{DIRECTORY, FILE, LINK};
-use crate::listed::ReadyNames;
-use crate::operations::is_acl;
 use afs_dir::{Dir, DirFault, Listing};
 use afs_num::directories::Name;
 use afs_num::vnodes::Vnode;

@@ -1,6 +1,6 @@
 //! Whether vnodes make a sound volume.
 
-ghost use Rattle.std.specs.Prelude.{◌≡◌, ◌<◌, ◌==◌, ◌&&◌, ◌||◌, nat_eq, true, slice_get, Some};
+ghost use Rattle.std.specs.Prelude.{◌≡◌, nat_eq, slice_get, Some};
 ghost use Rattle.std.specs.List.{list_all};
 ghost use Rattle.std.specs.Option.{option_copied, option_map};
 ghost use Rattle.indexmap.specs.IndexMap as maps;
@@ -12,7 +12,7 @@ ghost use Rattle.afs_volume.specs.Listed.{names_in, Lists};
 ghost use Rattle.afs_volume.specs.Seen.{all_seen, seen, volume_seen};
 
 use crate::directories::Directories;
-use crate::finding::is_directory;
+use crate::is_directory;
 use crate::standing::{gives_held, has_links, has_names, is_root, kind_is_right, names_of};
 use afs_num::directories::Name;
 use afs_num::vnodes::Vnode;

@@ -1,12 +1,12 @@
 //! What one vnode has to be in a sound volume.
 
-ghost use Rattle.std.specs.Prelude.{◌≡◌, ◌<◌, ◌^◌, true, Some};
+ghost use Rattle.std.specs.Prelude.{◌≡◌, ◌<◌, ◌^◌};
 ghost use Rattle.std.specs.Option.{option_copied, option_map};
-ghost use Rattle.afs_ideal.specs.Soundness.{names_it, names_of, subdirectories};
+ghost use Rattle.afs_ideal.specs.Soundness.{names_of, subdirectories};
 ghost use Rattle.afs_records.specs.Sound.{gives_held, has_by_kind, has_names, is_held_by, is_root, kind_is_right};
 ghost use Rattle.afs_volume.specs.Seen.{seen};
 
-use crate::finding::is_directory;
+use crate::is_directory;
 use afs_num::directories::Name;
 use afs_num::vnodes::Vnode;
 

@@ -15,10 +15,9 @@ ghost use Rattle.afs_volume.specs.Listed.{listed_as, Lists};
 ghost use Rattle.afs_volume.specs.Seen.{all_seen, AreReadable, IsReadable};
 ghost use Rattle.afs_volume.specs.Taking.{is_among, put_but, stored_of, without_all, CanTakeIn, HasRoom, HasRoomFor};
 
-use crate::Volume;
+use crate::bodies::blocks_of;
 use crate::directories::Directories;
-use crate::limits::blocks_of;
-use crate::ready::ReadyChange;
+use crate::{ReadyChange, Volume};
 use afs_dir::Listing;
 use afs_num::types::Mem;
 use afs_num::vnodes::{Vnode, VnodeNumbers, Vnodes};
@@ -186,7 +185,7 @@ impl Volume {
     }
 
     /// Makes room for so many more vnodes, and for the names of as many directories.
-    pub(crate) fn make_room(&mut self, count: usize) -> Mem<()>
+    pub fn make_room(&mut self, count: usize) -> Mem<()>
         ensures room { OnOk result (HasRoomFor self.new count) }
         ensures head { self.new.head ≡ self.old.head }
         ensures vnodes { self.new.vnodes.table ≡ self.old.vnodes.table }
@@ -197,7 +196,7 @@ impl Volume {
 
     /// The volume with these vnodes and without those of these numbers, where there is room. With each vnode come its names,
     /// where it is a directory.
-    pub(crate) fn take(
+    pub fn take(
         &mut self,
         vnodes: Vnodes,
         names: Vec<Option<Listing>>,

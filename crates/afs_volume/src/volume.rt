@@ -14,11 +14,11 @@ use std::alloc::Global;
 /// of a directory spell its names too.
 #[derive(Drop)]
 pub struct Volume {
-    pub(crate) alloc: Global,
-    pub(crate) head: VolumeHead,
-    pub(crate) vnodes: VnodeStore,
+    pub alloc: Global,
+    pub head: VolumeHead,
+    pub vnodes: VnodeStore,
     pub(crate) dirs: Directories,
-    pub(crate) blocks: u32,
+    pub blocks: u32,
     ghost fits: { FitsHead head },
     ghost readable: { AreReadable vnodes.table },
     ghost listed: { Lists (maps.get nat_eq dirs.dirs) (all_seen vnodes.table) },

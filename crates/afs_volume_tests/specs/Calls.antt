@@ -3,7 +3,7 @@ use Rattle.std.specs.Prelude.{◌≡◌, true, List, All}
 use Rattle.afs_num.specs.declared.calls.FsCall.{FsCall}
 use Rattle.afs_num.specs.declared.types.Fid.{Fid}
 use Rattle.afs_ideal.specs.Operations.{IsOn}
-use Rattle.afs_volume.specs.Giving.{is_reading}
+use Rattle.afs_reads.specs.Replying.{is_reading}
 
 -- they read it
 pub record IsReading (call : FsCall) : Type 0 where

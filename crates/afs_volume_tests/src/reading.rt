@@ -4,8 +4,9 @@ ghost use Rattle.afs_volume_tests.specs.Calls.{AreHere, IsReading};
 use afs_num::calls::{AfsFetchStatus, FsCall, FsReply};
 use afs_num::sequences::Sequence;
 use afs_num::types::{Code, Fid, Mem};
+use afs_reads::faults::OpFault;
+use afs_reads::read;
 use afs_volume::Volume;
-use afs_volume::faults::OpFault;
 use std::alloc::Global;
 use std::test::Fail;
 
@@ -43,7 +44,7 @@ fn proj(alloc: Global) -> Mem<Volume>
 fn answer(alloc: Global, call: &FsCall) -> Result<FsReply, OpFault>
     requires { IsReading call.now }
 {
-    proj(alloc)?.read(call, b"guest")
+    read(&proj(alloc)?, call, b"guest")
 }
 
 // The code of a refusal, and 0 where nothing is refused.

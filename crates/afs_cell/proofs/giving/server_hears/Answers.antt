@@ -3,9 +3,9 @@ use Rattle.afs_num.specs.declared.types.Node.TheVariants.{Server}
 use Rattle.afs_history.specs.declared.lines.Line.TheVariants as lines
 use Rattle.afs_cell.specs.Happening.{HasHeard, IsFallen}
 use Rattle.afs_cell.specs.Hearing.{IsUpAt, OneFalls}
-use Rattle.afs_cell.specs.Places.{put_place}
+use Rattle.afs_clients.specs.Places.{put_place}
 use Rattle.afs_cell.proofs.Falling.{server_changed, server_fell, up_at}
-use Rattle.afs_cell.proofs.Numbers.{at_found}
+use Rattle.afs_clients.proofs.Numbers.{at_found}
 use Rattle.afs_cell.proofs.giving.server_hears.Goals as goal
 
 pub hear-requires-clause-can : goal.hear-requires-clause-can

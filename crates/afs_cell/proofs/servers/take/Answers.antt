@@ -3,7 +3,7 @@ use Rattle.afs_num.specs.declared.types.Node.TheVariants.{Server}
 use Rattle.afs_host.specs.declared.seats.Seat.TheVariants.{Down}
 use Rattle.afs_cell.specs.Happening.{HasStep, IsVoidServer, SeatHappens}
 use Rattle.afs_cell.specs.Worlds.{ServerSeat}
-use Rattle.afs_cell.specs.declared.happening.ServerInput.{ServerInput}
+use Rattle.afs_clients.specs.declared.happening.ServerInput.{ServerInput}
 use Rattle.afs_cell.specs.Picks.{LeavesPick}
 use Rattle.afs_cell.proofs.Picked.{not_a_crash}
 use Rattle.afs_cell.proofs.servers.take.Goals as goal

@@ -2,7 +2,7 @@ use Rattle.std.proofs.Common.{sym, subst, []}
 use Rattle.afs_num.specs.declared.types.Node.TheVariants.{Server}
 use Rattle.afs_host.specs.declared.seats.Seat.TheVariants.{Up}
 use Rattle.afs_cell.specs.Happening.{HasStep, IsVoidServer, SeatHappens}
-use Rattle.afs_cell.specs.declared.happening.ServerInput.{ServerInput}
+use Rattle.afs_clients.specs.declared.happening.ServerInput.{ServerInput}
 use Rattle.afs_cell.specs.Picks.{LeavesPick}
 use Rattle.afs_cell.proofs.Picked.{not_a_crash}
 use Rattle.afs_cell.proofs.servers.take_up.Goals as goal

@@ -5,7 +5,7 @@ use Rattle.afs_ideal.specs.Tables.{get}
 use Rattle.afs_num.specs.declared.types.Fid.{Fid}
 use Rattle.afs_rows.specs.ServerRow.{sight_in, sights}
 use Rattle.afs_server.specs.Several.{AreFirst, IsFault, SeesAll, TellsOne}
-use Rattle.afs_volume.proofs.Led.{from_place}
+use Rattle.afs_volume.proofs.Walked.{from_place}
 use Rattle.afs_server.proofs.Sights.{all_first, fault_first, next_first, none_first}
 use Rattle.afs_server.proofs.several.see_all.Goals as goal
 

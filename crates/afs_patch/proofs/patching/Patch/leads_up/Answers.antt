@@ -3,7 +3,7 @@ use Rattle.afs_ideal.specs.Operations.{leads_up}
 use Rattle.afs_ideal.specs.Tables.{get}
 use Rattle.afs_ideal.specs.Volumes.{Vnode}
 use Rattle.afs_volume.specs.Seen.{seen}
-use Rattle.afs_volume.proofs.Renamed.{higher}
+use Rattle.afs_volume.proofs.Upward.{higher}
 use Rattle.afs_patch.specs.Patching.{after}
 use Rattle.afs_patch.proofs.patching.Patch.leads_up.Goals as goal
 

@@ -1,5 +1,5 @@
 use Rattle.std.proofs.Common.{◌≡◌, false, rules}
-use Rattle.afs_volume.specs.Giving.{is_reading}
+use Rattle.afs_reads.specs.Replying.{is_reading}
 use Rattle.afs_server.proofs.Decisions.{changing_else}
 use Rattle.afs_server.proofs.server.FileServer.in_found.Goals as goal
 

@@ -3,7 +3,7 @@ use Rattle.afs_ideal.specs.Operations.{is_below, leads_up}
 use Rattle.afs_ideal.specs.Tables.{get}
 use Rattle.afs_ideal.specs.Volumes.{Vnode}
 use Rattle.afs_volume.specs.Seen.{seen, volume_seen}
-use Rattle.afs_volume.proofs.Renamed.{higher, same_length}
+use Rattle.afs_volume.proofs.Upward.{higher, same_length}
 use Rattle.afs_volume.proofs.soundness.Parts.reaches_root.Goals as goal
 
 pub loop-init : goal.loop-init

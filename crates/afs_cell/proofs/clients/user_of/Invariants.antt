@@ -1,6 +1,0 @@
-use Rattle.std.proofs.Common.{◌≡◌, codes, drop}
-use Rattle.afs_rows.specs.Runs.{user_in}
-use Rattle.afs_cell.proofs.clients.user_of.Given as goal
-
-abbrev pub invariant-loop-line : goal.invariant-loop-line
-invariant-loop-line l = user_in l.client l.user (drop l.line-index l.users) ≡ user_in l.client (codes "guest") l.users

@@ -1,0 +1,14 @@
+pub mod Amended
+pub mod Changed
+pub mod Drawn
+pub mod Few
+pub mod Fitting
+pub mod Imaged
+pub mod Left
+pub mod Placed
+pub mod Planned
+pub mod Renamed
+pub mod Replied
+pub mod Shown
+pub mod Sums
+pub mod Values

@@ -1,0 +1,68 @@
+-- A client does with a message what it does with what it finds in its bytes.
+use Rattle.std.proofs.Common.{refl, ap, sym, ◌∙◌, ◌≡◌, ℕ, List, [], ◌∷◌, false, if◌then◌else◌}
+use Rattle.afs_num.specs.Nodes.{same_node}
+use Rattle.afs_num.specs.declared.calls.FsCall.TheVariants as calls
+use Rattle.afs_num.specs.declared.messages.Call.{Call}
+use Rattle.afs_num.specs.declared.messages.Call.TheVariants as ask
+use Rattle.afs_num.specs.declared.messages.Carried.{Carried}
+use Rattle.afs_num.specs.declared.messages.Carried.TheVariants as carried
+use Rattle.afs_num.specs.declared.messages.Message.{Message}
+use Rattle.afs_num.specs.declared.messages.Received.{Received}
+use Rattle.afs_num.specs.declared.messages.Received.TheVariants.{Unserved, Whole}
+use Rattle.afs_num.specs.declared.types.Head.{Head}
+use Rattle.afs_num.specs.declared.types.Node.{Node}
+use Rattle.afs_num.specs.declared.types.Node.TheVariants.{Client}
+use Rattle.afs_history.specs.declared.lines.Line.TheVariants as lines
+use Rattle.afs_history.specs.declared.lines.Outs.{Outs}
+use Rattle.afs_shape.specs.Tables.{is_among}
+use Rattle.afs_model.specs.CellRows.{call_number, client_calls}
+use Rattle.afs_model.specs.Messages.{is_unserved, is_whole, messages_spelled, FoundBy}
+use Rattle.afs_model.specs.Calls.{admitted, Admitted}
+use Rattle.afs_model.specs.Calls as pairs
+use Rattle.afs_rows.specs.ClientRow.{admits_call, client_row, ignores, refused_with, replies_step, runs_carried, takes_in, whole}
+use Rattle.afs_rows.specs.ServerRow.{not_served}
+use Rattle.afs_rows.specs.Going.{ClientState}
+use Rattle.afs_rows.specs.Steps.{Step}
+use Rattle.afs_cache.specs.Managing.{Makes}
+use Rattle.afs_clients.specs.Happening.{ClientMakes}
+use Rattle.afs_clients.specs.declared.clients.ClientSeat.{ClientSeat}
+
+unserved : (me : Node) (c : ClientState) (place : ℕ) (head : Head) (user : List ℕ) (call : Call) → is_among client_calls (call_number call) ≡ false → replies_step c place head [] (refused_with not_served) ≡ runs_carried me c place head (carried.Call user call)
+unserved me c place head user (ask.File (calls.CallBack fids callbacks)) e = absurd cc
+unserved me c place head user (ask.File calls.InitCallBackState) e = absurd cc
+unserved me c place head user (ask.File calls.Probe) e = absurd cc
+unserved me c place head user (ask.File call) e = refl
+unserved me c place head user (ask.Volume call) e = refl
+unserved me c place head user (ask.Location call) e = refl
+
+same_answer : (me : Node) (c : ClientState) (place : ℕ) (head : Head) (user : List ℕ) (call : Call) (a : Admitted Message) → is_among client_calls (call_number call) ≡ false
+    → admits_call me c place head (Unserved head) a ≡ admits_call me c place head (whole head (carried.Call user call)) a
+same_answer me c place head user call pairs.runs e = unserved me c place head user call e
+same_answer me c place head user call (pairs.kept reply) e = refl
+same_answer me c place head user call pairs.in_progress e = refl
+same_answer me c place head user call pairs.older e = refl
+same_answer me c place head user call (pairs.wrong_boot boot) e = refl
+
+same_step : (me : Node) (c : ClientState) (clock place : ℕ) (head : Head) (user : List ℕ) (call : Call) → is_among client_calls (call_number call) ≡ false
+    → takes_in me c clock place (Unserved head) ≡ takes_in me c clock place (whole head (carried.Call user call))
+same_step me c clock place head user call e = ap (λ (s : Step ClientState). if same_node head.to me then s else ignores c place) (same_answer me c place head user call (admitted c.epoch c.seats head) e)
+
+pub client_finds : (me : Node) (c : ClientState) (clock place : ℕ) (m : Message) (found : Received) → FoundBy client_calls m found → client_row me c clock place found ≡ client_row me c clock place (Whole m)
+unfolding client_row
+client_finds me c clock place m found (is_whole e) = ap (takes_in me c clock place) e
+client_finds me c clock place m found (is_unserved user call is far e) =
+    ap (takes_in me c clock place) e ∙ (same_step me c clock place m.head user call far ∙ ap (λ (x : Carried). takes_in me c clock place (whole m.head x)) (sym is))
+
+-- what a client did with what it found, it did with the message
+pub hears_message : (n clock place : ℕ) (node : Node) (found : Received) (m : Message) (old new : ClientSeat) (outs : Outs) → node ≡ Client n → FoundBy client_calls m found → old.is_away ≡ false → new.is_away ≡ old.is_away
+    → Makes (client_row node old.client.state clock place found) new.client.state (λ ls. lines.Given place ∷ ls) outs → ClientMakes (lines.Given place ∷ []) (client_row (Client n) old.client.state clock place (Whole m)) old new outs
+hears_message n clock place node found m old new outs me finds up same h =
+    let row : client_row node old.client.state clock place found ≡ client_row (Client n) old.client.state clock place (Whole m) =
+    ap (λ (k : Node). client_row k old.client.state clock place found) me ∙ client_finds (Client n) old.client.state clock place m found finds in
+    record {
+      up = up;
+      stays_up = same ∙ up;
+      state = h.state ∙ ap (λ (s : Step ClientState). s.state) row;
+      lines = h.lines ∙ ap (λ (s : Step ClientState). s.lines) row;
+      sent = h.sent ∙ ap (λ (s : Step ClientState). messages_spelled s.sent) row;
+    }

@@ -1,0 +1,5 @@
+pub mod Numbers
+pub mod Handed
+mod Heard
+mod Lifted
+mod Shortened

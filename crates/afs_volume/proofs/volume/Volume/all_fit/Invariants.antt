@@ -1,8 +1,0 @@
-use Rattle.std.proofs.Common.{◌≡◌, drop}
-use Rattle.std.specs.List.{list_all}
-use Rattle.afs_ideal.specs.Operations.{edit_fits}
-use Rattle.afs_volume.specs.Giving.{edits_seen, volume_of}
-use Rattle.afs_volume.proofs.volume.Volume.all_fit.Given as goal
-
-abbrev pub invariant-loop-edit : goal.invariant-loop-edit
-invariant-loop-edit l = list_all (edit_fits (volume_of l.self)) (edits_seen (drop l.edit-index l.edits)) ≡ list_all (edit_fits (volume_of l.self)) (edits_seen l.edits)

@@ -1,8 +1,0 @@
-use Rattle.std.proofs.Common.{◌≡◌, ◌-◌, length}
-use Rattle.afs_ideal.specs.Operations.{is_below, leads_up}
-use Rattle.afs_ideal.specs.Tables.{get}
-use Rattle.afs_volume.specs.Giving.{volume_of}
-use Rattle.afs_volume.proofs.volume.Volume.is_below.Given as goal
-
-abbrev pub invariant-loop : goal.invariant-loop
-invariant-loop l = leads_up (length l.self.vnodes.table - l.counter) l.at l.top (volume_of l.self) (get l.at (volume_of l.self).vnodes) ≡ is_below l.fn.number l.top (volume_of l.self)
