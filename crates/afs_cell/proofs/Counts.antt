@@ -70,14 +70,14 @@ module _ {D : Type 0} (faults : D → ℕ) where
       each_put (λ (j : ℕ) (z : ServerSeat D). IsCounted (own j) (faults (seat_disk z))) (λ (j : ℕ) (z : ServerSeat D). IsCounted (own j + falls_at j x e) (faults (seat_disk z))) i now was ss found h
       (λ j z apart counted. stands j z (other_stands i j x e actor apart) counted)
       (counted_more (own i) (falls x) (falls_at i x e) was now le (at_most i x e) blames (h i was found)) where
-    stands : (j : ℕ) (z : ServerSeat D) → falls_at j x e ≡ 0 → IsCounted (own j) (faults (seat_disk z)) → IsCounted (own j + falls_at j x e) (faults (seat_disk z))
-    stands j z nothing (inl counted) = inl (omega (arith, nothing, counted))
-    stands j z nothing (inr full) = inr full
+        stands : (j : ℕ) (z : ServerSeat D) → falls_at j x e ≡ 0 → IsCounted (own j) (faults (seat_disk z)) → IsCounted (own j + falls_at j x e) (faults (seat_disk z))
+        stands j z nothing (inl counted) = inl (omega (arith, nothing, counted))
+        stands j z nothing (inr full) = inr full
 
   -- and where nothing was told of it
   pub counts_kept : (i : ℕ) (was now : ServerSeat D) (ss : List (ServerSeat D)) → at_place ss i ≡ Some was → faults (seat_disk was) ≤ faults (seat_disk now) → (own : ℕ → ℕ) → Counts faults own ss → Counts faults own (put_place i now ss)
   counts_kept i was now ss found le own h =
       each_put (λ (j : ℕ) (z : ServerSeat D). IsCounted (own j) (faults (seat_disk z))) (λ (j : ℕ) (z : ServerSeat D). IsCounted (own j) (faults (seat_disk z))) i now was ss found h (λ j z apart counted. counted) (stays (h i was found)) where
-    stays : IsCounted (own i) (faults (seat_disk was)) → IsCounted (own i) (faults (seat_disk now))
-    stays (inl counted) = inl (omega (arith, counted, le))
-    stays (inr full) = inr (omega (arith, full, le))
+        stays : IsCounted (own i) (faults (seat_disk was)) → IsCounted (own i) (faults (seat_disk now))
+        stays (inl counted) = inl (omega (arith, counted, le))
+        stays (inr full) = inr (omega (arith, full, le))

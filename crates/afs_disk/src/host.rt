@@ -291,7 +291,7 @@ impl<'a, R: Files<File = File>> Bank for HostBank<'a, R> {
     fn lend(&mut self, place: &Place, node: u8, capacity: u64) -> Result<HostDisk, LendFault>
         ensures limit { IfOk result (λ disk. host_limit disk ≡ capacity) }
         ensures unused { IfOk result (λ disk. host_faults disk ≡ 0) }
-        ensures lent { self.new.lent_faults ≡ self.old.lent_faults }
+        ensures lent { (n : ℕ) → get_or self.new.lent_faults n 0 ≡ get_or self.old.lent_faults n 0 }
         ensures told { IfOk result (λ disk. host_tells place.now → IsSome (host_seen disk)) }
         ensures never_falls { self.old.faults ≤ self.new.faults }
         ensures cause { IsErrOf result LendFault.Failed → Rose self.old.faults self.new.faults }

@@ -141,7 +141,7 @@ impl Bank for MemBank {
         ensures lends { OnOk result (self.new.lends ≡ self.old.lends ++ record { place = place.now; node = node; capacity = capacity } ∷ []) }
         ensures none { OnErr result (self.new.lends ≡ self.old.lends) }
         ensures given { self.new.given ≡ self.old.given }
-        ensures lent { self.new.lent ≡ self.old.lent }
+        ensures lent { (n : ℕ) → get_or self.new.lent n 0 ≡ get_or self.old.lent n 0 }
         ensures counted { self.new.calls ≡ min (self.old.calls + 1) last_count }
         ensures fails { IsErrOf result LendFault.Failed ↔ (slice_get self.old.failing self.old.calls ≡ Some 1) }
         ensures never_falls { self.old.faults ≤ self.new.faults }

@@ -139,10 +139,10 @@ once_more : (own : ℕ → ℕ) (i before after : ℕ) → before ≤ after → 
 once_more own i before after le rose few =
     let one : one_other i i ≡ 1 = ap (λ (b : Bool). if b then 1 else 0) (eq-eqb i i refl) in
     subst (λ (k : ℕ). IsCounted (own i + k) after) (sym one) (either rose few) where
-  either : Rose before after → IsCounted (own i) before → IsCounted (own i + 1) after
-  either (inl more) (inl less) = inl (omega (arith, more, less))
-  either (inr full) less = inr (omega (arith, full, le))
-  either more (inr full) = inr (omega (arith, full, le))
+      either : Rose before after → IsCounted (own i) before → IsCounted (own i + 1) after
+      either (inl more) (inl less) = inl (omega (arith, more, less))
+      either (inr full) less = inr (omega (arith, full, le))
+      either more (inr full) = inr (omega (arith, full, le))
 
 -- and where it comes behind this one
 none_more : (own : ℕ → ℕ) (server i count : ℕ) → i < server → IsCounted (own i) count → IsCounted (own i + one_other server i) count

@@ -1,5 +1,5 @@
 use Rattle.std.specs.Prelude.{◌≡◌, ◌+◌, ◌<◌, ◌⊎◌, ◌≢◌, ℕ, List, length, min, true, false, get_or, nat_eq, if◌then◌else◌, set}
-use Rattle.std.proofs.Common.{refl, ap, subst, ◌∙◌, inl, inr, arith}
+use Rattle.std.proofs.Common.{subst, ◌∙◌, inl, inr, arith}
 use Rattle.std.proofs.lemmas.Bool.Decides.{eqb_tells}
 use Rattle.std.proofs.lemmas.List.{get_or-set_other, get_or-set_same}
 use Rattle.afs_disk.specs.Fuses.{last_count}
