@@ -173,6 +173,18 @@ echo "$none_kept" > "$work/says"
 if gate nothing && grep -q '^every proof and must-fail edit was done in this run$' "$work/out"; then pass; else fail 'what was proved from nothing'; fi
 if grep -q '^kept from earlier runs: the proofs of 0 crates$' "$work/out"; then pass; else fail 'that nothing was kept'; fi
 
+# a kit that keeps nothing says nothing of earlier runs
+echo 'rt: ok; handles allowed: none
+3 passed, 0 failed' > "$work/says"
+if gate nothing; then pass; else fail 'a kit that keeps nothing passes, and the gate does not'; fi
+same 'what the gate prints of a kit that keeps nothing' "$work/out" "$(cat "$work/says")
+crate                proof   tests   edits   wrong
+seconds                  0       0       0       0
+minutes                0.0     0.0     0.0     0.0
+proofs, edits and tests took 0 minutes, with 1 edit of the crates' must-fail
+kept from earlier runs: the proofs of 0 crates
+twelve of the 2 other wrong programs took 0 minutes"
+
 for it in $programs; do
     if gate "$it.sh"; then fail "$it.sh fails, and the gate passes"; else pass; fi
     if [ "$(wc -l < "$work/called")" -eq 11 ]; then pass; else fail "$it.sh fails, and not all is run"; fi

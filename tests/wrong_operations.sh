@@ -1,7 +1,8 @@
 #!/bin/sh
 # Tries wrong operations: the ideal operation can't be judged by a law of the cell, since it is what the cell does, so rows by
 # computation judge it. Each tests/wrong_operations/NAME.edit changes one definition of crate afs_ideal, and the row that it
-# names has to be refused; laws on all operations may be refused as well, and are counted.
+# names has to be refused; laws on all operations may be refused as well, and are counted. WRONG=dumps tries the clones and dumps of
+# crate afs_dumps in the same way, by tests/wrong_dumps.
 # Run it when the definitions or the rows have changed. It takes some 15 s an edit, so it is no part of the gate. With NAMEs it
 # tries these alone. All is done in a copy: the repository stays as it is.
 #
@@ -13,6 +14,13 @@
 set -eu
 
 cd "$(dirname "$0")/.."
+
+# The crate whose definitions are changed, the folder of the edits, and a law that is proved where nothing is changed.
+case ${WRONG:-operations} in
+    operations) changed_crate=afs_ideal edits=tests/wrong_operations law=operations_leave_sound ;;
+    dumps) changed_crate=afs_dumps edits=tests/wrong_dumps law=dumps_finish ;;
+    *) echo 'WRONG is operations or dumps'; exit 1 ;;
+esac
 
 work=$(mktemp -d)
 trap 'rm -rf "$work"' EXIT
@@ -46,15 +54,15 @@ needed() {
 
 mkdir "$work/crates"
 if [ -f HANDLES ]; then cp HANDLES "$work"; fi
-for crate in $(needed afs_ideal | sort -u); do
+for crate in $(needed "$changed_crate" | sort -u); do
     cp -R "crates/$crate" "$work/crates"
     grep "^$crate:" crates.txt >> "$work/crates.txt"
 done
-ideal=$work/crates/afs_ideal
+defined=$work/crates/$changed_crate
 
 # Proves the crate in the copy; its errors in refused, one 'FILE LEMMA' a line.
 check() {
-    (cd "$ideal" && rt check) > "$work/log" 2>&1 || true
+    (cd "$defined" && rt check) > "$work/log" 2>&1 || true
     sed -nE 's/^(\.\/)?proofs\/([^:]*)\.antt:[0-9:]* error: `([^`]*)`.*/\2 \3/p' "$work/log" | sort -u > "$work/refused"
 }
 
@@ -83,7 +91,7 @@ changed() {
 try() {
     name=${1##*/}
     name=${name%.edit}
-    file=$ideal/$(told "$1" file)
+    file=$defined/$(told "$1" file)
     row=$(told "$1" breaks)
     cp "$file" "$work/right"
     if ! changed "$1" "$work/right" > "$file"; then
@@ -103,16 +111,16 @@ try() {
 
 # The definitions as they are keep the rows, or nothing below would tell anything.
 check
-if [ -s "$work/refused" ] || ! grep -q 'operations_leave_sound: proved' "$work/log"; then
+if [ -s "$work/refused" ] || ! grep -q "$law: proved" "$work/log"; then
     tail -n 5 "$work/log"
     echo 'the definitions as they are were not proved'
     exit 1
 fi
 
 if [ "$#" -eq 0 ]; then
-    for edit in tests/wrong_operations/*.edit; do try "$edit"; done
+    for edit in "$edits"/*.edit; do try "$edit"; done
 else
-    for name in "$@"; do try "tests/wrong_operations/$name.edit"; done
+    for name in "$@"; do try "$edits/$name.edit"; done
 fi
 echo "$passed passed, $failed failed"
 [ "$failed" -eq 0 ]

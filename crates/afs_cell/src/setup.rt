@@ -23,6 +23,7 @@ use afs_num::faults::StoreFault;
 use afs_num::types::{Mem, Node};
 use afs_scripts::laws::{numbers_ascend, set_ups_are_accepted};
 use afs_server::FileServer;
+use afs_setup::create;
 use afs_volstore::VolStore;
 use afs_wire::Wire;
 use std::alloc::Global;
@@ -58,7 +59,7 @@ fn store_at_first<D: Disk>(
         return Err((SetupFault::OutOfMemory, disk));
     };
     let node = Node::Server(server);
-    match VolStore::create(alloc, Fuse::new(disk), node, lines.as_slice()) {
+    match create(alloc, Fuse::new(disk), node, lines.as_slice()) {
         Ok(store) => Ok(store),
         Err((fault, fuse)) => Err((refusal(fault, node), fuse.into_inner())),
     }

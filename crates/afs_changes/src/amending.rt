@@ -7,6 +7,7 @@ ghost use Rattle.afs_ideal.specs.Volumes.{edit_number};
 ghost use Rattle.afs_changes.specs.Planning.{amend_seen, edit_seen};
 ghost use Rattle.afs_volume.specs.Seen.{names_spelled, SpellsNames};
 
+use crate::edits::{Amend, Edit};
 use afs_num::sequences::Octets;
 
 impl Amend {

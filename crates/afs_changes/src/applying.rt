@@ -13,7 +13,7 @@ ghost use Rattle.afs_volume.specs.Giving.{volume_of};
 ghost use Rattle.afs_volume.specs.Listed.{listed_as};
 ghost use Rattle.afs_volume.specs.Taking.{CanTakeIn};
 
-use crate::drafting::{Draft, draft};
+use crate::drafting::{Draft, draft_of};
 use crate::edits::{Edit, Plan};
 use crate::planning::plan_within;
 use crate::sights::Sight;
@@ -74,7 +74,7 @@ fn changed_by(
     ensures names { IfOk result (λ c. c.1 ≡ map listed_as c.0.vnodes) }
 {
     let edits = plan.edits.as_slice();
-    let draft = draft(volume, edits, now)?;
+    let draft = draft_of(volume, edits, now)?;
     let sight = Sight {
         volume,
         draft: &draft,

@@ -146,7 +146,7 @@ fn draw(volume: &Volume, draft: &mut Draft, edit: &Edit) -> Mem<()>
 }
 
 /// What the edits tell and leave, at this time.
-pub fn draft(volume: &Volume, edits: &[Edit], time: u32) -> Mem<Draft>
+pub fn draft_of(volume: &Volume, edits: &[Edit], time: u32) -> Mem<Draft>
     requires { AllByRecursion (CanBeDrawn (volume_of volume.now)) (edits_seen edits.now) }
     ensures time { IfOk result (λ d. d.time ≡ time) }
     ensures versions { IfOk result (λ d. d.versions ≡ all_told volume.now.head.id (volume_of volume.now) (edits_seen edits.now)) }

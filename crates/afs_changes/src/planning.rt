@@ -21,7 +21,7 @@ use afs_reads::faults::OpFault;
 use afs_volume::Volume;
 
 /// What the operation of a call is to do.
-fn plan(volume: &Volume, caller: &Caller, call: &FsCall) -> Result<Plan, OpFault>
+fn planned(volume: &Volume, caller: &Caller, call: &FsCall) -> Result<Plan, OpFault>
     requires changing { is_changing call.now ≡ true }
     requires fits { FitsCall call.now }
     ensures { Plans (planned (caller_seen caller.now) call.now (volume_of volume.now)) result }
@@ -106,6 +106,6 @@ pub fn plan_within(volume: &Volume, caller: &Caller, call: &FsCall) -> Result<Pl
     ensures plan { Plans (op volume.now.head.id (caller_seen caller.now) call.now (volume_of volume.now)) result }
     ensures few { IfOk result (λ p. length (volume_of volume.now).vnodes ≤ most_vnodes) }
 {
-    let plan = plan(volume, caller, call)?;
+    let plan = planned(volume, caller, call)?;
     within_limits(volume, plan)
 }

@@ -47,6 +47,15 @@ impl Listing {
         self.names.copy()
     }
 
+    /// A second listing of the same names, which are shared.
+    pub fn copy(&self) -> Mem<Listing>
+        ensures { IfOk result (λ l. l ≡ self.now) }
+    {
+        Ok(Listing {
+            names: self.names.copy()?,
+        })
+    }
+
     /// The names in order. It takes no memory.
     pub fn names(&self) -> &[Name]
         ensures { result.now ≡ self.now }

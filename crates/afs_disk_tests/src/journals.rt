@@ -102,10 +102,14 @@ pub(crate) fn put_disk(out: &mut String, disk: &MemDisk) {
 
 // Tells the records on a disk, and the number of a further one.
 fn put_found(out: &mut String, alloc: Global, disk: MemDisk) {
-    if let Ok(attached) = attach(alloc, disk) {
-        let mut journal = attached;
-        put_records(out, &journal);
-        put_step(out, &mut journal, Append(b"again"));
+    match attach(alloc, disk) {
+        Ok(attached) => {
+            let mut journal = attached;
+            put_records(out, &journal);
+            put_step(out, &mut journal, Append(b"again"));
+            drop(journal);
+        }
+        Err(refused) => drop(refused),
     }
 }
 
@@ -220,10 +224,15 @@ fn a_new_journal_is_a_closed_gate(rt: HostRuntime) {
 // Two calls made the disk, and to attach it takes two.
 #[test]
 fn a_journal_at_rest_is_synced_and_read(rt: HostRuntime) {
-    let left = left_by(rt.alloc(), Start::Holds(&[0]), &[]);
-    assert_eq!(rt; left.as_str(), "0 calls 4");
-    let left = left_by(rt.alloc(), Start::Holds(&ONE), &[]);
-    assert_eq!(rt; left.as_str(), "1 0 0 0 2 0 0 0 1 97 98 0 calls 4");
+    for (bytes, want) in [
+        ([0].as_slice(), "0 calls 4"),
+        (&ONE, "1 0 0 0 2 0 0 0 1 97 98 0 calls 4"),
+    ] {
+        assert_eq!(rt;
+            left_by(rt.alloc(), Start::Holds(bytes), &[]).as_str(),
+            want
+        );
+    }
 }
 
 // The first record, and behind it what a torn write may have left: an open gate, and a record cut short.
@@ -243,15 +252,23 @@ fn stopped(alloc: Global, passes: u64) -> Option<MemDisk> {
     let mut fuse = Fuse::new(disk_of(alloc, &TORN));
     fuse.arm(passes);
     match attach(alloc, fuse) {
-        Ok(_journal) => None,
-        Err((fault, fuse)) => {
-            let is_stopped = fault == JournalFault::Failed && fuse.stopped();
-            if is_stopped {
-                Some(fuse.into_inner())
-            } else {
-                None
-            }
+        Ok(journal) => {
+            drop(journal);
+            None
         }
+        Err((fault, fuse)) => handed_back(fault, fuse),
+    }
+}
+
+// The disk of a fuse that is handed back because it stopped.
+fn handed_back(fault: JournalFault, fuse: Fuse<MemDisk>) -> Option<MemDisk> {
+    let is_stopped = fault == JournalFault::Failed && fuse.stopped();
+    let disk = fuse.into_inner();
+    if is_stopped {
+        Some(disk)
+    } else {
+        drop(disk);
+        None
     }
 }
 

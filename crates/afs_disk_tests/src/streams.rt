@@ -165,24 +165,39 @@ fn a_read_fails_in_mid_stream(rt: HostRuntime) {
     assert_eq!(rt; found.as_str(), "failed");
 }
 
+// Whether a sink takes each of these, and what it holds then.
+fn told_of_sink(alloc: Global, sink: MemSink, puts: &[Put]) -> String {
+    let mut sink = sink;
+    let mut out = taken(alloc, &mut sink, puts);
+    put_text(&mut out, sink.as_slice());
+    out
+}
+
 #[test]
 fn a_full_sink_holds_a_beginning(rt: HostRuntime) -> Result<(), Fail> {
-    let alloc = rt.alloc();
-    let mut full = MemSink::with_room(alloc, 10, &[])?;
-    let puts = [All(b"entry 1 c1\nbegin")];
-    assert_eq!(rt; taken(alloc, &mut full, &puts).as_str(), "failed ");
-    assert_eq!(rt; full.as_slice(), b"entry 1 c1".as_slice());
-
-    let mut unflushed = MemSink::new(alloc, &[0, 1]);
-    assert_eq!(rt;
-        taken(alloc, &mut unflushed, &[All(b"end\n")]).as_str(),
-        "failed "
-    );
-    assert_eq!(rt; unflushed.as_slice(), b"end\n".as_slice());
-
-    let mut out = Vec::new(alloc);
-    let mut host = HostSink::new(&mut out);
-    assert_eq!(rt; taken(alloc, &mut host, &[All(b"end\n")]).as_str(), "ok ");
-    assert_eq!(rt; out.as_slice(), b"end\n".as_slice());
+    let full = MemSink::with_room(rt.alloc(), 10, &[])?;
+    let told = told_of_sink(rt.alloc(), full, &[All(b"entry 1 c1\nbegin")]);
+    assert_eq!(rt; told.as_str(), "failed entry 1 c1");
     Ok(())
+}
+
+#[test]
+fn a_sink_that_cannot_flush_holds_all(rt: HostRuntime) {
+    let unflushed = MemSink::new(rt.alloc(), &[0, 1]);
+    let told = told_of_sink(rt.alloc(), unflushed, &[All(b"end\n")]);
+    assert_eq!(rt; told.as_str(), "failed end\n");
+}
+
+// What a sink over a standard stream writes there.
+fn told_of_host(alloc: Global, puts: &[Put]) -> String {
+    let mut bytes = Vec::new(alloc);
+    let mut out = taken(alloc, &mut HostSink::new(&mut bytes), puts);
+    put_text(&mut out, &bytes);
+    out
+}
+
+#[test]
+fn a_standard_stream_gets_what_is_put(rt: HostRuntime) {
+    let told = told_of_host(rt.alloc(), &[All(b"end\n")]);
+    assert_eq!(rt; told.as_str(), "ok end\n");
 }

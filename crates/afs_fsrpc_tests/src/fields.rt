@@ -1,12 +1,12 @@
 //! Fields of a shape, read and written.
 
 use afs_num::types::Fid;
-use afs_shape::faults::ShapeFault;
 use afs_shape::kinds::{Field, Fields, Kind};
 use afs_shape::tables::{Row, Shape, Table};
-use afs_xdr::faults::XdrFault;
 use afs_xdr::reading::Reader;
 use afs_xdr::writing::Writer;
+use std::alloc::Global;
+use std::fmt::Write as _;
 use std::test::Fail;
 
 const NAMES: Table<1, 3> = Table {
@@ -18,30 +18,65 @@ const NAMES: Table<1, 3> = Table {
     }],
 };
 
+/// A fid, three bytes with their pad, and a byte more.
 const LINK: &[u8] = &[
     0, 0, 0, 1, 0, 0, 0, 2, 0, 0, 0, 3, 0, 0, 0, 3, b'a', b'b', b'c', 0, 9,
 ];
 
-#[test]
-fn fields_are_read(rt: HostRuntime) -> Result<(), Fail> {
-    let table = NAMES;
-    let shape = table.shape(140)?;
-    let mut reader = Reader::new(LINK);
-    let fields = shape.read_fields(rt.alloc(), &mut reader)?;
-    assert_eq!(rt; reader.left_len(), 1);
-    assert_eq!(rt; fields.len(), 2);
-    match &fields.as_slice()[0] {
-        Field::Fid(fid) => assert_eq!(rt;
-            *fid,
-            Fid {
-                volume: 1,
-                vnode: 2,
-                unique: 3
-            }
-        ),
-        _ => assert!(rt; false, "another field"),
+fn put_field(out: &mut String, field: &Field) {
+    let _ = match field {
+        Field::Fid(fid) => write!(out, "fid {}.{}.{} ", fid.volume, fid.vnode, fid.unique),
+        Field::Opaque(bytes) => write!(out, "{} bytes ", bytes.len()),
+        _ => out.push_str("another "),
+    };
+}
+
+fn put_fields(out: &mut String, fields: &Fields) {
+    for field in fields.as_slice() {
+        put_field(out, field);
     }
-    Ok(())
+}
+
+/// Tells what fields are read by this shape, and how many bytes are left.
+fn put_read(out: &mut String, alloc: Global, shape: &Shape<3>, bytes: &[u8]) {
+    let mut reader = Reader::new(bytes);
+    match shape.read_fields(alloc, &mut reader) {
+        Ok(fields) => {
+            put_fields(out, &fields);
+            drop(fields);
+        }
+        Err(fault) => {
+            let _ = write!(out, "{fault:?} ");
+        }
+    }
+    let _ = write!(out, "{} left", reader.left_len());
+}
+
+/// What is read of these bytes by the shape of this opcode.
+fn told(alloc: Global, opcode: u32, bytes: &[u8]) -> String {
+    let mut out = String::new(alloc);
+    let table = NAMES;
+    match table.shape(opcode) {
+        Ok(shape) => put_read(&mut out, alloc, shape, bytes),
+        Err(fault) => {
+            let _ = write!(out, "{fault:?}");
+        }
+    }
+    out
+}
+
+#[test]
+fn fields_are_read(rt: HostRuntime) {
+    let told = told(rt.alloc(), 140, LINK);
+    assert_eq!(rt; told.as_str(), "fid 1.2.3 3 bytes 1 left");
+}
+
+#[test]
+fn a_refusal_leaves_the_reader(rt: HostRuntime) {
+    let unknown = told(rt.alloc(), 141, LINK);
+    assert_eq!(rt; unknown.as_str(), "NoRow(141)");
+    let short = told(rt.alloc(), 140, LINK.get(..19).unwrap_or(b""));
+    assert_eq!(rt; short.as_str(), "Field(2, Short) 19 left");
 }
 
 #[test]
@@ -57,20 +92,10 @@ fn fields_are_written(rt: HostRuntime) -> Result<(), Fail> {
     }))?;
     fields.push(Field::Word(9))?;
     let mut writer = Writer::new(rt.alloc());
-    shape.write_fields(&fields, &mut writer)?;
+    let is_written = shape.write_fields(&fields, &mut writer).is_ok();
+    drop(fields);
+    assert!(rt; is_written);
     let want = [0, 0, 0, 1, 0, 0, 0, 2, 0, 0, 0, 3, 0, 0, 0, 9];
     assert_eq!(rt; writer.into_vec()?.as_slice(), want.as_slice());
-    Ok(())
-}
-
-#[test]
-fn a_refusal_leaves_the_reader(rt: HostRuntime) -> Result<(), Fail> {
-    let table = NAMES;
-    assert_eq!(rt; table.shape(141).err(), Some(ShapeFault::NoRow(141)));
-    let shape = table.shape(140)?;
-    let mut reader = Reader::new(&LINK[..19]);
-    let fault = shape.read_fields(rt.alloc(), &mut reader).err();
-    assert_eq!(rt; fault, Some(ShapeFault::Field(2, XdrFault::Short)));
-    assert_eq!(rt; reader.left_len(), 19);
     Ok(())
 }

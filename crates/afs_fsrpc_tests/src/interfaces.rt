@@ -2,13 +2,14 @@
 //! written again, and refused with its fault where it is cut, where a pad byte is set or a count raised, and where more
 //! stands behind it.
 
-use crate::samples::{Interface, bytes_of, changed, have_no_row, keeps_all, refused, refuses_all};
-use afs_num::location_calls::{LocCall, LocEntry, LocReply, LocSite};
-use afs_num::types::{Code, Half};
+use crate::samples::{
+    Interface, bytes_of_line, faults, faults_where_changed, have_no_row, keeps_all, refuses_all,
+};
+use afs_num::location_calls::{LocCall, LocEntry, LocReply};
+use afs_num::types::{Code, Half, Mem};
 use afs_num::volume_calls::{ListedVolume, VolCall, VolReply};
-use afs_shape::faults::ShapeFault;
-use afs_xdr::faults::XdrFault;
 use std::alloc::Global;
+use std::fmt::Write as _;
 use std::process::Abort;
 use std::test::Fail;
 
@@ -52,11 +53,14 @@ fn an_interface_reads_no_call_of_another(rt: HostRuntime) -> Result<(), Fail> {
     have_no_row(&rt, rt.alloc(), Interface::Locations, Interface::Files)
 }
 
-const CREATE: &[u32] = &[
-    1, 201, 2, 1, 2, 3, 4, 100, 0, 0x20000000, 0x20000001, 4, 0x70726f6a, 1, 3, 5000,
-];
+fn put_bytes(out: &mut String, bytes: &[u8]) {
+    for byte in bytes {
+        let _ = out.push(*byte as char);
+    }
+}
 
-fn is_the_creation(rt: &impl Abort, call: &VolCall) {
+/// Tells the fields of a call of the volume servers, in their order.
+fn put_volume_call(out: &mut String, call: &VolCall) -> Mem<()> {
     match call {
         VolCall::CreateVolume {
             family,
@@ -66,38 +70,10 @@ fn is_the_creation(rt: &impl Abort, call: &VolCall) {
             flags,
             quota,
         } => {
-            assert_eq!(rt;
-                [*family, *volume, *kind, *flags, *quota],
-                [536870912, 536870913, 1, 3, 5000]
-            );
-            assert_eq!(rt; name.as_slice(), b"proj".as_slice());
+            write!(out, "create {family} {volume} ")?;
+            put_bytes(out, name.as_slice());
+            write!(out, " {kind} {flags} {quota}")
         }
-        _ => assert!(rt; false, "another call"),
-    }
-}
-
-// The calls and replies here are let go by a call, as the samples are.
-#[test]
-fn the_call_of_a_creation(rt: HostRuntime) -> Result<(), Fail> {
-    let bytes = bytes_of(rt.alloc(), CREATE)?;
-    let (head, user, call) = afs_volrpc::calls::decode_call(rt.alloc(), &bytes)?;
-    assert_eq!(rt; head.stamp, 4);
-    assert_eq!(rt; user.as_slice(), b"".as_slice());
-    is_the_creation(&rt, &call);
-    drop(call);
-    Ok(())
-}
-
-#[test]
-fn a_creation_has_one_of_three_kinds(rt: HostRuntime) -> Result<(), Fail> {
-    let words = changed(rt.alloc(), CREATE, 13, 3)?;
-    let fault = refused(rt.alloc(), Interface::Volumes, Half::Call, &words)?;
-    assert_eq!(rt; fault, Some(ShapeFault::Field(4, XdrFault::BadType)));
-    Ok(())
-}
-
-fn is_the_piece(rt: &impl Abort, call: &VolCall) {
-    match call {
         VolCall::Restore {
             family,
             transaction,
@@ -105,67 +81,101 @@ fn is_the_piece(rt: &impl Abort, call: &VolCall) {
             last,
             piece,
         } => {
-            assert_eq!(rt;
-                [*family, *transaction, *offset, *last],
-                [536870912, 7, 32768, 1]
-            );
-            assert_eq!(rt; piece.as_slice(), b"abc".as_slice());
+            write!(out, "restore {family} {transaction} {offset} {last} ")?;
+            put_bytes(out, piece.as_slice());
+            Ok(())
         }
-        _ => assert!(rt; false, "another call"),
-    }
-}
-
-#[test]
-fn the_call_of_a_restored_piece(rt: HostRuntime) -> Result<(), Fail> {
-    let words = [
-        1, 201, 2, 1, 2, 3, 4, 102, 0, 0x20000000, 7, 32768, 1, 3, 0x61626300,
-    ];
-    let bytes = bytes_of(rt.alloc(), &words)?;
-    let (_, _, call) = afs_volrpc::calls::decode_call(rt.alloc(), &bytes)?;
-    is_the_piece(&rt, &call);
-    drop(call);
-    Ok(())
-}
-
-const FORWARD: &[u32] = &[1, 201, 2, 1, 2, 3, 4, 103, 0, 0x20000000, 7, 5, 3, 9];
-
-fn is_the_forward(rt: &impl Abort, call: &VolCall) {
-    match call {
         VolCall::Forward {
             transaction,
             from,
             server,
             its_transaction,
             ..
-        } => assert_eq!(rt;
-            [*transaction, *from, *server, *its_transaction],
-            [7, 5, 3, 9]
+        } => write!(
+            out,
+            "forward {transaction} {from} {server} {its_transaction}"
         ),
-        _ => assert!(rt; false, "another call"),
+        _ => out.push_str("another call"),
     }
 }
 
+/// Tells the stamp and the user of a call of the volume servers, and its fields. Calls and replies are let go by a call, as the
+/// samples are.
+fn told_volume_call(alloc: Global, message: &str) -> Result<String, Fail> {
+    let bytes = bytes_of_line(alloc, message)?;
+    let (head, user, call) = afs_volrpc::calls::decode_call(alloc, &bytes)?;
+    let mut out = String::new(alloc);
+    let _ = write!(out, "stamp {} user {} ", head.stamp, user.len());
+    let _ = put_volume_call(&mut out, &call);
+    drop(call);
+    Ok(out)
+}
+
+const CREATE: &str = "1 201 2 1 2 3 4 100 0 0x20000000 0x20000001 4 0x70726f6a 1 3 5000";
+
+#[test]
+fn the_call_of_a_creation(rt: HostRuntime) -> Result<(), Fail> {
+    let told = told_volume_call(rt.alloc(), CREATE)?;
+    assert_eq!(rt;
+        told.as_str(),
+        "stamp 4 user 0 create 536870912 536870913 proj 1 3 5000"
+    );
+    Ok(())
+}
+
+#[test]
+fn a_creation_has_one_of_three_kinds(rt: HostRuntime) -> Result<(), Fail> {
+    let told = faults_where_changed(rt.alloc(), Interface::Volumes, Half::Call, CREATE, "13 3")?;
+    assert_eq!(rt; told.as_str(), "Field(4, BadType)\n");
+    Ok(())
+}
+
+#[test]
+fn the_call_of_a_restored_piece(rt: HostRuntime) -> Result<(), Fail> {
+    let told = told_volume_call(
+        rt.alloc(),
+        "1 201 2 1 2 3 4 102 0 0x20000000 7 32768 1 3 0x61626300",
+    )?;
+    assert_eq!(rt;
+        told.as_str(),
+        "stamp 4 user 0 restore 536870912 7 32768 1 abc"
+    );
+    Ok(())
+}
+
+const FORWARD: &str = "1 201 2 1 2 3 4 103 0 0x20000000 7 5 3 9";
+
 #[test]
 fn the_call_of_a_forward(rt: HostRuntime) -> Result<(), Fail> {
-    let bytes = bytes_of(rt.alloc(), FORWARD)?;
-    let (_, _, call) = afs_volrpc::calls::decode_call(rt.alloc(), &bytes)?;
-    is_the_forward(&rt, &call);
-    drop(call);
+    let told = told_volume_call(rt.alloc(), FORWARD)?;
+    assert_eq!(rt; told.as_str(), "stamp 4 user 0 forward 7 5 3 9");
     Ok(())
 }
 
 #[test]
 fn a_forward_goes_to_one_of_eight_servers(rt: HostRuntime) -> Result<(), Fail> {
-    let bad = Some(ShapeFault::Field(4, XdrFault::BadType));
-    for (server, want) in [(0, bad), (9, bad), (u32::MAX, bad), (1, None), (8, None)] {
-        let words = changed(rt.alloc(), FORWARD, 12, server)?;
-        let fault = refused(rt.alloc(), Interface::Volumes, Half::Call, &words)?;
-        assert_eq!(rt; fault, want);
+    let servers = "12 0\n12 9\n12 0xffffffff\n12 1\n12 8";
+    let told = faults_where_changed(rt.alloc(), Interface::Volumes, Half::Call, FORWARD, servers)?;
+    assert_eq!(rt;
+        told.as_str(),
+        "Field(4, BadType)\nField(4, BadType)\nField(4, BadType)\nnone\nnone\n"
+    );
+    Ok(())
+}
+
+fn put_volumes(out: &mut String, volumes: &[ListedVolume]) -> Mem<()> {
+    for it in volumes {
+        write!(
+            out,
+            "{} {} {} {} ",
+            it.volume, it.kind, it.flags, it.release
+        )?;
     }
     Ok(())
 }
 
-fn is_the_status(rt: &impl Abort, reply: &Option<VolReply>) {
+/// Tells the fields of a reply of the volume servers.
+fn put_volume_reply(out: &mut String, reply: &Option<VolReply>) -> Mem<()> {
     match reply {
         Some(
             VolReply::GetStatus {
@@ -177,140 +187,141 @@ fn is_the_status(rt: &impl Abort, reply: &Option<VolReply>) {
                 counter,
                 release,
             },
-        ) => assert_eq!(rt;
-            [*volume, *kind, *flags, *quota, *used, *counter, *release],
-            [536870913, 2, 3, 5000, 40, 17, 2]
-        ),
-        _ => assert!(rt; false, "another reply"),
+        ) => {
+            write!(out, "{volume} {kind} {flags} {quota} ")?;
+            write!(out, "{used} {counter} {release}")
+        }
+        Some(VolReply::ListVols { volumes }) => put_volumes(out, volumes.as_slice()),
+        _ => out.push_str("another reply"),
     }
+}
+
+/// Tells the code of a reply of the volume servers, and its fields.
+fn told_volume_reply(alloc: Global, message: &str) -> Result<String, Fail> {
+    let bytes = bytes_of_line(alloc, message)?;
+    let (_, Code(code), reply) = afs_volrpc::replies::decode_reply(alloc, &bytes)?;
+    let mut out = String::new(alloc);
+    let _ = write!(out, "code {code}: ");
+    let _ = put_volume_reply(&mut out, &reply);
+    drop(reply);
+    Ok(out)
 }
 
 #[test]
 fn the_reply_on_a_status(rt: HostRuntime) -> Result<(), Fail> {
-    let words = [
-        2, 2, 201, 1, 2, 3, 0, 113, 0, 0x20000001, 2, 3, 5000, 40, 17, 2,
-    ];
-    let bytes = bytes_of(rt.alloc(), &words)?;
-    let (_, code, reply) = afs_volrpc::replies::decode_reply(rt.alloc(), &bytes)?;
-    assert_eq!(rt; code, Code(0));
-    is_the_status(&rt, &reply);
-    drop(reply);
+    let told = told_volume_reply(
+        rt.alloc(),
+        "2 2 201 1 2 3 0 113 0 0x20000001 2 3 5000 40 17 2",
+    )?;
+    assert_eq!(rt; told.as_str(), "code 0: 536870913 2 3 5000 40 17 2");
     Ok(())
-}
-
-const LISTED: &[u32] = &[
-    2, 2, 201, 1, 2, 3, 0, 116, 0, 2, 0x20000000, 0, 2, 0, 0x20000002, 1, 0, 6,
-];
-
-fn are_the_volumes(rt: &impl Abort, reply: &Option<VolReply>) {
-    match reply {
-        Some(VolReply::ListVols { volumes }) => {
-            let last = ListedVolume {
-                volume: 536870914,
-                kind: 1,
-                flags: 0,
-                release: 6,
-            };
-            assert_eq!(rt; volumes.len(), 2);
-            assert_eq!(rt; volumes.as_slice().last().copied(), Some(last));
-        }
-        _ => assert!(rt; false, "another reply"),
-    }
 }
 
 #[test]
 fn the_reply_that_lists_volumes(rt: HostRuntime) -> Result<(), Fail> {
-    let bytes = bytes_of(rt.alloc(), LISTED)?;
-    let (_, _, reply) = afs_volrpc::replies::decode_reply(rt.alloc(), &bytes)?;
-    are_the_volumes(&rt, &reply);
-    drop(reply);
+    let told = told_volume_reply(
+        rt.alloc(),
+        "2 2 201 1 2 3 0 116 0 2 0x20000000 0 2 0 0x20000002 1 0 6",
+    )?;
+    assert_eq!(rt; told.as_str(), "code 0: 536870912 0 2 0 536870914 1 0 6 ");
     Ok(())
 }
 
-// The bad kind stands before the end of the bytes.
+/// Replies whose second volume has a kind that is none; in the last one the bytes end behind it.
+const BAD_KINDS: &str = "\
+2 2 201 1 2 3 0 116 0 2 0x20000000 0 2 0 0x20000002 3 0 6
+2 2 201 1 2 3 0 116 0 2 0x20000000 0 2 0 0x20000002 3
+";
+
 #[test]
 fn a_listed_volume_has_one_of_three_kinds(rt: HostRuntime) -> Result<(), Fail> {
-    let words = changed(rt.alloc(), LISTED, 15, 3)?;
-    for length in [18, 16] {
-        let listed = words.get(..length).unwrap_or(&[]);
-        let fault = refused(rt.alloc(), Interface::Volumes, Half::Reply, listed)?;
-        assert_eq!(rt; fault, Some(ShapeFault::Field(1, XdrFault::BadType)));
+    let told = faults(rt.alloc(), Interface::Volumes, Half::Reply, BAD_KINDS)?;
+    assert_eq!(rt; told.as_str(), "Field(1, BadType)\nField(1, BadType)\n");
+    Ok(())
+}
+
+fn put_entry(out: &mut String, entry: &LocEntry) -> Mem<()> {
+    put_bytes(out, entry.name.as_slice());
+    write!(out, " {} {} ", entry.read_write, entry.read_only)?;
+    write!(out, "{} {}:", entry.backup, entry.flags)?;
+    for site in entry.sites.as_slice() {
+        write!(out, " {} {}", site.server, site.flags)?;
     }
     Ok(())
 }
 
-const LOCK: &[u32] = &[
-    2, 0, 201, 1, 2, 1, 0, 508, 0, 12, 4, 0x70726f6a, 0x20000000, 0x20000002, 0, 0x3000, 2, 2, 4,
-    3, 2,
-];
-
-fn is_the_entry(rt: &impl Abort, entry: &LocEntry) {
-    assert_eq!(rt; entry.name.as_slice(), b"proj".as_slice());
-    assert_eq!(rt;
-        [entry.read_write, entry.read_only, entry.backup, entry.flags],
-        [536870912, 536870914, 0, 0x3000]
-    );
-    let sites = [
-        LocSite {
-            server: 2,
-            flags: 4,
-        },
-        LocSite {
-            server: 3,
-            flags: 2,
-        },
-    ];
-    assert_eq!(rt; entry.sites.as_slice(), sites.as_slice());
-}
-
-fn is_the_lock(rt: &impl Abort, reply: &Option<LocReply>) {
+fn put_location_reply(out: &mut String, reply: &Option<LocReply>) -> Mem<()> {
     match reply {
         Some(LocReply::SetLock { stamp, entry }) => {
-            assert_eq!(rt; *stamp, 12);
-            is_the_entry(rt, entry);
+            write!(out, "{stamp} ")?;
+            put_entry(out, entry)
         }
-        _ => assert!(rt; false, "another reply"),
+        _ => out.push_str("another reply"),
     }
 }
+
+fn told_location_reply(alloc: Global, message: &str) -> Result<String, Fail> {
+    let bytes = bytes_of_line(alloc, message)?;
+    let (_, _, reply) = afs_vlrpc::replies::decode_reply(alloc, &bytes)?;
+    let mut out = String::new(alloc);
+    let _ = put_location_reply(&mut out, &reply);
+    drop(reply);
+    Ok(out)
+}
+
+const LOCK: &str = "2 0 201 1 2 1 0 508 0 12 4 0x70726f6a 0x20000000 0x20000002 0 0x3000 2 2 4 3 2";
 
 #[test]
 fn the_reply_to_a_lock(rt: HostRuntime) -> Result<(), Fail> {
-    let bytes = bytes_of(rt.alloc(), LOCK)?;
-    let (_, _, reply) = afs_vlrpc::replies::decode_reply(rt.alloc(), &bytes)?;
-    is_the_lock(&rt, &reply);
-    drop(reply);
+    let told = told_location_reply(rt.alloc(), LOCK)?;
+    assert_eq!(rt;
+        told.as_str(),
+        "12 proj 536870912 536870914 0 12288: 2 4 3 2"
+    );
     Ok(())
 }
 
 #[test]
 fn a_site_is_one_of_eight_servers(rt: HostRuntime) -> Result<(), Fail> {
-    for server in [0, 9] {
-        let words = changed(rt.alloc(), LOCK, 19, server)?;
-        let fault = refused(rt.alloc(), Interface::Locations, Half::Reply, &words)?;
-        assert_eq!(rt; fault, Some(ShapeFault::Field(2, XdrFault::BadType)));
-    }
+    let told = faults_where_changed(
+        rt.alloc(),
+        Interface::Locations,
+        Half::Reply,
+        LOCK,
+        "19 0\n19 9",
+    )?;
+    assert_eq!(rt; told.as_str(), "Field(2, BadType)\nField(2, BadType)\n");
     Ok(())
 }
 
-fn is_the_replacement(rt: &impl Abort, call: &LocCall) {
+fn put_location_call(out: &mut String, call: &LocCall) -> Mem<()> {
     match call {
         LocCall::ReplaceEntry { volume, entry } => {
-            assert_eq!(rt; *volume, 536870912);
-            is_the_entry(rt, entry);
+            write!(out, "{volume} ")?;
+            put_entry(out, entry)
         }
-        _ => assert!(rt; false, "another call"),
+        _ => out.push_str("another call"),
     }
+}
+
+fn told_location_call(alloc: Global, message: &str) -> Result<String, Fail> {
+    let bytes = bytes_of_line(alloc, message)?;
+    let (_, _, call) = afs_vlrpc::calls::decode_call(alloc, &bytes)?;
+    let mut out = String::new(alloc);
+    let _ = put_location_call(&mut out, &call);
+    drop(call);
+    Ok(out)
 }
 
 #[test]
 fn the_call_that_replaces_an_entry(rt: HostRuntime) -> Result<(), Fail> {
-    let words = [
-        1, 201, 0, 1, 2, 1, 0, 506, 0, 0x20000000, 4, 0x70726f6a, 0x20000000, 0x20000002, 0,
-        0x3000, 2, 2, 4, 3, 2,
-    ];
-    let bytes = bytes_of(rt.alloc(), &words)?;
-    let (_, _, call) = afs_vlrpc::calls::decode_call(rt.alloc(), &bytes)?;
-    is_the_replacement(&rt, &call);
-    drop(call);
+    let told = told_location_call(
+        rt.alloc(),
+        "1 201 0 1 2 1 0 506 0 0x20000000 4 0x70726f6a 0x20000000 0x20000002 0 0x3000 2 2 4 3 2",
+    )?;
+    assert_eq!(rt;
+        told.as_str(),
+        "536870912 proj 536870912 536870914 0 12288: 2 4 3 2"
+    );
     Ok(())
 }

@@ -1,29 +1,44 @@
 //! Messages of the file servers and clients as words; the samples and vectors were made by another program.
 
-use crate::samples::{Interface, bytes_of, changed, keeps_all, refused, refuses_all, sizes};
+use crate::samples::{
+    Interface, bytes_of_line, faults, faults_where_changed, keeps_all, refuses_all, sizes,
+};
 use afs_fsrpc::calls::decode_call;
 use afs_fsrpc::heads::read_head;
 use afs_fsrpc::replies::decode_reply;
 use afs_num::calls::FsCall;
 use afs_num::types::{Code, Half};
-use afs_shape::faults::ShapeFault;
-use afs_xdr::faults::XdrFault;
 use std::alloc::Global;
+use std::fmt::Write as _;
 use std::test::Fail;
 
-// What was counted in the tables by another program.
+fn put_sizes(
+    out: &mut String,
+    alloc: Global,
+    interface: Interface,
+    half: Half,
+) -> Result<(), Fail> {
+    let [words, ends, pads, counts] = sizes(alloc, interface, half)?;
+    writeln!(out, "{words} {ends} {pads} {counts}")?;
+    Ok(())
+}
+
+fn put_sizes_of_both(out: &mut String, alloc: Global, interface: Interface) -> Result<(), Fail> {
+    put_sizes(out, alloc, interface, Half::Call)?;
+    put_sizes(out, alloc, interface, Half::Reply)
+}
+
+// What was counted in the tables by another program: the words, ends, pads and counts of the calls and of the replies.
 #[test]
 fn each_table_is_read_whole(rt: HostRuntime) -> Result<(), Fail> {
-    for (interface, half, want) in [
-        (Interface::Files, Half::Call, [351, 62, 126, 108]),
-        (Interface::Files, Half::Reply, [725, 70, 6, 15]),
-        (Interface::Volumes, Half::Call, [179, 60, 6, 51]),
-        (Interface::Volumes, Half::Reply, [157, 31, 2, 6]),
-        (Interface::Locations, Half::Call, [120, 20, 14, 42]),
-        (Interface::Locations, Half::Reply, [141, 17, 18, 24]),
-    ] {
-        assert_eq!(rt; sizes(rt.alloc(), interface, half)?, want);
-    }
+    let mut out = String::new(rt.alloc());
+    put_sizes_of_both(&mut out, rt.alloc(), Interface::Files)?;
+    put_sizes_of_both(&mut out, rt.alloc(), Interface::Volumes)?;
+    put_sizes_of_both(&mut out, rt.alloc(), Interface::Locations)?;
+    assert_eq!(rt;
+        out.as_str(),
+        "351 62 126 108\n725 70 6 15\n179 60 6 51\n157 31 2 6\n120 20 14 42\n141 17 18 24\n"
+    );
     Ok(())
 }
 
@@ -47,48 +62,48 @@ fn a_changed_reply_is_refused_with_its_fault(rt: HostRuntime) -> Result<(), Fail
     refuses_all(&rt, rt.alloc(), Interface::Files, Half::Reply)
 }
 
-const OPEN: &[u32] = &[
-    1, 101, 1, 1, 1, 1, 0, 130, 5, 0x67756573, 0x74000000, 0x20000000, 2, 2, 0, 0x7fffffff,
-];
+const OPEN: &str = "1 101 1 1 1 1 0 130 5 0x67756573 0x74000000 0x20000000 2 2 0 0x7fffffff";
 
 #[test]
 fn an_open_is_refused_with_its_fault(rt: HostRuntime) -> Result<(), Fail> {
-    // the place of a word, what it becomes, and why the call is refused then
-    for (at, word, want) in [
-        (7, 161, ShapeFault::NoRow(161)),
-        (7, 143, ShapeFault::NoRow(143)),
-        (10, 0x74000001, ShapeFault::Field(0, XdrFault::BadPad)),
-        (0, 9, ShapeFault::Head(XdrFault::BadHead)),
-        (1, 117, ShapeFault::Head(XdrFault::BadHead)),
-    ] {
-        let words = changed(rt.alloc(), OPEN, at, word)?;
-        let fault = refused(rt.alloc(), Interface::Files, Half::Call, &words)?;
-        assert_eq!(rt; fault, Some(want));
-    }
-    let fault = refused(rt.alloc(), Interface::Files, Half::Reply, OPEN)?;
-    assert_eq!(rt; fault, Some(ShapeFault::Head(XdrFault::BadHead)));
+    let changes = "7 161\n7 143\n10 0x74000001\n0 9\n1 117";
+    let told = faults_where_changed(rt.alloc(), Interface::Files, Half::Call, OPEN, changes)?;
+    assert_eq!(rt;
+        told.as_str(),
+        "NoRow(161)\nNoRow(143)\nField(0, BadPad)\nHead(BadHead)\nHead(BadHead)\n"
+    );
+    let as_reply = faults(rt.alloc(), Interface::Files, Half::Reply, OPEN)?;
+    assert_eq!(rt; as_reply.as_str(), "Head(BadHead)\n");
     Ok(())
 }
 
-/// Why these words begin no message.
-fn head_fault(alloc: Global, words: &[u32]) -> Result<Option<XdrFault>, Fail> {
-    let bytes = bytes_of(alloc, words)?;
-    Ok(read_head(&bytes).err())
+/// Tells why each of these messages has no head. Each is a line of words.
+fn head_faults(alloc: Global, messages: &str) -> Result<String, Fail> {
+    let mut out = String::new(alloc);
+    for line in messages.lines() {
+        let bytes = bytes_of_line(alloc, line)?;
+        match read_head(&bytes) {
+            Ok(_) => out.push_str("a head\n")?,
+            Err(fault) => writeln!(out, "{fault:?}")?,
+        }
+    }
+    Ok(out)
 }
 
+// Its half is none, or its sender.
 #[test]
 fn a_head_is_refused_with_its_fault(rt: HostRuntime) -> Result<(), Fail> {
-    for (at, word) in [(0, 9), (1, 117)] {
-        let words = changed(rt.alloc(), OPEN, at, word)?;
-        let fault = head_fault(rt.alloc(), &words)?;
-        assert_eq!(rt; fault, Some(XdrFault::BadHead));
-    }
+    let told = head_faults(
+        rt.alloc(),
+        "9 101 1 1 1 1 0 130\n1 117 1 1 1 1 0 130\n1 101 1 1 1 1 0 130",
+    )?;
+    assert_eq!(rt; told.as_str(), "BadHead\nBadHead\na head\n");
     Ok(())
 }
 
 /// The code of a reply, and whether it has fields.
-fn code_of(alloc: Global, words: &[u32]) -> Result<(Code, bool), Fail> {
-    let bytes = bytes_of(alloc, words)?;
+fn code_of(alloc: Global, message: &str) -> Result<(Code, bool), Fail> {
+    let bytes = bytes_of_line(alloc, message)?;
     let (_, code, reply) = decode_reply(alloc, &bytes)?;
     let has_fields = reply.is_some();
     drop(reply);
@@ -97,57 +112,45 @@ fn code_of(alloc: Global, words: &[u32]) -> Result<(Code, bool), Fail> {
 
 #[test]
 fn a_refusal_has_no_fields(rt: HostRuntime) -> Result<(), Fail> {
-    let refusal = [2, 1, 101, 1, 1, 1, 0, 133, 0xffffffff];
-    assert_eq!(rt; code_of(rt.alloc(), &refusal)?, (Code(-1), false));
-    let more = [2, 1, 101, 1, 1, 1, 0, 133, 0xffffffff, 0];
-    let fault = refused(rt.alloc(), Interface::Files, Half::Reply, &more)?;
-    assert_eq!(rt; fault, Some(ShapeFault::Field(1, XdrFault::Extra)));
+    let (Code(code), has_fields) = code_of(rt.alloc(), "2 1 101 1 1 1 0 133 0xffffffff")?;
+    assert_eq!(rt; code, -1);
+    assert!(rt; !has_fields);
+    let more = faults(
+        rt.alloc(),
+        Interface::Files,
+        Half::Reply,
+        "2 1 101 1 1 1 0 133 0xffffffff 0",
+    )?;
+    assert_eq!(rt; more.as_str(), "Field(1, Extra)\n");
     Ok(())
 }
 
-/// Messages that end behind a count: the breaks of a call, the bytes of an access list, and those of a store.
-const COUNTED: [(Half, &[u32], ShapeFault); 5] = [
-    (
-        Half::Call,
-        &[1, 1, 101, 1, 1, 1, 0, 204, 0, 51],
-        ShapeFault::Field(1, XdrFault::TooLong),
-    ),
-    (
-        Half::Call,
-        &[1, 1, 101, 1, 1, 1, 0, 204, 0, 0xffffffff],
-        ShapeFault::Field(1, XdrFault::TooLong),
-    ),
-    (
-        Half::Call,
-        &[1, 1, 101, 1, 1, 1, 0, 204, 0, 50],
-        ShapeFault::Field(1, XdrFault::Short),
-    ),
-    (
-        Half::Reply,
-        &[2, 1, 101, 1, 1, 1, 0, 131, 0, 1025],
-        ShapeFault::Field(1, XdrFault::TooLong),
-    ),
-    (
-        Half::Call,
-        &[
-            1, 101, 1, 1, 1, 1, 0, 133, 0, 1, 2, 2, 0, 0, 0, 0, 0, 0, 0, 0xffffffff, 4, 2000000,
-        ],
-        ShapeFault::Field(6, XdrFault::Short),
-    ),
-];
+/// Calls that end behind a count: the breaks of a call three times, and the bytes of a store.
+const COUNTED: &str = "\
+1 1 101 1 1 1 0 204 0 51
+1 1 101 1 1 1 0 204 0 0xffffffff
+1 1 101 1 1 1 0 204 0 50
+1 101 1 1 1 1 0 133 0 1 2 2 0 0 0 0 0 0 0 0xffffffff 4 2000000
+";
+
+/// A reply that ends behind the count of an access list's bytes.
+const COUNTED_REPLY: &str = "2 1 101 1 1 1 0 131 0 1025";
 
 #[test]
 fn hostile_counts_are_refused(rt: HostRuntime) -> Result<(), Fail> {
-    for (half, words, want) in COUNTED {
-        let fault = refused(rt.alloc(), Interface::Files, half, words)?;
-        assert_eq!(rt; fault, Some(want));
-    }
+    let calls = faults(rt.alloc(), Interface::Files, Half::Call, COUNTED)?;
+    assert_eq!(rt;
+        calls.as_str(),
+        "Field(1, TooLong)\nField(1, TooLong)\nField(1, Short)\nField(6, Short)\n"
+    );
+    let reply = faults(rt.alloc(), Interface::Files, Half::Reply, COUNTED_REPLY)?;
+    assert_eq!(rt; reply.as_str(), "Field(1, TooLong)\n");
     Ok(())
 }
 
 /// The length that a call to fetch asks for.
-fn length_of(alloc: Global, words: &[u32]) -> Result<Option<i32>, Fail> {
-    let bytes = bytes_of(alloc, words)?;
+fn length_of(alloc: Global, message: &str) -> Result<Option<i32>, Fail> {
+    let bytes = bytes_of_line(alloc, message)?;
     let (_, _, call) = decode_call(alloc, &bytes)?;
     let length = match &call {
         FsCall::FetchData { length, .. } => Some(*length),
@@ -159,7 +162,10 @@ fn length_of(alloc: Global, words: &[u32]) -> Result<Option<i32>, Fail> {
 
 #[test]
 fn a_negative_length_is_a_value(rt: HostRuntime) -> Result<(), Fail> {
-    let words = changed(rt.alloc(), OPEN, 15, u32::MAX)?;
-    assert_eq!(rt; length_of(rt.alloc(), &words)?, Some(-1));
+    let found = length_of(
+        rt.alloc(),
+        "1 101 1 1 1 1 0 130 5 0x67756573 0x74000000 0x20000000 2 2 0 0xffffffff",
+    )?;
+    assert_eq!(rt; found, Some(-1));
     Ok(())
 }

@@ -9,6 +9,7 @@ use afs_num::types::{Half, Mem};
 use afs_shape::faults::ShapeFault;
 use afs_xdr::faults::XdrFault;
 use std::alloc::Global;
+use std::fmt::Write as _;
 use std::process::Abort;
 use std::test::Fail;
 
@@ -72,7 +73,7 @@ fn table(interface: Interface, half: Half) -> &'static str {
 }
 
 /// The bytes of these words.
-pub fn bytes_of(alloc: Global, words: &[u32]) -> Result<Vec<u8>, Fail> {
+fn bytes_of(alloc: Global, words: &[u32]) -> Result<Vec<u8>, Fail> {
     let mut bytes = Vec::new(alloc);
     for word in words {
         bytes.extend_from_slice(&word.to_be_bytes())?;
@@ -81,12 +82,7 @@ pub fn bytes_of(alloc: Global, words: &[u32]) -> Result<Vec<u8>, Fail> {
 }
 
 /// Why these bytes are no call, or no reply, of the interface.
-pub fn fault_of(
-    alloc: Global,
-    interface: Interface,
-    half: Half,
-    bytes: &[u8],
-) -> Option<ShapeFault> {
+fn fault_of(alloc: Global, interface: Interface, half: Half, bytes: &[u8]) -> Option<ShapeFault> {
     match (interface, half) {
         (Interface::Files, Half::Call) => afs_fsrpc::calls::decode_call(alloc, bytes).err(),
         (Interface::Files, _) => afs_fsrpc::replies::decode_reply(alloc, bytes).err(),
@@ -98,7 +94,7 @@ pub fn fault_of(
 }
 
 /// What these words are refused with.
-pub fn refused(
+fn refused(
     alloc: Global,
     interface: Interface,
     half: Half,
@@ -110,57 +106,35 @@ pub fn refused(
 
 // A message is let go by a call: where it went at the end of a scope, each such end would be proved for each kind of message.
 
-fn file_call_again(alloc: Global, bytes: &[u8]) -> Result<Octets, Fail> {
-    let (head, user, call) = afs_fsrpc::calls::decode_call(alloc, bytes)?;
-    let again = afs_fsrpc::calls::encode_call(alloc, &head, user.as_slice(), &call);
-    drop(call);
-    Ok(again?)
+/// The bytes of the call that is read in these, by the functions of an interface.
+macro_rules! call_again {
+    ($interface:ident, $alloc:expr, $bytes:expr) => {{
+        let (head, user, call) = $interface::calls::decode_call($alloc, $bytes)?;
+        let again = $interface::calls::encode_call($alloc, &head, user.as_slice(), &call);
+        drop(call);
+        Ok(again?)
+    }};
 }
 
-fn file_reply_again(alloc: Global, bytes: &[u8]) -> Result<Octets, Fail> {
-    let (head, code, reply) = afs_fsrpc::replies::decode_reply(alloc, bytes)?;
-    let again = afs_fsrpc::replies::encode_reply(alloc, &head, code, reply.as_ref());
-    drop(reply);
-    Ok(again?)
-}
-
-fn volume_call_again(alloc: Global, bytes: &[u8]) -> Result<Octets, Fail> {
-    let (head, user, call) = afs_volrpc::calls::decode_call(alloc, bytes)?;
-    let again = afs_volrpc::calls::encode_call(alloc, &head, user.as_slice(), &call);
-    drop(call);
-    Ok(again?)
-}
-
-fn volume_reply_again(alloc: Global, bytes: &[u8]) -> Result<Octets, Fail> {
-    let (head, code, reply) = afs_volrpc::replies::decode_reply(alloc, bytes)?;
-    let again = afs_volrpc::replies::encode_reply(alloc, &head, code, reply.as_ref());
-    drop(reply);
-    Ok(again?)
-}
-
-fn location_call_again(alloc: Global, bytes: &[u8]) -> Result<Octets, Fail> {
-    let (head, user, call) = afs_vlrpc::calls::decode_call(alloc, bytes)?;
-    let again = afs_vlrpc::calls::encode_call(alloc, &head, user.as_slice(), &call);
-    drop(call);
-    Ok(again?)
-}
-
-fn location_reply_again(alloc: Global, bytes: &[u8]) -> Result<Octets, Fail> {
-    let (head, code, reply) = afs_vlrpc::replies::decode_reply(alloc, bytes)?;
-    let again = afs_vlrpc::replies::encode_reply(alloc, &head, code, reply.as_ref());
-    drop(reply);
-    Ok(again?)
+/// The bytes of the reply that is read in these, by the functions of an interface.
+macro_rules! reply_again {
+    ($interface:ident, $alloc:expr, $bytes:expr) => {{
+        let (head, code, reply) = $interface::replies::decode_reply($alloc, $bytes)?;
+        let again = $interface::replies::encode_reply($alloc, &head, code, reply.as_ref());
+        drop(reply);
+        Ok(again?)
+    }};
 }
 
 /// The bytes of what is read in these.
 fn again(alloc: Global, interface: Interface, half: Half, bytes: &[u8]) -> Result<Octets, Fail> {
     match (interface, half) {
-        (Interface::Files, Half::Call) => file_call_again(alloc, bytes),
-        (Interface::Files, _) => file_reply_again(alloc, bytes),
-        (Interface::Volumes, Half::Call) => volume_call_again(alloc, bytes),
-        (Interface::Volumes, _) => volume_reply_again(alloc, bytes),
-        (Interface::Locations, Half::Call) => location_call_again(alloc, bytes),
-        (Interface::Locations, _) => location_reply_again(alloc, bytes),
+        (Interface::Files, Half::Call) => call_again!(afs_fsrpc, alloc, bytes),
+        (Interface::Files, _) => reply_again!(afs_fsrpc, alloc, bytes),
+        (Interface::Volumes, Half::Call) => call_again!(afs_volrpc, alloc, bytes),
+        (Interface::Volumes, _) => reply_again!(afs_volrpc, alloc, bytes),
+        (Interface::Locations, Half::Call) => call_again!(afs_vlrpc, alloc, bytes),
+        (Interface::Locations, _) => reply_again!(afs_vlrpc, alloc, bytes),
     }
 }
 
@@ -206,12 +180,89 @@ fn place_of(ends: &[u32], kept: usize) -> u32 {
 }
 
 /// The words, with one of them changed.
-pub fn changed(alloc: Global, words: &[u32], at: usize, word: u32) -> Result<Vec<u32>, Fail> {
+fn changed(alloc: Global, words: &[u32], at: usize, word: u32) -> Result<Vec<u32>, Fail> {
     let mut all = Vec::from_slice(alloc, words)?;
     if at < all.len() {
         all[at] = word;
     }
     Ok(all)
+}
+
+fn put_fault(
+    out: &mut String,
+    alloc: Global,
+    interface: Interface,
+    half: Half,
+    words: &[u32],
+) -> Result<(), Fail> {
+    match refused(alloc, interface, half, words)? {
+        Some(fault) => writeln!(out, "{fault:?}")?,
+        None => writeln!(out, "none")?,
+    }
+    Ok(())
+}
+
+fn put_fault_of_line(
+    out: &mut String,
+    alloc: Global,
+    interface: Interface,
+    half: Half,
+    line: &str,
+) -> Result<(), Fail> {
+    let words = numbers(alloc, Some(line))?;
+    put_fault(out, alloc, interface, half, &words)
+}
+
+/// What each of these messages is refused with. Each is a line of words.
+pub fn faults(
+    alloc: Global,
+    interface: Interface,
+    half: Half,
+    messages: &str,
+) -> Result<String, Fail> {
+    let mut out = String::new(alloc);
+    for line in messages.lines() {
+        put_fault_of_line(&mut out, alloc, interface, half, line)?;
+    }
+    Ok(out)
+}
+
+fn put_fault_where_changed(
+    out: &mut String,
+    alloc: Global,
+    interface: Interface,
+    half: Half,
+    words: &[u32],
+    change: &str,
+) -> Result<(), Fail> {
+    let pair = numbers(alloc, Some(change))?;
+    let [at, word] = pair.as_slice() else {
+        return Err("a change has a place and a word".into());
+    };
+    let words = changed(alloc, words, *at as usize, *word)?;
+    put_fault(out, alloc, interface, half, &words)
+}
+
+/// What a message is refused with where one of its words is changed: each line has the word's place, and what it becomes.
+pub fn faults_where_changed(
+    alloc: Global,
+    interface: Interface,
+    half: Half,
+    message: &str,
+    changes: &str,
+) -> Result<String, Fail> {
+    let words = numbers(alloc, Some(message))?;
+    let mut out = String::new(alloc);
+    for change in changes.lines() {
+        put_fault_where_changed(&mut out, alloc, interface, half, &words, change)?;
+    }
+    Ok(out)
+}
+
+/// The bytes of a line of words.
+pub fn bytes_of_line(alloc: Global, line: &str) -> Result<Vec<u8>, Fail> {
+    let words = numbers(alloc, Some(line))?;
+    bytes_of(alloc, &words)
 }
 
 /// What a message is refused with where it keeps so many bytes.

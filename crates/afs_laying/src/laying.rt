@@ -19,7 +19,7 @@ ghost use Rattle.afs_volume.specs.Taking.{IsAtSetUp};
 use crate::laying_calls::{lay_access_list, lay_directory, lay_link};
 use afs_changes::applying::unique_left;
 use afs_changes::creating::creates;
-use afs_changes::drafting::{Draft, draft};
+use afs_changes::drafting::{Draft, draft_of};
 use afs_changes::edits::{Edit, Edits, Plan};
 use afs_changes::finding::named;
 use afs_changes::limits::is_within_quota;
@@ -202,7 +202,7 @@ pub fn lay_edits(volume: &mut Volume, edits: &[Edit]) -> Mem<()>
     ensures id { volume.new.head.id ≡ volume.old.head.id }
     ensures times { IsAtSetUp volume.old → IsAtSetUp volume.new }
 {
-    let draft = draft(volume, edits, 0)?;
+    let draft = draft_of(volume, edits, 0)?;
     let unique = unique_left(volume, edits);
     let Draft {
         versions,

@@ -19,7 +19,6 @@ use std::alloc::Global;
 const MOST_STEPS: u32 = 1000;
 
 /// A server that is up, with what it told and sent in its last step, and how many steps it has made since it began.
-#[derive(Drop)]
 pub(crate) struct Running {
     pub(crate) server: FileServer,
     pub(crate) store: VolStore<Fuse<MemDisk>>,
@@ -27,14 +26,38 @@ pub(crate) struct Running {
     pub(crate) steps: u32,
 }
 
-/// A disk in memory of this capacity, with these bytes.
-pub(crate) fn medium(alloc: Global, bytes: &[u8], capacity: u64) -> Option<MemDisk> {
-    let mut disk = MemDisk::new(alloc, capacity, Octets::new(alloc));
+/// It ends by a drop of its own: what holds it has one drop to prove where it ends.
+impl Drop for Running {
+    fn drop(self) {
+        let Running {
+            server,
+            store,
+            outs,
+            steps: _,
+        } = self;
+        drop(server);
+        drop(store);
+        drop(outs);
+    }
+}
+
+fn fill(disk: &mut MemDisk, bytes: &[u8]) -> Option<()> {
     let length = bytes.len() as u64;
     disk.room(length, length).ok()?;
     disk.write_at(0, bytes).ok()?;
-    disk.sync().ok()?;
-    Some(disk)
+    disk.sync().ok()
+}
+
+/// A disk in memory of this capacity, with these bytes.
+pub(crate) fn medium(alloc: Global, bytes: &[u8], capacity: u64) -> Option<MemDisk> {
+    let mut disk = MemDisk::new(alloc, capacity, Octets::new(alloc));
+    match fill(&mut disk, bytes) {
+        Some(()) => Some(disk),
+        None => {
+            drop(disk);
+            None
+        }
+    }
 }
 
 /// A store over a disk, of which this mark was told, and the lines that its last record tells.
@@ -64,18 +87,39 @@ fn rise(alloc: Global, store: &mut VolStore<Fuse<MemDisk>>) -> Option<(FileServe
     FileServer::restart(alloc, store, 2, 0).ok()
 }
 
+/// A server of two clients begins over a store that is just attached.
+fn risen(alloc: Global, store: VolStore<Fuse<MemDisk>>) -> Option<Running>
+    requires up { store.closed ≡ false }
+    requires drawn { store.drawn ≡ 0 }
+    requires node { IsNode store.node }
+    ensures { IfSome result (λ r. GoesOn r.server r.store r.steps) }
+{
+    let mut store = store;
+    match rise(alloc, &mut store) {
+        Some((server, outs)) => Some(Running {
+            server,
+            store,
+            outs,
+            steps: 0,
+        }),
+        None => {
+            drop(store);
+            None
+        }
+    }
+}
+
 /// A server of two clients begins over a disk of which this mark was told.
 pub(crate) fn begun(alloc: Global, disk: MemDisk, told: Mark) -> Option<Running>
     ensures { IfSome result (λ r. GoesOn r.server r.store r.steps) }
 {
-    let (mut store, _) = attach(alloc, Fuse::new(disk), told)?;
-    let (server, outs) = rise(alloc, &mut store)?;
-    Some(Running {
-        server,
-        store,
-        outs,
-        steps: 0,
-    })
+    match attach(alloc, Fuse::new(disk), told) {
+        Some((store, lines)) => {
+            drop(lines);
+            risen(alloc, store)
+        }
+        None => None,
+    }
 }
 
 /// What the server does with a message, after so many steps.

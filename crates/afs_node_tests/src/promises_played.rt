@@ -66,12 +66,22 @@ fn play(promises: &mut Tried, step: Step) -> Mem<()> {
     }
 }
 
+fn play_all(promises: &mut Tried, steps: &[Step]) -> Mem<()> {
+    for step in steps {
+        play(promises, *step)?;
+    }
+    Ok(())
+}
+
 fn played(alloc: Global, steps: &[Step]) -> Mem<Tried> {
     let mut promises = Tried::new(alloc);
-    for step in steps {
-        play(&mut promises, *step)?;
+    match play_all(&mut promises, steps) {
+        Ok(()) => Ok(promises),
+        Err(fault) => {
+            drop(promises);
+            Err(fault)
+        }
     }
-    Ok(promises)
 }
 
 fn client(node: Node) -> u8 {
@@ -81,37 +91,72 @@ fn client(node: Node) -> u8 {
     }
 }
 
-fn put_break(out: &mut String, owed: &OwedBreak) -> Mem<()> {
+fn put_break(out: &mut String, owed: &OwedBreak) {
     let (number, c, expiry) = (owed.number, client(owed.client), owed.expiry);
-    match owed.what {
+    let _ = match owed.what {
         Some(f) => writeln!(out, "{number} c{c} {}.{} {expiry}", f.vnode, f.unique),
         None => writeln!(out, "{number} c{c} all {expiry}"),
-    }
+    };
 }
 
-/// The breaks that are owed after these steps, a line for each.
-pub fn owed(alloc: Global, steps: &[Step]) -> Mem<String> {
-    let promises = played(alloc, steps)?;
-    let mut out = String::new(alloc);
+fn put_owed(out: &mut String, promises: &Tried) {
     for owed in promises.owed().iter() {
-        put_break(&mut out, &owed)?;
+        put_break(out, &owed);
     }
-    Ok(out)
 }
 
-fn put_promise(out: &mut String, held: &Promise) -> Mem<()> {
+fn put_failed(out: &mut String) {
+    let _ = out.push_str("failed");
+}
+
+/// The breaks that are owed after these steps, a line for each. The promises are let go by a call: where they went at the end of a
+/// scope, each such end would be proved for all that they have.
+pub fn owed(alloc: Global, steps: &[Step]) -> String {
+    let mut out = String::new(alloc);
+    match played(alloc, steps) {
+        Ok(promises) => {
+            put_owed(&mut out, &promises);
+            drop(promises);
+        }
+        Err(_) => put_failed(&mut out),
+    }
+    out
+}
+
+fn put_promise(out: &mut String, held: &Promise) {
     let (c, f) = (client(held.client), held.fid);
-    writeln!(out, "c{c} {}.{} {}", f.vnode, f.unique, held.expiry)
+    let _ = writeln!(out, "c{c} {}.{} {}", f.vnode, f.unique, held.expiry);
+}
+
+fn put_hits(
+    out: &mut String,
+    alloc: Global,
+    promises: &Tried,
+    file: (u32, u32),
+    except: u8,
+    now: u32,
+) {
+    let mut all = Vec::new(alloc);
+    if promises
+        .hits(fid(file), Node::Client(except), now, &mut all)
+        .is_err()
+    {
+        put_failed(out);
+    }
+    for held in &all {
+        put_promise(out, held);
+    }
 }
 
 /// The promises that a change of the file by the client `except` would then hit, a line for each.
-pub fn hits(alloc: Global, steps: &[Step], file: (u32, u32), except: u8, now: u32) -> Mem<String> {
-    let promises = played(alloc, steps)?;
-    let mut all = Vec::new(alloc);
-    promises.hits(fid(file), Node::Client(except), now, &mut all)?;
+pub fn hits(alloc: Global, steps: &[Step], file: (u32, u32), except: u8, now: u32) -> String {
     let mut out = String::new(alloc);
-    for held in &all {
-        put_promise(&mut out, held)?;
+    match played(alloc, steps) {
+        Ok(promises) => {
+            put_hits(&mut out, alloc, &promises, file, except, now);
+            drop(promises);
+        }
+        Err(_) => put_failed(&mut out),
     }
-    Ok(out)
+    out
 }

@@ -1,39 +1,28 @@
-//! A run of the reference program: the disk at set-up, and the messages that the server is given.
+//! A run of the reference program: the disk at set-up, and the messages that the server is given, as words in hexadecimal digits. What
+//! takes one does so by a function, so that no other goal has those words.
 
-ghost use Rattle.std.specs.Prelude.{◌<◌};
-
-use afs_num::sequences::Octets;
 use afs_num::types::Mem;
 use std::alloc::Global;
 
-const DISK: [u8; 298] = [
-    1, 0, 0, 1, 32, 0, 0, 0, 1, 0, 0, 0, 1, 0, 0, 0, 0, 0, 0, 0, 0, 0, 0, 0, 0, 0, 0, 0, 0, 0, 0,
-    0, 0, 0, 0, 0, 0, 0, 0, 0, 1, 0, 0, 0, 4, 112, 114, 111, 106, 0, 0, 0, 0, 0, 0, 0, 2, 32, 0, 0,
-    0, 32, 0, 0, 0, 0, 0, 0, 0, 0, 0, 3, 232, 0, 0, 0, 3, 0, 0, 0, 1, 0, 0, 0, 0, 0, 0, 0, 2, 0, 0,
-    0, 1, 0, 0, 0, 1, 0, 0, 0, 2, 0, 0, 0, 2, 0, 0, 0, 3, 0, 0, 0, 1, 0, 0, 0, 1, 0, 0, 0, 2, 0, 0,
-    0, 1, 0, 0, 0, 1, 0, 0, 0, 2, 0, 0, 0, 0, 0, 0, 0, 0, 0, 0, 1, 237, 0, 0, 0, 0, 0, 0, 0, 0, 0,
-    0, 0, 0, 0, 0, 0, 0, 0, 0, 0, 0, 0, 0, 0, 1, 0, 0, 0, 23, 49, 10, 48, 10, 115, 121, 115, 116,
-    101, 109, 58, 97, 110, 121, 117, 115, 101, 114, 9, 49, 50, 55, 10, 0, 0, 0, 0, 20, 0, 0, 0, 1,
-    0, 0, 0, 1, 97, 0, 0, 0, 0, 0, 0, 2, 0, 0, 0, 2, 0, 0, 0, 3, 0, 0, 0, 2, 0, 0, 0, 2, 0, 0, 0,
-    1, 0, 0, 0, 1, 0, 0, 0, 1, 0, 0, 0, 1, 0, 0, 0, 0, 0, 0, 0, 0, 0, 0, 1, 164, 0, 0, 0, 0, 0, 0,
-    0, 0, 0, 0, 0, 0, 0, 0, 0, 1, 0, 0, 0, 1, 0, 0, 0, 1, 0, 0, 0, 0, 0, 0, 0, 3, 97, 98, 99, 0, 0,
-];
+/// The first record of the disk, behind its length and its number.
+fn first_record() -> &'static str {
+    "\
+    120 1 1 0 0 0 0 0 0 1 4 70726f6a 0 2 20000000 20000000 0 3e8 3 1 0 2 1 1 2 2 3 1 1 2 1 1 2 0 0 1ed 0 0 0 0 0 1 \
+    17 310a300a 73797374 656d3a61 6e797573 65720931 32370a00 14 1 1 61000000 2 2 3 2 2 1 1 1 1 0 0 1a4 0 0 0 1 1 1 0 \
+    3 61626300"
+}
 
-const SETTLED_BY_ONE: [u8; 36] = [
-    0, 0, 0, 2, 0, 0, 0, 101, 0, 0, 0, 1, 0, 0, 0, 2, 0, 0, 0, 1, 0, 0, 0, 1, 0, 0, 0, 0, 0, 0, 0,
-    205, 0, 0, 0, 0,
-];
+fn settled_by_one() -> &'static str {
+    "2 65 1 2 1 1 0 cd 0"
+}
 
-const SETTLED_BY_TWO: [u8; 36] = [
-    0, 0, 0, 2, 0, 0, 0, 102, 0, 0, 0, 1, 0, 0, 0, 2, 0, 0, 0, 2, 0, 0, 0, 1, 0, 0, 0, 0, 0, 0, 0,
-    205, 0, 0, 0, 0,
-];
+fn settled_by_two() -> &'static str {
+    "2 66 1 2 2 1 0 cd 0"
+}
 
-const FETCH: [u8; 64] = [
-    0, 0, 0, 1, 0, 0, 0, 101, 0, 0, 0, 1, 0, 0, 0, 1, 0, 0, 0, 1, 0, 0, 0, 2, 0, 0, 0, 0, 0, 0, 0,
-    130, 0, 0, 0, 5, 103, 117, 101, 115, 116, 0, 0, 0, 32, 0, 0, 0, 0, 0, 0, 2, 0, 0, 0, 2, 0, 0,
-    0, 0, 127, 255, 255, 255,
-];
+fn fetch() -> &'static str {
+    "1 65 1 1 1 2 0 82 5 67756573 74000000 20000000 2 2 0 7fffffff"
+}
 
 /// A message that the server is given.
 #[derive(Clone, Copy)]
@@ -46,7 +35,7 @@ pub(crate) enum Message {
     Fetch,
     /// Its operation is none that a server serves.
     UnknownOperation,
-    /// Its last byte is wanting.
+    /// Its last byte is missing.
     Cut,
     /// The last pad byte behind its user isn't zero.
     BadPad,
@@ -54,28 +43,54 @@ pub(crate) enum Message {
     UnknownHalf,
 }
 
-/// The disk at set-up.
-pub(crate) fn disk(alloc: Global) -> Mem<Octets> {
-    Octets::from_slice(alloc, &DISK)
+fn put_words(out: &mut Vec<u8>, words: &str) -> Mem<()> {
+    for word in words.split_whitespace() {
+        let number = u32::from_str_radix(word, 16).unwrap_or(0);
+        out.extend_from_slice(&number.to_be_bytes())?;
+    }
+    Ok(())
+}
+
+/// The bytes of these words.
+fn spelled(alloc: Global, words: &str) -> Mem<Vec<u8>> {
+    let mut bytes = Vec::new(alloc);
+    put_words(&mut bytes, words)?;
+    Ok(bytes)
+}
+
+/// The disk at set-up: an open gate, the record, and a closed gate.
+pub(crate) fn disk(alloc: Global) -> Mem<Vec<u8>> {
+    let mut bytes = Vec::new(alloc);
+    bytes.push(1)?;
+    put_words(&mut bytes, first_record())?;
+    bytes.push(0)?;
+    Ok(bytes)
 }
 
 /// The call with this byte at this place.
-fn changed(alloc: Global, place: usize, byte: u8) -> Mem<Octets>
-    requires { place < 64 }
-{
-    let mut bytes = FETCH;
-    bytes[place] = byte;
-    Octets::from_slice(alloc, &bytes)
+fn changed(alloc: Global, place: usize, byte: u8) -> Mem<Vec<u8>> {
+    let mut bytes = spelled(alloc, fetch())?;
+    if let Some(one) = bytes.get_mut(place) {
+        *one = byte;
+    }
+    Ok(bytes)
+}
+
+/// The call without its last byte.
+fn cut(alloc: Global) -> Mem<Vec<u8>> {
+    let mut bytes = spelled(alloc, fetch())?;
+    bytes.truncate(63);
+    Ok(bytes)
 }
 
 /// The message's bytes.
-pub(crate) fn bytes_of(alloc: Global, message: Message) -> Mem<Octets> {
+pub(crate) fn bytes_of(alloc: Global, message: Message) -> Mem<Vec<u8>> {
     match message {
-        Message::SettledByOne => Octets::from_slice(alloc, &SETTLED_BY_ONE),
-        Message::SettledByTwo => Octets::from_slice(alloc, &SETTLED_BY_TWO),
-        Message::Fetch => Octets::from_slice(alloc, &FETCH),
+        Message::SettledByOne => spelled(alloc, settled_by_one()),
+        Message::SettledByTwo => spelled(alloc, settled_by_two()),
+        Message::Fetch => spelled(alloc, fetch()),
         Message::UnknownOperation => changed(alloc, 31, 161),
-        Message::Cut => Octets::from_slice(alloc, &FETCH[..63]),
+        Message::Cut => cut(alloc),
         Message::BadPad => changed(alloc, 43, 1),
         Message::UnknownHalf => changed(alloc, 3, 9),
     }

@@ -14,7 +14,7 @@ use crate::checks::check;
 use crate::faults::OpFault;
 use crate::finding::found;
 use crate::replies::{no_callback, no_sync, status_with, sync};
-use crate::rights::rights;
+use crate::rights::rights_on;
 use afs_num::calls::{AfsFetchStatus, AfsVolSync, CallBacks, FsReply, Statuses};
 use afs_num::types::{Fid, Mem};
 use afs_volume::Volume;
@@ -38,7 +38,7 @@ fn status_of(volume: &Volume, caller: &Caller, fid: &Fid) -> Result<AfsFetchStat
     ensures refused { IfErr result (IsRefusal (refusal_at (caller_seen caller.now) (volume_of volume.now) fid.now)) }
 {
     let x = found(volume, fid)?;
-    let rights = rights(volume, caller, x);
+    let rights = rights_on(volume, caller, x);
     check(rights.has(8), 13)?;
     Ok(status_with(x, rights))
 }

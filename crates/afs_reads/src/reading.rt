@@ -15,7 +15,7 @@ use crate::checks::{check, check_all};
 use crate::faults::OpFault;
 use crate::finding::found;
 use crate::replies::{no_callback, status_with, sync};
-use crate::rights::{may, rights};
+use crate::rights::{may, rights_on};
 use afs_num::calls::{FsCall, FsReply};
 use afs_num::sequences::Octets;
 use afs_num::types::Fid;
@@ -47,7 +47,7 @@ fn fetch_data(
 {
     let x = found(volume, fid)?;
     let right = if is_directory(x) { 8 } else { 1 };
-    let rights = rights(volume, caller, x);
+    let rights = rights_on(volume, caller, x);
     let is_whole = position == 0 && length == 2_147_483_647;
     check_all(&[(rights.has(right), 13), (is_whole, 22)])?;
     let contents = bytes_of(x).copy(volume.alloc)?;
@@ -65,7 +65,7 @@ fn fetch_acl(volume: &Volume, caller: &Caller, fid: &Fid) -> Result<FsReply, OpF
     ensures fits { IfOk result (λ r. FitsReply r) }
 {
     let d = found(volume, fid)?;
-    let rights = rights(volume, caller, d);
+    let rights = rights_on(volume, caller, d);
     check_all(&[(is_directory(d), 20), (rights.has(8), 13)])?;
     let acl = list_text(d).copy(volume.alloc)?;
     Ok(FsReply::FetchAcl {
@@ -81,7 +81,7 @@ fn fetch_status(volume: &Volume, caller: &Caller, fid: &Fid) -> Result<FsReply, 
     ensures fits { IfOk result (λ r. FitsReply r) }
 {
     let x = found(volume, fid)?;
-    let rights = rights(volume, caller, x);
+    let rights = rights_on(volume, caller, x);
     check(rights.has(8), 13)?;
     Ok(FsReply::FetchStatus {
         status: status_with(x, rights),
@@ -126,7 +126,7 @@ pub fn read(volume: &Volume, call: &FsCall, user: &[u8]) -> Result<FsReply, OpFa
         } => fetch_data(volume, &caller, fid, *position, *length),
         FsCall::FetchAcl { fid } => fetch_acl(volume, &caller, fid),
         FsCall::FetchStatus { fid } => fetch_status(volume, &caller, fid),
-        FsCall::GetVolumeStatus { volume } => volume_status(volume, &caller, *volume),
+        FsCall::GetVolumeStatus { volume: id } => volume_status(volume, &caller, *id),
         FsCall::BulkStatus { fids } => bulk_status(volume, &caller, fids.as_slice()),
         _ => unreachable!(),
     }

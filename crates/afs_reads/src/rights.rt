@@ -89,7 +89,7 @@ pub fn rights_in(caller: &Caller, holder: Option<&Vnode>) -> Rights
 
 /// The rights on a vnode: those on a directory by its own access list, on others by that of their parent.
 #[tactic(auto, unfolding(afs_volume::specs::Seen::seen))]
-pub fn rights(volume: &Volume, caller: &Caller, x: &Vnode) -> Rights
+pub fn rights_on(volume: &Volume, caller: &Caller, x: &Vnode) -> Rights
     ensures caller { result.caller ≡ rights_by (caller_seen caller.now) (list_for (seen x.now).kind (seen x.now) (volume_of volume.now)) }
     ensures anonymous { result.anonymous ≡ rights_of anyuser (list_for (seen x.now).kind (seen x.now) (volume_of volume.now)) }
 {
@@ -105,5 +105,5 @@ pub fn rights(volume: &Volume, caller: &Caller, x: &Vnode) -> Rights
 pub fn may(volume: &Volume, caller: &Caller, right: u32, x: &Vnode) -> bool
     ensures { result ≡ may (caller_seen caller.now) right (volume_of volume.now) (Some (seen x.now)) }
 {
-    rights(volume, caller, x).has(right)
+    rights_on(volume, caller, x).has(right)
 }

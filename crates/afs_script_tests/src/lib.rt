@@ -7,3 +7,5 @@ mod schedules;
 mod scripts;
 #[cfg(test)]
 mod setups;
+#[cfg(test)]
+mod shown;

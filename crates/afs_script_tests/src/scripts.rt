@@ -2,16 +2,14 @@
 
 ghost use Rattle.std.specs.Prelude.{◌≡◌, [], List};
 
+use crate::shown::{Part, halves, joined, put_read};
 use afs_grammar::forms::{Form, WHOLE};
 use afs_grammar::ground::Ground;
-use afs_grammar::{ScriptFault, read_script};
-use afs_history::acts::{Act, Operand, Written};
-use afs_history::scripts::{AdminAct, Event, Plan, Script, SetupLine, Task, VolumeLine};
+use afs_history::scripts::{SetupLine, VolumeLine};
 use afs_num::scripts::Reason;
-use afs_num::types::Node;
+use afs_num::types::Mem;
 use afs_words::faults::LineFault;
 use std::alloc::Global;
-use std::process::Abort;
 use std::test::Fail;
 
 /// A ground that has no memory for anything more.
@@ -43,248 +41,134 @@ impl Ground for Barren {
     }
 }
 
-/// The first lines of most scripts here.
-const HEAD: &str = "cell 1\nservers 1\nclients 1\n";
-
-/// What stands behind them, the number of the first bad line, and its reason.
-const BAD: [(&str, u32, Reason); 30] = [
-    ("", 4, Reason::Missing),
-    ("end", 4, Reason::Missing),
-    ("end\n\n", 5, Reason::Order),
-    ("end\n# done", 5, Reason::Order),
-    ("cell 1\n", 4, Reason::Order),
-    ("clients 1\n", 4, Reason::Order),
-    ("act c1\n", 4, Reason::Order),
-    ("lock c1\n", 4, Reason::Word),
-    ("admins 5\n", 4, Reason::Number),
-    ("volume proj.backup s1 1000\n", 4, Reason::Name),
-    ("volume proj s2 0\n", 4, Reason::Node),
-    ("file proj/a hex:61\n", 4, Reason::Path),
-    ("file @1.2.3 hex:\n", 4, Reason::Name),
-    ("file proj/a fill:70000:00 x\n", 4, Reason::Word),
-    (
-        "do c1 stat abcdefghijklmnopqrstuvwxyzabcdefg/%zz\n",
-        4,
-        Reason::Name,
-    ),
-    ("do c1 stat proj/%zz\n", 4, Reason::Path),
-    ("do c1 stat proj/%41\n", 4, Reason::Path),
-    ("do c1 stat @536870912.02.2\n", 4, Reason::Path),
-    ("do c1 mv @1.2.3 proj/a\n", 4, Reason::Path),
-    ("do c1 chmod proj/a 8\n", 4, Reason::Number),
-    ("do c1 close proj/a fill:99999999999:00\n", 4, Reason::Limit),
-    (
-        "do c1 close proj/a fill:99999999999:0\n",
-        4,
-        Reason::Contents,
-    ),
-    ("do c1 close proj/a fill:01:61\n", 4, Reason::Contents),
-    ("do s1 open proj/a\n", 4, Reason::Node),
-    ("schedule\nact c1.1\n", 5, Reason::Node),
-    ("schedule\ntimeout c1 c1\n", 5, Reason::Node),
-    ("schedule\ntimeout s1 loc\n", 5, Reason::Node),
-    ("schedule\ncrash c1 0\n", 5, Reason::Word),
-    (
-        "schedule\ntick 600000000\ntick 600000000\n",
-        6,
-        Reason::Limit,
-    ),
-    (
-        "schedule\ntick 600000000\ntick 600000000 x\n",
-        6,
-        Reason::Word,
-    ),
-];
-
-/// The level of a form, a script, and its first bad line with the reason that it has there.
-const EARLY: [(u8, &str, u32, Reason); 8] = [
-    (3, "cell 1\nservers 1\ncapacity 65536\n", 3, Reason::Word),
-    (3, "cell 1\nservers 1\nuser c1 x\n", 3, Reason::Word),
-    (
-        4,
-        "cell 1\nservers 1\nclients 1\ndo c1 open proj/a\n",
-        4,
-        Reason::Word,
-    ),
-    (
-        4,
-        "cell 1\nservers 1\nclients 1\ndo c1 stat @1.2.2\n",
-        4,
-        Reason::Word,
-    ),
-    (5, "cell 1\nservers 1\nclients 2\n", 3, Reason::Limit),
-    (6, "cell 1\nservers 2\n", 2, Reason::Limit),
-    (8, "cell 1\nservers 2\nadmins 1\n", 3, Reason::Word),
-    (9, "cell 1\nservers 1\nplan crash s1 1\n", 3, Reason::Word),
-];
-
-/// Checks the number and the reason of the first bad line.
-fn expect_bad(rt: &impl Abort, alloc: Global, form: Form, text: &str, number: u32, reason: Reason) {
+/// What is told of a script by this form.
+fn told(alloc: Global, form: Form, text: &str, part: Part) -> String {
+    let mut out = String::new(alloc);
     let mut barren = Barren {
         volumes: Vec::new(alloc),
     };
-    match read_script(alloc, form, &mut barren, text.as_bytes()) {
-        Err(ScriptFault::Line(found, why)) => {
-            assert_eq!(rt; found, number, "in {text}");
-            assert_eq!(rt; why, reason, "in {text}");
-        }
-        _ => panic!(rt; "read: {text}"),
-    }
+    put_read(&mut out, alloc, form, &mut barren, text.as_bytes(), part);
+    drop(barren);
+    out
+}
+
+/// The first lines of most scripts here.
+const HEAD: &str = "cell 1\nservers 1\nclients 1\n";
+
+/// The number of the first bad line and its reason, and what stands behind the first lines.
+const BAD: [&str; 30] = [
+    "4 Missing|",
+    "4 Missing|end",
+    "5 Order|end\n\n",
+    "5 Order|end\n# done",
+    "4 Order|cell 1\n",
+    "4 Order|clients 1\n",
+    "4 Order|act c1\n",
+    "4 Word|lock c1\n",
+    "4 Number|admins 5\n",
+    "4 Name|volume proj.backup s1 1000\n",
+    "4 Node|volume proj s2 0\n",
+    "4 Path|file proj/a hex:61\n",
+    "4 Name|file @1.2.3 hex:\n",
+    "4 Word|file proj/a fill:70000:00 x\n",
+    "4 Name|do c1 stat abcdefghijklmnopqrstuvwxyzabcdefg/%zz\n",
+    "4 Path|do c1 stat proj/%zz\n",
+    "4 Path|do c1 stat proj/%41\n",
+    "4 Path|do c1 stat @536870912.02.2\n",
+    "4 Path|do c1 mv @1.2.3 proj/a\n",
+    "4 Number|do c1 chmod proj/a 8\n",
+    "4 Limit|do c1 close proj/a fill:99999999999:00\n",
+    "4 Contents|do c1 close proj/a fill:99999999999:0\n",
+    "4 Contents|do c1 close proj/a fill:01:61\n",
+    "4 Node|do s1 open proj/a\n",
+    "5 Node|schedule\nact c1.1\n",
+    "5 Node|schedule\ntimeout c1 c1\n",
+    "5 Node|schedule\ntimeout s1 loc\n",
+    "5 Word|schedule\ncrash c1 0\n",
+    "6 Limit|schedule\ntick 600000000\ntick 600000000\n",
+    "6 Word|schedule\ntick 600000000\ntick 600000000 x\n",
+];
+
+fn told_behind_head(alloc: Global, lines: &str) -> Mem<String> {
+    let text = joined(alloc, HEAD, lines)?;
+    Ok(told(alloc, WHOLE, text.as_str(), Part::Counts))
 }
 
 #[test]
 fn bad_line_has_its_reason(rt: HostRuntime) -> Result<(), Fail> {
-    expect_bad(&rt, rt.alloc(), WHOLE, "", 1, Reason::Missing);
-    for (lines, number, reason) in BAD {
-        let mut text = String::from_str(rt.alloc(), HEAD)?;
-        text.push_str(lines)?;
-        expect_bad(&rt, rt.alloc(), WHOLE, text.as_str(), number, reason);
+    let nothing = told(rt.alloc(), WHOLE, "", Part::Counts);
+    assert_eq!(rt; nothing.as_str(), "1 Missing");
+    for row in BAD {
+        let (want, lines) = halves(row);
+        let told = told_behind_head(rt.alloc(), lines)?;
+        assert_eq!(rt; told.as_str(), want, "behind {lines}");
     }
     Ok(())
 }
 
+/// The level of a form, the number of the first bad line and its reason by that form, and the script.
+const EARLY: [(u8, &str); 8] = [
+    (3, "3 Word|cell 1\nservers 1\ncapacity 65536\n"),
+    (3, "3 Word|cell 1\nservers 1\nuser c1 x\n"),
+    (
+        4,
+        "4 Word|cell 1\nservers 1\nclients 1\ndo c1 open proj/a\n",
+    ),
+    (
+        4,
+        "4 Word|cell 1\nservers 1\nclients 1\ndo c1 stat @1.2.2\n",
+    ),
+    (5, "3 Limit|cell 1\nservers 1\nclients 2\n"),
+    (6, "2 Limit|cell 1\nservers 2\n"),
+    (8, "3 Word|cell 1\nservers 2\nadmins 1\n"),
+    (9, "3 Word|cell 1\nservers 1\nplan crash s1 1\n"),
+];
+
 #[test]
-fn early_form_has_its_reason(rt: HostRuntime) -> Result<(), Fail> {
-    for (level, text, number, reason) in EARLY {
-        expect_bad(&rt, rt.alloc(), Form { level }, text, number, reason);
+fn early_form_has_its_reason(rt: HostRuntime) {
+    for (level, row) in EARLY {
+        let (want, text) = halves(row);
+        let told = told(rt.alloc(), Form { level }, text, Part::Counts);
+        assert_eq!(rt; told.as_str(), want, "in {text}");
     }
-    Ok(())
 }
 
 const GOOD: &str =
     "# a cell\ncell 1\nservers 2\nclients 2\nadmins 1\ncache 3\ncapacity 65536\nuser c1 ada\nuser c1 x%20y\n\ndo c2 close proj/a%2Fb fill:5:61\ndo c1 chmod @536870912.2.2 7777\ndo a1 create docs s2 16384\nplan lose c1 s2 7\nschedule\nact c2\ndrain\ntimeout s1 c2\ncrash loc 3\ncrash c1\ntick 1000000000\nend\n";
 
-/// The script, or the test ends.
-fn expect_script(rt: &impl Abort, alloc: Global, text: &str) -> Script {
-    let mut barren = Barren {
-        volumes: Vec::new(alloc),
-    };
-    match read_script(alloc, WHOLE, &mut barren, text.as_bytes()) {
-        Ok(script) => script,
-        Err(_) => panic!(rt; "no script"),
-    }
+#[test]
+fn counts_and_users_are_read(rt: HostRuntime) {
+    let told = told(rt.alloc(), WHOLE, GOOD, Part::Counts);
+    let want = "servers 2 clients 2 admins 1 cache 3 capacity 65536 volumes 0 c1 ada c1 x y";
+    assert_eq!(rt; told.as_str(), want);
 }
 
 #[test]
-fn counts_and_users_are_read(rt: HostRuntime) -> Result<(), Fail> {
-    let script = expect_script(&rt, rt.alloc(), GOOD);
-    assert_eq!(rt; (script.servers, script.clients, script.admins), (2, 2, 1));
-    assert_eq!(rt; (script.cache, script.capacity), (3, 65_536));
-    let [first, second] = script.users.as_slice() else {
-        panic!(rt; "not two users");
-    };
-    assert_eq!(rt; (first.client, second.client), (1, 1));
-    assert_eq!(rt; first.name.as_slice(), b"ada".as_slice());
-    assert_eq!(rt; second.name.as_slice(), b"x y".as_slice());
-    assert!(rt; script.volumes.is_empty());
-    Ok(())
+fn acts_are_read(rt: HostRuntime) {
+    let told = told(rt.alloc(), WHOLE, GOOD, Part::Tasks);
+    let want =
+        "c2 close proj|a/b fill 5 97\nc1 chmod @536870912.2.2 4095\na1 create docs s2 16384\n";
+    assert_eq!(rt; told.as_str(), want);
 }
 
 #[test]
-fn acts_are_read(rt: HostRuntime) -> Result<(), Fail> {
-    let script = expect_script(&rt, rt.alloc(), GOOD);
-    let [close, mode, create] = script.tasks.as_slice() else {
-        panic!(rt; "not three tasks");
-    };
-    let Task::Client {
-        client: 2,
-        act: Act::Close {
-            operand: Operand::Path(path),
-            contents: Written::Fill {
-                count: 5,
-                byte: b'a',
-            },
-        },
-    } = close
-    else {
-        panic!(rt; "no close");
-    };
-    assert_eq!(rt; path.volume.as_slice(), b"proj".as_slice());
-    let [name] = path.names.as_slice() else {
-        panic!(rt; "not one name");
-    };
-    assert_eq!(rt; name.as_slice(), b"a/b".as_slice());
-    let Task::Client {
-        client: 1,
-        act: Act::SetMode {
-            operand: Operand::Fid(fid),
-            mode: 0o7777,
-        },
-    } = mode
-    else {
-        panic!(rt; "no chmod");
-    };
-    assert_eq!(rt; (fid.volume, fid.vnode, fid.unique), (536_870_912, 2, 2));
-    let Task::Admin {
-        admin: 1,
-        act: AdminAct::Create {
-            name,
-            server: 2,
-            quota: 16_384,
-        },
-    } = create
-    else {
-        panic!(rt; "no create");
-    };
-    assert_eq!(rt; name.as_slice(), b"docs".as_slice());
-    Ok(())
+fn plans_are_read(rt: HostRuntime) {
+    let told = told(rt.alloc(), WHOLE, GOOD, Part::Plans);
+    let want = "Lose { from: Client(1), to: Server(2), nth: 7 }\n";
+    assert_eq!(rt; told.as_str(), want);
 }
 
 #[test]
-fn plans_are_read(rt: HostRuntime) -> Result<(), Fail> {
-    let script = expect_script(&rt, rt.alloc(), GOOD);
-    let [Plan::Lose { from, to, nth }] = script.plans.as_slice() else {
-        panic!(rt; "no plan");
-    };
-    assert_eq!(rt; (*from, *to), (Node::Client(1), Node::Server(2)));
-    assert_eq!(rt; *nth, 7);
-    Ok(())
-}
-
-/// The event of this place.
-fn event(script: &Script, place: usize) -> Option<Event> {
-    script.schedule.as_ref()?.as_slice().get(place).copied()
+fn events_are_read(rt: HostRuntime) {
+    let told = told(rt.alloc(), WHOLE, GOOD, Part::Events(0));
+    let want =
+        "Act { node: Client(2) }\nDrain\nTimeout { node: Server(1), callee: Client(2) }\nCrashDisk { node: Loc, pick: 3 }\nCrash { node: Client(1) }\nTick { ticks: 1000000000 }\n";
+    assert_eq!(rt; told.as_str(), want);
 }
 
 #[test]
-fn events_are_read(rt: HostRuntime) -> Result<(), Fail> {
-    let script = expect_script(&rt, rt.alloc(), GOOD);
-    let Some(Event::Act { node }) = event(&script, 0) else {
-        panic!(rt; "no act");
-    };
-    assert_eq!(rt; node, Node::Client(2));
-    let Some(Event::Timeout { node, callee }) = event(&script, 2) else {
-        panic!(rt; "no timeout");
-    };
-    assert_eq!(rt; (node, callee), (Node::Server(1), Node::Client(2)));
-    let Some(Event::CrashDisk { node, pick }) = event(&script, 3) else {
-        panic!(rt; "no crash of a disk");
-    };
-    assert_eq!(rt; node, Node::Loc);
-    assert_eq!(rt; pick, 3);
-    Ok(())
-}
-
-#[test]
-fn last_events_are_read(rt: HostRuntime) -> Result<(), Fail> {
-    let script = expect_script(&rt, rt.alloc(), GOOD);
-    assert!(rt; matches!(event(&script, 1), Some(Event::Drain)));
-    assert!(rt;
-        matches!(
-            event(&script, 4),
-            Some(Event::Crash {
-                node: Node::Client(1)
-            })
-        )
-    );
-    assert!(rt;
-        matches!(
-            event(&script, 5),
-            Some(Event::Tick {
-                ticks: 1_000_000_000
-            })
-        )
-    );
-    assert!(rt; event(&script, 6).is_none());
-    Ok(())
+fn last_events_are_read(rt: HostRuntime) {
+    let told = told(rt.alloc(), WHOLE, GOOD, Part::Events(4));
+    let want = "Crash { node: Client(1) }\nTick { ticks: 1000000000 }\n";
+    assert_eq!(rt; told.as_str(), want);
 }

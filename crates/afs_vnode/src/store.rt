@@ -5,10 +5,11 @@ ghost use Rattle.std.specs.Option.{option_copied, option_map};
 ghost use Rattle.afs_num.specs.Keyed.{KeepsRoom};
 ghost use Rattle.afs_ideal.specs.Tables.{get, set, unset, AscendsFrom, lowest_free};
 ghost use Rattle.afs_ideal.specs.VnodeImage.{FitsImage};
-ghost use Rattle.afs_ideal.specs.VnodeMaps.{most_vnodes, is_full_for, first_number, allocated, changed_since};
+ghost use Rattle.afs_ideal.specs.VnodeMaps.{most_vnodes, AllFit, is_full_for, first_number, allocated, changed_since};
 ghost use Rattle.afs_vnode.specs.Stores.{raised, lowered, table_of, AreVnodes};
 ghost use Rattle.afs_vnode.specs.declared.faults.VnodeFault.TheVariants.{TooMany};
 
+use crate::copying::copy_vnodes;
 use crate::faults::VnodeFault;
 use crate::sorted;
 use afs_num::types::Mem;
@@ -69,6 +70,20 @@ impl VnodeStore {
         }
     }
 
+    /// These vnodes, which stand by ascending numbers. It takes no memory.
+    pub fn of(vnodes: Vnodes) -> VnodeStore
+        requires ascends { AscendsFrom 0 (table_of vnodes) }
+        requires few { length vnodes ≤ most_vnodes }
+        requires fits { AllFit (table_of vnodes) }
+        ensures { result.table ≡ table_of vnodes }
+    {
+        VnodeStore {
+            vnodes: vnodes.into_vec(),
+            even: 2,
+            odd: 3,
+        }
+    }
+
     /// How many vnodes there are.
     pub fn len(&self) -> usize
         ensures value { result ≡ length self.now.table }
@@ -95,6 +110,18 @@ impl VnodeStore {
         ensures fits { IfSome result (λ v. FitsImage v.now) }
     {
         sorted::nth(&self.vnodes, place as usize)
+    }
+
+    /// A copy, which shares the access lists and contents of the vnodes.
+    pub fn copy(&self, alloc: Global) -> Mem<VnodeStore>
+        ensures { IfOk result (λ s. s.table ≡ self.now.table) }
+    {
+        let vnodes = copy_vnodes(alloc, &self.vnodes)?;
+        Ok(VnodeStore {
+            vnodes: vnodes.into_vec(),
+            even: self.even,
+            odd: self.odd,
+        })
     }
 
     /// The vnodes, by ascending numbers. It takes no memory.

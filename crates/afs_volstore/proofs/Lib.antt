@@ -3,6 +3,5 @@ mod Created
 mod Folding
 mod FoldsOn
 mod Kept
-mod Laid
 mod Reread
 mod Waiting

@@ -19,7 +19,7 @@ ghost use Rattle.afs_memory.specs.Redos.{record_of};
 ghost use Rattle.afs_memory.specs.States.{parts_of, HasRoomFor};
 ghost use Rattle.afs_volstore.specs.Stores.{IsEarly, IsFull, IsKept, LeftAround, SameBut, Served};
 
-use crate::setup::no_head;
+use crate::creating::no_head;
 use crate::store::VolStore;
 use afs_disk::Disk;
 use afs_history::lines::Lines;

@@ -1,56 +1,44 @@
-//! A store is made of a disk at set-up.
+//! A journal is begun on a disk, and a store is made of it with its first record.
 
-ghost use Rattle.std.specs.Prelude.{◌≡◌, ◌≤◌, ◌<◌, ◌^◌, ◌+◌, ◌++◌, ◌∷◌, ◌⊎◌, ◌↔◌, ℕ, List, [], None, Some, true, false, is_some, length, map, IfErr, IfOk, IsOk, IsSome, MatchResult, OnOk};
+ghost use Rattle.std.specs.Prelude.{◌≡◌, ◌≤◌, ◌+◌, ◌++◌, ◌∷◌, ◌⊎◌, ◌↔◌, ℕ, List, [], None, Some, true, false, is_some, length, IfErr, IfOk, IsOk, IsSome, MatchResult, OnOk};
 ghost use Rattle.std.specs.Option.{option_map};
 ghost use Rattle.afs_num.specs.declared.faults.StoreFault.TheVariants as faults;
-ghost use Rattle.afs_num.specs.declared.records.StoreRecord as records;
 ghost use Rattle.afs_disk.specs.Disk.{LeavesJust, LeavesOnly, PassesAll};
 ghost use Rattle.afs_journal.specs.Log.{IsJournal};
 ghost use Rattle.afs_journal.specs.Records.{whole_records, IsBeforeOrAfter};
-ghost use Rattle.afs_records.specs.Changes.{first_record, set_up};
 ghost use Rattle.afs_records.specs.Durable.{Durable, body_taken, first_folded, is_first, noted, nothing_on};
-ghost use Rattle.afs_records.specs.Records.{record_bytes, FitsRecord};
-ghost use Rattle.afs_volstore.specs.Opening.{CanBeSetUp, IsSetUpFault, IsSetUpSoFar, Moved};
+ghost use Rattle.afs_records.specs.Records.{head_form, record_bytes, FitsRecord};
+ghost use Rattle.afs_volstore.specs.Opening.{Moved};
 ghost use Rattle.afs_memory.specs.States.{parts_of};
 ghost use Rattle.afs_volstore.specs.Stores.{IsCaused, IsKept, Served};
+ghost use Rattle.afs_records.specs.Changes.{no_head};
 
 use crate::committing::{make_ready, put};
-use crate::setup::{first_record, record_length};
 use crate::store::VolStore;
 use crate::taking_up::take_up;
 use afs_disk::Disk;
-use afs_history::scripts::VolumeLine;
 use afs_journal::Journal;
 use afs_memory::memory::State;
 use afs_num::faults::StoreFault;
-use afs_num::records::StoreRecord;
-use afs_num::types::{Mem, Node};
+use afs_num::records::{RecordHead, StoreRecord};
+use afs_num::sequences::Octets;
+use afs_num::types::Node;
 use afs_records::laws::records_are_read_again;
 use std::alloc::Global;
 
-/// How many bytes a journal without records has.
-const EMPTY: u64 = 1;
-
-/// How many bytes a journal with one record has besides it.
-const FRAME: u64 = 10;
-
-/// The first record of a disk with these volumes, and how many bytes it has.
-fn first_spelled(alloc: Global, volumes: &[&VolumeLine]) -> Mem<(StoreRecord, u64)>
-    requires { CanBeSetUp (map (λ l. l.now) volumes.now) }
-    ensures value { IfOk result (λ r. first_record (map (λ l. l.now) volumes.now) ≡ Some r.0) }
-    ensures fits { IfOk result (λ r. FitsRecord r.0) }
-    ensures taken { IfOk result (λ r. (d : Durable) → d.volumes ≡ [] → is_some (body_taken r.0.body d) ≡ true) }
-    ensures first { IfOk result (λ r. is_first r.0.body ≡ true) }
-    ensures length { IfOk result (λ r. r.1 ≡ length (record_bytes r.0)) }
-    ensures small { IfOk result (λ r. r.1 < 2 ^ 63) }
+/// The head of a record that raises no stamp and keeps no reply.
+#[tactic(auto, unfolding(afs_records::specs::Records::head_form))]
+pub fn no_head(alloc: Global) -> RecordHead
+    ensures value { result ≡ no_head }
+    ensures fits { head_form.Fits result }
 {
-    let rec = first_record(alloc, volumes)?;
-    match record_length(alloc, &rec) {
-        Ok(len) => Ok((rec, len)),
-        Err(fault) => {
-            drop(rec);
-            Err(fault)
-        }
+    RecordHead {
+        family: 0,
+        stamp: 0,
+        caller: None,
+        epoch: 0,
+        number: 0,
+        reply: Octets::new(alloc),
     }
 }
 
@@ -77,7 +65,7 @@ fn clear<D: Disk>(disk: &mut D) -> Result<(), StoreFault>
 }
 
 /// Begins a journal on a disk.
-fn begin<D: Disk>(alloc: Global, disk: D) -> Result<Journal<D>, (StoreFault, D)>
+pub fn begin<D: Disk>(alloc: Global, disk: D) -> Result<Journal<D>, (StoreFault, D)>
     requires { D.limit disk ≤ 268435456 }
     ensures empty { IfOk result (λ j. (j.gate ≡ 0) × ((j.count ≡ 0) × (j.closed ≡ false))) }
     ensures begun { IfOk result (λ j. IsSome (D.seen disk) → IsJournal [] (D.seen j.disk) (D.may_leave j.disk)) }
@@ -127,7 +115,7 @@ fn put_first<D: Disk>(
 }
 
 /// Puts the first record on a disk with a journal that has none, and makes a store of it.
-fn filled<D: Disk>(
+pub fn filled<D: Disk>(
     alloc: Global,
     journal: Journal<D>,
     node: Node,
@@ -158,65 +146,5 @@ fn filled<D: Disk>(
     match put_first(alloc, &mut journal, &mut state, rec) {
         Ok(()) => Ok(VolStore::of(alloc, journal, node, state)),
         Err(fault) => Err((fault, journal.into_disk())),
-    }
-}
-
-impl<D: Disk> VolStore<D> {
-    /// Sets a disk up for these volumes of one server: cuts it to nothing, and puts the first record on it. Each refusal
-    /// hands the disk back; where the record doesn't fit, as it was.
-    pub fn create(
-        alloc: Global,
-        disk: D,
-        node: Node,
-        volumes: &[&VolumeLine],
-    ) -> Result<VolStore<D>, (StoreFault, D)>
-        requires limit { D.limit disk ≤ 268435456 }
-        requires lines { CanBeSetUp (map (λ l. l.now) volumes.now) }
-        ensures made { IfOk result (λ s. set_up (D.limit disk) (map (λ l. l.now) volumes.now) ≡ Some s.durable) }
-        ensures rest { IfOk result (λ s. s ≡ record { durable = s.durable; disk = s.disk; node = node; prepared = None; closed = false; count = 1; drawn = 0 }) }
-        ensures kept { IfOk result (λ s. IsKept s.durable (D.seen s.disk) (D.may_leave s.disk)) }
-
-        // Where the disk told its bytes, the first record alone stands there, and every crash leaves it.
-        ensures first { IfOk result (λ s. IsSome (D.seen disk) → (r : records.StoreRecord) → first_record (map (λ l. l.now) volumes.now) ≡ Some r → IsJournal (record_bytes r ∷ []) (D.seen s.disk) (D.may_leave s.disk)) }
-        ensures told { MatchResult result (λ s. IsSome (D.seen s.disk) ↔ IsSome (D.seen disk)) (λ e. IsSome (D.seen e.1) ↔ IsSome (D.seen disk)) }
-
-        ensures full { IfErr result (λ e. (used capacity : ℕ) → e.0 ≡ faults.Full used capacity → (used ≡ 1) × ((capacity ≡ D.limit disk) × (set_up (D.limit disk) (map (λ l. l.now) volumes.now) ≡ None))) }
-        ensures untouched { IfErr result (λ e. (used capacity : ℕ) → e.0 ≡ faults.Full used capacity → e.1 ≡ disk) }
-        ensures refusals { IfErr result (λ e. IsSetUpFault e.0) }
-
-        // Where the record doesn't fit no device call is made: Full comes before a disk's failure.
-        ensures room { set_up (D.limit disk) (map (λ l. l.now) volumes.now) ≡ None → MatchResult result (λ s. ⊥)
-            (λ e. (e.1 ≡ disk) × ((e.0 ≡ faults.OutOfMemory) ⊎ (e.0 ≡ faults.Full 1 (D.limit disk)))) }
-
-        // On an empty disk a crash at any moment leaves no record, or the first.
-        ensures any_moment { D.seen disk ≡ Some [] → LeavesJust [] (D.may_leave disk) → MatchResult result
-            (λ s. LeavesOnly D.moment D.left_since disk s.disk (IsSetUpSoFar (D.limit disk) (map (λ l. l.now) volumes.now)))
-            (λ e. LeavesOnly D.moment D.left_since disk e.1 (IsSetUpSoFar (D.limit disk) (map (λ l. l.now) volumes.now))) }
-
-        // It makes at most twelve device calls.
-        ensures ok { IfOk result (λ s. Moved 12 D.faults D.own_faults D.calls D.setting D.limit disk s.disk × PassesAll (D.setting disk) (D.calls disk) (D.calls s.disk)) }
-        ensures quiet { IfOk result (λ s. (D.faults s.disk ≡ D.faults disk) × (D.own_faults s.disk ≡ D.own_faults disk)) }
-        ensures err { IfErr result (λ e. Moved 12 D.faults D.own_faults D.calls D.setting D.limit disk e.1 × IsCaused (D.setting disk) (D.calls e.1) (D.faults disk) (D.faults e.1) (D.own_faults disk) (D.own_faults e.1) e.0) }
-    {
-        records_are_read_again();
-        let (rec, len) = match first_spelled(alloc, volumes) {
-            Ok(first) => first,
-            Err(_) => return Err((StoreFault::OutOfMemory, disk)),
-        };
-        let capacity = disk.capacity();
-        if len + FRAME > capacity {
-            drop(rec);
-            return Err((StoreFault::Full(EMPTY, capacity), disk));
-        }
-        let journal = match begin(alloc, disk) {
-            Ok(journal) => journal,
-            Err(refused) => {
-                drop(rec);
-                return Err(refused);
-            }
-        };
-        let store = filled(alloc, journal, node, &rec);
-        drop(rec);
-        store
     }
 }

@@ -4,14 +4,12 @@
 mod altering;
 mod attaching;
 mod committing;
-mod creating;
+pub mod creating;
 mod fused;
 mod opening;
 mod replaying;
 mod rereading;
-mod setup;
 mod store;
 mod taking_up;
 
-pub use setup::first_length;
 pub use store::VolStore;

@@ -3,14 +3,15 @@
 ghost use Rattle.std.specs.Prelude.{◌≡◌, ◌≤◌, [], length, IfOk};
 
 use crate::disks::Rec::Many;
-use crate::disks::{attach, disk_with, part};
-use crate::vectors::first;
+use crate::disks::{disk_with, part, put_count, put_second};
+use crate::full::put_words;
 use afs_disk::{Disk, Fuse, MemDisk};
 use afs_history::scripts::{SetupLines, VolumeLine};
 use afs_num::faults::StoreFault;
 use afs_num::sequences::Octets;
 use afs_num::types::{Mem, Node};
-use afs_volstore::{VolStore, first_length};
+use afs_setup::{create, first_length};
+use afs_volstore::VolStore;
 use std::alloc::Global;
 use std::fmt::Write;
 use std::test::Fail;
@@ -35,9 +36,7 @@ fn set_up<D: Disk + Drop>(alloc: Global, disk: D) -> Result<VolStore<D>, (StoreF
         return Err((StoreFault::Closed, disk));
     }
     match (bare(alloc, 2), bare(alloc, 1)) {
-        (Ok(later), Ok(sooner)) => {
-            VolStore::create(alloc, disk, Node::Server(1), &[&later, &sooner])
-        }
+        (Ok(later), Ok(sooner)) => { create(alloc, disk, Node::Server(1), &[&later, &sooner]) }
         _ => Err((StoreFault::OutOfMemory, disk)),
     }
 }
@@ -47,76 +46,68 @@ fn empty(alloc: Global, capacity: u64) -> MemDisk {
     MemDisk::new(alloc, capacity, Octets::new(alloc))
 }
 
-/// Where the other program's record has the count of its volumes, and the second of them.
-const COUNT: usize = 31;
-
-const SECOND: usize = 384;
-
-/// The other program's second volume, with this number for its own and its family's.
-fn put_volume(out: &mut Vec<u8>, first: &[u8], id: u8) -> Mem<()> {
-    out.extend_from_slice(part(first, SECOND, SECOND + 19))?;
-    out.push(id)?;
-    out.extend_from_slice(part(first, SECOND + 20, SECOND + 23))?;
-    out.push(id)?;
-    out.extend_from_slice(part(first, SECOND + 24, first.len()))
-}
-
-/// The other program's record of the volumes 1 and 2.
-fn told(alloc: Global) -> Mem<Octets> {
-    let first = first(alloc)?;
-    let mut out = Vec::from_slice(alloc, part(first.as_slice(), 0, COUNT))?;
-    out.push(2)?;
-    put_volume(&mut out, first.as_slice(), 1)?;
-    put_volume(&mut out, first.as_slice(), 2)?;
-    Octets::from_vec(out)
+/// The other program's record of two volumes, each like its second one, but with the numbers 1 and 2.
+fn told(alloc: Global) -> Mem<Vec<u8>> {
+    let mut out = Vec::new(alloc);
+    put_words(&mut out, &[1, 0, 0, 0, 0, 0, 0, 2])?;
+    put_second(&mut out, alloc, 1, 1)?;
+    put_second(&mut out, alloc, 2, 2)?;
+    Ok(out)
 }
 
 /// Whether a disk holds that record, behind its gate, its length and its number, and a closed gate.
-fn is_as_told(alloc: Global, disk: &MemDisk) -> Mem<bool> {
-    let told = told(alloc)?;
-    Ok(disk.bytes().len() == 354 && part(disk.bytes(), 9, 353) == told.as_slice())
+fn is_as_told(alloc: Global, bytes: &[u8]) -> bool {
+    match told(alloc) {
+        Ok(told) => bytes.len() == 354 && part(bytes, 9, 353) == told.as_slice(),
+        Err(_) => false,
+    }
+}
+
+fn put_made(out: &mut String, alloc: Global, store: VolStore<MemDisk>) {
+    let (boot, records) = (store.boot_number(), store.mark().records);
+    let disk = store.into_disk();
+    let is_told = is_as_told(alloc, disk.bytes());
+    drop(disk);
+    let _ = write!(out, "boot {boot} records {records} as told {is_told}");
+}
+
+fn put_refused(out: &mut String, fault: StoreFault, disk: MemDisk) {
+    let length = disk.bytes().len();
+    drop(disk);
+    let _ = match fault {
+        StoreFault::Full(used, capacity) => write!(out, "full {used} {capacity} bytes {length}"),
+        _ => out.push_str("failed"),
+    };
 }
 
 /// What comes of setting a disk up.
-fn outcome(alloc: Global, disk: MemDisk) -> Mem<String> {
+fn outcome(alloc: Global, disk: MemDisk) -> String {
     let mut out = String::new(alloc);
     match set_up(alloc, disk) {
-        Ok(store) => {
-            write!(out, "boot {} ", store.boot_number())?;
-            write!(out, "records {} ", store.mark().records)?;
-            write!(out, "as told {}", is_as_told(alloc, &store.into_disk())?)?;
-        }
-        Err((StoreFault::Full(used, capacity), disk)) => {
-            write!(out, "full {used} {capacity} ")?;
-            write!(out, "bytes {}", disk.bytes().len())?;
-        }
-        Err(_) => out.push_str("failed")?,
+        Ok(store) => put_made(&mut out, alloc, store),
+        Err((fault, disk)) => put_refused(&mut out, fault, disk),
     }
-    Ok(out)
+    out
 }
 
-/// The number of records on a disk; none where it isn't attached.
-fn records_on(alloc: Global, disk: MemDisk) -> Option<u32> {
-    let (store, _) = attach(alloc, disk, 1).ok()?;
-    Some(store.mark().records)
+/// Sets a disk up where this device call fails: what comes of it, and the disk.
+fn failed(alloc: Global, call: u64) -> (&'static str, MemDisk) {
+    let mut disk = Fuse::new(empty(alloc, 400));
+    disk.fail_at(call);
+    match set_up(alloc, disk) {
+        Ok(store) => ("ok ", store.into_disk().into_inner()),
+        Err((StoreFault::Failed, disk)) => ("failed ", disk.into_inner()),
+        Err((_, disk)) => ("refused ", disk.into_inner()),
+    }
 }
 
 /// Sets a disk up where this device call fails, and counts the records that are left on it.
-fn failing(alloc: Global, call: u64) -> Mem<String> {
+fn failing(alloc: Global, call: u64) -> String {
     let mut out = String::new(alloc);
-    let mut disk = Fuse::new(empty(alloc, 400));
-    disk.fail_at(call);
-    let (word, disk) = match set_up(alloc, disk) {
-        Ok(store) => ("ok", store.into_disk()),
-        Err((StoreFault::Failed, disk)) => ("failed", disk),
-        Err((_, disk)) => ("refused", disk),
-    };
-    write!(out, "{word} ")?;
-    match records_on(alloc, disk.into_inner()) {
-        Some(records) => write!(out, "{records}")?,
-        None => out.push_str("none")?,
-    }
-    Ok(out)
+    let (word, disk) = failed(alloc, call);
+    let _ = out.push_str(word);
+    put_count(&mut out, alloc, disk, 1);
+    out
 }
 
 /// How many bytes the first record of the volumes 2 and 1 has.
@@ -133,34 +124,31 @@ fn the_length_of_a_first_record_is_told(rt: HostRuntime) -> Result<(), Fail> {
 }
 
 #[test]
-fn a_disk_is_set_up_as_another_program_tells_it(rt: HostRuntime) -> Result<(), Fail> {
-    let got = outcome(rt.alloc(), empty(rt.alloc(), 354))?;
+fn a_disk_is_set_up_as_another_program_tells_it(rt: HostRuntime) {
+    let got = outcome(rt.alloc(), empty(rt.alloc(), 354));
     assert_eq!(rt; got.as_str(), "boot 1 records 1 as told true");
-    Ok(())
 }
 
 #[test]
-fn a_record_that_is_a_byte_too_long_is_refused(rt: HostRuntime) -> Result<(), Fail> {
-    let got = outcome(rt.alloc(), empty(rt.alloc(), 353))?;
+fn a_record_that_is_a_byte_too_long_is_refused(rt: HostRuntime) {
+    let got = outcome(rt.alloc(), empty(rt.alloc(), 353));
     assert_eq!(rt; got.as_str(), "full 1 353 bytes 0");
-    Ok(())
 }
 
 #[test]
 fn an_old_journal_goes(rt: HostRuntime) -> Result<(), Fail> {
     let old = disk_with(rt.alloc(), &[Many(64), Many(3)]).ok_or("no disk")?;
-    let got = outcome(rt.alloc(), old)?;
+    let got = outcome(rt.alloc(), old);
     assert_eq!(rt; got.as_str(), "boot 1 records 1 as told true");
     Ok(())
 }
 
 // The calls of an empty disk: a sync, the first gate and its sync, and four of the record.
 #[test]
-fn a_device_call_that_fails_hands_the_disk_back(rt: HostRuntime) -> Result<(), Fail> {
+fn a_device_call_that_fails_hands_the_disk_back(rt: HostRuntime) {
     for call in 1..7u64 {
-        assert_eq!(rt; failing(rt.alloc(), call)?.as_str(), "failed none");
+        assert_eq!(rt; failing(rt.alloc(), call).as_str(), "failed none ");
     }
-    assert_eq!(rt; failing(rt.alloc(), 7)?.as_str(), "failed 1");
-    assert_eq!(rt; failing(rt.alloc(), 8)?.as_str(), "ok 1");
-    Ok(())
+    assert_eq!(rt; failing(rt.alloc(), 7).as_str(), "failed 1 ");
+    assert_eq!(rt; failing(rt.alloc(), 8).as_str(), "ok 1 ");
 }

@@ -1,18 +1,19 @@
 //! Three servers at the end of a run: one whose volumes were changed, one without a record, one as set-up left it. The reference
 //! program tells what these records make so.
 
-ghost use Rattle.std.specs.Prelude.{◌≤◌};
+ghost use Rattle.std.specs.Prelude.{◌≡◌, ◌≤◌};
+ghost use Rattle.afs_num.specs.Nodes.{IsNode};
+ghost use Rattle.afs_num.specs.declared.types.Node.TheVariants.{Server};
 
-use crate::vectors::{change, first};
+use crate::disks::Rec::{Change, First};
+use crate::disks::disk_with;
 use afs_disk::{Disk, MemDisk};
-use afs_final::{Left, fault_in, put_final, read_disk, told_of};
-use afs_journal::Journal;
-use afs_num::sequences::{Octets, Records};
+use afs_final::{Kept, Left, fault_in, put_final, read_disk, told_of};
+use afs_num::sequences::Octets;
 use afs_num::types::Mem;
 use afs_outside::memory::MemSink;
 use afs_volstore::VolStore;
-use std::alloc::Global;
-use std::test::Fail;
+use std::alloc::{AllocError, Global};
 
 const TOLD: &str = "\
 final
@@ -30,83 +31,62 @@ vnode 9.1.1 2 1 1 d:
 end
 ";
 
-/// The longest disk that is read.
-const MOST: u64 = 268_435_456;
-
-/// Set-up's record, and with it the change where there was one.
-fn records(alloc: Global, changed: bool) -> Mem<Records> {
-    let mut all = Records::new(alloc);
-    all.push(first(alloc)?)?;
-    if changed {
-        all.push(change(alloc)?)?;
-    }
-    Ok(all)
-}
-
-/// Appends records; whether all were.
-fn append_all(journal: &mut Journal<MemDisk>, records: &[Octets]) -> bool {
-    for rec in records {
-        if journal.append(rec.as_slice()).is_err() {
-            return false;
-        }
-    }
-    true
-}
-
-/// A disk with these records.
-fn disk_with(alloc: Global, records: &Records) -> Option<MemDisk> {
-    let disk = MemDisk::new(alloc, 20_000, Octets::new(alloc));
-    if disk.capacity() > MOST {
-        return None;
-    }
-    let mut journal = Journal::attach(alloc, disk).ok()?;
-    if !append_all(&mut journal, records.as_slice()) {
-        return None;
-    }
-    Some(journal.into_disk())
-}
-
-/// A disk as set-up left it, or with the change.
-fn disk(alloc: Global, changed: bool) -> Option<MemDisk> {
-    let records = records(alloc, changed).ok()?;
-    disk_with(alloc, &records)
-}
-
-/// What the disks of the servers 1 to 3 keep.
-fn left<D: Disk + Drop>(alloc: Global, one: D, two: D, three: D) -> Mem<Vec<Left<VolStore<D>, D>>>
-    requires { (D.limit one ≤ 268435456) × ((D.limit two ≤ 268435456) × (D.limit three ≤ 268435456)) }
-{
-    let mut left = Vec::new(alloc);
-    left.push(read_disk(alloc, 1, one))?;
-    left.push(read_disk(alloc, 2, two))?;
-    left.push(read_disk(alloc, 3, three))?;
-    Ok(left)
-}
-
-/// Writes the final part of three disks, none of which failed.
-fn put<D: Disk + Drop>(alloc: Global, one: D, two: D, three: D) -> Option<Octets> {
-    if one.capacity() > MOST || two.capacity() > MOST || three.capacity() > MOST {
-        return None;
-    }
-    let left = left(alloc, one, two, three).ok()?;
-    if left.len() > 8 || fault_in(left.as_slice()).is_some() {
-        return None;
-    }
-    let told = told_of(alloc, left.as_slice()).ok()?;
+/// Writes the final part.
+fn put_told(alloc: Global, told: &[Kept<'_>]) -> Option<Octets> {
     let mut sink = MemSink::new(alloc, b"");
-    put_final(&mut sink, told.as_slice()).ok()?;
+    put_final(&mut sink, told).ok()?;
     Octets::from_slice(alloc, sink.as_slice()).ok()
+}
+
+/// The final part of what disks keep of which none failed.
+fn told_left<D: Disk>(alloc: Global, left: &[Left<VolStore<D>, D>]) -> Option<Octets> {
+    if left.len() > 8 || fault_in(left).is_some() {
+        return None;
+    }
+    let told = told_of(alloc, left).ok()?;
+    put_told(alloc, &told)
+}
+
+/// What the disk of a server keeps.
+fn push_left<D: Disk + Drop>(
+    alloc: Global,
+    left: &mut Vec<Left<VolStore<D>, D>>,
+    server: u32,
+    disk: D,
+) -> Mem<()>
+    requires { IsNode (Server server) }
+{
+    if disk.capacity() > 268_435_456 {
+        return Err(AllocError);
+    }
+    left.push(read_disk(alloc, server, disk))?;
+    Ok(())
+}
+
+/// The final part of three servers.
+fn told_of_three<D: Disk + Drop>(alloc: Global, one: D, two: D, three: D) -> Option<Octets> {
+    let mut left = Vec::new(alloc);
+    let is_first = push_left(alloc, &mut left, 1, one).is_ok();
+    let is_second = push_left(alloc, &mut left, 2, two).is_ok();
+    let is_third = push_left(alloc, &mut left, 3, three).is_ok();
+    let told = if is_first && is_second && is_third {
+        told_left(alloc, &left)
+    } else {
+        None
+    };
+    drop(left);
+    told
 }
 
 /// What is told of the three servers.
 fn told(alloc: Global) -> Option<Octets> {
-    let one = disk(alloc, true)?;
+    let one = disk_with(alloc, &[First, Change])?;
     let two = MemDisk::new(alloc, 20_000, Octets::new(alloc));
-    let three = disk(alloc, false)?;
-    put(alloc, one, two, three)
+    let three = disk_with(alloc, &[First])?;
+    told_of_three(alloc, one, two, three)
 }
 
-/// The text, or that something was wanting.
+/// The text, or that there is none.
 fn text(told: &Option<Octets>) -> &[u8] {
     match told {
         Some(bytes) => bytes.as_slice(),
@@ -115,8 +95,7 @@ fn text(told: &Option<Octets>) -> &[u8] {
 }
 
 #[test]
-fn tells_the_final_part_as_the_reference_does(rt: HostRuntime) -> Result<(), Fail> {
+fn tells_the_final_part_as_the_reference_does(rt: HostRuntime) {
     let told = told(rt.alloc());
     assert_eq!(rt; text(&told), TOLD.as_bytes());
-    Ok(())
 }

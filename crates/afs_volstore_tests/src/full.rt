@@ -2,7 +2,6 @@
 
 ghost use Rattle.std.specs.Prelude.{◌<◌, ◌≤◌};
 
-use afs_num::sequences::Octets;
 use afs_num::types::Mem;
 use std::alloc::Global;
 
@@ -28,7 +27,7 @@ const NEXT: u32 = VNODES + 1;
 
 const FURTHER: u32 = LAST + 2;
 
-fn put_words(out: &mut Vec<u8>, words: &[u32]) -> Mem<()> {
+pub(crate) fn put_words(out: &mut Vec<u8>, words: &[u32]) -> Mem<()> {
     for word in words {
         out.extend_from_slice(&word.to_be_bytes())?;
     }
@@ -160,14 +159,14 @@ fn put_head(out: &mut Vec<u8>, kind: u32) -> Mem<()> {
 }
 
 /// The first record, with the volume.
-pub(crate) fn full(alloc: Global) -> Mem<Octets> {
+pub(crate) fn full(alloc: Global) -> Mem<Vec<u8>> {
     let mut out = Vec::new(alloc);
     put_head(&mut out, 1)?;
     put_words(&mut out, &[1, 4, NAME, 0])?;
     put_words(&mut out, &[2, ID, ID, 0, 0, NEXT, 1, 0])?;
     put_numbers(&mut out)?;
     put_images(&mut out)?;
-    Octets::from_vec(out)
+    Ok(out)
 }
 
 /// The directory with the number 3, with so many of its files and a further one.
@@ -180,7 +179,7 @@ fn put_with_further(out: &mut Vec<u8>, kept: u8) -> Mem<()>
 }
 
 /// A change of that directory, with these words for what goes.
-fn further(alloc: Global, kept: u8, gone: &[u32]) -> Mem<Octets>
+fn further(alloc: Global, kept: u8, gone: &[u32]) -> Mem<Vec<u8>>
     requires { kept ≤ 64 }
 {
     let mut out = Vec::new(alloc);
@@ -189,15 +188,15 @@ fn further(alloc: Global, kept: u8, gone: &[u32]) -> Mem<Octets>
     put_with_further(&mut out, kept)?;
     put_file(&mut out, FURTHER, 3)?;
     put_words(&mut out, gone)?;
-    Octets::from_vec(out)
+    Ok(out)
 }
 
 /// A change that makes a further file.
-pub(crate) fn one_more(alloc: Global) -> Mem<Octets> {
+pub(crate) fn one_more(alloc: Global) -> Mem<Vec<u8>> {
     further(alloc, 64, &[0])
 }
 
 /// A change that makes a further file, and removes the last one of its directory.
-pub(crate) fn one_for_another(alloc: Global) -> Mem<Octets> {
+pub(crate) fn one_for_another(alloc: Global) -> Mem<Vec<u8>> {
     further(alloc, 63, &[1, 128])
 }

@@ -40,39 +40,27 @@ fn put_volume(alloc: Global, sink: &mut MemSink<'static>, volume: Volume, name: 
 }
 
 fn put_volumes(alloc: Global, sink: &mut MemSink<'static>) -> Mem<()> {
-    let volumes: [(&[u8], Volume); 3] = [
-        (
-            b"proj",
-            Volume {
-                server: 1,
-                id: 536870912,
-                kind: 0,
-                flags: 0,
-            },
-        ),
-        (
-            b"proj.readonly",
-            Volume {
-                server: 2,
-                id: 536870914,
-                kind: 1,
-                flags: 0,
-            },
-        ),
-        (
-            b"tmp",
-            Volume {
-                server: 2,
-                id: 536870916,
-                kind: 0,
-                flags: 3,
-            },
-        ),
-    ];
-    for (name, volume) in &volumes {
-        put_volume(alloc, sink, *volume, name)?;
-    }
-    Ok(())
+    let proj = Volume {
+        server: 1,
+        id: 536870912,
+        kind: 0,
+        flags: 0,
+    };
+    let clone = Volume {
+        server: 2,
+        id: 536870914,
+        kind: 1,
+        flags: 0,
+    };
+    let unfinished = Volume {
+        server: 2,
+        id: 536870916,
+        kind: 0,
+        flags: 3,
+    };
+    put_volume(alloc, sink, proj, b"proj")?;
+    put_volume(alloc, sink, clone, b"proj.readonly")?;
+    put_volume(alloc, sink, unfinished, b"tmp")
 }
 
 #[test]

@@ -79,25 +79,11 @@ fn put_store(out: &mut String, store: &VolStore<MemDisk>) -> Mem<()> {
 }
 
 /// Why a disk isn't attached.
-fn refusal(alloc: Global, fault: StoreFault) -> Mem<String> {
-    let mut out = String::new(alloc);
-    match fault {
-        StoreFault::BadRecord(number) => write!(out, "bad {number}")?,
-        _ => out.push_str("failed")?,
-    }
-    Ok(out)
-}
-
-/// A disk with these records, of which so many were told.
-fn attached(
-    alloc: Global,
-    records: &[Rec],
-    told: u32,
-) -> Result<(VolStore<MemDisk>, Lines), StoreFault> {
-    match disk_with(alloc, records) {
-        Some(disk) => attach(alloc, disk, told),
-        None => Err(StoreFault::Closed),
-    }
+fn put_fault(out: &mut String, fault: StoreFault) {
+    let _ = match fault {
+        StoreFault::BadRecord(number) => write!(out, "bad {number}"),
+        _ => out.push_str("failed"),
+    };
 }
 
 /// What of a disk that is attached is shown.
@@ -112,41 +98,56 @@ enum Shown {
 }
 
 /// What a store shows, and the lines that its disk told.
-fn text_of(alloc: Global, store: &VolStore<MemDisk>, lines: &Lines, shown: Shown) -> Mem<String> {
-    let mut out = String::new(alloc);
-    match shown {
-        Shown::State => put_store(&mut out, store)?,
-        Shown::Told => put_lines(&mut out, lines)?,
-        Shown::Nothing => out.push_str("none")?,
-    }
-    Ok(out)
+fn put_shown(out: &mut String, store: &VolStore<MemDisk>, lines: &Lines, shown: Shown) {
+    let _ = match shown {
+        Shown::State => put_store(out, store),
+        Shown::Told => put_lines(out, lines),
+        Shown::Nothing => out.push_str("none"),
+    };
 }
 
-/// What a disk with these records shows, of which so many were told; or why it isn't attached.
-fn text_with(alloc: Global, records: &[Rec], told: u32, shown: Shown) -> Mem<String> {
-    match attached(alloc, records, told) {
-        Ok((store, lines)) => text_of(alloc, &store, &lines, shown),
-        Err(fault) => refusal(alloc, fault),
+/// What a disk shows of which so many records were told, or why it isn't attached. The store is let go by a call: where it went at
+/// the end of a scope, each such end would be proved for all that it has.
+fn put_attached(out: &mut String, alloc: Global, disk: MemDisk, told: u32, shown: Shown) {
+    match attach(alloc, disk, told) {
+        Ok(attached) => {
+            put_shown(out, &attached.0, &attached.1, shown);
+            drop(attached);
+        }
+        Err(fault) => put_fault(out, fault),
+    }
+}
+
+/// What a disk with these records shows, of which so many were told.
+fn put_disk(out: &mut String, alloc: Global, records: &[Rec], told: u32, shown: Shown) {
+    match disk_with(alloc, records) {
+        Some(disk) => put_attached(out, alloc, disk, told, shown),
+        None => {
+            let _ = out.push_str("no disk");
+        }
     }
 }
 
 /// What a disk with these records stands for.
-pub(crate) fn stood_for(alloc: Global, records: &[Rec]) -> Mem<String> {
-    text_with(alloc, records, 0, Shown::State)
+pub(crate) fn stood_for(alloc: Global, records: &[Rec]) -> String {
+    let mut out = String::new(alloc);
+    put_disk(&mut out, alloc, records, 0, Shown::State);
+    out
 }
 
 /// What a disk with these records tells, of which so many were told.
-pub(crate) fn told(alloc: Global, records: &[Rec], told: u32) -> Mem<String> {
-    text_with(alloc, records, told, Shown::Told)
+pub(crate) fn told(alloc: Global, records: &[Rec], told: u32) -> String {
+    let mut out = String::new(alloc);
+    put_disk(&mut out, alloc, records, told, Shown::Told);
+    out
 }
 
 /// Which record of each of these disks can't be taken.
-pub(crate) fn bad(alloc: Global, disks: &[&[Rec]]) -> Mem<String> {
+pub(crate) fn bad(alloc: Global, disks: &[&[Rec]]) -> String {
     let mut out = String::new(alloc);
     for records in disks {
-        let fault = text_with(alloc, records, 0, Shown::Nothing)?;
-        out.push_str(fault.as_str())?;
-        out.push_str(" ")?;
+        put_disk(&mut out, alloc, records, 0, Shown::Nothing);
+        let _ = out.push_str(" ");
     }
-    Ok(out)
+    out
 }

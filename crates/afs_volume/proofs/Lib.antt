@@ -10,5 +10,6 @@ pub mod Sums
 pub mod Tables
 pub mod Taken
 pub mod Texts
+pub mod Timed
 pub mod Upward
 pub mod Walked

@@ -116,6 +116,10 @@ gets_from m (q ∷ ps) (suc i) p up e =
 pub place_gets : (t : Table image.Vnode) (i : ℕ) (x : image.Vnode) → AscendsFrom 0 t → Some (x.vnode, x) ≡ slice_get t i → get x.vnode t ≡ Some x
 place_gets t i x up e = gets_from 0 t i (x.vnode, x) up (sym e)
 
+-- what is listed under the number of a vnode are its names
+pub listed_here : (names : ℕ → Option (List Name)) (t : Table image.Vnode) (i : ℕ) (x : image.Vnode) → AscendsFrom 0 t → Some (x.vnode, x) ≡ slice_get t i → Lists names (all_seen t) → names x.vnode ≡ listed_as x
+listed_here names t i x up there all = found names t all x.vnode ∙ ap names_of (place_gets t i x up there)
+
 -- ---- a vnode that is put or removed
 
 pub listed_set : (old new : ℕ → Option (List Name)) (t u : Table image.Vnode) (x : image.Vnode) (names : Option (List Name)) → names ≡ listed_as x → ((n : ℕ) → new n ≡ (if nat_eq x.vnode n then names else old n)) → u ≡ set x.vnode x t

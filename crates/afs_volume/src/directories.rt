@@ -135,6 +135,45 @@ impl Directories {
         }
     }
 
+    /// The names of the directory of this number, which are shared.
+    fn shared(&self, number: u32) -> Mem<Option<Listing>>
+        ensures { IfOk result (λ names. names ≡ maps.get nat_eq self.now.dirs number) }
+    {
+        match self.get(number) {
+            Some(names) => Ok(Some(names.copy()?)),
+            None => Ok(None),
+        }
+    }
+
+    /// The names of the vnode in a place besides, shared with these directories.
+    fn share_place(&mut self, dirs: &Directories, vnodes: &VnodeStore, place: u32) -> Mem<()>
+        requires ordered { AscendsFrom 0 vnodes.now.table }
+        requires all { Lists (maps.get nat_eq dirs.now.dirs) (all_seen vnodes.now.table) }
+        requires listed { Lists (maps.get nat_eq self.old.dirs) (all_seen (take place vnodes.now.table)) }
+        ensures { OnOk result (Lists (maps.get nat_eq self.new.dirs) (all_seen (take (place + 1) vnodes.now.table))) }
+    {
+        match vnodes.at(place) {
+            Some(x) => {
+                let names = dirs.shared(x.vnode)?;
+                self.set(x.vnode, names)?;
+                Ok(())
+            }
+            None => Ok(()),
+        }
+    }
+
+    /// The names of all directories among these vnodes, which are shared with the copy. No directory is read.
+    pub fn share(&self, alloc: Global, vnodes: &VnodeStore) -> Mem<Directories>
+        requires { Lists (maps.get nat_eq self.now.dirs) (all_seen vnodes.now.table) }
+        ensures { IfOk result (λ d. Lists (maps.get nat_eq d.dirs) (all_seen vnodes.now.table)) }
+    {
+        let mut dirs = Directories::new(alloc);
+        for place in 0..vnodes.len() as u32 {
+            dirs.share_place(self, vnodes, place)?;
+        }
+        Ok(dirs)
+    }
+
     /// The names of all directories among vnodes, each of which is read once. `NotSound` where a vnode can't be read.
     pub fn read(alloc: Global, vnodes: &VnodeStore) -> Result<Directories, AssembleFault>
         ensures listed { IfOk result (λ d. Lists (maps.get nat_eq d.dirs) (all_seen vnodes.now.table)) }

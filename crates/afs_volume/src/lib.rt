@@ -3,6 +3,7 @@
 
 mod assembling;
 pub mod bodies;
+mod copying;
 pub mod directories;
 pub mod faults;
 pub mod finding;

@@ -1,6 +1,7 @@
-//! What a volume shows, and its flags.
+//! What a volume shows, its flags and its release number.
 
-ghost use Rattle.std.specs.Prelude.{◌≡◌};
+ghost use Rattle.std.specs.Prelude.{◌≡◌, ◌<◌, ◌+◌};
+ghost use Rattle.afs_ideal.specs.Operations.{last_count};
 ghost use Rattle.afs_ideal.specs.Volumes.{blocks_in};
 ghost use Rattle.afs_volume.specs.Giving.{volume_of};
 ghost use Rattle.afs_volume.specs.Seen.{FitsHead};
@@ -38,5 +39,14 @@ impl Volume {
         ensures vnodes { self.new.vnodes ≡ self.old.vnodes }
     {
         self.head.flags = flags;
+    }
+
+    /// The next release number, and nothing else changed. It takes no memory.
+    pub fn raise_release(&mut self)
+        requires { self.old.head.release < last_count }
+        ensures head { self.new.head ≡ record self.old.head { release = self.old.head.release + 1 } }
+        ensures vnodes { self.new.vnodes ≡ self.old.vnodes }
+    {
+        self.head.release += 1;
     }
 }

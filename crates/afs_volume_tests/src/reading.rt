@@ -40,19 +40,32 @@ fn proj(alloc: Global) -> Mem<Volume>
     Volume::new(alloc, ID, ID, b"proj", 0, 0, 1_000)
 }
 
-// What a new volume answers to a user of no rights of its own.
-fn answer(alloc: Global, call: &FsCall) -> Result<FsReply, OpFault>
-    requires { IsReading call.now }
+// What a new volume answers to a user of no rights of its own. Calls and replies are let go by a call: where one went at the end of
+// a scope, each such end would be proved for each kind of call.
+fn answer(alloc: Global, call: FsCall) -> Result<FsReply, OpFault>
+    requires { IsReading call }
 {
-    read(&proj(alloc)?, call, b"guest")
+    let answer = match proj(alloc) {
+        Ok(volume) => {
+            let answer = read(&volume, &call, b"guest");
+            drop(volume);
+            answer
+        }
+        Err(_) => Err(OpFault::OutOfMemory),
+    };
+    drop(call);
+    answer
 }
 
 // The code of a refusal, and 0 where nothing is refused.
-fn code(alloc: Global, call: &FsCall) -> Result<i32, OpFault>
-    requires { IsReading call.now }
+fn code(alloc: Global, call: FsCall) -> Result<i32, OpFault>
+    requires { IsReading call }
 {
     match answer(alloc, call) {
-        Ok(_) => Ok(0),
+        Ok(reply) => {
+            drop(reply);
+            Ok(0)
+        }
         Err(OpFault::Code(Code(code))) => Ok(code),
         Err(OpFault::OutOfMemory) => Err(OpFault::OutOfMemory),
     }
@@ -77,72 +90,120 @@ fn words(s: &AfsFetchStatus) -> [u32; 12] {
 }
 
 // The words of a status in a reply.
-fn status(alloc: Global, call: &FsCall) -> Result<Option<[u32; 12]>, OpFault>
-    requires { IsReading call.now }
-{
-    match answer(alloc, call)? {
-        FsReply::FetchStatus { status, .. } => Ok(Some(words(&status))),
-        _ => Ok(None),
+fn words_in(reply: &FsReply) -> Option<[u32; 12]> {
+    match reply {
+        FsReply::FetchStatus { status, .. } => Some(words(status)),
+        _ => None,
     }
+}
+
+fn status(alloc: Global, call: FsCall) -> Result<Option<[u32; 12]>, OpFault>
+    requires { IsReading call }
+{
+    let reply = answer(alloc, call)?;
+    let found = words_in(&reply);
+    drop(reply);
+    Ok(found)
 }
 
 #[test]
 fn the_root_of_a_new_volume_is_an_empty_directory(rt: HostRuntime) -> Result<(), Fail> {
-    let call = FsCall::FetchStatus { fid: fid(1, 1) };
+    let found = status(rt.alloc(), FsCall::FetchStatus { fid: fid(1, 1) })?;
     let want = [1, 2, 2, 4, 1, 1, 0o755, 127, 127, 0, 0, 0];
-    assert_eq!(rt; status(rt.alloc(), &call)?, Some(want));
+    assert_eq!(rt; found, Some(want));
     Ok(())
+}
+
+// What a volume counts, its numbers and its flags.
+fn counts_of(volume: &Volume) -> [u32; 10] {
+    let head = volume.head();
+    [
+        head.id,
+        head.family,
+        head.kind,
+        head.flags,
+        head.quota,
+        head.unique,
+        head.counter,
+        head.release,
+        volume.blocks(),
+        volume.vnodes().len() as u32,
+    ]
+}
+
+// The same of a new volume.
+fn new_counts(alloc: Global) -> Mem<[u32; 10]> {
+    let volume = proj(alloc)?;
+    let counts = counts_of(&volume);
+    drop(volume);
+    Ok(counts)
+}
+
+// The same once its flags were set.
+fn counts_with(alloc: Global, flags: u32) -> Mem<[u32; 10]> {
+    let mut volume = proj(alloc)?;
+    volume.set_flags(flags);
+    let counts = counts_of(&volume);
+    drop(volume);
+    Ok(counts)
 }
 
 #[test]
 fn a_new_volume_takes_one_block(rt: HostRuntime) -> Result<(), Fail> {
-    let volume = proj(rt.alloc())?;
-    let head = volume.head();
     assert_eq!(rt;
-        [head.id, head.family, head.quota, volume.blocks()],
-        [ID, ID, 1_000, 1]
+        new_counts(rt.alloc())?,
+        [ID, ID, 0, 0, 1_000, 2, 1, 0, 1, 1]
     );
-    assert_eq!(rt;
-        [
-            head.kind,
-            head.flags,
-            head.unique,
-            head.counter,
-            head.release
-        ],
-        [0, 0, 2, 1, 0]
-    );
-    assert_eq!(rt; volume.vnodes().len(), 1);
     Ok(())
 }
 
 #[test]
 fn flags_are_set_alone(rt: HostRuntime) -> Result<(), Fail> {
-    let mut volume = proj(rt.alloc())?;
-    volume.set_flags(2);
-    let head = volume.head();
     assert_eq!(rt;
-        [head.flags, head.quota, head.unique, volume.blocks()],
-        [2, 1_000, 2, 1]
+        counts_with(rt.alloc(), 2)?,
+        [ID, ID, 0, 2, 1_000, 2, 1, 0, 1, 1]
     );
     Ok(())
 }
 
+// The code of a call for the status of many.
+fn bulk_code(alloc: Global, places: &[(u32, u32)]) -> Result<i32, OpFault> {
+    match fids(alloc, places) {
+        Ok(fids) => code(alloc, FsCall::BulkStatus { fids }),
+        Err(_) => Err(OpFault::OutOfMemory),
+    }
+}
+
 #[test]
 fn the_first_fid_that_is_refused_decides(rt: HostRuntime) -> Result<(), Fail> {
-    let alloc = rt.alloc();
-    for (list, want) in [
+    for (places, want) in [
         ([(1, 1), (1, 1)].as_slice(), 0),
         (&[], 0),
         (&[(1, 1), (2, 2)], 102),
         (&[(1, 2), (1, 1)], 102),
     ] {
-        let call = FsCall::BulkStatus {
-            fids: fids(alloc, list)?,
-        };
-        assert_eq!(rt; code(alloc, &call)?, want);
+        assert_eq!(rt; bulk_code(rt.alloc(), places)?, want);
     }
     Ok(())
+}
+
+// The code of a call to fetch.
+fn fetch_code(
+    alloc: Global,
+    vnode: u32,
+    unique: u32,
+    position: i32,
+    length: i32,
+) -> Result<i32, OpFault> {
+    let fid = fid(vnode, unique);
+    code(
+        alloc,
+        FsCall::FetchData {
+            fid,
+            position,
+            length,
+        },
+    )
 }
 
 #[test]
@@ -155,12 +216,8 @@ fn parts_of_a_vnode_are_not_fetched(rt: HostRuntime) -> Result<(), Fail> {
         (1, 2, 1, 0, 102),
         (3, 1, 0, 2_147_483_647, 102),
     ] {
-        let call = FsCall::FetchData {
-            fid: fid(vnode, unique),
-            position,
-            length,
-        };
-        assert_eq!(rt; code(rt.alloc(), &call)?, want);
+        let found = fetch_code(rt.alloc(), vnode, unique, position, length)?;
+        assert_eq!(rt; found, want);
     }
     Ok(())
 }

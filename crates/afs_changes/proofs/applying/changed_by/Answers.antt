@@ -11,8 +11,8 @@ use Rattle.afs_changes.proofs.Changed.{change_of, counter_low, drawable, is_chan
 use Rattle.afs_changes.proofs.Fitting.{can_take, is_kept}
 use Rattle.afs_changes.proofs.applying.changed_by.Goals as goal
 
-pub draft-requires : goal.draft-requires
-draft-requires c =
+pub draft_of-requires : goal.draft_of-requires
+draft_of-requires c =
     let w = c.args.volume.now in
     let drawn = drawable w.head.id (caller_seen c.args.caller.now) c.args.call.now (volume_of w) (edits_seen c.args.plan.now.edits) c.args.plan.now.shown c.requires.sound c.requires.on c.requires.planned in
     subst (λ (es : List Edit). AllByRecursion (CanBeDrawn (volume_of w)) (edits_seen es)) (sym c.as_slice-edits.ensures) drawn

@@ -10,8 +10,8 @@ use Rattle.afs_laying.proofs.AtSetUp.{laid_at_set_up}
 use Rattle.afs_changes.proofs.Changed.{next_low}
 use Rattle.afs_laying.proofs.laying.lay_edits.Goals as goal
 
-pub draft-requires : goal.draft-requires
-draft-requires c = c.requires.drawn
+pub draft_of-requires : goal.draft_of-requires
+draft_of-requires c = c.requires.drawn
 
 pub unique_left-unique-requires : goal.unique_left-unique-requires
 unique_left-unique-requires c = next_low (volume_of c.args.volume.now) (edits_seen c.args.edits.now) c.requires.fits

@@ -29,8 +29,8 @@ returns-in-Probe c =
     (λ place. ap (λ (x : Carried). replies_step old.state place c.args.head.now [] x) c.done.ensures ∙ ap (breaks old.node old.state place c.args.head.now) (sym c.in-Probe.is))
     c.reply_alone.ensures
 
-pub returns : goal.returns
-returns c =
+pub returns-in_default : goal.returns-in_default
+returns-in_default c =
     let old = c.args.self.now in
     takes_same _ (λ (place : ℕ). breaks old.node old.state place c.args.head.now c.args.call.now) old c.refuse_call.new.self c.refuse_call.result
     (λ place. sym (refused_others old.node old.state place c.args.head.now c.args.call.now c.in_default.not-CallBack c.in_default.not-InitCallBackState c.in_default.not-Probe)) c.refuse_call.ensures

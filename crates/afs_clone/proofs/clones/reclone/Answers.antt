@@ -1,0 +1,5 @@
+use Rattle.std.proofs.Common.{refl}
+use Rattle.afs_clone.proofs.clones.reclone.Goals as goal
+
+pub returns-clause-clone : goal.returns-clause-clone
+returns-clause-clone c = rw (c.in_ok-copy.ensures.head, c.in_ok-copy.ensures.vnodes, c.clone_head.ensures, c.head.ensures.value, c.in_ok-name.ensures, c.head-own.ensures.value) refl

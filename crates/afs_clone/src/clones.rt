@@ -1,0 +1,58 @@
+//! A clone has all vnodes of its volume as they are.
+
+ghost use Rattle.std.specs.Prelude.{◌≡◌, ◌≤◌, ◌<◌, ◌+◌, length, IfOk};
+ghost use Rattle.afs_ideal.specs.Operations.{last_count};
+ghost use Rattle.afs_dumps.specs.Clones.{cloned, next_release, recloned};
+ghost use Rattle.afs_records.specs.Records.{most_name};
+ghost use Rattle.afs_shape.specs.Tables.{IsVolumeKind};
+ghost use Rattle.afs_volume.specs.Taking.{stored_of};
+
+use afs_num::sequences::Octets;
+use afs_num::types::Mem;
+use afs_num::volumes::VolumeHead;
+use afs_volume::Volume;
+use std::alloc::Global;
+
+/// What stands before the vnodes of a clone: these, the next release number, and all else as in the volume.
+fn clone_head(v: &VolumeHead, id: u32, name: Octets, kind: u32, flags: u32) -> VolumeHead
+    requires { v.now.release < last_count }
+    ensures { result ≡ record v.now { id = id; name = name; kind = kind; flags = flags; release = v.now.release + 1 } }
+{
+    VolumeHead {
+        id,
+        family: v.family,
+        name,
+        kind,
+        flags,
+        quota: v.quota,
+        unique: v.unique,
+        counter: v.counter,
+        release: v.release + 1,
+    }
+}
+
+/// The volume under this number, name and kind, with flags 0 and the next release number. The volume itself stays as it is:
+/// its own release number is raised by `Volume::raise_release`, without memory. The names of directories are shared.
+pub fn clone_of(alloc: Global, v: &Volume, id: u32, name: &[u8], kind: u32) -> Mem<Volume>
+    requires kind { IsVolumeKind kind }
+    requires name { length name.now ≤ most_name }
+    requires room { v.now.head.release < last_count }
+    ensures id { IfOk result (λ c. c.head.id ≡ id) }
+    ensures clone { IfOk result (λ c. stored_of c ≡ cloned name.now kind (next_release (stored_of v.now)) (stored_of v.now)) }
+{
+    let name = Octets::from_slice(alloc, name)?;
+    let copy = v.copied(clone_head(v.head(), id, name, kind, 0))?;
+    Ok(copy)
+}
+
+/// A clone made anew from the volume: it keeps its number, name, kind and flags; all else is as in a new clone.
+pub fn reclone(alloc: Global, v: &Volume, old: &Volume) -> Mem<Volume>
+    requires { v.now.head.release < last_count }
+    ensures id { IfOk result (λ c. c.head.id ≡ old.now.head.id) }
+    ensures clone { IfOk result (λ c. stored_of c ≡ recloned (stored_of old.now) (next_release (stored_of v.now)) (stored_of v.now)) }
+{
+    let own = old.head();
+    let name = own.name.copy(alloc)?;
+    let copy = v.copied(clone_head(v.head(), own.id, name, own.kind, own.flags))?;
+    Ok(copy)
+}

@@ -1,0 +1,6 @@
+//! Dumps of volumes: the bytes of one, whole or in pieces.
+#![tactic(auto)]
+
+mod dumping;
+
+pub use dumping::{Piece, dump, dump_piece};

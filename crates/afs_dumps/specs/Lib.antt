@@ -1,0 +1,7 @@
+pub mod Fields
+pub mod Dumps
+pub mod Streams
+pub mod Clones
+pub mod Restores
+pub mod Feeding
+pub mod Laws
