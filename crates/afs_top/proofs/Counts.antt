@@ -173,7 +173,7 @@ module _ {D : Type 0} (seen : D → Option (List ℕ)) (faults limit : D → ℕ
   failed_among i (l ∷ ls) (left.Kept s ∷ fs) found failed = further i (length ls) (failed_at (i + 1) fs) (failed_among (i + 1) ls fs found.1 failed)
   failed_among i (l ∷ ls) (left.Bad d ∷ fs) found failed = further i (length ls) (failed_at (i + 1) fs) (failed_among (i + 1) ls fs found.1 failed)
   failed_among i (l ∷ ls) (left.Failed d ∷ fs) found failed = (omega (arith), omega (arith))
-  failed_among i (l ∷ ls) (left.Unread d ∷ fs) found failed = further i (length ls) (failed_at (i + 1) fs) (failed_among (i + 1) ls fs found.1 (also_failed _ failed))
+  failed_among i (l ∷ ls) (left.Unread d ∷ fs) found failed = further i (length ls) (failed_at (i + 1) fs) (failed_among (i + 1) ls fs found.1 (also_failed (fault_in fs) failed))
 
   goes_on : (own : ℕ → ℕ) (i server : ℕ) (l : Lent D) (ls : List (Lent D)) (f : Left (Store D) D) (fs : List (Left (Store D) D)) → AreFound seen faults limit (l ∷ ls) (f ∷ fs) → AreCounted faults own i (l ∷ ls) → IsAmong (i + 1) (length ls) server
       → AreCounted faults (λ (j : ℕ). own j + one_other server j) (i + 1) (kept_disks (i + 1) fs) → AreCounted faults (λ (j : ℕ). own j + one_other server j) i (kept_disks i (f ∷ fs))
@@ -190,7 +190,7 @@ module _ {D : Type 0} (seen : D → Option (List ℕ)) (faults limit : D → ℕ
   failed_counted own i (l ∷ ls) (left.Bad d ∷ fs) found failed are = goes_on own i (failed_at (i + 1) fs) l ls (left.Bad d) fs found are (failed_among (i + 1) ls fs found.1 failed) (failed_counted own (i + 1) ls fs found.1 failed are.1)
   failed_counted own i (l ∷ ls) (left.Failed d ∷ fs) found failed are =
       ((refl, once_more own i (faults l.disk) (faults d) found.0.never_falls found.0.is are.0.1), others_behind faults own i (i + 1) (kept_disks (i + 1) fs) (omega (arith)) (found_counted seen faults limit own (i + 1) ls fs found.1 are.1))
-  failed_counted own i (l ∷ ls) (left.Unread d ∷ fs) found failed are = goes_on own i (failed_at (i + 1) fs) l ls (left.Unread d) fs found are (failed_among (i + 1) ls fs found.1 (also_failed _ failed)) (failed_counted own (i + 1) ls fs found.1 (also_failed _ failed) are.1)
+  failed_counted own i (l ∷ ls) (left.Unread d ∷ fs) found failed are = goes_on own i (failed_at (i + 1) fs) l ls (left.Unread d) fs found are (failed_among (i + 1) ls fs found.1 (also_failed (fault_in fs) failed)) (failed_counted own (i + 1) ls fs found.1 (also_failed (fault_in fs) failed) are.1)
 
 -- its own count rose by that
 pub one_rose : (server : ℕ) (count : Span ℕ) → RoseBy (0 + one_other server server) count → RoseBy 1 count

@@ -1,6 +1,6 @@
 //! A script is played over the disks of its servers, and its history is written.
 
-ghost use Rattle.std.specs.Prelude.{◌≡◌, ◌≤◌, ◌⊎◌, ◌+◌, ◌++◌, ℕ, List, [], Bool, Option, None, length, map, false, IfErr, IfOk, OnOk};
+ghost use Rattle.std.specs.Prelude.{◌≡◌, ◌≤◌, ◌⊎◌, ◌+◌, ◌++◌, ℕ, List, [], Bool, Option, None, length, map, false, IfErr, IsErr, IfOk, OnOk};
 ghost use Rattle.afs_grammar.specs.CellScripts.{IsCellScript};
 ghost use Rattle.afs_outside.specs.Outside.{Puts};
 ghost use Rattle.afs_cell.specs.Since.{whole, IsWorldSince};
@@ -114,7 +114,8 @@ fn tell_left<K: Sink, D: Disk>(
     written: Result<(), Failed>,
 ) -> Status
     requires few { length left.now ≤ 8 }
-    ensures { (text : List ℕ) (start : Option (List ℕ)) (count : ℕ) → Puts text start (K.held sink.old) count (K.faults sink.old) written → TellsLeft written text (final_text (map part left.now)) (read.fault_in left.now) (span start (K.held sink.new)) (K.passed sink.new) (span count (K.faults sink.new)) result }
+    ensures broken { read.fault_in left.now ≡ None → IsErr written → result ≡ Status.WriteFault }
+    ensures told { (text : List ℕ) (start : Option (List ℕ)) (count : ℕ) → Puts text start (K.held sink.old) count (K.faults sink.old) written → TellsLeft written text (final_text (map part left.now)) (read.fault_in left.now) (span start (K.held sink.new)) (K.passed sink.new) (span count (K.faults sink.new)) result }
 {
     if let Some(why) = fault_in(left) {
         return tell_none(sink, written, why);
