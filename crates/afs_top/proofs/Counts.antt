@@ -21,7 +21,8 @@ use Rattle.afs_final.specs.declared.reading.Left.{Left}
 use Rattle.afs_final.specs.declared.reading.Left.TheVariants as left
 use Rattle.afs_lending.specs.Lending.{kept_disks, with_faults, AreUnused}
 use Rattle.afs_outside.specs.Outside as outside
-use Rattle.afs_top.specs.Outside.{span, DidNotRise, RoseBy, Span}
+use Rattle.afs_command.specs.Spans.{span, RoseBy, Span}
+use Rattle.afs_top.specs.Outside.{DidNotRise}
 use Rattle.afs_top.specs.Top.{one_other, AreOfServers}
 use Rattle.afs_top.proofs.Ending.{each_is, EachFrom}
 

@@ -26,7 +26,7 @@ use Rattle.afs_final.specs.Reading.{fault_in, kept_disk, part, AreFound, IsRead}
 use Rattle.afs_final.specs.declared.reading.Left.{Left}
 use Rattle.afs_final.specs.declared.reading.Left.TheVariants as left
 use Rattle.afs_lending.specs.Lending.{kept_disks, GivesBackBut}
-use Rattle.afs_top.specs.Outside.{RoseBy, Span}
+use Rattle.afs_command.specs.Spans.{RoseBy, Span}
 use Rattle.afs_top.specs.Top.{no_other, AreKept, AreOf, GivesBack, GivesBackThose, IsLegalRun, IsServerOf, MayKeep}
 
 some_of : {A : Type 0} (o : Option A) → IsSome o → (x : A) × (o ≡ Some x)

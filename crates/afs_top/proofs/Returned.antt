@@ -21,8 +21,8 @@ use Rattle.afs_top.specs.Outside.{Outside, Writes}
 use Rattle.afs_top.specs.Parts.{returned, TellsLeft}
 use Rattle.afs_top.specs.Playing.{world_text, IsWritten}
 use Rattle.afs_top.specs.Top.{EndsRun, IsFew, WritesEntries}
-use Rattle.afs_top.specs.declared.statuses.Status.{Status}
-use Rattle.afs_top.specs.declared.statuses.Status.TheVariants as statuses
+use Rattle.afs_command.specs.declared.statuses.Status.{Status}
+use Rattle.afs_command.specs.declared.statuses.Status.TheVariants as statuses
 use Rattle.afs_top.proofs.Ended.{all_played, ended, entries_of, stopped, was_cut, GoesBack, HasEnded}
 use Rattle.afs_top.proofs.Ending.{lent_length}
 

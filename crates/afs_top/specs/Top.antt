@@ -1,6 +1,5 @@
 -- What the program promises: what it writes is the text of a legal history of the script that it read, and the disks that it
--- gives back stand for what that history leaves.
-use Rattle.std.specs.Prelude.{◌≡◌, ◌≤◌, ◌<◌, ◌⊎◌, ℕ, zero, suc, ◌+◌, List, [], ◌∷◌, ◌++◌, length, Bool, false, nat_eq, if◌then◌else◌, Option, Some, None, Ok, Err}
+use Rattle.std.specs.Prelude.{◌≡◌, ◌≤◌, ◌<◌, ◌⊎◌, ℕ, zero, suc, ◌+◌, List, [], ◌∷◌, ◌++◌, length, Bool, false, nat_eq, if◌then◌else◌, Option, Some, None, Ok}
 use Rattle.std.specs.Option.{option_map}
 use Rattle.std.specs.Io.KnownBytes.{IsAtEnd}
 use Rattle.afs_num.specs.declared.scripts.Reason.{Reason}
@@ -13,7 +12,7 @@ use Rattle.afs_disk.specs.declared.disks.Lent.{Lent}
 use Rattle.afs_grammar.specs.Lines.{script_of}
 use Rattle.afs_law.specs.Laws.{EndsWell}
 use Rattle.afs_law.specs.Legal.{Legal}
-use Rattle.afs_outside.specs.Outside.{AppendsFront, HadAll, TakesTooMuch}
+use Rattle.afs_outside.specs.Outside.{AppendsFront, HadAll}
 use Rattle.afs_records.specs.Durable.{Durable}
 use Rattle.afs_volstore.specs.Stands.{Stands}
 use Rattle.afs_rows.specs.Runs.{start, Cell, Entry, Input, Leads}
@@ -26,15 +25,13 @@ use Rattle.afs_cell.specs.Ends.{AreLeft, OneRoseAtMost}
 use Rattle.afs_cell.specs.Steps.{MayBeRead}
 use Rattle.afs_cell.specs.Worlds.{most_entries, own_falls}
 use Rattle.afs_lending.specs.Lending.{lends, AreLent, AreUnused, GivesBackBut}
-use Rattle.afs_top.specs.Forms.{Asks, HaveForm}
-use Rattle.afs_top.specs.Outside.{DidNotRise, IsUnchanged, Outside, RoseBy, SoManyFailed, Span, Writes, WritesAll}
-use Rattle.afs_top.specs.declared.statuses.Form.TheVariants.{Replay}
-use Rattle.afs_top.specs.declared.statuses.Status.{Status}
-use Rattle.afs_top.specs.declared.statuses.Status.TheVariants as statuses
-
--- how far the grammar is built: disks that stop, every act on paths, several clients and breaks, at one server
-abbrev pub level : ℕ
-level = 6
+use Rattle.afs_command.specs.Forms.{Asks, HaveForm}
+use Rattle.afs_command.specs.Spans.{IsUnchanged, RoseBy, Span}
+use Rattle.afs_top.specs.Outside.{DidNotRise, Outside, SoManyFailed, Writes, WritesAll}
+use Rattle.afs_command.specs.declared.statuses.Form.TheVariants.{Replay}
+use Rattle.afs_command.specs.declared.statuses.Status.{Status}
+use Rattle.afs_command.specs.declared.statuses.Status.TheVariants as statuses
+use Rattle.afs_command.specs.Reading.{level, IsBad, IsReadOut}
 
 -- ---- disks
 
@@ -334,18 +331,6 @@ pub record EndsReplay (s : Script) (wire : Bool) (place : Place) (tells left : T
 -- the input is a script
 abbrev pub IsScript : List ℕ → Type 0
 IsScript input = (script : Script) × (script_of level input ≡ Ok script)
-
--- the input is none: this is its first bad line, and the reason
-abbrev pub IsBad : ℕ → Reason → List ℕ → Type 0
-IsBad line reason input = script_of level input ≡ Err (line, reason)
-
--- the most bytes that a script may have
-abbrev pub most_bytes : ℕ
-most_bytes = 16777216
-
--- The source was read to its end, or one byte above the most that a script may have was taken from it.
-abbrev pub IsReadOut : Span (Option (List ℕ)) → Type 0
-IsReadOut source = IsAtEnd source.after ⊎ ((front : List ℕ) × TakesTooMuch most_bytes source.before source.after front)
 
 -- The words ask for a replay. All was read that the source had left, which didn't fail, and that is a script. Its replay ends so.
 pub record Answers (words : List (List ℕ)) (source : Span (Option (List ℕ))) (source_faults : Span ℕ) (Ends : Script → Bool → Place → Type 0) : Type 0 where

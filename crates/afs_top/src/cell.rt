@@ -2,13 +2,14 @@
 
 ghost use Rattle.std.specs.Prelude.{◌≡◌, ◌⊎◌, ◌+◌, ◌↔◌, ℕ, map, string_bytes};
 ghost use Rattle.afs_outside.specs.Outside.{Gives, TakesAtMost};
-ghost use Rattle.afs_top.specs.Forms.{HaveForm};
-ghost use Rattle.afs_top.specs.Outside.{span, OneRose, RoseBy};
+ghost use Rattle.afs_command.specs.Forms.{HaveForm};
+ghost use Rattle.afs_command.specs.Spans.{span, RoseBy};
+ghost use Rattle.afs_top.specs.Outside.{OneRose};
 ghost use Rattle.afs_top.specs.Top.{Ends, IsBeforeReplay, IsScript, LendingLeaves, SetUpLeaves};
 
 use crate::replaying::replay;
-use crate::scripts::script_in;
-use crate::statuses::{Form, Status, form_of};
+use afs_command::scripts::script_in;
+use afs_command::statuses::{Form, Status, form_of};
 use afs_disk::Bank;
 use afs_grammar::laws::scripts_are_of_cells;
 use afs_outside::outside::{Sink, Source};

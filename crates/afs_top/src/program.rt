@@ -2,13 +2,14 @@
 
 ghost use Rattle.std.specs.Prelude.{◌≡◌, ◌⊎◌, ◌+◌, ℕ, map, string_bytes};
 ghost use Rattle.afs_outside.specs.Outside.{Gives, Puts, TakesAtMost};
-ghost use Rattle.afs_top.specs.Forms.{HaveForm};
-ghost use Rattle.afs_top.specs.Outside.{span, OneRose, RoseBy};
-ghost use Rattle.afs_top.specs.Statuses.{Shows, status_line, status_number};
+ghost use Rattle.afs_command.specs.Forms.{HaveForm};
+ghost use Rattle.afs_command.specs.Spans.{span, RoseBy};
+ghost use Rattle.afs_top.specs.Outside.{OneRose};
+ghost use Rattle.afs_command.specs.Statuses.{Shows, status_line, status_number};
 ghost use Rattle.afs_top.specs.Top.{Ends, IsBeforeReplay, IsScript, LendingLeaves, SetUpLeaves};
 
 use crate::cell::cell_main;
-use crate::statuses::Status;
+use afs_command::statuses::Status;
 use afs_disk::Bank;
 use afs_outside::outside::{Failed, Sink, Source, pass_on};
 use afs_text::pieces::Print;

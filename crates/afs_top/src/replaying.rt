@@ -11,15 +11,16 @@ ghost use Rattle.afs_final.specs.Reading as read;
 ghost use Rattle.afs_final.specs.Telling.{final_of};
 ghost use Rattle.afs_lending.specs.Lending.{with_faults, AreUnused, GoBack};
 ghost use Rattle.afs_text.specs.FinalText.{final_text};
-ghost use Rattle.afs_top.specs.Outside.{span, WritesText};
+ghost use Rattle.afs_command.specs.Spans.{span};
+ghost use Rattle.afs_top.specs.Outside.{WritesText};
 ghost use Rattle.afs_top.specs.Parts.{lend_status, returned, set_up_status, TellsLeft};
 ghost use Rattle.afs_top.specs.Playing.{IsWritten, PutsBehind};
 ghost use Rattle.afs_top.specs.Top.{EndsReplay, EndsRun, LendingLeaves, SetUpLeaves};
 
 use crate::playing::{Ended, Told, play};
-use crate::statuses::Status;
 use afs_cell::faults::SetupFault;
 use afs_cell::{World, set_up};
+use afs_command::statuses::Status;
 use afs_disk::{Bank, Disk, Disks, LendFault, Place};
 use afs_final::{Kept, Left, fault_in, put_final, told_of};
 use afs_history::scripts::Script;
