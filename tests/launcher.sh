@@ -532,7 +532,7 @@ refuses() {
 
 # Each reason of the program has a rule.
 printf '# a comment\nclients x\n' > "$work/bad"
-reasons=$(sed -n 's/^reason_word .* = codes "\(.*\)"$/\1/p' crates/afs_top/specs/Statuses.antt)
+reasons=$(sed -n 's/^reason_word .* = codes "\(.*\)"$/\1/p' crates/afs_command/specs/Statuses.antt)
 if [ "$(echo "$reasons" | wc -l)" -eq 9 ]; then pass; else fail 'the reasons of the program are not nine'; fi
 for reason in $reasons; do
     if [ -n "$(rule "$reason")" ]; then pass; else fail "$reason has no rule in docs/formats.md"; fi

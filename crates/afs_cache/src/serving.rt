@@ -203,10 +203,10 @@ impl CacheManager {
     }
 
     /// A call of a server that runs.
-    fn serve(&mut self, head: &Head, call: &FsCall) -> Mem<Outs>
+    fn serve(&mut self, head: &Head, call: FsCall) -> Mem<Outs>
         requires head { IsSoundHead head.now }
-        requires opcode { head.now.opcode ≡ call_number call.now }
-        ensures { Takes (λ place. breaks self.old.node self.old.state place head.now call.now) self.old self.new result }
+        requires opcode { head.now.opcode ≡ call_number call }
+        ensures { Takes (λ place. breaks self.old.node self.old.state place head.now call) self.old self.new result }
     {
         match call {
             FsCall::CallBack { fids, .. } => self.break_fids(head, fids.as_slice()),
@@ -223,11 +223,7 @@ impl CacheManager {
         ensures { Takes (λ place. runs_asking self.old.node self.old.state place head.now (Asking.Call call)) self.old self.new result }
     {
         match call.into_file() {
-            Some(call) => {
-                let outs = self.serve(head, &call);
-                drop(call);
-                outs
-            }
+            Some(call) => self.serve(head, call),
             None => self.refuse_call(head, NOT_SERVED),
         }
     }

@@ -26,10 +26,11 @@ use Rattle.afs_text.specs.Telling.{told, sent_by}
 use Rattle.afs_clients.specs.Happening.{entry_of, ClientHears, ClientMakes, HasBegun, HasFallen, HasRisen, HasTimedOut, IsAsked, IsVoidClient}
 use Rattle.afs_clients.specs.Places.{put_place}
 use Rattle.afs_cell.specs.Steps.{IsAt, Plays}
-use Rattle.afs_cell.specs.Worlds.{falls, Counts, IsClient, IsHost, WorldState}
+use Rattle.afs_cell.specs.Worlds.{falls, IsClient, IsHost, WorldState}
 use Rattle.afs_clients.specs.declared.clients.ClientSeat.{ClientSeat}
 use Rattle.afs_clients.specs.declared.happening.ClientInput.{ClientInput}
 use Rattle.afs_clients.specs.declared.happening.ClientInput.TheVariants as client
+use Rattle.afs_cell.proofs.Counts.{counts_still}
 use Rattle.afs_cell.proofs.Links.{cond_same, message_found, Voided}
 use Rattle.afs_cell.proofs.Parcels.{messages_of-read, messages_spelled-append, parcels_read-append, told-push}
 use Rattle.afs_clients.proofs.Numbers.{client_there, each_put, length_put}
@@ -139,9 +140,7 @@ module _ {D : Type 0} (seen : D → Option (List ℕ)) (may_leave : D → List �
         ∙ ap (λ (e : Entry). told w.wire w.history ++ e ∷ [])
         (ap (λ (ms : List Message). entry_with (actors.Node (Client n)) (front ++ outs.lines) ms) (messages_of-read outs.parcels link.ms link.read) ∙ sym link.moves.entry);
     at = at_moved w t is n was now front outs found link at;
-    counts = λ k h.
-        let same : k ≡ k + falls link.input = omega (arith, link.harmless) in
-        subst (λ (m : ℕ). Counts faults m w.servers) same h;
+    counts = counts_still faults link.input (moved t.cell link.input).entry w.servers link.harmless;
   }
 
 -- ---- which input it is

@@ -15,10 +15,11 @@ use Rattle.afs_schedule.specs.Schedules.{IsInput, Turn}
 use Rattle.afs_text.specs.Telling.{sent_by}
 use Rattle.afs_cell.specs.Happening.{NothingSettles}
 use Rattle.afs_cell.specs.Steps.{IsAt, Plays, Stepped, Steps}
-use Rattle.afs_cell.specs.Worlds.{most_entries, most_ticks, AllTell, Counts, IsSafe, WorldState}
+use Rattle.afs_cell.specs.Worlds.{most_entries, most_ticks, AllTell, IsSafe, WorldState}
 use Rattle.afs_cell.specs.declared.faults.WorldFault.{WorldFault}
 use Rattle.afs_cell.specs.declared.faults.WorldFault.TheVariants as faulty
 use Rattle.afs_cell.proofs.ClientSteps.{moved_nothing}
+use Rattle.afs_cell.proofs.Counts.{counts_still}
 use Rattle.afs_cell.proofs.Links.{message_found, Voided}
 use Rattle.afs_cell.proofs.Parcels.{places_agree, sent_by-push, told-still, AtPlace}
 use Rattle.afs_cell.proofs.Settled.{clients_more, nothing_changes, nothing_happens, one_longer, servers_more}
@@ -70,9 +71,7 @@ module _ {D : Type 0} (seen : D → Option (List ℕ)) (may_leave : D → List �
       cell = record { host_count = at.cell.host_count; hosts = at.cell.hosts; count = at.cell.count; clients = at.cell.clients; sent = at.cell.sent; clock = ap (λ (c : ℕ). c + suc k) at.cell.clock };
       acts = at.acts;
     };
-    counts = λ m h.
-        let same : m ≡ m + 0 = omega arith in
-        subst (λ (j : ℕ). Counts faults j w.servers) same h;
+    counts = counts_still faults (ticks (suc k)) (moved t.cell (ticks (suc k))).entry w.servers refl;
   }
 
   pub tick_steps : (n : ℕ) (w : WorldState D) → 1 ≤ n → IsSafe limit s w → w.is_lost ≡ false → length w.history < most_entries → w.clock + n ≤ most_ticks → Stepped seen may_leave faults limit s (λ (t : Turn). IsInput t (events.Tick n)) w (after_tick w n) (Ok tt)

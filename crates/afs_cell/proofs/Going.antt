@@ -10,10 +10,11 @@ use Rattle.afs_rows.specs.Runs.{moved, start, Cell, Entry, Input, Leads}
 use Rattle.afs_schedule.specs.Schedules.{Turn}
 use Rattle.afs_text.specs.Telling.{told, AreRead}
 use Rattle.afs_cell.specs.Steps.{IsAt, Plays, StandsStill, Stays, Stepped, TellsNothing}
-use Rattle.afs_cell.specs.Worlds.{falls, own_falls, AllTell, Counts, HasRun, IsCell, IsWorld, Runs, WorldState}
+use Rattle.afs_cell.specs.Worlds.{falls_at, own_falls, AllTell, Counts, HasRun, IsCell, IsWorld, Runs, WorldState}
 use Rattle.afs_clients.specs.declared.clients.ClientSeat.{ClientSeat}
 use Rattle.afs_cell.specs.declared.faults.WorldFault.{WorldFault}
 use Rattle.afs_cell.specs.declared.faults.WorldFault.TheVariants as faulty
+use Rattle.afs_cell.proofs.Counts.{counts_as, falls_behind}
 use Rattle.afs_cell.proofs.Parcels.{are_read}
 
 -- one input more
@@ -22,12 +23,6 @@ leads_behind c [] [] end x e = (ap (λ (k : Cell). (moved k x).entry) e, ap (λ 
 leads_behind c [] (f ∷ fs) end x h = absurd h
 leads_behind c (y ∷ ys) [] end x h = absurd h
 leads_behind c (y ∷ ys) (f ∷ fs) end x h = (h.0, leads_behind (moved c y).cell ys fs end x h.1)
-
-pub falls_behind : (xs : List Input) (x : Input) → own_falls (xs ++ x ∷ []) ≡ own_falls xs + falls x
-falls_behind [] x = omega arith
-falls_behind (y ∷ ys) x =
-    let more = falls_behind ys x in
-    omega (arith, more)
 
 -- the tasks that the seats have left
 abbrev plan_or : Option ClientSeat → List Task
@@ -53,7 +48,10 @@ module _ {D : Type 0} (seen : D → Option (List ℕ)) (may_leave : D → List �
     leads = subst (λ (h : List Entry). Leads (start s) (inputs ++ p.input ∷ []) h (moved t.cell p.input).cell) (sym p.history) (leads_behind (start s) inputs (told old.wire old.history) t.cell p.input runs.leads);
     read = are_read new.wire (moved t.cell p.input).cell.sent p.at.cell.sent;
     cell_is = λ going. p.at.cell;
-    counts = subst (λ (n : ℕ). Counts faults n new.servers) (sym (falls_behind inputs p.input)) (p.counts (own_falls inputs) runs.counts);
+    counts =
+        counts_as faults (λ (i : ℕ). own_falls i inputs (told old.wire old.history) + falls_at i p.input (moved t.cell p.input).entry) (λ (i : ℕ). own_falls i (inputs ++ p.input ∷ []) (told new.wire new.history)) new.servers
+        (λ i. ap (own_falls i (inputs ++ p.input ∷ [])) p.history ∙ falls_behind i (start s) inputs (told old.wire old.history) t.cell p.input (moved t.cell p.input).entry runs.leads)
+        (p.counts (λ (i : ℕ). own_falls i inputs (told old.wire old.history)) runs.counts);
   }
 
   same_told : (old new : WorldState D) → TellsNothing old new → told new.wire new.history ≡ told old.wire old.history
@@ -65,12 +63,14 @@ module _ {D : Type 0} (seen : D → Option (List ℕ)) (may_leave : D → List �
 
   -- and where memory was wanting
   pub runs_still : (old new : WorldState D) (inputs : List Input) (c : Cell) → Runs seen may_leave faults limit s old inputs c → Stays seen may_leave limit old new faulty.OutOfMemory
-      → ((n : ℕ) → Counts faults n old.servers → Counts faults n new.servers) → Runs seen may_leave faults limit s new inputs c
+      → ((own : ℕ → ℕ) → Counts faults own old.servers → Counts faults own new.servers) → Runs seen may_leave faults limit s new inputs c
   runs_still old new inputs c runs stays counts = record {
     leads = subst (λ (h : List Entry). Leads (start s) inputs h c) (sym (same_told old new stays.0)) runs.leads;
     read = subst (λ (ps : List Parcel). AreRead ps) (sym stays.0.wire) runs.read;
     cell_is = stays_cell old new inputs c runs stays.1;
-    counts = counts (own_falls inputs) runs.counts;
+    counts =
+        counts_as faults (λ (i : ℕ). own_falls i inputs (told old.wire old.history)) (λ (i : ℕ). own_falls i inputs (told new.wire new.history)) new.servers (λ i. ap (own_falls i inputs) (same_told old new stays.0))
+        (counts (λ (i : ℕ). own_falls i inputs (told old.wire old.history)) runs.counts);
   }
 
   world_by : (is : Turn → Input → Type 0) (old new : WorldState D) (result : Result (Unit {0}) WorldFault) → old.is_lost ≡ false → HasRun seen may_leave faults limit s old → AllTell seen old.servers → Stepped seen may_leave faults limit s is old new result → HasRun seen may_leave faults limit s new

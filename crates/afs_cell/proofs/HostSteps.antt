@@ -81,5 +81,5 @@ module _ {D : Type 0} (seen : D → Option (List ℕ)) (may_leave : D → List �
     at =
         subst (λ (left : Node → List Task). IsAt seen may_leave limit (after_step w i now front outs) (moved t.cell link.input).cell left) (sym link.left)
         (subst (λ (m : Moved). IsAt seen may_leave limit (after_step w i now front outs) m.cell t.left) (sym link.moves) (at_placed w t.cell t.left i was now front outs link.step found link.good at));
-    counts = counts_put faults i (falls link.input) was now w.servers found le link.blames;
+    counts = counts_put faults i link.input (moved t.cell link.input).entry was now w.servers (ap (λ (m : Moved). m.entry.actor) link.moves) found le link.blames;
   }

@@ -103,7 +103,7 @@ module _ {D : Type 0} (seen : D → Option (List ℕ)) (may_leave : D → List �
 
   -- memory was wanting
   pub wants_since : (new : WorldState D) (is : Turn → Input → Type 0) (fault : WorldFault) → fault ≡ faulty.OutOfMemory → GoesOnSince seen may_leave faults limit w new → StepsSince seen may_leave faults limit is w new (Err fault) → (AllTell seen new.servers → AllTell seen w.servers)
-      → ((n : ℕ) → Counts faults n w.servers → Counts faults n new.servers) → GoesSoSince seen may_leave faults limit w new old left played.OutOfMemory
+      → ((own : ℕ → ℕ) → Counts faults own w.servers → Counts faults own new.servers) → GoesSoSince seen may_leave faults limit w new old left played.OutOfMemory
   wants_since new is fault wanting world steps tells counts b before way =
       ends_some seen may_leave faults limit w.script (whole b w) (whole b new) old left way (world b before way.world) (stays_wanting seen may_leave limit (whole b w) (whole b new) fault wanting (steps b before way.world)) tells counts
 

@@ -18,11 +18,11 @@ use Rattle.afs_clients.specs.Happening.{entry_of, void_entry}
 use Rattle.afs_cell.specs.Happening.{SeatGoes, SeatKeeps}
 use Rattle.afs_clients.specs.Places.{put_place, Each}
 use Rattle.afs_cell.specs.Steps.{IsAt, Plays, Stepped}
-use Rattle.afs_cell.specs.Worlds.{falls, most_entries, seat_disk, AllHold, AllTell, Counts, IsHost, IsReadyClient, IsReadySeat, IsSafe, ServerSeat, WorldState}
+use Rattle.afs_cell.specs.Worlds.{most_entries, seat_disk, AllHold, AllTell, IsHost, IsReadyClient, IsReadySeat, IsSafe, ServerSeat, WorldState}
 use Rattle.afs_clients.specs.declared.clients.ClientSeat.{ClientSeat}
 use Rattle.afs_cell.specs.declared.faults.WorldFault.TheVariants as faulty
 use Rattle.afs_clients.specs.declared.happening.Happened.TheVariants as happened
-use Rattle.afs_cell.proofs.Counts.{counts_put}
+use Rattle.afs_cell.proofs.Counts.{counts_kept, counts_still}
 use Rattle.afs_cell.proofs.Links.{Voided}
 use Rattle.afs_cell.proofs.Parcels.{sent_by-push, told-still}
 use Rattle.afs_clients.proofs.Numbers.{each_back, each_map, each_put, length_put}
@@ -103,9 +103,7 @@ module _ {D : Type 0} (seen : D → Option (List ℕ)) (may_leave : D → List �
           cell = record { host_count = at.cell.host_count; hosts = at.cell.hosts; count = at.cell.count; clients = at.cell.clients; sent = at.cell.sent; clock = at.cell.clock };
           acts = at.acts;
         }));
-    counts = λ n h.
-        let same : n ≡ n + falls v.input = omega (arith, v.harmless) in
-        subst (λ (m : ℕ). Counts faults m w.servers) same h;
+    counts = counts_still faults v.input (moved t.cell v.input).entry w.servers v.harmless;
   }
 
   pub nothing_happens : (s : Script) (is : Turn → Input → Type 0) (w : WorldState D) → IsSafe limit s w → w.is_lost ≡ false → length w.history < most_entries
@@ -142,11 +140,6 @@ module _ {D : Type 0} (seen : D → Option (List ℕ)) (may_leave : D → List �
   disks_put i capacity was now ss found keeps h =
       each_put (λ (j : ℕ) (z : ServerSeat D). limit (seat_disk z) ≡ capacity) (λ (j : ℕ) (z : ServerSeat D). limit (seat_disk z) ≡ capacity) i now was ss found h (λ j z apart good. good) (keeps.same_limit ∙ h i was found)
 
-  counts_kept : (i : ℕ) (was now : ServerSeat D) (ss : List (ServerSeat D)) → at_place ss i ≡ Some was → SeatKeeps seen faults limit was now → (n : ℕ) → Counts faults n ss → Counts faults n (put_place i now ss)
-  counts_kept i was now ss found keeps n h =
-      let same : n + 0 ≡ n = omega arith in
-      subst (λ (m : ℕ). Counts faults m (put_place i now ss)) same (counts_put faults i 0 was now ss found keeps.no_fewer (inl refl) n h)
-
   pub safe_step : (s : Script) (w : WorldState D) (i : ℕ) (was now : ServerSeat D) (front : List Line) (outs : Outs) → IsSafe limit s w → w.is_lost ≡ false → length w.history < most_entries → at_place w.servers i ≡ Some was
       → SeatGoes i was now (happened.Step outs) → SeatKeeps seen faults limit was now → IsSafe limit s (after_step w i now front outs)
   safe_step s w i was now front outs safe going place found goes keeps = record {
@@ -181,7 +174,7 @@ module _ {D : Type 0} (seen : D → Option (List ℕ)) (may_leave : D → List �
     };
     safe = safe_step s w i was now front outs safe going place found goes keeps;
     tells = tells_put i was now w.servers found keeps;
-    counts = counts_kept i was now w.servers found keeps;
+    counts = counts_kept faults i was now w.servers found keeps.no_fewer;
   }
 
   -- ---- memory was wanting
@@ -228,7 +221,7 @@ module _ {D : Type 0} (seen : D → Option (List ℕ)) (may_leave : D → List �
       ticks = safe.ticks;
     };
     tells = tells_put i was now w.servers found keeps;
-    counts = counts_kept i was now w.servers found keeps;
+    counts = counts_kept faults i was now w.servers found keeps.no_fewer;
   }
 
   abbrev put_lost : WorldState D → ℕ → ServerSeat D → WorldState D
@@ -254,5 +247,5 @@ module _ {D : Type 0} (seen : D → Option (List ℕ)) (may_leave : D → List �
       ticks = safe.ticks;
     };
     tells = tells_put i was now w.servers found keeps;
-    counts = counts_kept i was now w.servers found keeps;
+    counts = counts_kept faults i was now w.servers found keeps.no_fewer;
   }

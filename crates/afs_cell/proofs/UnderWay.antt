@@ -48,7 +48,7 @@ module _ {D : Type 0} (seen : D → Option (List ℕ)) (may_leave : D → List �
     leads = subst (λ (ps : List Parcel). Leads (start s) [] (told ps w.history) (start s)) (sym first.wire) (subst (λ (es : List kept.Entry). Leads (start s) [] (told [] es) (start s)) (sym first.history) refl);
     read = subst (λ (ps : List Parcel). AreRead ps) (sym first.wire) refl;
     cell_is = λ going. first.cell tell;
-    counts = inl (omega arith);
+    counts = λ n seat found. inl (omega arith);
   }
 
   pub begins : (w : WorldState D) (schedule : Schedule) → IsWorld seen may_leave faults limit s w → IsFirst seen may_leave limit s w → IsLeft schedule (events_of s) [] → IsUnderWay seen may_leave faults limit s w schedule
@@ -185,7 +185,7 @@ module _ {D : Type 0} (seen : D → Option (List ℕ)) (may_leave : D → List �
   some_played xs t es (Some x) e far = inr (first_played s xs t es far (none_or (next_event (waiting t) es) x e))
 
   pub ends_some : (w new : WorldState D) (old left : Schedule) → IsUnderWay seen may_leave faults limit s w old → IsWorld seen may_leave faults limit s new → Stays seen may_leave limit w new faulty.OutOfMemory
-      → (AllTell seen new.servers → AllTell seen w.servers) → ((n : ℕ) → Counts faults n w.servers → Counts faults n new.servers) → GoesSo seen may_leave faults limit s w new left played.OutOfMemory
+      → (AllTell seen new.servers → AllTell seen w.servers) → ((own : ℕ → ℕ) → Counts faults own w.servers → Counts faults own new.servers) → GoesSo seen may_leave faults limit s w new left played.OutOfMemory
   ends_some w new old left way world stays tells counts = (
     (world, stays.0),
     λ tell.

@@ -13,7 +13,7 @@ use Rattle.afs_volstore.specs.Stands.{Stands}
 use Rattle.afs_schedule.specs.Schedules.{events_of, first_turn, left_by, tasks_of, AreFirst, AreInputs, Turn}
 use Rattle.afs_clients.specs.Places.{Each}
 use Rattle.afs_text.specs.Telling.{told}
-use Rattle.afs_cell.specs.Worlds.{falls, most_entries, none_gone, seat_disk, AllTell, Counts, IsCell, IsSafe, Runs, ServerSeat, WorldState}
+use Rattle.afs_cell.specs.Worlds.{falls_at, most_entries, none_gone, seat_disk, AllTell, Counts, IsCell, IsSafe, Runs, ServerSeat, WorldState}
 use Rattle.afs_clients.specs.declared.clients.ClientSeat.{ClientSeat}
 use Rattle.afs_cell.specs.declared.faults.WorldFault.{WorldFault}
 use Rattle.afs_cell.specs.declared.faults.WorldFault.TheVariants as faults
@@ -45,13 +45,13 @@ pub record IsAt {D : Type 0} (seen : D → Option (List ℕ)) (may_leave : D →
   pub cell : IsCell seen may_leave limit w c
   pub acts : Each (λ (n : ℕ) (s : ClientSeat). left (Client n) ≡ s.plan) w.clients
 
--- One entry more, that of such an input; the world stands for what comes of it. Where a disk fails by itself, that is counted.
+-- One entry more, that of such an input; the world stands for what comes of it. Where a server's disk fails by itself, that disk counts it.
 pub record Plays {D : Type 0} (seen : D → Option (List ℕ)) (may_leave : D → List ℕ → Type 0) (faults limit : D → ℕ) (is : Input → Type 0) (t : Turn) (old new : WorldState D) : Type 0 where
   pub input : Input
   pub is_one : is input
   pub history : told new.wire new.history ≡ told old.wire old.history ++ (moved t.cell input).entry ∷ []
   pub at : IsAt seen may_leave limit new (moved t.cell input).cell (left_by input t.left)
-  pub counts : (n : ℕ) → Counts faults n old.servers → Counts faults (n + falls input) new.servers
+  pub counts : (own : ℕ → ℕ) → Counts faults own old.servers → Counts faults (λ (i : ℕ). own i + falls_at i input (moved t.cell input).entry) new.servers
 
 -- So it is for each cell and the acts for which the world stands, while its disks tell.
 pub record PlaysOne {D : Type 0} (seen : D → Option (List ℕ)) (may_leave : D → List ℕ → Type 0) (faults limit : D → ℕ) (is : Turn → Input → Type 0) (old new : WorldState D) : Type 0 where
@@ -87,7 +87,7 @@ pub record Stepped {D : Type 0} (seen : D → Option (List ℕ)) (may_leave : D 
   pub steps : Steps seen may_leave faults limit is w new result
   pub safe : IsSafe limit s new
   pub tells : AllTell seen w.servers ↔ AllTell seen new.servers
-  pub counts : (n : ℕ) → Counts faults n w.servers → Counts faults n new.servers
+  pub counts : (own : ℕ → ℕ) → Counts faults own w.servers → Counts faults own new.servers
 
 -- ---- the disks that are given back
 

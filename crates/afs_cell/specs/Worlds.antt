@@ -1,5 +1,7 @@
 -- The program's cell, and the cell of the definitions that it stands for.
-use Rattle.std.specs.Prelude.{◌≡◌, ◌≤◌, ◌⊎◌, ◌+◌, ◌-◌, ◌*◌, ◌^◌, ℕ, List, [], ◌∷◌, Bool, false, Option, length, IsSome}
+use Rattle.std.specs.Prelude.{◌≡◌, ◌≤◌, ◌⊎◌, ◌+◌, ◌-◌, ◌*◌, ◌^◌, ℕ, List, [], ◌∷◌, Bool, false, not, nat_eq, if◌then◌else◌, Option, length, IsSome}
+use Rattle.afs_num.specs.declared.histories.Actor.{Actor}
+use Rattle.afs_num.specs.declared.histories.Actor.TheVariants as actors
 use Rattle.afs_num.specs.declared.types.Node.TheVariants.{Server}
 use Rattle.afs_num.specs.declared.types.Parcel.{Parcel}
 use Rattle.afs_history.specs.declared.lines.Entry as kept
@@ -7,7 +9,7 @@ use Rattle.afs_history.specs.declared.scripts.Script.{Script}
 use Rattle.afs_grammar.specs.CellScripts.{IsCellScript}
 use Rattle.afs_model.specs.Messages.{messages_spelled, parcels_read}
 use Rattle.afs_rows.specs.Going.{ClientState}
-use Rattle.afs_rows.specs.Runs.{fails_early, fails_midway, gives, gives_out, start, starts_again, Cell, Host, Input, Leads}
+use Rattle.afs_rows.specs.Runs.{fails_early, fails_midway, gives, gives_out, start, starts_again, Cell, Entry, Host, Input, Leads}
 use Rattle.afs_host.specs.Seats.{CanRun, IsDown, IsUp, Resting, Running}
 use Rattle.afs_host.specs.declared.seats.Seat.{Seat}
 use Rattle.afs_host.specs.declared.seats.Seat.TheVariants.{Up, Down}
@@ -101,19 +103,13 @@ AllTell {D} seen servers = Each (λ (i : ℕ) (s : ServerSeat D). IsSome (seen (
 abbrev pub AllHold : {D : Type 0} → (D → ℕ) → ℕ → List (ServerSeat D) → Type 0
 AllHold {D} limit capacity servers = Each (λ (i : ℕ) (s : ServerSeat D). limit (seat_disk s) ≡ capacity) servers
 
--- the faults of all disks
-abbrev pub all_faults : {D : Type 0} → (D → ℕ) → List (ServerSeat D) → ℕ
-all_faults {D} faults [] = 0
-all_faults {D} faults (s ∷ ss) = faults (seat_disk s) + all_faults faults ss
+-- so many, as far as a counter can count
+abbrev pub IsCounted : ℕ → ℕ → Type 0
+IsCounted n count = (n ≤ count) ⊎ (2 ^ 64 - 1 ≤ count)
 
--- the count of one of them stands at the last value of a counter
-abbrev pub OneIsFull : {D : Type 0} → (D → ℕ) → List (ServerSeat D) → Type 0
-OneIsFull {D} faults [] = ⊥
-OneIsFull {D} faults (s ∷ ss) = (2 ^ 64 - 1 ≤ faults (seat_disk s)) ⊎ OneIsFull faults ss
-
--- the disks count so many faults, as far as they can count
-abbrev pub Counts : {D : Type 0} → (D → ℕ) → ℕ → List (ServerSeat D) → Type 0
-Counts {D} faults n servers = (n ≤ all_faults faults servers) ⊎ OneIsFull faults servers
+-- the disk of each server counts so many faults as are its own here
+abbrev pub Counts : {D : Type 0} → (D → ℕ) → (ℕ → ℕ) → List (ServerSeat D) → Type 0
+Counts {D} faults own servers = Each (λ (i : ℕ) (s : ServerSeat D). IsCounted (own i) (faults (seat_disk s))) servers
 
 -- the disk of a server fails by itself with this input
 abbrev pub falls : Input → ℕ
@@ -122,9 +118,19 @@ falls (starts_again i after fails_early) = 1
 falls (starts_again i after fails_midway) = 1
 falls x = 0
 
-abbrev pub own_falls : List Input → ℕ
-own_falls [] = 0
-own_falls (x ∷ xs) = falls x + own_falls xs
+-- whether this is a server, and another one
+abbrev pub is_other : ℕ → Actor → Bool
+is_other i (actors.Node (Server j)) = not (nat_eq j i)
+is_other i actor = false
+
+-- the disk of this server fails by itself with this input, which made this entry
+abbrev pub falls_at : ℕ → Input → Entry → ℕ
+falls_at i x e = if is_other i e.actor then 0 else falls x
+
+-- how often it failed by itself with these inputs, each of which made an entry
+abbrev pub own_falls : ℕ → List Input → List Entry → ℕ
+own_falls i (x ∷ xs) (e ∷ es) = falls_at i x e + own_falls i xs es
+own_falls i xs es = 0
 
 -- ---- what every world is, between any two of its steps
 
@@ -148,12 +154,12 @@ pub record IsSafe {D : Type 0} (limit : D → ℕ) (s : Script) (w : WorldState 
   pub ticks : w.clock ≤ most_ticks
 
 -- These inputs lead from the script's set-up through the history that the world tells to this cell, and the world stands for it.
--- Each time that a disk failed by itself is counted.
+-- Each time that a server's disk failed by itself is counted by that disk.
 pub record Runs {D : Type 0} (seen : D → Option (List ℕ)) (may_leave : D → List ℕ → Type 0) (faults limit : D → ℕ) (s : Script) (w : WorldState D) (inputs : List Input) (cell : Cell) : Type 0 where
   pub leads : Leads (start s) inputs (told w.wire w.history) cell
   pub read : AreRead w.wire
   pub cell_is : w.is_lost ≡ false → IsCell seen may_leave limit w cell
-  pub counts : Counts faults (own_falls inputs) w.servers
+  pub counts : Counts faults (λ (i : ℕ). own_falls i inputs (told w.wire w.history)) w.servers
 
 pub record HasRun {D : Type 0} (seen : D → Option (List ℕ)) (may_leave : D → List ℕ → Type 0) (faults limit : D → ℕ) (s : Script) (w : WorldState D) : Type 0 where
   pub inputs : List Input

@@ -23,7 +23,7 @@ fn disk_in<D: Disk>(seat: ServerSeat<D>) -> D
 }
 
 /// A disk goes back, for which there is room.
-pub fn give<D: Disk>(back: &mut Vec<Lent<D>>, node: u32, disk: D)
+pub fn give<D: Disk>(back: &mut Vec<Lent<D>>, node: u8, disk: D)
     requires room { length back.old.items < vec_capacity back.old }
     ensures items { back.new.items ≡ back.old.items ++ record { node = node; disk = disk } ∷ [] }
     ensures room { vec_capacity back.old ≤ vec_capacity back.new }
@@ -37,7 +37,7 @@ pub fn give<D: Disk>(back: &mut Vec<Lent<D>>, node: u32, disk: D)
 /// The disks of these servers go back, in order of number, into room that is there.
 pub fn give_back<D: Disk + Drop>(seats: Vec<ServerSeat<D>>, back: &mut Vec<Lent<D>>)
     requires room { length back.old.items + length seats.items ≤ vec_capacity back.old }
-    requires few { length seats.items < 2 ^ 31 }
+    requires few { length seats.items < 2 ^ 8 }
     ensures items { back.new.items ≡ back.old.items ++ lent_from 1 seats.items }
     ensures room { vec_capacity back.old ≤ vec_capacity back.new }
     ensures kept { AreKeptSeats D.seen D.may_leave D.limit seats.items }

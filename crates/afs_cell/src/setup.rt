@@ -142,7 +142,7 @@ fn servers_at_first<D: Disk + Drop>(
     let mut disks = disks.into_vec().into_iter();
     while let Some(lent) = disks.next() {
         let Lent { node, disk } = lent;
-        match server_at_first(alloc, script, node as u8, disk) {
+        match server_at_first(alloc, script, node, disk) {
             Ok(running) => sit(&mut seats, running),
             Err((fault, disk)) => {
                 give_back(seats, &mut back);

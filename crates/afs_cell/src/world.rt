@@ -299,7 +299,7 @@ impl<'a, D: Disk> World<'a, D> {
         ensures steps { StepsSince D.seen D.may_leave D.faults D.limit (λ t. IsInput t event.now) self.old self.new result }
         ensures keeps { Keeps self.old self.new }
         ensures tells { AllTell D.seen self.old.servers ↔ AllTell D.seen self.new.servers }
-        ensures counts { (n : ℕ) → Counts D.faults n self.old.servers → Counts D.faults n self.new.servers }
+        ensures counts { (own : ℕ → ℕ) → Counts D.faults own self.old.servers → Counts D.faults own self.new.servers }
         ensures clock { self.new.clock ≤ self.old.clock + ticks_of event.now }
         ensures lost { self.old.is_lost ≡ true → (result ≡ Err faults.OutOfMemory) × (self.new ≡ self.old) }
         ensures full { self.old.is_lost ≡ false → self.old.gone.entries + length self.old.history ≡ most_entries → (result ≡ Err faults.Limit) × (self.new ≡ self.old) }

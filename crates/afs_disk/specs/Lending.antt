@@ -1,6 +1,5 @@
 -- A bank in memory: its lends, the disks given back with their bytes, which of its calls are to fail and which of each
--- disk's, its counts, and
--- the faults of the disks given back.
+-- disk's, its counts, and how often the disks given back had failed, by node.
 use Rattle.std.specs.Prelude.{ℕ, List}
 use Rattle.afs_disk.specs.declared.bank.Lend.{Lend}
 
@@ -11,4 +10,4 @@ pub record Lending : Type 0 where
   pub disks : List (List ℕ)
   pub calls : ℕ
   pub faults : ℕ
-  pub lent : ℕ
+  pub lent : List ℕ

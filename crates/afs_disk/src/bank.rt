@@ -1,11 +1,10 @@
 // Who lends the disks of a cell, and takes them back.
-ghost use Rattle.std.specs.Prelude.{◌≡◌, ◌≤◌, ◌<◌, ◌+◌, ◌++◌, ◌∷◌, [], min, List, ℕ, Option, IfOk, OnOk, OnErr, IsErrOf, option_map, IsSome};
-ghost use Rattle.afs_disk.specs.Banks.{GivesBack};
+ghost use Rattle.std.specs.Prelude.{◌≡◌, ◌≤◌, ◌<◌, ◌+◌, ◌++◌, ◌∷◌, [], List, ℕ, Option, IfOk, OnOk, OnErr, IsErrOf, option_map, IsSome};
+ghost use Rattle.afs_disk.specs.Banks.{GivesBack, counted};
 ghost use Rattle.afs_disk.specs.declared.bank.Lend.{Lend};
 ghost use Rattle.afs_disk.specs.declared.bank.Place.{Place as At};
 ghost use Rattle.afs_disk.specs.declared.bank.LendFault.TheVariants.{Failed as LendFailed, OutOfMemory};
 ghost use Rattle.afs_disk.specs.Disk.{Rose};
-ghost use Rattle.afs_disk.specs.Fuses.{last_count};
 
 use crate::disk::Disk;
 use afs_num::devices::Failed;
@@ -67,7 +66,7 @@ impl From<Failed> for LendFault {
 #[derive(Debug, Drop)]
 pub struct Lend {
     pub place: Place,
-    pub node: u32,
+    pub node: u8,
     pub capacity: u64,
 }
 
@@ -86,20 +85,20 @@ pub trait Bank {
     /// each call counts as one in which it rose.
     ghost faults: { Self → ℕ };
 
-    /// The faults of all disks that were given back. Their sum stands still at the last value of a counter.
-    ghost lent_faults: { Self → ℕ };
+    /// How often the disks of each node had failed that were given back. Each count stands still at the last value of a counter.
+    ghost lent_faults: { Self → ℕ → ℕ };
 
     /// Whether the disks that it lends at this place tell what they hold.
     ghost tells: { Self → At → Type 0 };
 
     /// Lends a disk of this capacity for a node.
-    fn lend(&mut self, place: &Place, node: u32, capacity: u64) -> Result<Self::D, LendFault>
+    fn lend(&mut self, place: &Place, node: u8, capacity: u64) -> Result<Self::D, LendFault>
         ensures limit { IfOk result (λ disk. Self.D.limit disk ≡ capacity) }
         ensures lends { OnOk result (lends self.new ≡ option_map (λ l. l ++ record { place = place.now; node = node; capacity = capacity } ∷ []) (lends self.old)) }
         ensures none { OnErr result (lends self.new ≡ lends self.old) }
         ensures given { given self.new ≡ given self.old }
         ensures unused { IfOk result (λ disk. Self.D.faults disk ≡ 0) }
-        ensures lent { lent_faults self.new ≡ lent_faults self.old }
+        ensures lent { (n : ℕ) → lent_faults self.new n ≡ lent_faults self.old n }
         ensures told { IfOk result (λ disk. tells self.old place.now → IsSome (Self.D.seen disk)) }
         ensures tells { (at : At) → tells self.old at → tells self.new at }
         ensures never_falls { faults self.old ≤ faults self.new }
@@ -107,11 +106,11 @@ pub trait Bank {
         ensures quiet { ¬ IsErrOf result LendFault.Failed → faults self.new ≡ faults self.old };
 
     /// Takes a disk back.
-    fn give_back(&mut self, node: u32, disk: Self::D) -> Result<(), Failed>
+    fn give_back(&mut self, node: u8, disk: Self::D) -> Result<(), Failed>
         ensures given { OnOk result (GivesBack node (Self.D.seen disk) (given self.old) (given self.new)) }
         ensures kept { OnErr result (given self.new ≡ given self.old) }
         ensures lends { lends self.new ≡ lends self.old }
-        ensures lent { lent_faults self.new ≡ min (lent_faults self.old + Self.D.faults disk) last_count }
+        ensures lent { (n : ℕ) → lent_faults self.new n ≡ counted node (Self.D.faults disk) n (lent_faults self.old n) }
         ensures tells { (at : At) → tells self.old at → tells self.new at }
         ensures never_falls { faults self.old ≤ faults self.new }
         ensures cause { OnErr result (Rose (faults self.old) (faults self.new)) }

@@ -5,7 +5,7 @@ use afs_num::sequences::Sequence;
 /// The disk of the node of this number.
 #[derive(Drop)]
 pub struct Lent<D> {
-    pub node: u32,
+    pub node: u8,
     pub disk: D,
 }
 

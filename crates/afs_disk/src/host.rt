@@ -1,12 +1,12 @@
 // The program's disks: in memory, or files of a folder.
-ghost use Rattle.std.specs.Prelude.{◌≡◌, ◌≤◌, ◌+◌, None, IfOk, OnOk, OnErr, IsOk, IsSome, IsErrOf, min};
-ghost use Rattle.afs_disk.specs.Fuses.{last_count};
+ghost use Rattle.std.specs.Prelude.{◌≡◌, ◌≤◌, ◌+◌, ℕ, None, IfOk, OnOk, OnErr, IsOk, IsSome, IsErrOf, get_or, replicate};
 ghost use Rattle.afs_disk.specs.Hosts.{IsLentAt, no_lends, none_given};
-ghost use Rattle.afs_disk.specs.Banks.{GivesBack};
+ghost use Rattle.afs_disk.specs.Banks.{GivesBack, counted};
 ghost use Rattle.afs_disk.specs.Disk.{Rose};
 ghost use Rattle.afs_disk.specs.Hosts.{host_calls, host_counts, host_faults, host_just, host_leaves, host_left_by, host_limit, host_measures, host_moment, host_picked, host_seen, host_setting, host_shows, host_since, host_size, host_space, host_tells};
 
 use crate::bank::{Bank, LendFault, Place};
+use crate::counts::{NODES, add_faults};
 use crate::disk::Disk;
 use crate::file::FileDisk;
 use crate::memory::MemDisk;
@@ -145,7 +145,7 @@ pub struct HostBank<'a, R: Files<File = File>> {
     files: &'a R,
     alloc: Global,
     faults: u64,
-    lent_faults: u64,
+    lent_faults: [u64; NODES],
 }
 
 // A file that was found is opened as it is: it is the file that was found, and it has no other name.
@@ -190,7 +190,7 @@ fn opened<R: Files<File = File>>(
     files: &R,
     alloc: Global,
     folder: &str,
-    node: u32,
+    node: u8,
 ) -> Result<File, LendFault> {
     let path = format!(in alloc; "{folder}/node-{node}")?;
     let file = match fs::symlink_metadata(files, path.as_str()) {
@@ -234,7 +234,7 @@ fn disk_in<R: Files<File = File>>(
     files: &R,
     alloc: Global,
     folder: &[u8],
-    node: u32,
+    node: u8,
     capacity: u64,
 ) -> Result<FileDisk, LendFault>
     ensures limit { IfOk result (λ disk. disk.limit ≡ capacity) }
@@ -264,13 +264,13 @@ fn counted(fault: LendFault, faults: &mut u64)
 impl<'a, R: Files<File = File>> HostBank<'a, R> {
     /// The bank of a program that may reach files.
     pub fn new(files: &'a R, alloc: Global) -> HostBank<'a, R>
-        ensures { (result.faults ≡ 0) × (result.lent_faults ≡ 0) }
+        ensures { (result.faults ≡ 0) × (result.lent_faults ≡ replicate 256 0) }
     {
         HostBank {
             files,
             alloc,
             faults: 0,
-            lent_faults: 0,
+            lent_faults: [0; NODES],
         }
     }
 }
@@ -284,14 +284,14 @@ impl<'a, R: Files<File = File>> Bank for HostBank<'a, R> {
 
     ghost faults = { λ b. b.faults };
 
-    ghost lent_faults = { λ b. b.lent_faults };
+    ghost lent_faults = { λ b n. get_or b.lent_faults n 0 };
 
     ghost tells = { λ b at. host_tells at };
 
-    fn lend(&mut self, place: &Place, node: u32, capacity: u64) -> Result<HostDisk, LendFault>
+    fn lend(&mut self, place: &Place, node: u8, capacity: u64) -> Result<HostDisk, LendFault>
         ensures limit { IfOk result (λ disk. host_limit disk ≡ capacity) }
         ensures unused { IfOk result (λ disk. host_faults disk ≡ 0) }
-        ensures lent { self.new.lent_faults ≡ self.old.lent_faults }
+        ensures lent { (n : ℕ) → get_or self.new.lent_faults n 0 ≡ get_or self.old.lent_faults n 0 }
         ensures told { IfOk result (λ disk. host_tells place.now → IsSome (host_seen disk)) }
         ensures never_falls { self.old.faults ≤ self.new.faults }
         ensures cause { IsErrOf result LendFault.Failed → Rose self.old.faults self.new.faults }
@@ -318,16 +318,16 @@ impl<'a, R: Files<File = File>> Bank for HostBank<'a, R> {
         }
     }
 
-    fn give_back(&mut self, _node: u32, disk: HostDisk) -> Result<(), Failed>
-        ensures lent { self.new.lent_faults ≡ min (self.old.lent_faults + host_faults disk) last_count }
-        ensures given { OnOk result (GivesBack _node (host_seen disk) none_given none_given) }
+    fn give_back(&mut self, node: u8, disk: HostDisk) -> Result<(), Failed>
+        ensures lent { (n : ℕ) → get_or self.new.lent_faults n 0 ≡ counted node (host_faults disk) n (get_or self.old.lent_faults n 0) }
+        ensures given { OnOk result (GivesBack node (host_seen disk) none_given none_given) }
         ensures kept { OnErr result (none_given ≡ none_given) }
         ensures never_falls { self.old.faults ≤ self.new.faults }
         ensures cause { OnErr result (Rose self.old.faults self.new.faults) }
         ensures taken { IsOk result }
         ensures quiet { OnOk result (self.new.faults ≡ self.old.faults) }
     {
-        self.lent_faults = self.lent_faults.saturating_add(disk.faults());
+        add_faults(&mut self.lent_faults, node, disk.faults());
         Ok(())
     }
 }

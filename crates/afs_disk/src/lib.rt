@@ -3,6 +3,7 @@
 #![tactic(auto)]
 
 pub mod bank;
+mod counts;
 pub mod disk;
 pub mod disks;
 pub mod file;

@@ -1,9 +1,11 @@
 // A bank in memory.
-ghost use Rattle.std.specs.Prelude.{◌≡◌, ◌<◌, ◌≤◌, ◌+◌, ◌++◌, ◌∷◌, [], Some, length, map, min, slice_get, get_or, IsErr, IsErrOf, IfOk, OnOk, OnErr, ◌↔◌};
+ghost use Rattle.std.specs.Prelude.{◌≡◌, ◌<◌, ◌≤◌, ◌+◌, ◌++◌, ◌∷◌, [], Some, length, map, min, replicate, slice_get, get_or, ℕ, IsErr, IsErrOf, IfOk, OnOk, OnErr, ◌↔◌};
+ghost use Rattle.afs_disk.specs.Banks.{counted};
 ghost use Rattle.afs_disk.specs.Fuses.{last_count};
 ghost use Rattle.afs_disk.specs.Disk.{Rose};
 
 use crate::bank::{Bank, Lend, LendFault, Place};
+use crate::counts::{NODES, add_faults};
 use crate::memory::MemDisk;
 use afs_num::devices::Failed;
 use afs_num::sequences::{Octets, Records};
@@ -17,7 +19,7 @@ const FAILS: u8 = 1;
 /// A disk that was given back, and its node.
 #[derive(Drop)]
 pub struct Given {
-    pub node: u32,
+    pub node: u8,
     pub disk: MemDisk,
 }
 
@@ -32,7 +34,7 @@ pub struct MemBank {
     faults: u64,
     lends: Vec<Lend>,
     given: Vec<Given>,
-    lent_faults: u64,
+    lent_faults: [u64; NODES],
 }
 
 impl Model for MemBank {
@@ -89,7 +91,7 @@ impl MemBank {
         ensures lends { result.lends ≡ [] }
         ensures given { result.given ≡ [] }
         ensures set { (result.failing ≡ failing) × (result.disks ≡ disks) }
-        ensures counts { (result.calls ≡ 0) × (result.faults ≡ 0) × (result.lent ≡ 0) }
+        ensures counts { (result.calls ≡ 0) × (result.faults ≡ 0) × (result.lent ≡ replicate 256 0) }
     {
         MemBank {
             alloc,
@@ -99,7 +101,7 @@ impl MemBank {
             faults: 0,
             lends: Vec::new(alloc),
             given: Vec::new(alloc),
-            lent_faults: 0,
+            lent_faults: [0; NODES],
         }
     }
 
@@ -127,11 +129,11 @@ impl Bank for MemBank {
 
     ghost faults = { λ b. b.faults };
 
-    ghost lent_faults = { λ b. b.lent };
+    ghost lent_faults = { λ b n. get_or b.lent n 0 };
 
     ghost tells = { λ b at. Unit {0} };
 
-    fn lend(&mut self, place: &Place, node: u32, capacity: u64) -> Result<MemDisk, LendFault>
+    fn lend(&mut self, place: &Place, node: u8, capacity: u64) -> Result<MemDisk, LendFault>
         ensures limit { IfOk result (λ disk. disk.limit ≡ capacity) }
         ensures empty { IfOk result (λ disk. (disk.held.now ≡ []) × (disk.held.kept ≡ []) × (disk.held.unsynced ≡ [])) }
         ensures unused { IfOk result (λ disk. (disk.calls ≡ 0) × (disk.faults ≡ 0)) }
@@ -139,7 +141,7 @@ impl Bank for MemBank {
         ensures lends { OnOk result (self.new.lends ≡ self.old.lends ++ record { place = place.now; node = node; capacity = capacity } ∷ []) }
         ensures none { OnErr result (self.new.lends ≡ self.old.lends) }
         ensures given { self.new.given ≡ self.old.given }
-        ensures lent { self.new.lent ≡ self.old.lent }
+        ensures lent { (n : ℕ) → get_or self.new.lent n 0 ≡ get_or self.old.lent n 0 }
         ensures counted { self.new.calls ≡ min (self.old.calls + 1) last_count }
         ensures fails { IsErrOf result LendFault.Failed ↔ (slice_get self.old.failing self.old.calls ≡ Some 1) }
         ensures never_falls { self.old.faults ≤ self.new.faults }
@@ -165,11 +167,11 @@ impl Bank for MemBank {
         Ok(MemDisk::new(self.alloc, capacity, failing))
     }
 
-    fn give_back(&mut self, node: u32, disk: MemDisk) -> Result<(), Failed>
+    fn give_back(&mut self, node: u8, disk: MemDisk) -> Result<(), Failed>
         ensures given { OnOk result (self.new.given ≡ self.old.given ++ (node, disk.held.now) ∷ []) }
         ensures kept { OnErr result (self.new.given ≡ self.old.given) }
         ensures lends { self.new.lends ≡ self.old.lends }
-        ensures lent { self.new.lent ≡ min (self.old.lent + disk.faults) last_count }
+        ensures lent { (n : ℕ) → get_or self.new.lent n 0 ≡ counted node disk.faults n (get_or self.old.lent n 0) }
         ensures counted { self.new.calls ≡ min (self.old.calls + 1) last_count }
         ensures fails { slice_get self.old.failing self.old.calls ≡ Some 1 → IsErr result }
 
@@ -181,7 +183,7 @@ impl Bank for MemBank {
         ensures quiet { OnOk result (self.new.faults ≡ self.old.faults) }
         ensures set { (self.new.failing ≡ self.old.failing) × (self.new.disks ≡ self.old.disks) }
     {
-        self.lent_faults = self.lent_faults.saturating_add(disk.faults());
+        add_faults(&mut self.lent_faults, node, disk.faults());
         admits(&mut self.calls, self.failing.as_slice(), &mut self.faults)?;
         match self.given.push(Given { node, disk }) {
             Ok(()) => Ok(()),

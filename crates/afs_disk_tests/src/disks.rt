@@ -68,11 +68,11 @@ fn bank(alloc: Global) -> Option<MemBank> {
     Some(MemBank::new(alloc, failing, Records::new(alloc)))
 }
 
-fn lent(bank: &mut MemBank, node: u32) -> Result<MemDisk, LendFault> {
+fn lent(bank: &mut MemBank, node: u8) -> Result<MemDisk, LendFault> {
     bank.lend(&Place::Memory, node, 50)
 }
 
-fn put_lent(out: &mut String, bank: &mut MemBank, node: u32) {
+fn put_lent(out: &mut String, bank: &mut MemBank, node: u8) {
     let word = match lent(bank, node) {
         Ok(disk) => {
             drop(disk);
@@ -84,7 +84,7 @@ fn put_lent(out: &mut String, bank: &mut MemBank, node: u32) {
     let _ = out.push_str(word);
 }
 
-fn put_taken(out: &mut String, bank: &mut MemBank, node: u32, disk: MemDisk) {
+fn put_taken(out: &mut String, bank: &mut MemBank, node: u8, disk: MemDisk) {
     let is_taken = bank.give_back(node, disk).is_ok();
     let _ = out.push_str(if is_taken { "taken " } else { "not taken " });
 }
@@ -99,7 +99,7 @@ fn put_bank(out: &mut String, bank: &MemBank) {
 }
 
 // A disk is lent that some calls are made of, and given back.
-fn put_lent_and_taken(out: &mut String, bank: &mut MemBank, asked: &[u32], calls: &[Call]) {
+fn put_lent_and_taken(out: &mut String, bank: &mut MemBank, asked: &[u8], calls: &[Call]) {
     if let Ok(disk) = lent(bank, 3) {
         let mut disk = disk;
         put_calls(out, &mut disk, calls);
@@ -112,7 +112,7 @@ fn put_lent_and_taken(out: &mut String, bank: &mut MemBank, asked: &[u32], calls
 }
 
 // What a bank tells where some calls are made of a disk that it lent, and disks of these nodes are asked for before it comes back.
-fn told_of_bank(alloc: Global, asked: &[u32], calls: &[Call]) -> String {
+fn told_of_bank(alloc: Global, asked: &[u8], calls: &[Call]) -> String {
     let mut out = String::new(alloc);
     if let Some(lending) = bank(alloc) {
         let mut bank = lending;

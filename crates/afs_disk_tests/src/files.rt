@@ -26,7 +26,7 @@ fn folder(alloc: Global, path: &[u8]) -> Mem<Place> {
 fn lent<R: Files<File = File>>(
     bank: &mut HostBank<'_, R>,
     alloc: Global,
-    node: u32,
+    node: u8,
 ) -> Option<HostDisk> {
     let here = folder(alloc, b".").ok()?;
     bank.lend(&here, node, 100).ok()
@@ -42,7 +42,7 @@ fn put_taken(out: &mut String, taken: Result<(), Failed>) {
 fn put_on_disk<R: Files<File = File>>(
     out: &mut String,
     bank: &mut HostBank<'_, R>,
-    node: u32,
+    node: u8,
     disk: HostDisk,
     calls: &[Call],
 ) {
@@ -52,7 +52,7 @@ fn put_on_disk<R: Files<File = File>>(
 }
 
 // What calls give on the disk of a node there, which is given back.
-fn told_of<R: Files<File = File>>(files: &R, alloc: Global, node: u32, calls: &[Call]) -> String {
+fn told_of<R: Files<File = File>>(files: &R, alloc: Global, node: u8, calls: &[Call]) -> String {
     let mut out = String::new(alloc);
     let mut bank = HostBank::new(files, alloc);
     match lent(&mut bank, alloc, node) {
@@ -65,7 +65,7 @@ fn told_of<R: Files<File = File>>(files: &R, alloc: Global, node: u32, calls: &[
 }
 
 // Whether the disk of a node isn't lent in the folder of this path, since that failed.
-fn is_refused<R: Files<File = File>>(files: &R, alloc: Global, path: &[u8], node: u32) -> bool {
+fn is_refused<R: Files<File = File>>(files: &R, alloc: Global, path: &[u8], node: u8) -> bool {
     let Ok(place) = folder(alloc, path) else {
         return false;
     };
@@ -94,7 +94,7 @@ fn is_removed(rt: &HostRuntime, path: &str) -> bool {
 }
 
 // What calls give on the disk of a node, and what its file has then.
-fn told_with_file(rt: &HostRuntime, node: u32, path: &str, calls: &[Call]) -> String {
+fn told_with_file(rt: &HostRuntime, node: u8, path: &str, calls: &[Call]) -> String {
     let mut out = told_of(rt, rt.alloc(), node, calls);
     put_file(&mut out, rt, path);
     out
@@ -163,7 +163,7 @@ fn put_around(
 
 fn told_around(
     rt: &HostRuntime,
-    node: u32,
+    node: u8,
     path: &str,
     calls: &[Call],
     change: Change,
@@ -200,7 +200,7 @@ fn put_refused(out: &mut String, is_refused: bool) {
 }
 
 // Whether another bank lends a disk while it is lent, and once it was given back.
-fn told_in_use(rt: &HostRuntime, node: u32) -> String {
+fn told_in_use(rt: &HostRuntime, node: u8) -> String {
     let mut out = String::new(rt.alloc());
     let mut bank = HostBank::new(rt, rt.alloc());
     if let Some(disk) = lent(&mut bank, rt.alloc(), node) {

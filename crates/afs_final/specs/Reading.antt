@@ -61,10 +61,16 @@ AreFound {D} seen faults limit [] (f ∷ fs) = ⊥
 AreFound {D} seen faults limit (l ∷ ls) [] = ⊥
 AreFound {D} seen faults limit (l ∷ ls) (f ∷ fs) = IsRead seen faults limit l.disk f × AreFound seen faults limit ls fs
 
--- the first that can't be told
+-- memory was wanting for one disk: where one of the others failed, that counts
+abbrev pub or_memory : Option LendFault → LendFault
+or_memory None = faults.OutOfMemory
+or_memory (Some faults.Failed) = faults.Failed
+or_memory (Some faults.OutOfMemory) = faults.OutOfMemory
+
+-- why what the disks keep can't be told: one of them failed; or none did, and memory was wanting for what one of them holds
 abbrev pub fault_in : {D : Type 0} → List (Left (Store D) D) → Option LendFault
 fault_in {D} [] = None
 fault_in {D} (left.Kept s ∷ fs) = fault_in fs
 fault_in {D} (left.Bad d ∷ fs) = fault_in fs
 fault_in {D} (left.Failed d ∷ fs) = Some faults.Failed
-fault_in {D} (left.Unread d ∷ fs) = Some faults.OutOfMemory
+fault_in {D} (left.Unread d ∷ fs) = Some (or_memory (fault_in fs))

@@ -66,16 +66,20 @@ pub fn read_store<D: Disk>(store: VolStore<Fuse<D>>) -> Left<VolStore<D>, D>
     }
 }
 
-/// Why what the disks keep can't be told: one of them failed, or memory was wanting for what it holds. The first counts.
+/// Why what the disks keep can't be told: one of them failed; or none did, and memory was wanting for what one of them holds.
 pub fn fault_in<D: Disk>(left: &[Left<VolStore<D>, D>]) -> Option<LendFault>
     ensures { result ≡ read.fault_in left.now }
 {
+    let mut is_wanting = false;
     for one in left {
         match one {
             Left::Failed(_) => return Some(LendFault::Failed),
-            Left::Unread(_) => return Some(LendFault::OutOfMemory),
+            Left::Unread(_) => is_wanting = true,
             Left::Kept(_) | Left::Bad(_) => {}
         }
+    }
+    if is_wanting {
+        return Some(LendFault::OutOfMemory);
     }
     None
 }

@@ -1,11 +1,12 @@
 -- Disks are given back one by one.
-use Rattle.std.proofs.Common.{◌≡◌, ◌⊎◌, inl, inr, ◌≤◌, ℕ, ◌+◌, List, [], ◌∷◌, Option, min, refl, sym, subst, ap, ◌∙◌, arith}
+use Rattle.std.proofs.Common.{◌≡◌, ◌⊎◌, inl, inr, ◌≤◌, ℕ, ◌+◌, List, [], ◌∷◌, Option, refl, sym, subst, ap, ◌∙◌, arith}
 use Rattle.std.specs.Prelude.{Result, Ok, Err, IsErr, OnErr, OnOk}
 use Rattle.afs_num.specs.declared.devices.Failed.{Failed}
+use Rattle.afs_disk.specs.Banks.{counted}
 use Rattle.afs_disk.specs.Disk.{Rose}
 use Rattle.afs_disk.specs.Fuses.{last_count}
 use Rattle.afs_disk.specs.declared.disks.Lent.{Lent}
-use Rattle.afs_lending.specs.Lending.{faults_of, with_faults, GivesBackBut, GoBack, HasFailed, OneGoesBack}
+use Rattle.afs_lending.specs.Lending.{with_faults, GivesBackBut, GoBack, HasFailed, OneGoesBack}
 
 -- ---- how often the bank failed
 
@@ -92,9 +93,9 @@ all_quiet {D} seen ls all given old b0 b1 (Err e) so = tt
 
 -- ---- the faults of the disks
 
-pub sum_next : {D : Type 0} (faults : D → ℕ) (ls rest : List (Lent D)) (l : Lent D) (sum next : ℕ) → ls ≡ l ∷ rest → next ≡ min (sum + faults l.disk) last_count → with_faults (faults_of faults rest) next ≡ with_faults (faults_of faults ls) sum
-sum_next {D} faults ls rest l sum next is more =
-    ap (with_faults (faults_of faults rest)) more ∙ ap (λ (ds : List (Lent D)). with_faults (faults_of faults ds) sum) (sym is)
+pub sum_next : {D : Type 0} (faults : D → ℕ) (ls rest : List (Lent D)) (l : Lent D) (n count next : ℕ) → ls ≡ l ∷ rest → next ≡ counted l.node (faults l.disk) n count → with_faults faults rest n next ≡ with_faults faults ls n count
+sum_next {D} faults ls rest l n count next is more =
+    ap (with_faults faults rest n) more ∙ ap (λ (ds : List (Lent D)). with_faults faults ds n count) (sym is)
 
 -- ---- the bank's count rose where one wasn't taken
 

@@ -1,8 +1,8 @@
 -- The disks of a cell's servers are lent, and given back.
-use Rattle.std.specs.Prelude.{◌≡◌, ◌≤◌, ◌⊎◌, ℕ, zero, suc, ◌+◌, List, [], ◌∷◌, ◌++◌, Option, Some, Result, min, map, take, option_map, IsErr, IsSome}
+use Rattle.std.specs.Prelude.{◌≡◌, ◌≤◌, ◌⊎◌, ℕ, zero, suc, ◌+◌, List, [], ◌∷◌, ◌++◌, Option, Some, Result, take, option_map, IsErr, IsSome}
 use Rattle.afs_num.specs.Places.{at_place}
 use Rattle.afs_num.specs.declared.devices.Failed.{Failed}
-use Rattle.afs_disk.specs.Banks.{GivesBack}
+use Rattle.afs_disk.specs.Banks.{GivesBack, counted}
 use Rattle.afs_disk.specs.Disk.{Rose}
 use Rattle.afs_disk.specs.Fuses.{last_count}
 use Rattle.afs_disk.specs.declared.bank.Lend.{Lend}
@@ -68,11 +68,7 @@ abbrev pub OneGoesBack : ℕ → Option (List ℕ) → Option (List (ℕ × List
 OneGoesBack node seen old new before after taken_before taken =
     (GivesBack node seen old new × ((after ≡ before) × (taken ≡ taken_before))) ⊎ ((new ≡ old) × (Rose before after × IsErr taken))
 
--- how often each of them has failed
-abbrev pub faults_of : {D : Type 0} → (D → ℕ) → List (Lent D) → List ℕ
-faults_of {D} faults ls = map (λ (l : Lent D). faults l.disk) ls
-
--- A sum of faults with those of more disks, one after the other: it stands still at the last value of a counter.
-abbrev pub with_faults : List ℕ → ℕ → ℕ
-with_faults [] sum = sum
-with_faults (n ∷ ns) sum = with_faults ns (min (sum + n) last_count)
+-- how often the disks of node n had failed that were given back, with these, one after the other
+abbrev pub with_faults : {D : Type 0} → (D → ℕ) → List (Lent D) → ℕ → ℕ → ℕ
+with_faults {D} faults [] n count = count
+with_faults {D} faults (l ∷ ls) n count = with_faults faults ls n (counted l.node (faults l.disk) n count)

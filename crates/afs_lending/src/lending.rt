@@ -1,8 +1,9 @@
 //! The bank lends the disks of a cell's servers, and takes them back.
 
-ghost use Rattle.std.specs.Prelude.{◌≡◌, ◌≤◌, ◌<◌, ◌^◌, ◌++◌, ◌∷◌, ◌⊎◌, [], length, option_map, vec_capacity, vec_len, IfErr, IfOk, OnErr, OnOk};
+ghost use Rattle.std.specs.Prelude.{◌≡◌, ◌≤◌, ◌<◌, ◌^◌, ◌++◌, ◌∷◌, ◌⊎◌, [], ℕ, length, option_map, vec_capacity, vec_len, IfErr, IfOk, OnErr, OnOk};
+ghost use Rattle.afs_disk.specs.Banks.{counted};
 ghost use Rattle.afs_disk.specs.Disk.{Rose};
-ghost use Rattle.afs_lending.specs.Lending.{faults_of, kept_disks, lends, with_faults, AreLent, AreUnused, GivesBackBut, GoBack, LendsSome, LentTell, OneGoesBack};
+ghost use Rattle.afs_lending.specs.Lending.{kept_disks, lends, with_faults, AreLent, AreUnused, GivesBackBut, GoBack, LendsSome, LentTell, OneGoesBack};
 
 use afs_disk::{Bank, Disks, LendFault, Lent, Place};
 use afs_final::{Left, disk_in};
@@ -42,7 +43,7 @@ pub fn lend_all<B: Bank<D: Drop>>(
     ensures fewer { IfErr result (λ e. e.0 ≡ LendFault.Failed → length e.1 < servers) }
     ensures few { IfErr result (λ e. 0 < servers → length e.1 < servers) }
     ensures back_lends { IfErr result (λ e. B.lends bank.new ≡ option_map (λ ls. ls ++ lends place.now capacity 1 (length e.1)) (B.lends bank.old)) }
-    ensures faults { B.lent_faults bank.new ≡ B.lent_faults bank.old }
+    ensures faults { (n : ℕ) → B.lent_faults bank.new n ≡ B.lent_faults bank.old n }
     ensures given { B.given bank.new ≡ B.given bank.old }
     ensures cause { IfErr result (λ e. e.0 ≡ LendFault.Failed → Rose (B.faults bank.old) (B.faults bank.new)) }
     ensures memory { IfErr result (λ e. e.0 ≡ LendFault.OutOfMemory → B.faults bank.new ≡ B.faults bank.old) }
@@ -53,7 +54,7 @@ pub fn lend_all<B: Bank<D: Drop>>(
         return Err((LendFault::OutOfMemory, Disks::new(alloc)));
     };
     for before in 0..servers {
-        let node = before as u32 + 1;
+        let node = before + 1;
         match bank.lend(place, node, capacity as u64) {
             Ok(disk) => put_last(&mut disks, Lent { node, disk }),
             Err(fault) => return Err((fault, Disks::from_vec(disks))),
@@ -65,13 +66,13 @@ pub fn lend_all<B: Bank<D: Drop>>(
 /// A disk goes back; whether all did so far.
 fn give_one<B: Bank<D: Drop>>(
     bank: &mut B,
-    node: u32,
+    node: u8,
     disk: B::D,
     all: Result<(), Failed>,
 ) -> Result<(), Failed>
     ensures goes { OneGoesBack node (B.D.seen disk) (B.given bank.old) (B.given bank.new) (B.faults bank.old) (B.faults bank.new) all result }
     ensures cause { OnErr result (Rose (B.faults bank.old) (B.faults bank.new) ⊎ (all ≡ result)) }
-    ensures faults { B.lent_faults bank.new ≡ with_faults (B.D.faults disk ∷ []) (B.lent_faults bank.old) }
+    ensures faults { (n : ℕ) → B.lent_faults bank.new n ≡ counted node (B.D.faults disk) n (B.lent_faults bank.old n) }
     ensures lends { B.lends bank.new ≡ B.lends bank.old }
     ensures never_falls { B.faults bank.old ≤ B.faults bank.new }
 {
@@ -87,7 +88,7 @@ pub fn give_back_all<B: Bank<D: Drop>>(bank: &mut B, disks: Disks<B::D>) -> Resu
     ensures back { GoBack B.D.seen disks (B.given bank.old) (B.given bank.new) (B.faults bank.old) (B.faults bank.new) }
     ensures quiet { OnOk result (B.faults bank.new ≡ B.faults bank.old) }
     ensures cause { OnErr result (Rose (B.faults bank.old) (B.faults bank.new)) }
-    ensures faults { B.lent_faults bank.new ≡ with_faults (faults_of B.D.faults disks) (B.lent_faults bank.old) }
+    ensures faults { (n : ℕ) → B.lent_faults bank.new n ≡ with_faults B.D.faults disks n (B.lent_faults bank.old n) }
     ensures lends { B.lends bank.new ≡ B.lends bank.old }
     ensures never_falls { B.faults bank.old ≤ B.faults bank.new }
 {
@@ -104,12 +105,12 @@ pub fn give_back<B: Bank<D: Drop>>(
     bank: &mut B,
     left: Vec<Left<VolStore<B::D>, B::D>>,
 ) -> Result<(), Failed>
-    requires { length left.items < 2 ^ 32 }
+    requires { length left.items < 2 ^ 8 }
     ensures all { OnOk result (GivesBackBut B.D.seen 0 (kept_disks 1 left.items) (B.given bank.old) (B.given bank.new)) }
     ensures back { GoBack B.D.seen (kept_disks 1 left.items) (B.given bank.old) (B.given bank.new) (B.faults bank.old) (B.faults bank.new) }
     ensures quiet { OnOk result (B.faults bank.new ≡ B.faults bank.old) }
     ensures cause { OnErr result (Rose (B.faults bank.old) (B.faults bank.new)) }
-    ensures faults { B.lent_faults bank.new ≡ with_faults (faults_of B.D.faults (kept_disks 1 left.items)) (B.lent_faults bank.old) }
+    ensures faults { (n : ℕ) → B.lent_faults bank.new n ≡ with_faults B.D.faults (kept_disks 1 left.items) n (B.lent_faults bank.old n) }
     ensures lends { B.lends bank.new ≡ B.lends bank.old }
     ensures never_falls { B.faults bank.old ≤ B.faults bank.new }
 {

@@ -1,47 +1,21 @@
 -- How a call of the program ends, by how its parts end.
-use Rattle.std.specs.Prelude.{◌≡◌, ◌<◌, ◌⊎◌, ℕ, List, [], ◌++◌, length, Bool, Option, Some, None, IsSome, Result, Ok, Err}
+use Rattle.std.specs.Prelude.{◌≡◌, ◌⊎◌, ℕ, List, Bool, Option, Some, None, IsSome, Result, Ok, Err}
 use Rattle.std.proofs.Common.{refl, ap, sym, subst, ◌∙◌, inl, inr}
-use Rattle.std.specs.Io.KnownBytes.{Consumes, IsAtEnd}
 use Rattle.afs_num.specs.declared.scripts.Reason.{Reason}
 use Rattle.afs_history.specs.declared.scripts.Script.{Script}
 use Rattle.afs_disk.specs.declared.bank.Place.{Place}
 use Rattle.afs_grammar.specs.Lines.{script_of}
-use Rattle.afs_grammar.proofs.TooLong.{longer_as_front}
-use Rattle.afs_outside.specs.Outside.{Gives, HadAll, TakesTooMuch}
-use Rattle.afs_top.specs.Forms.{form_in, Asks, HaveForm}
-use Rattle.afs_top.specs.Outside.{IsUnchanged, Outside, RoseBy, Span}
-use Rattle.afs_top.specs.Parts.{refusal_status, IsLongRefusal, RefusedBy}
-use Rattle.afs_top.specs.Reading.{GivesNone, GivesScript}
-use Rattle.afs_top.specs.Top.{level, most_bytes, AtBankFault, DoesNothing, Ends, EndsReplay, EndsRun, IsBeforeReplay, IsScript, LendingFails, LendsAll}
-use Rattle.afs_top.specs.declared.scripts.Refusal.{Refusal}
-use Rattle.afs_top.specs.declared.scripts.Refusal.TheVariants as refusals
-use Rattle.afs_top.specs.declared.statuses.Form.{Form}
-use Rattle.afs_top.specs.declared.statuses.Form.TheVariants.{Replay}
-use Rattle.afs_top.specs.declared.statuses.Status.{Status}
-use Rattle.afs_top.specs.declared.statuses.Status.TheVariants as statuses
-use Rattle.afs_top.proofs.Asked.{asked_as_read}
-
--- ---- an input that is no script
-
-pub long_refusal : (bytes : List ℕ) (r : Refusal) → 16777216 < length bytes → RefusedBy {A = Script} bytes (Err r) → IsLongRefusal bytes r
-long_refusal bytes (refusals.Script line reason) long bad = λ rest. longer_as_front level bytes rest long ∙ bad
-long_refusal bytes refusals.OutOfMemory long bad = tt
-
--- a front of all that the source had left
-had_behind : (before after : Option (List ℕ)) (front : List ℕ) → Consumes before after front → (rest : List ℕ) × HadAll before (front ++ rest)
-had_behind None after front taken = ([], tt)
-had_behind (Some left) None front taken = absurd taken
-had_behind (Some left) (Some rest) front taken = (rest, taken)
-
-pub none_of_long : (source : Span (Option (List ℕ))) (faults : Span ℕ) (front : List ℕ) (r : Refusal) → IsUnchanged faults → TakesTooMuch most_bytes source.before source.after front → IsLongRefusal front r → GivesNone source faults (refusal_status r)
-none_of_long source faults front (refusals.Script line reason) quiet taken bad =
-    let all = had_behind source.before source.after front taken.consumed in
-    record { quiet = quiet; input = front ++ all.0; had = all.1; taken = inr (front, taken); bad = bad all.0 }
-none_of_long source faults front refusals.OutOfMemory quiet taken bad = quiet
-
-pub none_of_bad : (source : Span (Option (List ℕ))) (faults : Span ℕ) (input : List ℕ) (r : Refusal) → IsUnchanged faults → HadAll source.before input → IsAtEnd source.after → RefusedBy {A = Script} input (Err r) → GivesNone source faults (refusal_status r)
-none_of_bad source faults input (refusals.Script line reason) quiet had end bad = record { quiet = quiet; input = input; had = had; taken = inl end; bad = bad }
-none_of_bad source faults input refusals.OutOfMemory quiet had end bad = quiet
+use Rattle.afs_outside.specs.Outside.{Gives, HadAll}
+use Rattle.afs_command.specs.Forms.{form_in, Asks, HaveForm}
+use Rattle.afs_command.specs.Spans.{RoseBy, Span}
+use Rattle.afs_top.specs.Outside.{OneRose, Outside}
+use Rattle.afs_command.specs.Reading.{GivesNone, GivesScript, level}
+use Rattle.afs_top.specs.Top.{AtBankFault, DoesNothing, Ends, EndsReplay, EndsRun, IsBeforeReplay, IsScript, LendingFails, LendsAll}
+use Rattle.afs_command.specs.declared.statuses.Form.{Form}
+use Rattle.afs_command.specs.declared.statuses.Form.TheVariants.{Replay}
+use Rattle.afs_command.specs.declared.statuses.Status.{Status}
+use Rattle.afs_command.specs.declared.statuses.Status.TheVariants as statuses
+use Rattle.afs_command.proofs.Asked.{asked_as_read}
 
 -- ---- a call that ends before a replay
 
@@ -119,12 +93,12 @@ is_before status is = subst IsBeforeReplay (sym is) tt
 pub replay_isnt_usage : (s : Script) (wire : Bool) (place : Place) (tells left : Type 0) (Unlent : ℕ → ℕ → Type 0) (o : Outside) (status : Status) → EndsReplay s wire place tells left Unlent o status → status ≡ statuses.Usage → ⊥
 replay_isnt_usage s wire place tells left Unlent o status ends is = replay_isnt_before s wire place tells left Unlent o status ends (is_before status is)
 
-no_bank_fault : (s : Script) (wire : Bool) (tells left : Type 0) (o : Outside) → AtBankFault s wire tells left o → (RoseBy 1 o.bank_faults → ⊥) → (RoseBy 1 o.disk_faults → ⊥) → ⊥
-no_bank_fault s wire tells left o (inl setting_up) bank disks = disks setting_up.rose
-no_bank_fault s wire tells left o (inr (inl reading)) bank disks = disks reading.rose
+no_bank_fault : (s : Script) (wire : Bool) (tells left : Type 0) (o : Outside) → AtBankFault s wire tells left o → (RoseBy 1 o.bank_faults → ⊥) → (OneRose o.disk_faults → ⊥) → ⊥
+no_bank_fault s wire tells left o (inl setting_up) bank disks = disks (setting_up.server, setting_up.rose)
+no_bank_fault s wire tells left o (inr (inl reading)) bank disks = disks (reading.server, reading.rose)
 no_bank_fault s wire tells left o (inr (inr returning)) bank disks = bank returning.rose
 
-pub completes_replayed : (s : Script) (wire : Bool) (place : Place) (tells left : Type 0) (Unlent : ℕ → ℕ → Type 0) (o : Outside) (status : Status) → EndsReplay s wire place tells left Unlent o status → (RoseBy 1 o.sink_faults → ⊥) → (RoseBy 1 o.bank_faults → ⊥) → (RoseBy 1 o.disk_faults → ⊥) → Completes status
+pub completes_replayed : (s : Script) (wire : Bool) (place : Place) (tells left : Type 0) (Unlent : ℕ → ℕ → Type 0) (o : Outside) (status : Status) → EndsReplay s wire place tells left Unlent o status → (RoseBy 1 o.sink_faults → ⊥) → (RoseBy 1 o.bank_faults → ⊥) → (OneRose o.disk_faults → ⊥) → Completes status
 completes_replayed s wire place tells left Unlent o status ends sink bank disks = either status ends.how where
   either : (status : Status) → LendingFails s place Unlent o status ⊎ (LendsAll s place o × EndsRun s wire tells left o status) → Completes status
   either statuses.Done how = inl refl

@@ -14,7 +14,7 @@ use Rattle.afs_law.specs.Cells.{IsOfCell}
 use Rattle.afs_law.specs.Laws.{RunsAreLegal, RunsEndWell}
 use Rattle.afs_outside.specs.Outside.{AppendsFront}
 use Rattle.afs_records.specs.Durable.{Durable}
-use Rattle.afs_rows.specs.Runs.{Cell}
+use Rattle.afs_rows.specs.Runs.{Cell, Entry, Input}
 use Rattle.afs_text.specs.FinalText.{final_text}
 use Rattle.afs_text.specs.HistoryText.{history_text, text}
 use Rattle.afs_text.specs.KeptText.{kept_history_text}
@@ -24,20 +24,21 @@ use Rattle.afs_volstore.specs.Stores.{Store}
 use Rattle.afs_cell.specs.Steps as cells
 use Rattle.afs_cell.specs.Ends.{AreLeft, IsRefused}
 use Rattle.afs_cell.specs.Steps.{lent_from, AreStanding, HasPlayedAll, HasPlayedFirst, HasPlayedSome}
-use Rattle.afs_cell.specs.Worlds.{most_entries, AllTell, IsCell, IsWorld, WorldState}
+use Rattle.afs_cell.specs.Worlds.{most_entries, own_falls, AllTell, IsCell, IsWorld, Runs, WorldState}
 use Rattle.afs_cell.specs.declared.faults.SetupFault.{SetupFault}
 use Rattle.afs_cell.specs.declared.faults.SetupFault.TheVariants as setup
 use Rattle.afs_final.specs.Reading.{fault_in, part, AreFound}
 use Rattle.afs_final.specs.declared.reading.Left.{Left}
 use Rattle.afs_disk.specs.Fuses.{last_count}
-use Rattle.afs_lending.specs.Lending.{faults_of, kept_disks, lends, with_faults, AreLent, AreUnused, GivesBackBut, GoBack, HasFailed}
-use Rattle.afs_top.specs.Outside.{span, DidNotRise, IsUnchanged, Outside, RoseBy, SoManyFailed, Span, Writes, WritesAll, WritesText, WritesWhole}
+use Rattle.afs_lending.specs.Lending.{kept_disks, lends, with_faults, AreLent, AreUnused, GivesBackBut, GoBack, HasFailed}
+use Rattle.afs_command.specs.Spans.{span, IsUnchanged, RoseBy, Span}
+use Rattle.afs_top.specs.Outside.{DidNotRise, Outside, SoManyFailed, Writes, WritesAll, WritesText, WritesWhole}
 use Rattle.afs_top.specs.Parts.{lend_status, returned, set_up_status, TellsLeft}
-use Rattle.afs_top.specs.Top.{lends_of, AreAllBut, AreOfServers, AtBankFault, EndsReplay, EndsRun, GivesBack, GivesBackLent, GivesBackThose, IsFew, IsFull, IsLegalRun, LendingLeaves, MissedByTheBank, NoneIsMissing, NotToItsEnd, ReadingFails, Replays, ReplaysFirst, ReplaysSome, ReplaysUnread, SetUpLeaves, SomeOfIt, ToItsEnd, WritesEntries, WritesRun}
-use Rattle.afs_top.specs.declared.statuses.Status.{Status}
-use Rattle.afs_top.specs.declared.statuses.Status.TheVariants as statuses
-use Rattle.afs_top.proofs.Counts.{counted, counts_lent, found_failed, found_no_less, grown, none_fell, none_rose, one_grown, rose_once, AtLeast}
-use Rattle.afs_top.proofs.Ending.{found_come, given_so, left_so, legal_run, length_told, lent_come, lent_length, no_others, read_so, Missing}
+use Rattle.afs_top.specs.Top.{lends_of, no_other, one_other, AreAllBut, AreOfServers, AtBankFault, EndsReplay, EndsRun, GivesBack, GivesBackLent, GivesBackThose, IsFew, IsFull, IsLegalRun, IsServerOf, LendingLeaves, MissedByTheBank, NoneIsMissing, NotToItsEnd, ReadingFails, Replays, ReplaysFirst, ReplaysSome, ReplaysUnread, SetUpLeaves, SomeOfIt, ToItsEnd, WritesEntries, WritesRun}
+use Rattle.afs_command.specs.declared.statuses.Status.{Status}
+use Rattle.afs_command.specs.declared.statuses.Status.TheVariants as statuses
+use Rattle.afs_top.proofs.Counts.{counts_lent, failed_among, failed_at, failed_counted, found_counted, none_counted, none_rose, one_failed, one_rose, rose_at, rose_once, AreCounted, IsAmong, OneFailed}
+use Rattle.afs_top.proofs.Ending.{found_come, found_count, given_so, left_so, legal_run, length_told, lent_come, lent_length, no_others, read_so, Missing}
 
 -- ---- the disks go back
 
@@ -47,7 +48,7 @@ Given = Option (List (ℕ × List ℕ))
 -- as the bank takes them; and their faults are counted
 pub record GoesBack {D : Type 0} (seen : D → Option (List ℕ)) (faults : D → ℕ) (disks : List (Lent D)) (o : Outside) : Type 0 where
   pub back : GoBack seen disks o.given.before o.given.after o.bank_faults.before o.bank_faults.after
-  pub counts : o.disk_faults.after ≡ with_faults (faults_of faults disks) o.disk_faults.before
+  pub counts : (n : ℕ) → (o.disk_faults n).after ≡ with_faults faults disks n (o.disk_faults n).before
   pub never_falls : o.bank_faults.before ≤ o.bank_faults.after
 
 missed : {D : Type 0} (seen : D → Option (List ℕ)) (faults : D → ℕ) (disks : List (Lent D)) (o : Outside) → GoesBack seen faults disks o → Missing (MissedByTheBank o) seen disks o.given.before o.given.after
@@ -58,8 +59,10 @@ missed_of {D} seen faults disks o goes =
     let same : goes.back.missing ≡ 0 + goes.back.missing = omega (arith) in
     (goes.back.missing, (goes.back.given, subst (λ (n : ℕ). SoManyFailed n o.bank_faults) same goes.back.failed))
 
-rose_by : (n : ℕ) (ns : List ℕ) (count : Span ℕ) → count.after ≡ with_faults ns count.before → AtLeast n ns → RoseBy n count
-rose_by n ns count are many = subst (λ (k : ℕ). RoseBy n (span count.before k)) (sym are) (counted n ns count.before many)
+-- the count of each server's disk rises by its own
+rose_by : {D : Type 0} (seen : D → Option (List ℕ)) (faults : D → ℕ) (own : ℕ → ℕ) (s : Script) (disks : List (Lent D)) (o : Outside) → GoesBack seen faults disks o → length disks ≡ s.servers → AreCounted faults own 1 disks → (i : ℕ) → IsServerOf s i → RoseBy (own i) (o.disk_faults i)
+rose_by {D} seen faults own s disks o goes all are i has =
+    subst (λ (k : ℕ). RoseBy (own i) (span (o.disk_faults i).before k)) (sym (goes.counts i)) (rose_at faults own 1 i disks (o.disk_faults i).before are has.0 (omega (arith, has.1, all)))
 
 -- ---- a world that played its script to its end
 
@@ -120,6 +123,21 @@ run_of {D} seen may_leave faults limit s w fs wire Writes is found written = rec
   written = written;
 }
 
+-- its disks go back: each has counted its failures in the history
+lent_rose : {D : Type 0} (seen : D → Option (List ℕ)) (may_leave : D → List ℕ → Type 0) (faults limit : D → ℕ) (s : Script) (w : WorldState D) (inputs : List Input) (end : Cell) (o : Outside) → IsWorld seen may_leave faults limit s w → Runs seen may_leave faults limit s w inputs end → GoesBack seen faults (lent_from 1 w.servers) o
+    → (i : ℕ) → IsServerOf s i → RoseBy (own_falls i inputs (told w.wire w.history) + no_other i) (o.disk_faults i)
+lent_rose {D} seen may_leave faults limit s w inputs end o is runs back =
+    no_others s (λ (i : ℕ). own_falls i inputs (told w.wire w.history)) o.disk_faults
+    (rose_by seen faults (λ (i : ℕ). own_falls i inputs (told w.wire w.history)) s (lent_from 1 w.servers) o back (lent_length 1 w.servers ∙ is.safe.server_count) (counts_lent faults (λ (i : ℕ). own_falls i inputs (told w.wire w.history)) w.servers runs.counts))
+
+-- and so after they were read
+found_rose : {D : Type 0} (seen : D → Option (List ℕ)) (may_leave : D → List ℕ → Type 0) (faults limit : D → ℕ) (s : Script) (w : WorldState D) (inputs : List Input) (end : Cell) (fs : List (Left (Store D) D)) (o : Outside) → IsWorld seen may_leave faults limit s w → Runs seen may_leave faults limit s w inputs end
+    → AreFound seen faults limit (lent_from 1 w.servers) fs → GoesBack seen faults (kept_disks 1 fs) o → (i : ℕ) → IsServerOf s i → RoseBy (own_falls i inputs (told w.wire w.history) + no_other i) (o.disk_faults i)
+found_rose {D} seen may_leave faults limit s w inputs end fs o is runs found back =
+    no_others s (λ (i : ℕ). own_falls i inputs (told w.wire w.history)) o.disk_faults
+    (rose_by seen faults (λ (i : ℕ). own_falls i inputs (told w.wire w.history)) s (kept_disks 1 fs) o back (found_count seen faults limit 1 (lent_from 1 w.servers) fs found ∙ (lent_length 1 w.servers ∙ is.safe.server_count))
+    (found_counted seen faults limit (λ (i : ℕ). own_falls i inputs (told w.wire w.history)) 1 (lent_from 1 w.servers) fs found (counts_lent faults (λ (i : ℕ). own_falls i inputs (told w.wire w.history)) w.servers runs.counts)))
+
 -- its history is that of its script, and what was read from its disks is what that leaves
 replays : {D : Type 0} (seen : D → Option (List ℕ)) (may_leave : D → List ℕ → Type 0) (faults limit : D → ℕ) (s : Script) (w : WorldState D) (fs : List (Left (Store D) D)) (wire : Bool) (Writes : List ℕ → Type 0) (MayBeMissing : ℕ → Type 0) (o : Outside)
     → HasEnded seen may_leave faults limit s w → AreFound seen faults limit (lent_from 1 w.servers) fs → fault_in fs ≡ None → Writes (kept_history_text wire w.wire w.history ++ final_text (map part fs)) → GoesBack seen faults (kept_disks 1 fs) o
@@ -127,11 +145,10 @@ replays : {D : Type 0} (seen : D → Option (List ℕ)) (may_leave : D → List 
 replays {D} seen may_leave faults limit s w fs wire Writes MayBeMissing o is found none written back missing p =
     let cell = p.1.runs.cell_is is.going in
     let so = read_so seen may_leave faults limit w p.1.cell fs cell p.0 (is.standing p.0 p.1.cell cell) found none in
-    let many = grown _ _ _ (found_no_less seen faults limit 1 (lent_from 1 w.servers) fs found) (counts_lent faults _ 1 w.servers p.1.runs.counts) in
     record {
       history = told w.wire w.history;
       end = p.1.cell;
-      run = legal_run seen may_leave faults limit is.law (ToItsEnd s) 0 s w o.disk_faults is.in_cell is.world.safe.entries p.1 (no_others _ o.disk_faults (rose_by _ _ o.disk_faults back.counts many));
+      run = legal_run seen may_leave faults limit is.law (ToItsEnd s) no_other s w o.disk_faults is.in_cell is.world.safe.entries p.1 (found_rose seen may_leave faults limit s w p.1.inputs p.1.cell fs o is.world p.1.runs found back);
       kept = map part fs;
       keep = so.keep;
       written = subst Writes (whole_text seen may_leave faults limit s w fs wire is.world p.1.runs.read) written;
@@ -142,15 +159,21 @@ replays {D} seen may_leave faults limit s w fs wire Writes MayBeMissing o is fou
 reading_fails : {D : Type 0} (seen : D → Option (List ℕ)) (may_leave : D → List ℕ → Type 0) (faults limit : D → ℕ) (s : Script) (w : WorldState D) (fs : List (Left (Store D) D)) (wire : Bool) (o : Outside)
     → HasEnded seen may_leave faults limit s w → AreFound seen faults limit (lent_from 1 w.servers) fs → fault_in fs ≡ Some lending.Failed → Writes o (kept_history_text wire w.wire w.history) → GoesBack seen faults (kept_disks 1 fs) o → ReadingFails s wire (All seen may_leave faults limit s w) o
 reading_fails {D} seen may_leave faults limit s w fs wire o is found failed written back =
-    let less = found_no_less seen faults limit 1 (lent_from 1 w.servers) fs found in
-    let more = found_failed seen faults limit 1 (lent_from 1 w.servers) fs found failed in
+    let all : length (lent_from 1 w.servers) ≡ s.servers = lent_length 1 w.servers ∙ is.world.safe.server_count in
+    let count : length (kept_disks 1 fs) ≡ s.servers = found_count seen faults limit 1 (lent_from 1 w.servers) fs found ∙ all in
+    let among : IsAmong 1 (length (lent_from 1 w.servers)) (failed_at 1 fs) = failed_among seen faults limit 1 (lent_from 1 w.servers) fs found failed in
+    let has : IsServerOf s (failed_at 1 fs) = (among.0, omega (arith, among.1, all)) in
     record {
-      rose = rose_by 1 _ o.disk_faults back.counts (one_grown 0 _ _ less more (inl (omega (arith))));
+      server = failed_at 1 fs;
+      has = has;
+      rose = one_rose (failed_at 1 fs) (o.disk_faults (failed_at 1 fs)) (rose_by seen faults (λ (j : ℕ). 0 + one_other (failed_at 1 fs) j) s (kept_disks 1 fs) o back count (failed_counted seen faults limit (λ (j : ℕ). 0) 1 (lent_from 1 w.servers) fs found failed (none_counted faults 1 w.servers)) (failed_at 1 fs) has);
       written = entries_of seen may_leave faults limit s w IsFew wire o is.world is.world.safe.entries written;
       told = λ p. record {
         history = told w.wire w.history;
         end = p.1.cell;
-        run = legal_run seen may_leave faults limit is.law (ToItsEnd s) 1 s w o.disk_faults is.in_cell is.world.safe.entries p.1 (rose_by _ _ o.disk_faults back.counts (one_grown _ _ _ less more (counts_lent faults _ 1 w.servers p.1.runs.counts)));
+        run = legal_run seen may_leave faults limit is.law (ToItsEnd s) (one_other (failed_at 1 fs)) s w o.disk_faults is.in_cell is.world.safe.entries p.1
+            (rose_by seen faults (λ (j : ℕ). own_falls j p.1.inputs (told w.wire w.history) + one_other (failed_at 1 fs) j) s (kept_disks 1 fs) o back count
+            (failed_counted seen faults limit (λ (j : ℕ). own_falls j p.1.inputs (told w.wire w.history)) 1 (lent_from 1 w.servers) fs found failed (counts_lent faults (λ (j : ℕ). own_falls j p.1.inputs (told w.wire w.history)) w.servers p.1.runs.counts)));
         written = written_told seen may_leave faults limit s w wire o is.world p.1.runs.read written;
         given = found_come (MissedByTheBank o) seen faults limit s.servers w.servers fs o.given.before o.given.after is.world.safe.server_count p.0 found (missed seen faults (kept_disks 1 fs) o back);
       };
@@ -160,12 +183,11 @@ reading_fails {D} seen may_leave faults limit s w fs wire o is found failed writ
 reading_stops : {D : Type 0} (seen : D → Option (List ℕ)) (may_leave : D → List ℕ → Type 0) (faults limit : D → ℕ) (s : Script) (w : WorldState D) (fs : List (Left (Store D) D)) (wire : Bool) (o : Outside)
     → HasEnded seen may_leave faults limit s w → AreFound seen faults limit (lent_from 1 w.servers) fs → Writes o (kept_history_text wire w.wire w.history) → GoesBack seen faults (kept_disks 1 fs) o → All seen may_leave faults limit s w → ReplaysSome s wire o
 reading_stops {D} seen may_leave faults limit s w fs wire o is found written back p =
-    let many = grown _ _ _ (found_no_less seen faults limit 1 (lent_from 1 w.servers) fs found) (counts_lent faults _ 1 w.servers p.1.runs.counts) in
     let some : HasPlayedSome seen may_leave faults limit s w = record { inputs = p.1.inputs; cell = p.1.cell; runs = p.1.runs; played = inl p.1.played } in
     record {
       history = told w.wire w.history;
       end = p.1.cell;
-      run = legal_run seen may_leave faults limit is.law (SomeOfIt s) 0 s w o.disk_faults is.in_cell is.world.safe.entries some (no_others _ o.disk_faults (rose_by _ _ o.disk_faults back.counts many));
+      run = legal_run seen may_leave faults limit is.law (SomeOfIt s) no_other s w o.disk_faults is.in_cell is.world.safe.entries some (found_rose seen may_leave faults limit s w p.1.inputs p.1.cell fs o is.world p.1.runs found back);
       written = written_told seen may_leave faults limit s w wire o is.world p.1.runs.read written;
       given = found_come (MissedByTheBank o) seen faults limit s.servers w.servers fs o.given.before o.given.after is.world.safe.server_count p.0 found (missed seen faults (kept_disks 1 fs) o back);
     }
@@ -212,7 +234,7 @@ pub stopped : {D : Type 0} (seen : D → Option (List ℕ)) (may_leave : D → L
 stopped {D} seen may_leave faults limit s w wire o is written back p = record {
   history = told w.wire w.history;
   end = p.1.cell;
-  run = legal_run seen may_leave faults limit is.law (SomeOfIt s) 0 s w o.disk_faults is.in_cell is.world.safe.entries p.1 (no_others _ o.disk_faults (rose_by _ _ o.disk_faults back.counts (counts_lent faults _ 1 w.servers p.1.runs.counts)));
+  run = legal_run seen may_leave faults limit is.law (SomeOfIt s) no_other s w o.disk_faults is.in_cell is.world.safe.entries p.1 (lent_rose seen may_leave faults limit s w p.1.inputs p.1.cell o is.world p.1.runs back);
   written = written_told seen may_leave faults limit s w wire o is.world p.1.runs.read written;
   given = lent_come (MissedByTheBank o) seen s.servers w.servers o.given.before o.given.after is.world.safe.server_count p.0 (missed seen faults (lent_from 1 w.servers) o back);
 }
@@ -233,7 +255,7 @@ was_cut {D} seen may_leave faults limit s w wire o is full written back = record
       record {
         history = told w.wire w.history;
         end = p.1.0.cell;
-        run = legal_run seen may_leave faults limit is.law (NotToItsEnd s) 0 s w o.disk_faults is.in_cell is.world.safe.entries p.1.0 (no_others _ o.disk_faults (rose_by _ _ o.disk_faults back.counts (counts_lent faults _ 1 w.servers p.1.0.runs.counts)));
+        run = legal_run seen may_leave faults limit is.law (NotToItsEnd s) no_other s w o.disk_faults is.in_cell is.world.safe.entries p.1.0 (lent_rose seen may_leave faults limit s w p.1.0.inputs p.1.0.cell o is.world p.1.0.runs back);
         full = length_told w.wire w.history ∙ full;
         kept = left.0;
         keep = left.1.keep;
@@ -252,14 +274,18 @@ of_servers {D} limit capacity i (l ∷ ls) are = (are.0, of_servers limit capaci
 pub not_set_up : {D : Type 0} (seen : D → Option (List ℕ)) (may_leave : D → List ℕ → Type 0) (faults : D → ℕ) (s : Script) (wire : Bool) (tells : Type 0) (disks : List (Lent D)) (e : SetupFault × List (Lent D)) (o : Outside)
     → AreUnused faults disks → IsRefused faults disks e → AreLeft seen may_leave s 1 disks e.1 → AreOfServers 1 e.1 × (length e.1 ≡ s.servers) → IsUnchanged o.sink → GoesBack seen faults e.1 o → EndsRun s wire tells (SetUpLeaves seen may_leave faults s o) o (set_up_status e.0)
 not_set_up {D} seen may_leave faults s wire tells disks (setup.Disk n, back) o unused refused left whose unwritten gone =
+    let one : OneFailed faults 1 back (λ (j : ℕ). (o.disk_faults j).before) = one_failed faults n 1 disks back (λ (j : ℕ). (o.disk_faults j).before) unused refused.0 refused.1 whose.0 in
     inl (record {
-      rose = rose_by 1 _ o.disk_faults gone.counts (none_fell faults n 1 disks back refused.0 refused.1);
+      server = one.server;
+      has = (one.among.0, omega (arith, one.among.1, whose.1));
+      rose = subst (λ (k : ℕ). RoseBy 1 (span (o.disk_faults one.server).before k)) (sym (gone.counts one.server)) one.rose;
+      alone = λ j other. subst (λ (k : ℕ). k ≤ (o.disk_faults j).before) (sym (gone.counts j)) (one.alone j other);
       written = unwritten;
       only_set_up = record { lent = disks; unused = unused; back = back; counted = whose.1; are = whose.0; failed = inl (n, refused.1); left = left; given = missed_of seen faults back o gone };
     })
 not_set_up {D} seen may_leave faults s wire tells disks (setup.OutOfMemory, back) o unused refused left whose unwritten gone =
     inl (record {
-      quiet = subst (λ (n : ℕ). n ≤ o.disk_faults.before) (sym gone.counts) (none_rose faults disks back o.disk_faults.before unused refused.1);
+      quiet = λ i. subst (λ (k : ℕ). k ≤ (o.disk_faults i).before) (sym (gone.counts i)) (none_rose faults disks back i (o.disk_faults i).before unused refused.1);
       written = unwritten;
       only_set_up = record { lent = disks; unused = unused; back = back; counted = whose.1; are = whose.0; failed = inr refused.1; left = left; given = missed_of seen faults back o gone };
     })
@@ -272,23 +298,35 @@ pub record Since (o earlier : Outside) : Type 0 where
   pub passed : earlier.passed ≡ o.passed
   pub given : earlier.given ≡ o.given
   pub sink_faults : earlier.sink_faults ≡ o.sink_faults
-  pub disk_faults : earlier.disk_faults ≡ o.disk_faults
+  pub disk_faults : (n : ℕ) → earlier.disk_faults n ≡ o.disk_faults n
   pub bank_faults : earlier.bank_faults ≡ o.bank_faults
 
 -- the lends changed neither what was given back nor the faults of disks, and the bank didn't fail at them
-pub since_lent : (sink : Span (Option (List ℕ))) (passed : Option (List ℕ)) (sink_faults : Span ℕ) (lends lends_too : Span (Option (List Lend))) (g0 g1 g2 : Given) (b0 b1 b2 d0 d1 d2 : ℕ) → g1 ≡ g0 → d1 ≡ d0 → b1 ≡ b0 →
-    Since (record { sink = sink; passed = passed; lends = lends; given = span g1 g2; sink_faults = sink_faults; bank_faults = span b1 b2; disk_faults = span d1 d2 }) (record { sink = sink; passed = passed; lends = lends_too; given = span g0 g2; sink_faults = sink_faults; bank_faults = span b0 b2; disk_faults = span d0 d2 })
+pub since_lent : (sink : Span (Option (List ℕ))) (passed : Option (List ℕ)) (sink_faults : Span ℕ) (lends lends_too : Span (Option (List Lend))) (g0 g1 g2 : Given) (b0 b1 b2 : ℕ) (d0 d1 d2 : ℕ → ℕ) → g1 ≡ g0 → ((n : ℕ) → d1 n ≡ d0 n) → b1 ≡ b0 →
+    Since (record { sink = sink; passed = passed; lends = lends; given = span g1 g2; sink_faults = sink_faults; bank_faults = span b1 b2; disk_faults = λ (n : ℕ). span (d1 n) (d2 n) }) (record { sink = sink; passed = passed; lends = lends_too; given = span g0 g2; sink_faults = sink_faults; bank_faults = span b0 b2; disk_faults = λ (n : ℕ). span (d0 n) (d2 n) })
 since_lent sink passed sink_faults lends lends_too g0 g1 g2 b0 b1 b2 d0 d1 d2 given faults quiet = record {
   sink = refl;
   passed = refl;
   given = ap (λ (x : Given). span x g2) (sym given);
   sink_faults = refl;
-  disk_faults = ap (λ (x : ℕ). span x d2) (sym faults);
+  disk_faults = λ n. ap (λ (x : ℕ). span x (d2 n)) (sym (faults n));
   bank_faults = ap (λ (x : ℕ). span x b2) (sym quiet);
 }
 
 pub since_same : (o : Outside) → Since o o
-since_same o = record { sink = refl; passed = refl; given = refl; sink_faults = refl; disk_faults = refl; bank_faults = refl }
+since_same o = record { sink = refl; passed = refl; given = refl; sink_faults = refl; disk_faults = λ n. refl; bank_faults = refl }
+
+-- so many failures were counted
+run_as : (s : Script) (IsSoFar : List Input → Type 0) (others : ℕ → ℕ) (history : List Entry) (end : Cell) (o earlier : Outside) → Since o earlier → IsLegalRun s IsSoFar others o.disk_faults history end → IsLegalRun s IsSoFar others earlier.disk_faults history end
+run_as s IsSoFar others history end o earlier since run = record {
+  inputs = run.inputs;
+  leads = run.leads;
+  so_far = run.so_far;
+  few = run.few;
+  legal = run.legal;
+  well = run.well;
+  failures = λ i has. subst (λ (x : Span ℕ). RoseBy (own_falls i run.inputs history + others i) x) (sym (since.disk_faults i)) (run.failures i has);
+}
 
 bank_since : (o earlier : Outside) → Since o earlier → RoseBy 1 o.bank_faults → RoseBy 1 earlier.bank_faults
 bank_since o earlier since rose = subst (λ (x : Span ℕ). RoseBy 1 x) (sym since.bank_faults) rose
@@ -320,7 +358,7 @@ replays_since : (s : Script) (wire : Bool) (Writes WritesToo : List ℕ → Type
 replays_since s wire Writes WritesToo a b o earlier since w f r = record {
   history = r.history;
   end = r.end;
-  run = subst (λ (x : Span ℕ). IsLegalRun s (ToItsEnd s) 0 x r.history r.end) (sym since.disk_faults) r.run;
+  run = run_as s (ToItsEnd s) no_other r.history r.end o earlier since r.run;
   kept = r.kept;
   keep = r.keep;
   written = w (text wire r.history r.kept) r.written;
@@ -356,7 +394,7 @@ first_since : (s : Script) (wire : Bool) (o earlier : Outside) → Since o earli
 first_since s wire o earlier since r = record {
   history = r.history;
   end = r.end;
-  run = subst (λ (x : Span ℕ). IsLegalRun s (NotToItsEnd s) 0 x r.history r.end) (sym since.disk_faults) r.run;
+  run = run_as s (NotToItsEnd s) no_other r.history r.end o earlier since r.run;
   full = r.full;
   kept = r.kept;
   keep = r.keep;
@@ -368,7 +406,7 @@ some_since : (s : Script) (wire : Bool) (o earlier : Outside) → Since o earlie
 some_since s wire o earlier since r = record {
   history = r.history;
   end = r.end;
-  run = subst (λ (x : Span ℕ). IsLegalRun s (SomeOfIt s) 0 x r.history r.end) (sym since.disk_faults) r.run;
+  run = run_as s (SomeOfIt s) no_other r.history r.end o earlier since r.run;
   written = writes_since o earlier since (history_text wire r.history) r.written;
   given = those_since s.servers o earlier since r.given;
 }
@@ -384,26 +422,39 @@ front_since o earlier since t w = subst (λ (x : Span (Option (List ℕ))). Appe
 unwritten_since : (o earlier : Outside) → Since o earlier → IsUnchanged o.sink → IsUnchanged earlier.sink
 unwritten_since o earlier since w = subst (λ (x : Span (Option (List ℕ))). IsUnchanged x) (sym since.sink) w
 
-disks_since : (n : ℕ) (o earlier : Outside) → Since o earlier → RoseBy n o.disk_faults → RoseBy n earlier.disk_faults
-disks_since n o earlier since rose = subst (λ (x : Span ℕ). RoseBy n x) (sym since.disk_faults) rose
+disk_since : (i : ℕ) (o earlier : Outside) → Since o earlier → RoseBy 1 (o.disk_faults i) → RoseBy 1 (earlier.disk_faults i)
+disk_since i o earlier since rose = subst (λ (x : Span ℕ). RoseBy 1 x) (sym (since.disk_faults i)) rose
 
-still_since : (o earlier : Outside) → Since o earlier → DidNotRise o.disk_faults → DidNotRise earlier.disk_faults
-still_since o earlier since still = subst (λ (x : Span ℕ). DidNotRise x) (sym since.disk_faults) still
+still_since : (i : ℕ) (o earlier : Outside) → Since o earlier → DidNotRise (o.disk_faults i) → DidNotRise (earlier.disk_faults i)
+still_since i o earlier since still = subst (λ (x : Span ℕ). DidNotRise x) (sym (since.disk_faults i)) still
 
-unread_since : (s : Script) (wire : Bool) (o earlier : Outside) → Since o earlier → ReplaysUnread s wire o → ReplaysUnread s wire earlier
-unread_since s wire o earlier since r = record {
+unread_since : (s : Script) (wire : Bool) (server : ℕ) (o earlier : Outside) → Since o earlier → ReplaysUnread s wire server o → ReplaysUnread s wire server earlier
+unread_since s wire server o earlier since r = record {
   history = r.history;
   end = r.end;
-  run = subst (λ (x : Span ℕ). IsLegalRun s (ToItsEnd s) 1 x r.history r.end) (sym since.disk_faults) r.run;
+  run = run_as s (ToItsEnd s) (one_other server) r.history r.end o earlier since r.run;
   written = writes_since o earlier since (history_text wire r.history) r.written;
   given = those_since s.servers o earlier since r.given;
 }
 
 bank_fault_since : (s : Script) (wire : Bool) (tells tells_too left left_too : Type 0) (o earlier : Outside) → Since o earlier → (tells_too → tells) → (left → left_too) → AtBankFault s wire tells left o → AtBankFault s wire tells_too left_too earlier
 bank_fault_since s wire tells tells_too left left_too o earlier since t l (inl h) =
-    inl (record { rose = disks_since 1 o earlier since h.rose; written = unwritten_since o earlier since h.written; only_set_up = l h.only_set_up })
+    inl (record {
+      server = h.server;
+      has = h.has;
+      rose = disk_since h.server o earlier since h.rose;
+      alone = λ i other. still_since i o earlier since (h.alone i other);
+      written = unwritten_since o earlier since h.written;
+      only_set_up = l h.only_set_up;
+    })
 bank_fault_since s wire tells tells_too left left_too o earlier since t l (inr (inl h)) =
-    inr (inl (record { rose = disks_since 1 o earlier since h.rose; written = entries_since _ wire o earlier since h.written; told = λ x. unread_since s wire o earlier since (h.told (t x)) }))
+    inr (inl (record {
+      server = h.server;
+      has = h.has;
+      rose = disk_since h.server o earlier since h.rose;
+      written = entries_since _ wire o earlier since h.written;
+      told = λ x. unread_since s wire h.server o earlier since (h.told (t x));
+    }))
 bank_fault_since s wire tells tells_too left left_too o earlier since t l (inr (inr h)) =
     inr (inr (record {
       rose = bank_since o earlier since h.rose;
@@ -425,7 +476,7 @@ ends_since s wire tells tells_too left left_too o earlier statuses.WriteFault si
       told = λ x. replays_since s wire _ _ _ _ o earlier since (front_since o earlier since) (missed_since o earlier since) (h.told (t x));
     }
 ends_since s wire tells tells_too left left_too o earlier statuses.BankFault since t l h = bank_fault_since s wire tells tells_too left left_too o earlier since t l h
-ends_since s wire tells tells_too left left_too o earlier statuses.OutOfMemory since t l (inl h) = inl (record { quiet = still_since o earlier since h.quiet; written = unwritten_since o earlier since h.written; only_set_up = l h.only_set_up })
+ends_since s wire tells tells_too left left_too o earlier statuses.OutOfMemory since t l (inl h) = inl (record { quiet = λ i. still_since i o earlier since (h.quiet i); written = unwritten_since o earlier since h.written; only_set_up = l h.only_set_up })
 ends_since s wire tells tells_too left left_too o earlier statuses.OutOfMemory since t l (inr h) = inr (record { written = entries_since _ wire o earlier since h.written; told = λ x. some_since s wire o earlier since (h.told (t x)) })
 ends_since s wire tells tells_too left left_too o earlier statuses.Limit since t l h = record { written = entries_since _ wire o earlier since h.written; told = λ x. first_since s wire o earlier since (h.told (t x)) }
 ends_since s wire tells tells_too left left_too o earlier statuses.Usage since t l h = absurd h
@@ -469,7 +520,7 @@ both_failed n m b0 b1 b2 falls first second = (rose first.0 second.0, λ none. q
   quiet none_first none_second = second.1 none_second ∙ first.1 none_first
 
 -- those that were lent came back unused
-pub leaves_lent : {D : Type 0} (seen : D → Option (List ℕ)) (faults limit : D → ℕ) (s : Script) (sink : Span (Option (List ℕ))) (passed : Option (List ℕ)) (lent : Span (Option (List Lend))) (g0 g1 g2 : Given) (sink_faults : Span ℕ) (b0 b1 b2 : ℕ) (disk_faults : Span ℕ) (lends_failed : ℕ) (ls : List (Lent D))
+pub leaves_lent : {D : Type 0} (seen : D → Option (List ℕ)) (faults limit : D → ℕ) (s : Script) (sink : Span (Option (List ℕ))) (passed : Option (List ℕ)) (lent : Span (Option (List Lend))) (g0 g1 g2 : Given) (sink_faults : Span ℕ) (b0 b1 b2 : ℕ) (disk_faults : ℕ → Span ℕ) (lends_failed : ℕ) (ls : List (Lent D))
     → AreLent limit s.capacity 1 ls → AreUnused faults ls → g1 ≡ g0 → HasFailed lends_failed b0 b1 → b1 ≤ b2 → GoBack seen ls g1 g2 b1 b2
     → LendingLeaves seen faults limit s (record { sink = sink; passed = passed; lends = lent; given = span g0 g2; sink_faults = sink_faults; bank_faults = span b0 b2; disk_faults = disk_faults }) lends_failed (length ls)
 leaves_lent {D} seen faults limit s sink passed lent g0 g1 g2 sink_faults b0 b1 b2 disk_faults lends_failed ls are unused same failed falls back = record {
@@ -498,13 +549,13 @@ rose_before b0 b1 b2 rose never_falls falls = rose_once b0 b2 (rose_on rose) (om
   rose_on (inr full) = inr full
 
 -- The script's replay over the disks that were lent is its replay.
-pub replayed : {D : Type 0} (seen : D → Option (List ℕ)) (may_leave : D → List ℕ → Type 0) (faults : D → ℕ) (s : Script) (wire : Bool) (place : Place) (tells tells_too : Type 0) (Unlent : ℕ → ℕ → Type 0) (sink : Span (Option (List ℕ))) (passed : Option (List ℕ)) (sink_faults : Span ℕ) (l0 l1 l2 : Option (List Lend)) (g0 g1 g2 : Given) (b0 b1 b2 d0 d1 d2 : ℕ) (status : Status)
-    → (tells_too → tells) → l1 ≡ option_map (λ ls. ls ++ lends_of s place) l0 → l2 ≡ l1 → g1 ≡ g0 → d1 ≡ d0 → b1 ≡ b0
-    → EndsRun s wire tells (SetUpLeaves seen may_leave faults s (record { sink = sink; passed = passed; lends = span l1 l2; given = span g1 g2; sink_faults = sink_faults; bank_faults = span b1 b2; disk_faults = span d1 d2 })) (record { sink = sink; passed = passed; lends = span l1 l2; given = span g1 g2; sink_faults = sink_faults; bank_faults = span b1 b2; disk_faults = span d1 d2 }) status
-    → EndsReplay s wire place tells_too (SetUpLeaves seen may_leave faults s (record { sink = sink; passed = passed; lends = span l0 l2; given = span g0 g2; sink_faults = sink_faults; bank_faults = span b0 b2; disk_faults = span d0 d2 })) Unlent (record { sink = sink; passed = passed; lends = span l0 l2; given = span g0 g2; sink_faults = sink_faults; bank_faults = span b0 b2; disk_faults = span d0 d2 }) status
+pub replayed : {D : Type 0} (seen : D → Option (List ℕ)) (may_leave : D → List ℕ → Type 0) (faults : D → ℕ) (s : Script) (wire : Bool) (place : Place) (tells tells_too : Type 0) (Unlent : ℕ → ℕ → Type 0) (sink : Span (Option (List ℕ))) (passed : Option (List ℕ)) (sink_faults : Span ℕ) (l0 l1 l2 : Option (List Lend)) (g0 g1 g2 : Given) (b0 b1 b2 : ℕ) (d0 d1 d2 : ℕ → ℕ) (status : Status)
+    → (tells_too → tells) → l1 ≡ option_map (λ ls. ls ++ lends_of s place) l0 → l2 ≡ l1 → g1 ≡ g0 → ((n : ℕ) → d1 n ≡ d0 n) → b1 ≡ b0
+    → EndsRun s wire tells (SetUpLeaves seen may_leave faults s (record { sink = sink; passed = passed; lends = span l1 l2; given = span g1 g2; sink_faults = sink_faults; bank_faults = span b1 b2; disk_faults = λ (n : ℕ). span (d1 n) (d2 n) })) (record { sink = sink; passed = passed; lends = span l1 l2; given = span g1 g2; sink_faults = sink_faults; bank_faults = span b1 b2; disk_faults = λ (n : ℕ). span (d1 n) (d2 n) }) status
+    → EndsReplay s wire place tells_too (SetUpLeaves seen may_leave faults s (record { sink = sink; passed = passed; lends = span l0 l2; given = span g0 g2; sink_faults = sink_faults; bank_faults = span b0 b2; disk_faults = λ (n : ℕ). span (d0 n) (d2 n) })) Unlent (record { sink = sink; passed = passed; lends = span l0 l2; given = span g0 g2; sink_faults = sink_faults; bank_faults = span b0 b2; disk_faults = λ (n : ℕ). span (d0 n) (d2 n) }) status
 replayed {D} seen may_leave faults s wire place tells tells_too Unlent sink passed sink_faults l0 l1 l2 g0 g1 g2 b0 b1 b2 d0 d1 d2 status tell all lent given counts quiet run =
-    let o : Outside = record { sink = sink; passed = passed; lends = span l1 l2; given = span g1 g2; sink_faults = sink_faults; bank_faults = span b1 b2; disk_faults = span d1 d2 } in
-    let earlier : Outside = record { sink = sink; passed = passed; lends = span l0 l2; given = span g0 g2; sink_faults = sink_faults; bank_faults = span b0 b2; disk_faults = span d0 d2 } in
+    let o : Outside = record { sink = sink; passed = passed; lends = span l1 l2; given = span g1 g2; sink_faults = sink_faults; bank_faults = span b1 b2; disk_faults = λ (n : ℕ). span (d1 n) (d2 n) } in
+    let earlier : Outside = record { sink = sink; passed = passed; lends = span l0 l2; given = span g0 g2; sink_faults = sink_faults; bank_faults = span b0 b2; disk_faults = λ (n : ℕ). span (d0 n) (d2 n) } in
     let since : Since o earlier = since_lent sink passed sink_faults (span l1 l2) (span l0 l2) g0 g1 g2 b0 b1 b2 d0 d1 d2 given counts quiet in
     record {
       how = inr (lent ∙ all, ends_since s wire tells tells_too (SetUpLeaves seen may_leave faults s o) (SetUpLeaves seen may_leave faults s earlier) o earlier status since tell (left_since seen may_leave faults s o earlier since) run);
@@ -518,7 +569,7 @@ played_on s played wire tells tells_too left o status same tell run =
 -- the disks that set-up handed back went back to the bank
 pub refused_of : {D : Type 0} (seen : D → Option (List ℕ)) (may_leave : D → List ℕ → Type 0) (faults : D → ℕ) (s : Script) (wire : Bool) (tells : Type 0) (disks : List (Lent D)) (fault : SetupFault) (back : List (Lent D)) (o : Outside) (result status : Status)
     → AreUnused faults disks → IsRefused faults disks (fault, back) → AreLeft seen may_leave s 1 disks back → AreOfServers 1 back × (length back ≡ s.servers) → IsUnchanged o.sink
-    → GoBack seen back o.given.before o.given.after o.bank_faults.before o.bank_faults.after → o.disk_faults.after ≡ with_faults (faults_of faults back) o.disk_faults.before → o.bank_faults.before ≤ o.bank_faults.after → result ≡ status → status ≡ set_up_status fault
+    → GoBack seen back o.given.before o.given.after o.bank_faults.before o.bank_faults.after → ((n : ℕ) → (o.disk_faults n).after ≡ with_faults faults back n (o.disk_faults n).before) → o.bank_faults.before ≤ o.bank_faults.after → result ≡ status → status ≡ set_up_status fault
     → EndsRun s wire tells (SetUpLeaves seen may_leave faults s o) o result
 refused_of {D} seen may_leave faults s wire tells disks fault back o result status unused refused left whose unwritten goes counts never_falls is meant =
     subst (λ (x : Status). EndsRun s wire tells (SetUpLeaves seen may_leave faults s o) o x) (sym (is ∙ meant))

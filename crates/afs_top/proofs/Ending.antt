@@ -26,8 +26,8 @@ use Rattle.afs_final.specs.Reading.{fault_in, kept_disk, part, AreFound, IsRead}
 use Rattle.afs_final.specs.declared.reading.Left.{Left}
 use Rattle.afs_final.specs.declared.reading.Left.TheVariants as left
 use Rattle.afs_lending.specs.Lending.{kept_disks, GivesBackBut}
-use Rattle.afs_top.specs.Outside.{RoseBy, Span}
-use Rattle.afs_top.specs.Top.{AreKept, AreOf, GivesBack, GivesBackThose, IsLegalRun, MayKeep}
+use Rattle.afs_command.specs.Spans.{RoseBy, Span}
+use Rattle.afs_top.specs.Top.{no_other, AreKept, AreOf, GivesBack, GivesBackThose, IsLegalRun, IsServerOf, MayKeep}
 
 some_of : {A : Type 0} (o : Option A) → IsSome o → (x : A) × (o ≡ Some x)
 some_of {A} None some = absurd cc
@@ -35,7 +35,7 @@ some_of {A} (Some x) some = (x, refl)
 
 -- ---- what is so of each is so from one on
 
-abbrev EachFrom : {A : Type 0} → ℕ → (ℕ → A → Type 0) → List A → Type 0
+abbrev pub EachFrom : {A : Type 0} → ℕ → (ℕ → A → Type 0) → List A → Type 0
 EachFrom {A} i P [] = Unit {0}
 EachFrom {A} i P (x ∷ xs) = P i x × EachFrom (i + 1) P xs
 
@@ -44,7 +44,7 @@ each_from {A} i P [] h = tt
 each_from {A} i P (x ∷ xs) h =
     (subst (λ (k : ℕ). P k x) (omega (arith)) (h 0 x refl), each_from (i + 1) P xs (λ n y e. subst (λ (k : ℕ). P k y) (omega (arith)) (h (suc n) y e)))
 
-each_is : {A : Type 0} (P : ℕ → A → Type 0) (xs : List A) → Each P xs → EachFrom 1 P xs
+pub each_is : {A : Type 0} (P : ℕ → A → Type 0) (xs : List A) → Each P xs → EachFrom 1 P xs
 each_is {A} P xs h = each_from 1 P xs (λ n x e. subst (λ (k : ℕ). P k x) (omega (arith)) (h (suc n) x e))
 
 -- ---- the disks of a world
@@ -241,7 +241,7 @@ tell_found {D} seen faults limit i [] (f ∷ fs) found tells = absurd found
 tell_found {D} seen faults limit i (l ∷ ls) [] found tells = absurd found
 tell_found {D} seen faults limit i (l ∷ ls) (f ∷ fs) found tells = ((refl, found.0.told.1 tells.0), tell_found seen faults limit (i + 1) ls fs found.1 tells.1)
 
-found_count : {D : Type 0} (seen : D → Option (List ℕ)) (faults limit : D → ℕ) (i : ℕ) (ls : List (Lent D)) (fs : List (Left (Store D) D)) → AreFound seen faults limit ls fs → length (kept_disks i fs) ≡ length ls
+pub found_count : {D : Type 0} (seen : D → Option (List ℕ)) (faults limit : D → ℕ) (i : ℕ) (ls : List (Lent D)) (fs : List (Left (Store D) D)) → AreFound seen faults limit ls fs → length (kept_disks i fs) ≡ length ls
 found_count {D} seen faults limit i [] [] found = refl
 found_count {D} seen faults limit i [] (f ∷ fs) found = absurd found
 found_count {D} seen faults limit i (l ∷ ls) [] found = absurd found
@@ -261,7 +261,7 @@ length_told ps [] = refl
 length_told ps (e ∷ es) = ap suc (length_told (drop e.sent ps) es)
 
 -- what a world tells is a legal run of its script, as far as it was played
-pub legal_run : {D : Type 0} (seen : D → Option (List ℕ)) (may_leave : D → List ℕ → Type 0) (faults limit : D → ℕ) (law : RunsAreLegal × RunsEndWell) (IsSoFar : List Input → Type 0) (others : ℕ) (s : Script) (w : WorldState D) (counts : Span ℕ) → IsOfCell s → length w.history ≤ most_entries → (p : HasPlayed seen may_leave faults limit IsSoFar s w) → RoseBy (own_falls p.inputs + others) counts
+pub legal_run : {D : Type 0} (seen : D → Option (List ℕ)) (may_leave : D → List ℕ → Type 0) (faults limit : D → ℕ) (law : RunsAreLegal × RunsEndWell) (IsSoFar : List Input → Type 0) (others : ℕ → ℕ) (s : Script) (w : WorldState D) (counts : ℕ → Span ℕ) → IsOfCell s → length w.history ≤ most_entries → (p : HasPlayed seen may_leave faults limit IsSoFar s w) → ((i : ℕ) → IsServerOf s i → RoseBy (own_falls i p.inputs (told w.wire w.history) + others i) (counts i))
     → IsLegalRun s IsSoFar others counts (told w.wire w.history) p.cell
 legal_run {D} seen may_leave faults limit law IsSoFar others s w counts in_cell few p failures = record {
   inputs = p.inputs;
@@ -273,6 +273,6 @@ legal_run {D} seen may_leave faults limit law IsSoFar others s w counts in_cell 
   failures = failures;
 }
 
--- no other disk failed
-pub no_others : (n : ℕ) (counts : Span ℕ) → RoseBy n counts → RoseBy (n + 0) counts
-no_others n counts rose = subst (λ (k : ℕ). RoseBy k counts) (omega (arith)) rose
+-- its failures are all
+pub no_others : (s : Script) (own : ℕ → ℕ) (counts : ℕ → Span ℕ) → ((i : ℕ) → IsServerOf s i → RoseBy (own i) (counts i)) → (i : ℕ) → IsServerOf s i → RoseBy (own i + no_other i) (counts i)
+no_others s own counts rose i has = subst (λ (k : ℕ). RoseBy k (counts i)) (omega (arith)) (rose i has)

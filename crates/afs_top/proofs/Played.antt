@@ -12,7 +12,7 @@ use Rattle.afs_top.specs.Top.{EndsRun}
 use Rattle.afs_top.specs.declared.playing.Ended.{Ended}
 use Rattle.afs_top.specs.declared.playing.Ended.TheVariants as ended
 use Rattle.afs_top.specs.declared.playing.Told.{Told}
-use Rattle.afs_top.specs.declared.statuses.Status.{Status}
+use Rattle.afs_command.specs.declared.statuses.Status.{Status}
 use Rattle.afs_top.proofs.Ended.{played_on}
 
 module _ {D : Type 0} (seen : D → Option (List ℕ)) (may_leave : D → List ℕ → Type 0) (faults limit : D → ℕ) (s : Script) (wire : Bool) (tells : Type 0) (old new : Option (List ℕ)) (before after : ℕ) (t : Told (WorldState D)) (told : IsTold seen may_leave faults limit s wire tells old new before after t) where

@@ -16,13 +16,13 @@ use Rattle.afs_cell.specs.Steps.{lent_from, AreStanding, HasPlayedAll, HasPlayed
 use Rattle.afs_cell.specs.Worlds.{most_entries, AllTell, HistoryTold, IsWorld, WorldState}
 use Rattle.afs_final.specs.Reading.{fault_in, part, AreFound}
 use Rattle.afs_final.specs.declared.reading.Left.{Left}
-use Rattle.afs_lending.specs.Lending.{faults_of, kept_disks, with_faults, GivesBackBut, GoBack}
+use Rattle.afs_lending.specs.Lending.{kept_disks, with_faults, GivesBackBut, GoBack}
 use Rattle.afs_top.specs.Outside.{Outside, Writes}
 use Rattle.afs_top.specs.Parts.{returned, TellsLeft}
 use Rattle.afs_top.specs.Playing.{world_text, IsWritten}
 use Rattle.afs_top.specs.Top.{EndsRun, IsFew, WritesEntries}
-use Rattle.afs_top.specs.declared.statuses.Status.{Status}
-use Rattle.afs_top.specs.declared.statuses.Status.TheVariants as statuses
+use Rattle.afs_command.specs.declared.statuses.Status.{Status}
+use Rattle.afs_command.specs.declared.statuses.Status.TheVariants as statuses
 use Rattle.afs_top.proofs.Ended.{all_played, ended, entries_of, stopped, was_cut, GoesBack, HasEnded}
 use Rattle.afs_top.proofs.Ending.{lent_length}
 
@@ -61,7 +61,7 @@ module _ {D : Type 0} (seen : D → Option (List ℕ)) (may_leave : D → List �
       → TellsLeft written (world_text wire (whole gone w)) (final_text (map part fs)) (fault_in fs) o.sink o.passed o.sink_faults status
       → OnOk taken (GivesBackBut seen 0 (kept_disks 1 fs) o.given.before o.given.after) → OnOk taken (o.bank_faults.after ≡ o.bank_faults.before) → OnErr taken (Rose o.bank_faults.before o.bank_faults.after)
       → GoBack seen (kept_disks 1 fs) o.given.before o.given.after o.bank_faults.before o.bank_faults.after
-      → o.disk_faults.after ≡ with_faults (faults_of faults (kept_disks 1 fs)) o.disk_faults.before → o.bank_faults.before ≤ o.bank_faults.after → result ≡ returned status taken
+      → ((n : ℕ) → (o.disk_faults n).after ≡ with_faults faults (kept_disks 1 fs) n (o.disk_faults n).before) → o.bank_faults.before ≤ o.bank_faults.after → result ≡ returned status taken
       → EndsRun w.script wire (AllTell seen w.servers × HasPlayedAll seen may_leave faults limit w.script (whole gone w)) ⊥ o result
   end_of fs status result taken going over found tells all quiet cause goes counts never_falls are =
       let is = has_ended seen may_leave faults limit wire start count gone w now counted written disks law in_cell going told over in
@@ -70,7 +70,7 @@ module _ {D : Type 0} (seen : D → Option (List ℕ)) (may_leave : D → List �
       subst (λ (x : Status). EndsRun w.script wire (AllTell seen w.servers × HasPlayedAll seen may_leave faults limit w.script (whole gone w)) ⊥ o x) (sym are) (ended seen may_leave faults limit w.script (whole gone w) fs wire o written status taken is found_here tells all quiet cause back)
 
   -- what was written stands there, and the disks go back
-  module _ (goes : GoBack seen disks o.given.before o.given.after o.bank_faults.before o.bank_faults.after) (counts : o.disk_faults.after ≡ with_faults (faults_of faults disks) o.disk_faults.before)
+  module _ (goes : GoBack seen disks o.given.before o.given.after o.bank_faults.before o.bank_faults.after) (counts : (n : ℕ) → (o.disk_faults n).after ≡ with_faults faults disks n (o.disk_faults n).before)
       (never_falls : o.bank_faults.before ≤ o.bank_faults.after) (over : IsOver seen may_leave limit w disks) (writes : Writes o (world_text wire (whole gone w))) (result : Status) where
     gone_back : GoesBack seen faults (lent_from 1 w.servers) o
     gone_back = subst (λ (ls : List (Lent D)). GoesBack seen faults ls o) over.are (record { back = goes; counts = counts; never_falls = never_falls })

@@ -6,10 +6,11 @@ use Rattle.afs_disk.specs.declared.bank.LendFault.{LendFault}
 use Rattle.afs_disk.specs.declared.bank.LendFault.TheVariants as lending
 use Rattle.afs_outside.specs.declared.outside.Failed.{Failed}
 use Rattle.afs_outside.specs.Outside.{AppendsFront, Puts}
-use Rattle.afs_top.specs.Outside.{span, Span, WritesText}
+use Rattle.afs_command.specs.Spans.{span, Span}
+use Rattle.afs_top.specs.Outside.{WritesText}
 use Rattle.afs_top.specs.Parts.{lend_status, TellsLeft}
-use Rattle.afs_top.specs.declared.statuses.Status.{Status}
-use Rattle.afs_top.specs.declared.statuses.Status.TheVariants as statuses
+use Rattle.afs_command.specs.declared.statuses.Status.{Status}
+use Rattle.afs_command.specs.declared.statuses.Status.TheVariants as statuses
 use Rattle.afs_top.proofs.Counts.{rose_outside}
 
 -- what was put of a text was written, or a beginning of it

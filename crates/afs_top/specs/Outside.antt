@@ -1,25 +1,14 @@
 -- What a call of the program does outside: to the sink, and to the bank of its disks.
-use Rattle.std.specs.Prelude.{◌≡◌, ◌≤◌, ◌⊎◌, ℕ, ◌+◌, List, Option}
+use Rattle.std.specs.Prelude.{◌≡◌, ◌≤◌, ◌⊎◌, ℕ, List, Option}
 use Rattle.std.specs.Io.KnownBytes.{Appends}
-use Rattle.afs_disk.specs.Fuses.{last_count}
 use Rattle.afs_disk.specs.declared.bank.Lend.{Lend}
 use Rattle.afs_lending.specs.Lending.{HasFailed}
 use Rattle.afs_outside.specs.Outside.{AppendsFront}
-
--- what stood there before the call, and what stands there after it
-pub record Span (A : Type 0) : Type 0 where
-  pub before : A
-  pub after : A
-
-abbrev pub span : {A : Type 0} → A → A → Span A
-span {A} before after = record { before = before; after = after }
-
-abbrev pub IsUnchanged : {A : Type 0} → Span A → Type 0
-IsUnchanged {A} span = span.after ≡ span.before
+use Rattle.afs_command.specs.Spans.{IsUnchanged, RoseBy, Span}
 
 -- What a call sees outside: the bytes that the sink holds, and after the call those that it has passed on; what the bank lent, and the
 -- disks that it was given back, each by its node and its bytes, where these are told. The counts are of faults: of the sink, of the bank,
--- and of all disks that it was given back.
+-- and, for each number of a node, of the disks of that node that the bank was given back.
 pub record Outside : Type 0 where
   pub sink : Span (Option (List ℕ))
   pub passed : Option (List ℕ)
@@ -27,14 +16,14 @@ pub record Outside : Type 0 where
   pub given : Span (Option (List (ℕ × List ℕ)))
   pub sink_faults : Span ℕ
   pub bank_faults : Span ℕ
-  pub disk_faults : Span ℕ
-
--- The count rose by so many, or by more. One that stands at the last value of a counter counts as risen.
-abbrev pub RoseBy : ℕ → Span ℕ → Type 0
-RoseBy n count = (count.before + n ≤ count.after) ⊎ (last_count ≤ count.after)
+  pub disk_faults : ℕ → Span ℕ
 
 abbrev pub DidNotRise : Span ℕ → Type 0
 DidNotRise count = count.after ≤ count.before
+
+-- one of these counts rose
+abbrev pub OneRose : (ℕ → Span ℕ) → Type 0
+OneRose counts = (n : ℕ) × RoseBy 1 (counts n)
 
 -- So many failed: the count rose so, and where none failed it stands.
 abbrev pub SoManyFailed : ℕ → Span ℕ → Type 0

@@ -1,33 +1,15 @@
 -- The parts of a call of the program.
-use Rattle.std.specs.Prelude.{◌≡◌, ◌⊎◌, ℕ, List, ◌++◌, Option, Some, None, Result, Ok, Err, IsOk}
+use Rattle.std.specs.Prelude.{◌≡◌, ◌⊎◌, ℕ, List, ◌++◌, Option, Some, None, Result, Err, IsOk}
 use Rattle.afs_num.specs.declared.devices.Failed.{Failed}
 use Rattle.afs_cell.specs.declared.faults.SetupFault.{SetupFault}
 use Rattle.afs_cell.specs.declared.faults.SetupFault.TheVariants as setup
 use Rattle.afs_disk.specs.declared.bank.LendFault.{LendFault}
 use Rattle.afs_disk.specs.declared.bank.LendFault.TheVariants as lending
 use Rattle.afs_outside.specs.Outside.{AppendsFront}
-use Rattle.afs_top.specs.Outside.{RoseBy, Span, WritesText, WritesWhole}
-use Rattle.afs_top.specs.Top.{IsBad}
-use Rattle.afs_top.specs.declared.scripts.Refusal.{Refusal}
-use Rattle.afs_top.specs.declared.scripts.Refusal.TheVariants as refusals
-use Rattle.afs_top.specs.declared.statuses.Status.{Status}
-use Rattle.afs_top.specs.declared.statuses.Status.TheVariants as statuses
-
--- ---- the script
-
--- an input that can't be played is refused by its first bad line; where memory runs out, nothing is said of it
-abbrev pub RefusedBy : {A : Type 0} → List ℕ → Result A Refusal → Type 0
-RefusedBy input (Err (refusals.Script line reason)) = IsBad line reason input
-RefusedBy input (Err refusals.OutOfMemory) = Unit {0}
-RefusedBy input (Ok x) = Unit {0}
-
-abbrev pub IsLongRefusal : List ℕ → Refusal → Type 0
-IsLongRefusal front (refusals.Script line reason) = (rest : List ℕ) → IsBad line reason (front ++ rest)
-IsLongRefusal front refusals.OutOfMemory = Unit {0}
-
-abbrev pub refusal_status : Refusal → Status
-refusal_status (refusals.Script line reason) = statuses.Script line reason
-refusal_status refusals.OutOfMemory = statuses.OutOfMemory
+use Rattle.afs_command.specs.Spans.{RoseBy, Span}
+use Rattle.afs_top.specs.Outside.{WritesText, WritesWhole}
+use Rattle.afs_command.specs.declared.statuses.Status.{Status}
+use Rattle.afs_command.specs.declared.statuses.Status.TheVariants as statuses
 
 -- ---- disks
 

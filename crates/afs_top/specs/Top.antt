@@ -1,6 +1,5 @@
 -- What the program promises: what it writes is the text of a legal history of the script that it read, and the disks that it
--- gives back stand for what that history leaves.
-use Rattle.std.specs.Prelude.{◌≡◌, ◌≤◌, ◌<◌, ◌⊎◌, ℕ, zero, suc, ◌+◌, List, [], ◌∷◌, ◌++◌, length, Bool, Option, Some, None, Ok, Err}
+use Rattle.std.specs.Prelude.{◌≡◌, ◌≤◌, ◌<◌, ◌⊎◌, ℕ, zero, suc, ◌+◌, List, [], ◌∷◌, ◌++◌, length, Bool, false, nat_eq, if◌then◌else◌, Option, Some, None, Ok}
 use Rattle.std.specs.Option.{option_map}
 use Rattle.std.specs.Io.KnownBytes.{IsAtEnd}
 use Rattle.afs_num.specs.declared.scripts.Reason.{Reason}
@@ -13,7 +12,7 @@ use Rattle.afs_disk.specs.declared.disks.Lent.{Lent}
 use Rattle.afs_grammar.specs.Lines.{script_of}
 use Rattle.afs_law.specs.Laws.{EndsWell}
 use Rattle.afs_law.specs.Legal.{Legal}
-use Rattle.afs_outside.specs.Outside.{AppendsFront, HadAll, TakesTooMuch}
+use Rattle.afs_outside.specs.Outside.{AppendsFront, HadAll}
 use Rattle.afs_records.specs.Durable.{Durable}
 use Rattle.afs_volstore.specs.Stands.{Stands}
 use Rattle.afs_rows.specs.Runs.{start, Cell, Entry, Input, Leads}
@@ -26,15 +25,13 @@ use Rattle.afs_cell.specs.Ends.{AreLeft, OneRoseAtMost}
 use Rattle.afs_cell.specs.Steps.{MayBeRead}
 use Rattle.afs_cell.specs.Worlds.{most_entries, own_falls}
 use Rattle.afs_lending.specs.Lending.{lends, AreLent, AreUnused, GivesBackBut}
-use Rattle.afs_top.specs.Forms.{Asks, HaveForm}
-use Rattle.afs_top.specs.Outside.{DidNotRise, IsUnchanged, Outside, RoseBy, SoManyFailed, Span, Writes, WritesAll}
-use Rattle.afs_top.specs.declared.statuses.Form.TheVariants.{Replay}
-use Rattle.afs_top.specs.declared.statuses.Status.{Status}
-use Rattle.afs_top.specs.declared.statuses.Status.TheVariants as statuses
-
--- how far the grammar is built: disks that stop, every act on paths, several clients and breaks, at one server
-abbrev pub level : ℕ
-level = 6
+use Rattle.afs_command.specs.Forms.{Asks, HaveForm}
+use Rattle.afs_command.specs.Spans.{IsUnchanged, RoseBy, Span}
+use Rattle.afs_top.specs.Outside.{DidNotRise, Outside, SoManyFailed, Writes, WritesAll}
+use Rattle.afs_command.specs.declared.statuses.Form.TheVariants.{Replay}
+use Rattle.afs_command.specs.declared.statuses.Status.{Status}
+use Rattle.afs_command.specs.declared.statuses.Status.TheVariants as statuses
+use Rattle.afs_command.specs.Reading.{level, IsBad, IsReadOut}
 
 -- ---- disks
 
@@ -100,17 +97,28 @@ GivesBackLent {D} seen lends_failed lent o = (missing : ℕ) × (GivesBackBut se
 
 -- ---- histories
 
+-- the script has a server of this number
+abbrev pub IsServerOf : Script → ℕ → Type 0
+IsServerOf s i = (1 ≤ i) × (i ≤ s.servers)
+
+-- the failures that are none of the history's: there is none, or one of the disk of this server
+abbrev pub no_other : ℕ → ℕ
+no_other i = 0
+
+abbrev pub one_other : ℕ → ℕ → ℕ
+one_other server i = if nat_eq server i then 1 else 0
+
 -- A legal run of the script: inputs lead from its set-up through this history to this cell, and the schedule was played so far by them.
 -- The history has no more entries than one may have, and it is legal. At its end the servers hold the ideal volumes, with all that was
--- acknowledged. The disks' count rose by each failure of theirs in it, and by so many others.
-pub record IsLegalRun (s : Script) (IsSoFar : List Input → Type 0) (others : ℕ) (disk_faults : Span ℕ) (history : List Entry) (end : Cell) : Type 0 where
+-- acknowledged. The count of each server's disk rose by each failure of that disk in it, and by its others.
+pub record IsLegalRun (s : Script) (IsSoFar : List Input → Type 0) (others : ℕ → ℕ) (disk_faults : ℕ → Span ℕ) (history : List Entry) (end : Cell) : Type 0 where
   pub inputs : List Input
   pub leads : Leads (start s) inputs history end
   pub so_far : IsSoFar inputs
   pub few : length history ≤ most_entries
   pub legal : Legal history s
   pub well : EndsWell s history end
-  pub failures : RoseBy (own_falls inputs + others) disk_faults
+  pub failures : (i : ℕ) → IsServerOf s i → RoseBy (own_falls i inputs history + others i) (disk_faults i)
 
 -- The inputs are the events of the script's schedule, one for one, with each drain as its deliveries.
 abbrev pub ToItsEnd : Script → List Input → Type 0
@@ -128,7 +136,7 @@ SomeOfIt s = λ (inputs : List Input). AreInputs (first_turn s) (events_of s) in
 pub record Replays (s : Script) (wire : Bool) (Writes : List ℕ → Type 0) (MayBeMissing : ℕ → Type 0) (o : Outside) : Type 0 where
   pub history : List Entry
   pub end : Cell
-  pub run : IsLegalRun s (ToItsEnd s) 0 o.disk_faults history end
+  pub run : IsLegalRun s (ToItsEnd s) no_other o.disk_faults history end
   pub kept : List Durable
   pub keep : MayKeep end 1 kept
   pub written : Writes (text wire history kept)
@@ -139,7 +147,7 @@ pub record Replays (s : Script) (wire : Bool) (Writes : List ℕ → Type 0) (Ma
 pub record ReplaysFirst (s : Script) (wire : Bool) (o : Outside) : Type 0 where
   pub history : List Entry
   pub end : Cell
-  pub run : IsLegalRun s (NotToItsEnd s) 0 o.disk_faults history end
+  pub run : IsLegalRun s (NotToItsEnd s) no_other o.disk_faults history end
   pub full : length history ≡ most_entries
   pub kept : List Durable
   pub keep : MayKeep end 1 kept
@@ -151,16 +159,16 @@ pub record ReplaysFirst (s : Script) (wire : Bool) (o : Outside) : Type 0 where
 pub record ReplaysSome (s : Script) (wire : Bool) (o : Outside) : Type 0 where
   pub history : List Entry
   pub end : Cell
-  pub run : IsLegalRun s (SomeOfIt s) 0 o.disk_faults history end
+  pub run : IsLegalRun s (SomeOfIt s) no_other o.disk_faults history end
   pub written : Writes o (history_text wire history)
   pub given : GivesBackThose (MissedByTheBank o) s.servers o.given.before o.given.after
 
--- The script was played to its end, and then a disk failed: that failure is none of the history's. The text of the history was written,
--- without the final part, or where the sink failed, a beginning of it. The disks were given back, whatever they hold.
-pub record ReplaysUnread (s : Script) (wire : Bool) (o : Outside) : Type 0 where
+-- The script was played to its end, and then the disk of this server failed: that failure is none of the history's. The text of the
+-- history was written, without the final part, or where the sink failed, a beginning of it. The disks were given back, whatever they hold.
+pub record ReplaysUnread (s : Script) (wire : Bool) (server : ℕ) (o : Outside) : Type 0 where
   pub history : List Entry
   pub end : Cell
-  pub run : IsLegalRun s (ToItsEnd s) 1 o.disk_faults history end
+  pub run : IsLegalRun s (ToItsEnd s) (one_other server) o.disk_faults history end
   pub written : Writes o (history_text wire history)
   pub given : GivesBackThose (MissedByTheBank o) s.servers o.given.before o.given.after
 
@@ -242,17 +250,22 @@ pub record AtLimit (s : Script) (wire : Bool) (tells : Type 0) (o : Outside) : T
   pub written : WritesEntries IsFull wire o
   pub told : tells → ReplaysFirst s wire o
 
--- a disk failed while it was set up: what that leaves comes back
-pub record SettingUpFails (left : Type 0) (o : Outside) : Type 0 where
-  pub rose : RoseBy 1 o.disk_faults
+-- the disk of a server failed while it was set up, and no other did: what that leaves comes back
+pub record SettingUpFails (s : Script) (left : Type 0) (o : Outside) : Type 0 where
+  pub server : ℕ
+  pub has : IsServerOf s server
+  pub rose : RoseBy 1 (o.disk_faults server)
+  pub alone : (i : ℕ) → nat_eq server i ≡ false → DidNotRise (o.disk_faults i)
   pub written : IsUnchanged o.sink
   pub only_set_up : left
 
--- a disk failed while it was read for the final part
+-- the disk of a server failed while it was read for the final part
 pub record ReadingFails (s : Script) (wire : Bool) (tells : Type 0) (o : Outside) : Type 0 where
-  pub rose : RoseBy 1 o.disk_faults
+  pub server : ℕ
+  pub has : IsServerOf s server
+  pub rose : RoseBy 1 (o.disk_faults server)
   pub written : WritesEntries IsFew wire o
-  pub told : tells → ReplaysUnread s wire o
+  pub told : tells → ReplaysUnread s wire server o
 
 -- a disk wasn't taken back: all else is done
 pub record ReturningFails (s : Script) (wire : Bool) (tells : Type 0) (o : Outside) : Type 0 where
@@ -263,7 +276,7 @@ pub record ReturningFails (s : Script) (wire : Bool) (tells : Type 0) (o : Outsi
 -- The bank failed, or a disk. What is seen outside are counts, the sink and the disks that come back: by these alone a call that stops
 -- at a disk's failure in an event isn't told from the first and the second.
 abbrev pub AtBankFault : Script → Bool → Type 0 → Type 0 → Outside → Type 0
-AtBankFault s wire tells left o = SettingUpFails left o ⊎ (ReadingFails s wire tells o ⊎ ReturningFails s wire tells o)
+AtBankFault s wire tells left o = SettingUpFails s left o ⊎ (ReadingFails s wire tells o ⊎ ReturningFails s wire tells o)
 
 -- memory ran out while the script was played, or for what its disks keep: the text of the first events was written
 pub record RunsOutOfMemory (s : Script) (wire : Bool) (tells : Type 0) (o : Outside) : Type 0 where
@@ -272,7 +285,7 @@ pub record RunsOutOfMemory (s : Script) (wire : Bool) (tells : Type 0) (o : Outs
 
 -- memory ran out while the disks were set up, of which none failed: what that leaves comes back
 pub record SettingUpStops (left : Type 0) (o : Outside) : Type 0 where
-  pub quiet : DidNotRise o.disk_faults
+  pub quiet : (i : ℕ) → DidNotRise (o.disk_faults i)
   pub written : IsUnchanged o.sink
   pub only_set_up : left
 
@@ -318,18 +331,6 @@ pub record EndsReplay (s : Script) (wire : Bool) (place : Place) (tells left : T
 -- the input is a script
 abbrev pub IsScript : List ℕ → Type 0
 IsScript input = (script : Script) × (script_of level input ≡ Ok script)
-
--- the input is none: this is its first bad line, and the reason
-abbrev pub IsBad : ℕ → Reason → List ℕ → Type 0
-IsBad line reason input = script_of level input ≡ Err (line, reason)
-
--- the most bytes that a script may have
-abbrev pub most_bytes : ℕ
-most_bytes = 16777216
-
--- The source was read to its end, or one byte above the most that a script may have was taken from it.
-abbrev pub IsReadOut : Span (Option (List ℕ)) → Type 0
-IsReadOut source = IsAtEnd source.after ⊎ ((front : List ℕ) × TakesTooMuch most_bytes source.before source.after front)
 
 -- The words ask for a replay. All was read that the source had left, which didn't fail, and that is a script. Its replay ends so.
 pub record Answers (words : List (List ℕ)) (source : Span (Option (List ℕ))) (source_faults : Span ℕ) (Ends : Script → Bool → Place → Type 0) : Type 0 where

@@ -1,14 +1,15 @@
 //! The call that does all that the program does.
 
-ghost use Rattle.std.specs.Prelude.{◌≡◌, ◌⊎◌, ◌+◌, ◌↔◌, map, string_bytes};
+ghost use Rattle.std.specs.Prelude.{◌≡◌, ◌⊎◌, ◌+◌, ◌↔◌, ℕ, map, string_bytes};
 ghost use Rattle.afs_outside.specs.Outside.{Gives, TakesAtMost};
-ghost use Rattle.afs_top.specs.Forms.{HaveForm};
-ghost use Rattle.afs_top.specs.Outside.{span, RoseBy};
+ghost use Rattle.afs_command.specs.Forms.{HaveForm};
+ghost use Rattle.afs_command.specs.Spans.{span, RoseBy};
+ghost use Rattle.afs_top.specs.Outside.{OneRose};
 ghost use Rattle.afs_top.specs.Top.{Ends, IsBeforeReplay, IsScript, LendingLeaves, SetUpLeaves};
 
 use crate::replaying::replay;
-use crate::scripts::script_in;
-use crate::statuses::{Form, Status, form_of};
+use afs_command::scripts::script_in;
+use afs_command::statuses::{Form, Status, form_of};
 use afs_disk::Bank;
 use afs_grammar::laws::scripts_are_of_cells;
 use afs_outside::outside::{Sink, Source};
@@ -24,7 +25,7 @@ pub fn cell_main<S: Source, K: Sink, B: Bank<D: Drop>>(
     sink: &mut K,
     bank: &mut B,
 ) -> Status
-    ensures ends { Ends (map string_bytes words.now) (span (S.left source.old) (S.left source.new)) (span (S.faults source.old) (S.faults source.new)) (B.tells bank.old) (SetUpLeaves B.D.seen B.D.may_leave B.D.faults) (LendingLeaves B.D.seen B.D.faults B.D.limit) (record { sink = span (K.held sink.old) (K.held sink.new); passed = K.passed sink.new; lends = span (B.lends bank.old) (B.lends bank.new); given = span (B.given bank.old) (B.given bank.new); sink_faults = span (K.faults sink.old) (K.faults sink.new); bank_faults = span (B.faults bank.old) (B.faults bank.new); disk_faults = span (B.lent_faults bank.old) (B.lent_faults bank.new) }) result }
+    ensures ends { Ends (map string_bytes words.now) (span (S.left source.old) (S.left source.new)) (span (S.faults source.old) (S.faults source.new)) (B.tells bank.old) (SetUpLeaves B.D.seen B.D.may_leave B.D.faults) (LendingLeaves B.D.seen B.D.faults B.D.limit) (record { sink = span (K.held sink.old) (K.held sink.new); passed = K.passed sink.new; lends = span (B.lends bank.old) (B.lends bank.new); given = span (B.given bank.old) (B.given bank.new); sink_faults = span (K.faults sink.old) (K.faults sink.new); bank_faults = span (B.faults bank.old) (B.faults bank.new); disk_faults = λ (n : ℕ). span (B.lent_faults bank.old n) (B.lent_faults bank.new n) }) result }
 
     // Where the words have no form, or the input can't be read or is no script, nothing was done outside.
     ensures quiet { IsBeforeReplay result → (sink.new ≡ sink.old) × (bank.new ≡ bank.old) }
@@ -32,7 +33,7 @@ pub fn cell_main<S: Source, K: Sink, B: Bank<D: Drop>>(
     ensures no_form { ¬ HaveForm (map string_bytes words.now) → result ≡ Status.Usage }
 
     // A script that meets no fault is played to its end, or memory or the length of its history ended that.
-    ensures complete { HaveForm (map string_bytes words.now) → Gives IsScript (S.left source.old) → ¬ RoseBy 1 (span (S.faults source.old) (S.faults source.new)) → ¬ RoseBy 1 (span (K.faults sink.old) (K.faults sink.new)) → ¬ RoseBy 1 (span (B.faults bank.old) (B.faults bank.new)) → ¬ RoseBy 1 (span (B.lent_faults bank.old) (B.lent_faults bank.new))
+    ensures complete { HaveForm (map string_bytes words.now) → Gives IsScript (S.left source.old) → ¬ RoseBy 1 (span (S.faults source.old) (S.faults source.new)) → ¬ RoseBy 1 (span (K.faults sink.old) (K.faults sink.new)) → ¬ RoseBy 1 (span (B.faults bank.old) (B.faults bank.new)) → ¬ OneRose (λ (n : ℕ). span (B.lent_faults bank.old n) (B.lent_faults bank.new n))
         → (result ≡ Status.Done) ⊎ ((result ≡ Status.OutOfMemory) ⊎ (result ≡ Status.Limit)) }
 
     // It takes no more than one byte above the most that a script may have.

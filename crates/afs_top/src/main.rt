@@ -5,15 +5,13 @@ pub mod cell;
 mod playing;
 pub mod program;
 mod replaying;
-mod scripts;
-pub mod statuses;
 mod streams;
 
+use afs_command::statuses::Status;
 use afs_disk::HostBank;
 use afs_outside::buffered::BufferedSink;
 use afs_outside::outside::{HostSink, HostSource, pass_on};
 use program::{end_with, run};
-use statuses::Status;
 use std::io::ErrorKind;
 use std::process::ExitCode;
 use std::{env, io};

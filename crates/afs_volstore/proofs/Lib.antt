@@ -1,5 +1,5 @@
 mod Attached
-mod Created
+pub mod Created
 mod Folding
 mod FoldsOn
 mod Kept

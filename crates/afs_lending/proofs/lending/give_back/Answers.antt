@@ -3,7 +3,7 @@ use Rattle.std.proofs.Common.{refl, rules, ap, sym, ◌∙◌, arith}
 use Rattle.std.specs.Vec.Iter.{into_iter_items}
 use Rattle.std.proofs.lemmas.List.{nil_from_length}
 use Rattle.afs_disk.specs.declared.disks.Lent.{Lent}
-use Rattle.afs_lending.specs.Lending.{kept_disks}
+use Rattle.afs_lending.specs.Lending.{kept_disks, with_faults}
 use Rattle.afs_lending.proofs.Returns.{all_back, all_quiet, cause_next, goes_on, gone_back, none_yet, sum_next}
 use Rattle.afs_lending.proofs.lending.give_back.Goals as goal
 
@@ -14,7 +14,7 @@ loop-found-init g c =
       place = search rules;
       back = none_yet g.B.D.Disk.seen _ _ _ _ _ all;
       cause = tt;
-      sum = search rules;
+      counts = λ n. ap (λ (ds : List (Lent g.row.B-D.Denot)). with_faults g.B.D.Disk.faults ds n (g.B.Bank.lent_faults c.args.bank.now n)) all;
       lends = refl;
       never_falls = omega (arith);
     }
@@ -33,7 +33,7 @@ loop-found-preserved g c =
       place = omega (arith, i.place, ap length steps);
       back = goes_on g.B.D.Disk.seen (kept_disks n (into_iter_items c.loop-found.found-iterator)) rest (kept_disks 1 c.args.left.items) lent (g.B.Bank.given c.loop-found.bank) (g.B.Bank.given c.give_one-all.new.bank) (g.B.Bank.given c.args.bank.now) (g.B.Bank.faults c.args.bank.now) (g.B.Bank.faults c.loop-found.bank) (g.B.Bank.faults c.give_one-all.new.bank) c.loop-found.all c.give_one-all.result next e.never_falls i.back e.goes;
       cause = cause_next c.loop-found.all c.give_one-all.result (g.B.Bank.faults c.args.bank.now) (g.B.Bank.faults c.loop-found.bank) (g.B.Bank.faults c.give_one-all.new.bank) i.never_falls e.never_falls i.cause e.cause;
-      sum = sum_next g.B.D.Disk.faults (kept_disks n (into_iter_items c.loop-found.found-iterator)) rest lent (g.B.Bank.lent_faults c.loop-found.bank) (g.B.Bank.lent_faults c.give_one-all.new.bank) next e.faults ∙ i.sum;
+      counts = λ m. sum_next g.B.D.Disk.faults (kept_disks n (into_iter_items c.loop-found.found-iterator)) rest lent m (g.B.Bank.lent_faults c.loop-found.bank m) (g.B.Bank.lent_faults c.give_one-all.new.bank m) next (e.faults m) ∙ i.counts m;
       lends = e.lends ∙ i.lends;
       never_falls = omega (arith, i.never_falls, e.never_falls);
     }

@@ -1,7 +1,9 @@
-use Rattle.std.specs.Prelude.{◌≡◌, [], ◌∷◌}
-use Rattle.std.proofs.Common.{refl, rules, sym, ◌∙◌, arith}
+use Rattle.std.specs.Prelude.{◌≡◌, [], ◌∷◌, List}
+use Rattle.std.proofs.Common.{refl, rules, ap, sym, ◌∙◌, arith}
 use Rattle.std.specs.Vec.Iter.{into_iter_items}
 use Rattle.std.proofs.lemmas.List.{nil_from_length}
+use Rattle.afs_disk.specs.declared.disks.Lent.{Lent}
+use Rattle.afs_lending.specs.Lending.{with_faults}
 use Rattle.afs_lending.proofs.Returns.{all_back, all_quiet, cause_next, goes_on, gone_back, none_yet, sum_next}
 use Rattle.afs_lending.proofs.lending.give_back_all.Goals as goal
 
@@ -11,7 +13,7 @@ loop-lent-init g c =
     record {
       back = none_yet g.B.D.Disk.seen _ _ _ _ _ all;
       cause = tt;
-      sum = search rules;
+      counts = λ n. ap (λ (ds : List (Lent g.row.B-D.Denot)). with_faults g.B.D.Disk.faults ds n (g.B.Bank.lent_faults c.args.bank.now n)) all;
       lends = refl;
       never_falls = omega (arith);
     }
@@ -24,7 +26,7 @@ loop-lent-preserved g c =
     record {
       back = goes_on g.B.D.Disk.seen (into_iter_items c.loop-lent.lent-iterator) (into_iter_items c.next.new.self) c.args.disks c.in-Some.lent (g.B.Bank.given c.loop-lent.bank) (g.B.Bank.given c.give_one-all.new.bank) (g.B.Bank.given c.args.bank.now) (g.B.Bank.faults c.args.bank.now) (g.B.Bank.faults c.loop-lent.bank) (g.B.Bank.faults c.give_one-all.new.bank) c.loop-lent.all c.give_one-all.result steps e.never_falls i.back e.goes;
       cause = cause_next c.loop-lent.all c.give_one-all.result (g.B.Bank.faults c.args.bank.now) (g.B.Bank.faults c.loop-lent.bank) (g.B.Bank.faults c.give_one-all.new.bank) i.never_falls e.never_falls i.cause e.cause;
-      sum = sum_next g.B.D.Disk.faults (into_iter_items c.loop-lent.lent-iterator) (into_iter_items c.next.new.self) c.in-Some.lent (g.B.Bank.lent_faults c.loop-lent.bank) (g.B.Bank.lent_faults c.give_one-all.new.bank) steps e.faults ∙ i.sum;
+      counts = λ m. sum_next g.B.D.Disk.faults (into_iter_items c.loop-lent.lent-iterator) (into_iter_items c.next.new.self) c.in-Some.lent m (g.B.Bank.lent_faults c.loop-lent.bank m) (g.B.Bank.lent_faults c.give_one-all.new.bank m) steps (e.faults m) ∙ i.counts m;
       lends = e.lends ∙ i.lends;
       never_falls = omega (arith, i.never_falls, e.never_falls);
     }

@@ -1,4 +1,4 @@
-use Rattle.std.proofs.Common.{◌≡◌, ◌≤◌, ◌++◌, length, vec_capacity}
+use Rattle.std.proofs.Common.{◌≡◌, ◌≤◌, ◌++◌, ℕ, length, vec_capacity}
 use Rattle.std.specs.Prelude.{option_map}
 use Rattle.afs_lending.specs.Lending.{lends, AreLent, AreUnused}
 use Rattle.afs_lending.proofs.Lends.{AreTold}
@@ -13,7 +13,7 @@ invariant-loop-before g l = record {
   tells : g.B.Bank.tells l.fn.bank l.place → g.B.Bank.tells l.bank l.place;
   told : g.B.Bank.tells l.fn.bank l.place → AreTold g.B.D.Disk.seen l.disks.items;
   unused : AreUnused g.B.D.Disk.faults l.disks.items;
-  sum : g.B.Bank.lent_faults l.bank ≡ g.B.Bank.lent_faults l.fn.bank;
+  counts : (n : ℕ) → g.B.Bank.lent_faults l.bank n ≡ g.B.Bank.lent_faults l.fn.bank n;
   given : g.B.Bank.given l.bank ≡ g.B.Bank.given l.fn.bank;
   quiet : g.B.Bank.faults l.bank ≡ g.B.Bank.faults l.fn.bank;
   never_falls : g.B.Bank.faults l.fn.bank ≤ g.B.Bank.faults l.bank;

@@ -21,5 +21,5 @@ returns-in-Err-clause-ends g c = λ wire start count gone told.
 pub returns-clause-ends : goal.returns-clause-ends
 returns-clause-ends g c = λ wire start count gone told.
     end_of g.B.D.Disk.seen g.B.D.Disk.may_leave g.B.D.Disk.faults g.B.D.Disk.limit wire start count gone c.args.world _ _ c.args.written (lent_from 1 c.args.world.servers) _ (c.runs_are_legal.ensures, c.runs_end_well.ensures) (c.volumes_are_in_cell.ensures c.args.world.script c.requires.world.world.safe.cell_script) told c.in-Ok.left.items c.tell_left-status.result _ c.give_back-taken.result
-    c.requires.going (record { are = refl; standing = c.in-Ok.ensures.standing }) c.in-Ok.ensures.found (rw (c.as_slice.ensures.value) at (c.tell_left-status.ensures _ start count told.text)) c.give_back-taken.ensures.all c.give_back-taken.ensures.quiet c.give_back-taken.ensures.cause
+    c.requires.going (record { are = refl; standing = c.in-Ok.ensures.standing }) c.in-Ok.ensures.found (rw (c.as_slice.ensures.value) at (c.tell_left-status.ensures.told _ start count told.text)) c.give_back-taken.ensures.all c.give_back-taken.ensures.quiet c.give_back-taken.ensures.cause
     c.give_back-taken.ensures.back c.give_back-taken.ensures.faults c.give_back-taken.ensures.never_falls c.returned.ensures

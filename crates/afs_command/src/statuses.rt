@@ -2,9 +2,8 @@
 
 ghost use Rattle.std.specs.Prelude.{◌≡◌, [], ◌∷◌, map, string_bytes, IfOk, IsSome, OnErr};
 ghost use Rattle.std.specs.Option.{option_map};
-ghost use Rattle.afs_top.specs.Forms.{asked_in, form_in, is_disks, is_name, is_wire, name_in, name_of, of_three, of_two, options_in, place_of, with_folder};
-ghost use Rattle.afs_top.specs.Statuses.{reason_word, status_line};
-ghost use Rattle.afs_outside.specs.Outside.{Puts};
+ghost use Rattle.afs_command.specs.Forms.{asked_in, form_in, is_disks, is_name, is_wire, name_in, name_of, of_three, of_two, options_in, place_of, with_folder};
+ghost use Rattle.afs_command.specs.Statuses.{reason_word, status_line};
 
 use afs_disk::Place;
 use afs_num::scripts::Reason;
@@ -29,7 +28,7 @@ pub enum Status {
 }
 
 impl Status {
-    ghost use Rattle.afs_top.specs.Statuses.{status_number};
+    ghost use Rattle.afs_command.specs.Statuses.{status_number};
 
     /// The number that the program ends with.
     pub fn number(&self) -> u8
@@ -140,7 +139,7 @@ struct Options<'a> {
 
 impl<'a> Model for Options<'a> {
     ghost use Rattle.std.specs.Option.{option_map};
-    ghost use Rattle.afs_top.specs.Forms.{Options};
+    ghost use Rattle.afs_command.specs.Forms.{Options};
 
     ghost Value = { Options };
 

@@ -1,4 +1,4 @@
-use Rattle.afs_top.proofs.statuses.StatusPrint.print.Goals as goal
+use Rattle.afs_command.proofs.statuses.StatusPrint.print.Goals as goal
 
 pub returns-in-Usage : goal.returns-in-Usage
 returns-in-Usage g c = rw (c.in-Usage.is) c.print.ensures

@@ -6,9 +6,9 @@ use Rattle.std.specs.Option.{option_map}
 use Rattle.std.proofs.lemmas.Slice.Eq.{bytes_eq-Decides}
 use Rattle.afs_disk.specs.declared.bank.Place.{Place}
 use Rattle.afs_disk.specs.declared.bank.Place.TheVariants.{Memory, Folder}
-use Rattle.afs_top.specs.declared.statuses.Form.{Form}
-use Rattle.afs_top.specs.declared.statuses.Form.TheVariants.{Replay}
-use Rattle.afs_top.specs.Forms.{asked_in, form_in, is_disks, is_name, is_wire, name_in, name_of, of_three, of_two, options_behind, options_in, place_of, with_folder, AreOptions, Asks, HaveForm, IsPlace, IsWire, Options}
+use Rattle.afs_command.specs.declared.statuses.Form.{Form}
+use Rattle.afs_command.specs.declared.statuses.Form.TheVariants.{Replay}
+use Rattle.afs_command.specs.Forms.{form_in, is_disks, is_name, is_wire, name_in, name_of, of_three, of_two, options_behind, options_in, place_of, with_folder, AreOptions, Asks, HaveForm, IsPlace, IsWire, Options}
 
 some_injective : {A : Type 0} {x y : A} → Some x ≡ Some y → x ≡ y
 some_injective p = cc

@@ -1,11 +1,10 @@
-use Rattle.std.specs.Prelude.{◌≡◌, ℕ, List}
+use Rattle.std.specs.Prelude.{◌≡◌}
 use Rattle.std.proofs.Common.{rules, subst, sym}
 use Rattle.afs_outside.specs.Outside.{TakesTooMuch}
-use Rattle.afs_top.specs.Outside.{span}
-use Rattle.afs_top.specs.Parts.{refusal_status, IsLongRefusal}
-use Rattle.afs_top.specs.Reading.{GivesNone}
-use Rattle.afs_top.proofs.Calls.{none_of_long}
-use Rattle.afs_top.proofs.scripts.script_in.Goals as goal
+use Rattle.afs_command.specs.Spans.{span}
+use Rattle.afs_command.specs.Reading.{refusal_status, IsLongRefusal, GivesNone}
+use Rattle.afs_command.proofs.Refused.{none_of_long}
+use Rattle.afs_command.proofs.scripts.script_in.Goals as goal
 
 pub returns-in-Err-TooLong-clause-none : goal.returns-in-Err-TooLong-clause-none
 returns-in-Err-TooLong-clause-none g c =

@@ -7,7 +7,7 @@ use Rattle.afs_records.specs.Durable.{Durable}
 use Rattle.afs_records.specs.Records.{record_bytes}
 use Rattle.afs_volstore.specs.Opening.{IsSetUpSoFar}
 use Rattle.afs_volstore.proofs.Created.{left_so_far, made_on, matched_on, not_none, nothing_there, IsMade}
-use Rattle.afs_volstore.proofs.store.VolStore.create.Goals as goal
+use Rattle.afs_setup.proofs.creating.create.Goals as goal
 
 pub returns-in-Err-clause-any_moment : goal.returns-in-Err-clause-any_moment
 returns-in-Err-clause-any_moment g c = λ told only.

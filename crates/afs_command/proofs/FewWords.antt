@@ -1,6 +1,6 @@
 -- What more words than three ask.
-use Rattle.std.proofs.Common.{◌≡◌, ℕ, ◌≤◌, List, [], ◌∷◌, length, map, None, string_bytes, refl, arith}
-use Rattle.afs_top.specs.Forms.{options_in, Options}
+use Rattle.std.proofs.Common.{◌≡◌, ℕ, ◌≤◌, List, [], ◌∷◌, length, map, None, refl, arith}
+use Rattle.afs_command.specs.Forms.{options_in}
 
 pub four_ask_nothing : {A : Type 0} (f : A → List ℕ) (words : List A) → 4 ≤ length words → None ≡ options_in (map f words)
 four_ask_nothing f [] few = absurd (omega (arith, few))

@@ -1,12 +1,12 @@
 -- What a status is to the system and to a reader.
-use Rattle.std.specs.Prelude.{ℕ, List, ◌++◌, codes, [], Option, Some, None, Result}
+use Rattle.std.specs.Prelude.{ℕ, List, ◌++◌, codes, [], Option, Result}
 use Rattle.std.specs.Fmt.{decimal}
 use Rattle.afs_outside.specs.Outside.{Puts}
 use Rattle.afs_outside.specs.declared.outside.Failed.{Failed}
 use Rattle.afs_num.specs.declared.scripts.Reason.{Reason}
 use Rattle.afs_num.specs.declared.scripts.Reason.TheVariants as reasons
-use Rattle.afs_top.specs.declared.statuses.Status.{Status}
-use Rattle.afs_top.specs.declared.statuses.Status.TheVariants as statuses
+use Rattle.afs_command.specs.declared.statuses.Status.{Status}
+use Rattle.afs_command.specs.declared.statuses.Status.TheVariants as statuses
 
 -- the number that the program ends with
 abbrev pub status_number : Status → ℕ

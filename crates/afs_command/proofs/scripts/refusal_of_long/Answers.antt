@@ -1,7 +1,7 @@
 use Rattle.afs_grammar.proofs.TooLong.{too_long_is_none}
-use Rattle.afs_top.specs.Top.{level}
-use Rattle.afs_top.proofs.Calls.{long_refusal}
-use Rattle.afs_top.proofs.scripts.refusal_of_long.Goals as goal
+use Rattle.afs_command.specs.Reading.{level}
+use Rattle.afs_command.proofs.Refused.{long_refusal}
+use Rattle.afs_command.proofs.scripts.refusal_of_long.Goals as goal
 
 pub unreachable-requires : goal.unreachable-requires
 unreachable-requires c = too_long_is_none level c.args.input.now c.in-Ok.field-0 c.requires c.in-Ok.ensures.script

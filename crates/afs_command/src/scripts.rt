@@ -3,10 +3,8 @@
 ghost use Rattle.std.specs.Prelude.{◌≡◌, ◌<◌, ◌+◌, length, IfErr, IfOk, Ok};
 ghost use Rattle.afs_grammar.specs.Lines.{script_of};
 ghost use Rattle.afs_outside.specs.Outside.{TakesAtMost};
-ghost use Rattle.afs_top.specs.Outside.{span};
-ghost use Rattle.afs_top.specs.Parts.{refusal_status, IsLongRefusal, RefusedBy};
-ghost use Rattle.afs_top.specs.Reading.{GivesNone, GivesScript};
-ghost use Rattle.afs_top.specs.Top.{level};
+ghost use Rattle.afs_command.specs.Spans.{span};
+ghost use Rattle.afs_command.specs.Reading.{refusal_status, IsLongRefusal, RefusedBy, GivesNone, GivesScript, level};
 
 use crate::statuses::Status;
 use afs_grammar::forms::Form;
@@ -68,7 +66,7 @@ fn refusal_of_long(alloc: Global, input: &[u8]) -> Refusal
 
 /// The script that the source holds, or the status of a call that ends here: the input is no script, the source failed, or
 /// memory ran out.
-pub(crate) fn script_in<S: Source>(alloc: Global, source: &mut S) -> Result<Script, Status>
+pub fn script_in<S: Source>(alloc: Global, source: &mut S) -> Result<Script, Status>
     ensures script { IfOk result (GivesScript (span (S.left source.old) (S.left source.new)) (span (S.faults source.old) (S.faults source.new))) }
     ensures none { IfErr result (GivesNone (span (S.left source.old) (S.left source.new)) (span (S.faults source.old) (S.faults source.new))) }
     ensures stops { TakesAtMost (16777216 + 1) (S.left source.old) (S.left source.new) }

@@ -1,0 +1,3 @@
+mod FewWords
+pub mod Asked
+mod Refused
