@@ -4,15 +4,11 @@ use afs_num::types::Mem;
 use std::alloc::Global;
 use std::test::Fail;
 
-// The piece of at most 64 bytes of a new volume's dump from an offset on, and whether it is the last.
-fn piece(alloc: Global, offset: u32) -> Mem<Option<(usize, bool)>> {
+// How many bytes the first piece of a new volume's dump has, where it has at most so many, and whether it is the last.
+fn first_piece(alloc: Global, max: u32) -> Mem<(usize, bool)> {
     let volume = proj(alloc)?;
-    let whole = dump(alloc, &volume, 0)?;
-    if offset as usize > whole.len() {
-        return Ok(None);
-    }
-    let piece = dump_piece(alloc, &volume, 0, offset, 64)?;
-    Ok(Some((piece.bytes.len(), piece.last)))
+    let piece = dump_piece(alloc, &volume, 0, 0, max)?;
+    Ok((piece.bytes.len(), piece.last))
 }
 
 #[test]
@@ -32,14 +28,9 @@ fn an_increment_has_no_image_of_what_was_not_changed_since(rt: HostRuntime) -> R
 }
 
 #[test]
-fn pieces_end_with_the_last(rt: HostRuntime) -> Result<(), Fail> {
-    for (offset, want) in [
-        (0, (64, false)),
-        (115, (64, false)),
-        (116, (64, true)),
-        (180, (0, true)),
-    ] {
-        assert_eq!(rt; piece(rt.alloc(), offset)?, Some(want));
+fn a_piece_with_all_bytes_is_the_last(rt: HostRuntime) -> Result<(), Fail> {
+    for (max, want) in [(64, (64, false)), (179, (179, false)), (180, (180, true))] {
+        assert_eq!(rt; first_piece(rt.alloc(), max)?, want);
     }
     Ok(())
 }
