@@ -59,8 +59,3 @@ returns-clause-faults g c = λ n.
     let none : into_iter_items c.loop-found.found-iterator ≡ [] = nil_from_length (into_iter_items c.loop-found.found-iterator) (sym c.loop-found.found-iterator.rest.ok.0 ∙ c.in-None.ensures.steps.0) in
     let left : List (Lent g.row.B-D.Denot) → ℕ = λ ds. with_faults g.B.D.Disk.faults ds n (g.B.Bank.lent_faults c.loop-found.bank n) in
     sym (ap left (ap (kept_disks (c.loop-found.node + 1)) none)) ∙ c.loop-found.invariant.counts n
-
-pub returns-clause-faults : goal.returns-clause-faults
-returns-clause-faults g c = λ n.
-    let none : into_iter_items c.loop-found.found-iterator ≡ [] = nil_from_length (into_iter_items c.loop-found.found-iterator) (sym c.loop-found.found-iterator.rest.ok.0 ∙ c.in-None.ensures.steps.0) in
-    sym (ap (λ (ds : List (Lent g.row.B-D.Denot)). with_faults g.B.D.Disk.faults ds n (g.B.Bank.lent_faults c.loop-found.bank n)) (ap (kept_disks (c.loop-found.node + 1)) none)) ∙ c.loop-found.invariant.counts n
