@@ -79,41 +79,23 @@ fn a_refusal_leaves_the_reader(rt: HostRuntime) {
     assert_eq!(rt; short.as_str(), "Field(2, Short) 19 left");
 }
 
-fn push_fid_and_word(fields: &mut Fields) -> bool {
-    let fid = Fid {
-        volume: 1,
-        vnode: 2,
-        unique: 3,
-    };
-    fields.push(Field::Fid(fid)).is_ok() && fields.push(Field::Word(9)).is_ok()
-}
-
-/// Whether a fid and a word are written.
-fn is_written(fields: &mut Fields, writer: &mut Writer) -> bool {
+#[test]
+fn fields_are_written(rt: HostRuntime) -> Result<(), Fail> {
     let shape = Shape {
         kinds: [Kind::Fid, Kind::Word, Kind::Nothing],
     };
-    push_fid_and_word(fields) && shape.write_fields(fields, writer).is_ok()
-}
-
-/// The bytes of a fid and a word. Fields are let go by a call: where they went at the end of a scope, each such end would be proved for
-/// each kind of field.
-fn written(alloc: Global) -> Option<Vec<u8>> {
-    let mut fields = Fields::new(alloc);
-    let mut writer = Writer::new(alloc);
-    let is_written = is_written(&mut fields, &mut writer);
+    let mut fields = Fields::new(rt.alloc());
+    fields.push(Field::Fid(Fid {
+        volume: 1,
+        vnode: 2,
+        unique: 3,
+    }))?;
+    fields.push(Field::Word(9))?;
+    let mut writer = Writer::new(rt.alloc());
+    let is_written = shape.write_fields(&fields, &mut writer).is_ok();
     drop(fields);
-    if is_written {
-        writer.into_vec().ok()
-    } else {
-        None
-    }
-}
-
-#[test]
-fn fields_are_written(rt: HostRuntime) -> Result<(), Fail> {
-    let written = written(rt.alloc()).ok_or("not written")?;
+    assert!(rt; is_written);
     let want = [0, 0, 0, 1, 0, 0, 0, 2, 0, 0, 0, 3, 0, 0, 0, 9];
-    assert_eq!(rt; written.as_slice(), want.as_slice());
+    assert_eq!(rt; writer.into_vec()?.as_slice(), want.as_slice());
     Ok(())
 }

@@ -1,5 +1,5 @@
 -- Faults of disks, counted by node as the disks go back to the bank.
-use Rattle.std.specs.Prelude.{◌≡◌, ◌≢◌, ◌≤◌, ◌<◌, ◌⊎◌, ℕ, ◌+◌, ◌-◌, ◌^◌, List, [], ◌∷◌, length, min, Bool, true, false, nat_eq, if◌then◌else◌, Option, Some, None}
+use Rattle.std.specs.Prelude.{◌≡◌, ◌≢◌, ◌≤◌, ◌<◌, ◌⊎◌, ℕ, suc, ◌+◌, ◌-◌, ◌^◌, List, [], ◌∷◌, length, min, Bool, true, false, nat_eq, if◌then◌else◌, Option, Some, None}
 use Rattle.std.proofs.Common.{refl, ap, sym, subst, ◌∙◌, inl, inr, arith}
 use Rattle.std.proofs.lemmas.Bool.{eq-eqb, eqb-false, ne_eqb}
 use Rattle.std.proofs.lemmas.Bool.Decides.{eqb_tells, leb_tells}
@@ -77,18 +77,22 @@ above i n from apart = either (leb_tells (i + 1) n) where
   either (inl more) = more.1
   either (inr less) = absurd (apart (omega (arith, from, less.1)))
 
--- as they go back, the count of each rises by its own
+-- As they go back, the count of each rises by its own: the first of them has this number, or those after it have.
+rose_first : {D : Type 0} (faults : D → ℕ) (own : ℕ → ℕ) (i n : ℕ) (l : Lent D) (ls : List (Lent D)) (count : ℕ) → AreCounted faults own i (l ∷ ls)
+    → (i + 1 ≤ n → n < (i + 1) + length ls → RoseBy (own n) (span count (with_faults faults ls n count))) → i ≤ n → n < i + length (l ∷ ls)
+    → ((nat_eq l.node n ≡ true) × (l.node ≡ n)) ⊎ ((nat_eq l.node n ≡ false) × (l.node ≢ n)) → RoseBy (own n) (span count (with_faults faults (l ∷ ls) n count))
+rose_first {D} faults own i n l ls count are others from below (inl (here, same)) =
+    let mine : IsCounted (own n) (faults l.disk) = subst (λ (k : ℕ). IsCounted (own k) (faults l.disk)) (sym are.0.0 ∙ same) are.0.1 in
+    let up : Reaches (counted l.node (faults l.disk) n count) (with_faults faults (l ∷ ls) n count) = goes_up faults ls n (counted l.node (faults l.disk) n count) in
+    rose_here (own n) (faults l.disk) count (with_faults faults (l ∷ ls) n count) mine (subst (λ (k : ℕ). Reaches k (with_faults faults (l ∷ ls) n count)) (counted_here l.node (faults l.disk) n count here) up)
+rose_first {D} faults own i n l ls count are others from below (inr (there, apart)) =
+    subst (λ (k : ℕ). RoseBy (own n) (span count (with_faults faults ls n k))) (sym (counted_there l.node (faults l.disk) n count there))
+    (others (above i n from (λ same. apart (are.0.0 ∙ same))) (omega (arith, below)))
+
 pub rose_at : {D : Type 0} (faults : D → ℕ) (own : ℕ → ℕ) (i n : ℕ) (ls : List (Lent D)) (count : ℕ) → AreCounted faults own i ls → i ≤ n → n < i + length ls → RoseBy (own n) (span count (with_faults faults ls n count))
 rose_at {D} faults own i n [] count are from below = absurd (omega (arith, from, below))
-rose_at {D} faults own i n (l ∷ ls) count are from below = either (eqb_tells l.node n) where
-  either : ((nat_eq l.node n ≡ true) × (l.node ≡ n)) ⊎ ((nat_eq l.node n ≡ false) × (l.node ≢ n)) → RoseBy (own n) (span count (with_faults faults (l ∷ ls) n count))
-  either (inl (here, same)) =
-      let mine : IsCounted (own n) (faults l.disk) = subst (λ (k : ℕ). IsCounted (own k) (faults l.disk)) (sym are.0.0 ∙ same) are.0.1 in
-      let up : Reaches (counted l.node (faults l.disk) n count) (with_faults faults (l ∷ ls) n count) = goes_up faults ls n (counted l.node (faults l.disk) n count) in
-      rose_here (own n) (faults l.disk) count (with_faults faults (l ∷ ls) n count) mine (subst (λ (k : ℕ). Reaches k (with_faults faults (l ∷ ls) n count)) (counted_here l.node (faults l.disk) n count here) up)
-  either (inr (there, apart)) =
-      subst (λ (k : ℕ). RoseBy (own n) (span count (with_faults faults ls n k))) (sym (counted_there l.node (faults l.disk) n count there))
-      (rose_at faults own (i + 1) n ls count are.1 (above i n from (λ same. apart (are.0.0 ∙ same))) (omega (arith, below)))
+rose_at {D} faults own i n (l ∷ ls) count are from below =
+    rose_first faults own i n l ls count are (λ more less. rose_at faults own (i + 1) n ls count are.1 more less) from below (eqb_tells l.node n)
 
 -- those of a world
 lent_counted : {D : Type 0} (faults : D → ℕ) (own : ℕ → ℕ) (i : ℕ) (ss : List (ServerSeat D)) → EachFrom i (λ (i : ℕ) (s : ServerSeat D). IsCounted (own i) (faults (seat_disk s))) ss → AreCounted faults own i (lent_from i ss)
@@ -163,7 +167,7 @@ also_failed (Some lending.OutOfMemory) e = absurd cc
 abbrev pub IsAmong : ℕ → ℕ → ℕ → Type 0
 IsAmong i count server = (i ≤ server) × (server < i + count)
 
-further : (i count server : ℕ) → IsAmong (i + 1) count server → IsAmong i (count + 1) server
+further : (i count server : ℕ) → IsAmong (i + 1) count server → IsAmong i (suc count) server
 further i count server among = (omega (arith, among.0), omega (arith, among.1))
 
 module _ {D : Type 0} (seen : D → Option (List ℕ)) (faults limit : D → ℕ) where
@@ -225,10 +229,10 @@ rose_counted : (before after : ℕ) → before ≤ after → Rose before after �
 rose_counted before after le (inl more) = inl (omega (arith, more))
 rose_counted before after le (inr full) = inr (omega (arith, full, le))
 
-pub one_failed : {D : Type 0} (faults : D → ℕ) (n : Node) (i : ℕ) (ls back : List (Lent D)) (counts : ℕ → ℕ) → AreUnused faults ls → NoneFell faults ls back → RoseAt faults n i ls back → AreOfServers i back → OneFailed faults i back counts
-one_failed {D} faults n i [] back counts unused fell rose are = absurd rose
-one_failed {D} faults n i (l ∷ ls) [] counts unused fell rose are = absurd fell
-one_failed {D} faults n i (l ∷ ls) (b ∷ back) counts unused fell (inl (named, (rose, others))) are = record {
+pub one_disk_failed : {D : Type 0} (faults : D → ℕ) (n : Node) (i : ℕ) (ls back : List (Lent D)) (counts : ℕ → ℕ) → AreUnused faults ls → NoneFell faults ls back → RoseAt faults n i ls back → AreOfServers i back → OneFailed faults i back counts
+one_disk_failed {D} faults n i [] back counts unused fell rose are = absurd rose
+one_disk_failed {D} faults n i (l ∷ ls) [] counts unused fell rose are = absurd fell
+one_disk_failed {D} faults n i (l ∷ ls) (b ∷ back) counts unused fell (inl (named, (rose, others))) are = record {
   server = i;
   among = (omega (arith), omega (arith));
   rose =
@@ -238,8 +242,8 @@ one_failed {D} faults n i (l ∷ ls) (b ∷ back) counts unused fell (inl (named
       let there : nat_eq b.node j ≡ false = ap (λ (k : ℕ). nat_eq k j) are.0 ∙ apart in
       subst (λ (k : ℕ). with_faults faults back j k ≤ counts j) (sym (counted_there b.node (faults b.disk) j (counts j) there)) (none_rose faults ls back j (counts j) unused.1 others);
 }
-one_failed {D} faults n i (l ∷ ls) (b ∷ back) counts unused fell (inr (quiet, there)) are =
-    let rest = one_failed faults n (i + 1) ls back (λ (j : ℕ). counted b.node (faults b.disk) j (counts j)) unused.1 fell.1 there are.1 in
+one_disk_failed {D} faults n i (l ∷ ls) (b ∷ back) counts unused fell (inr (quiet, there)) are =
+    let rest = one_disk_failed faults n (i + 1) ls back (λ (j : ℕ). counted b.node (faults b.disk) j (counts j)) unused.1 fell.1 there are.1 in
     let apart : nat_eq b.node rest.server ≡ false = ne_eqb b.node rest.server (λ same. absurd (omega (arith, same, are.0, rest.among.0))) in
     record {
       server = rest.server;

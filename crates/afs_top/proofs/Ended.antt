@@ -37,7 +37,7 @@ use Rattle.afs_top.specs.Parts.{lend_status, returned, set_up_status, TellsLeft}
 use Rattle.afs_top.specs.Top.{lends_of, no_other, one_other, AreAllBut, AreOfServers, AtBankFault, EndsReplay, EndsRun, GivesBack, GivesBackLent, GivesBackThose, IsFew, IsFull, IsLegalRun, IsServerOf, LendingLeaves, MissedByTheBank, NoneIsMissing, NotToItsEnd, ReadingFails, Replays, ReplaysFirst, ReplaysSome, ReplaysUnread, SetUpLeaves, SomeOfIt, ToItsEnd, WritesEntries, WritesRun}
 use Rattle.afs_command.specs.declared.statuses.Status.{Status}
 use Rattle.afs_command.specs.declared.statuses.Status.TheVariants as statuses
-use Rattle.afs_top.proofs.Counts.{counts_lent, failed_among, failed_at, failed_counted, found_counted, none_counted, none_rose, one_failed, one_rose, rose_at, rose_once, AreCounted, IsAmong, OneFailed}
+use Rattle.afs_top.proofs.Counts.{counts_lent, failed_among, failed_at, failed_counted, found_counted, none_counted, none_rose, one_disk_failed, one_rose, rose_at, rose_once, AreCounted, IsAmong, OneFailed}
 use Rattle.afs_top.proofs.Ending.{found_come, found_count, given_so, left_so, legal_run, length_told, lent_come, lent_length, no_others, read_so, Missing}
 
 -- ---- the disks go back
@@ -274,7 +274,7 @@ of_servers {D} limit capacity i (l ∷ ls) are = (are.0, of_servers limit capaci
 pub not_set_up : {D : Type 0} (seen : D → Option (List ℕ)) (may_leave : D → List ℕ → Type 0) (faults : D → ℕ) (s : Script) (wire : Bool) (tells : Type 0) (disks : List (Lent D)) (e : SetupFault × List (Lent D)) (o : Outside)
     → AreUnused faults disks → IsRefused faults disks e → AreLeft seen may_leave s 1 disks e.1 → AreOfServers 1 e.1 × (length e.1 ≡ s.servers) → IsUnchanged o.sink → GoesBack seen faults e.1 o → EndsRun s wire tells (SetUpLeaves seen may_leave faults s o) o (set_up_status e.0)
 not_set_up {D} seen may_leave faults s wire tells disks (setup.Disk n, back) o unused refused left whose unwritten gone =
-    let one : OneFailed faults 1 back (λ (j : ℕ). (o.disk_faults j).before) = one_failed faults n 1 disks back (λ (j : ℕ). (o.disk_faults j).before) unused refused.0 refused.1 whose.0 in
+    let one : OneFailed faults 1 back (λ (j : ℕ). (o.disk_faults j).before) = one_disk_failed faults n 1 disks back (λ (j : ℕ). (o.disk_faults j).before) unused refused.0 refused.1 whose.0 in
     inl (record {
       server = one.server;
       has = (one.among.0, omega (arith, one.among.1, whose.1));

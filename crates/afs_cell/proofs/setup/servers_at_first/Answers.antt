@@ -9,16 +9,6 @@ use Rattle.afs_cell.proofs.FirstSeated.{comes_next, given_back, handed_all, leng
 use Rattle.afs_cell.proofs.GivenBack.{none_left}
 use Rattle.afs_cell.proofs.setup.servers_at_first.Goals as goal
 
-pub overflow_cast-node : goal.overflow_cast-node
-overflow_cast-node g c =
-    let next =
-    comes_next g.D.Disk.seen g.D.Disk.may_leave g.D.Disk.faults g.D.Disk.limit c.args.script.now c.args.script.now.capacity c.args.disks c.loop-lent.seats.items (into_iter_items c.loop-lent.disks) c.in-Some.lent (into_iter_items c.next.new.self) c.in-Some.ensures.items c.requires.disks c.loop-lent.invariant.first in
-    let node = next.node in
-    let count = next.count in
-    let all = c.requires.all in
-    let few = c.requires.script.servers.1 in
-    omega (arith, node, count, few, all)
-
 pub server_at_first-requires-clause-server : goal.server_at_first-requires-clause-server
 server_at_first-requires-clause-server g c =
     let next =

@@ -1,4 +1,4 @@
-use Rattle.std.specs.Prelude.{◌≡◌, ◌+◌, [], ◌∷◌, List, length}
+use Rattle.std.specs.Prelude.{◌≡◌, ◌+◌, [], ◌∷◌, List, ℕ, length}
 use Rattle.std.proofs.Common.{refl, rules, ap, sym, ◌∙◌, arith}
 use Rattle.std.specs.Vec.Iter.{into_iter_items}
 use Rattle.std.proofs.lemmas.List.{nil_from_length}
@@ -53,3 +53,9 @@ returns-clause-back g c =
 pub returns-clause-quiet : goal.returns-clause-quiet
 returns-clause-quiet g c =
     all_quiet g.B.D.Disk.seen (kept_disks (c.loop-found.node + 1) (into_iter_items c.loop-found.found-iterator)) (kept_disks 1 c.args.left.items) (g.B.Bank.given c.loop-found.bank) (g.B.Bank.given c.args.bank.now) _ _ c.loop-found.all c.loop-found.invariant.back
+
+pub returns-clause-faults : goal.returns-clause-faults
+returns-clause-faults g c = λ n.
+    let none : into_iter_items c.loop-found.found-iterator ≡ [] = nil_from_length (into_iter_items c.loop-found.found-iterator) (sym c.loop-found.found-iterator.rest.ok.0 ∙ c.in-None.ensures.steps.0) in
+    let left : List (Lent g.row.B-D.Denot) → ℕ = λ ds. with_faults g.B.D.Disk.faults ds n (g.B.Bank.lent_faults c.loop-found.bank n) in
+    sym (ap left (ap (kept_disks (c.loop-found.node + 1)) none)) ∙ c.loop-found.invariant.counts n

@@ -3,7 +3,7 @@ use Rattle.std.proofs.Common.{rules, map, string_bytes, refl, inl, sym, ap, ◌�
 use Rattle.afs_command.specs.Forms.{form_in, HaveForm}
 use Rattle.afs_command.specs.Spans.{span}
 use Rattle.afs_top.specs.Top.{Ends, LendingLeaves, SetUpLeaves}
-use Rattle.afs_top.proofs.Calls.{ends_read, ends_unread, have_form}
+use Rattle.afs_top.proofs.Calls.{completes_replayed, ends_read, ends_unread, have_form}
 use Rattle.afs_top.proofs.cell.cell_main.Goals as goal
 
 pub returns-in-Err-clause-ends : goal.returns-in-Err-clause-ends
@@ -35,3 +35,6 @@ pub returns-clause-no_form : goal.returns-clause-no_form
 returns-clause-no_form g c =
     let some : IsSome (form_in (map string_bytes c.args.words.now)) = search rules in
     λ none. absurd (none (have_form (map string_bytes c.args.words.now) some))
+
+pub returns-in-Ok-clause-complete : goal.returns-in-Ok-clause-complete
+returns-in-Ok-clause-complete g c = λ form gives fine sink bank disks. completes_replayed _ _ _ _ _ _ _ c.replay.result c.replay.ensures sink bank disks
