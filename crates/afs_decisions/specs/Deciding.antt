@@ -32,6 +32,7 @@ use Rattle.afs_rows.specs.ServerRow.{drops, given_up_read, is_client, refuses, r
 use Rattle.afs_rows.specs.States.{ServerState}
 use Rattle.afs_server_parts.specs.Telling.{grants_seen}
 use Rattle.afs_server_parts.specs.declared.telling.Grant.{Grant}
+use Rattle.afs_callbacks.specs.Saving.{grant_of, CanBeWritten}
 use Rattle.afs_reads.specs.declared.faults.OpFault.{OpFault}
 use Rattle.afs_reads.specs.declared.faults.OpFault.TheVariants as faults
 use Rattle.afs_decisions.specs.declared.decided.Decided.{Decided}

@@ -4,6 +4,7 @@ use Rattle.afs_num.specs.declared.types.Head.{Head}
 use Rattle.afs_history.specs.declared.lines.Outs.{Outs}
 use Rattle.afs_breaks.specs.Promises.{expired, grants_all}
 use Rattle.afs_records.specs.Durable.{folded}
+use Rattle.afs_callbacks.specs.Saving.{withdraws_each}
 use Rattle.afs_volstore.specs.Stores.{Store}
 use Rattle.afs_server.specs.Answering.{KeepsReply}
 use Rattle.afs_server.specs.Handling.{IsClosed}
