@@ -270,3 +270,9 @@ found_by s clock head caller call id w d same is = subst (λ (k : ℕ). Decides 
 pub found_decides : (s : ServerState) (clock : ℕ) (head : Head) (caller : Caller) (call : FsCall) (id : ℕ) (w : Volume) (d : Decided) → get id s.lasting.volumes ≡ Some (stored_of w) → w.head.id ≡ id
     → Decides s clock head (decided s clock head caller call w.head.id (stored_of w) (op w.head.id caller call (volume_of w))) d → Decides s clock head (in_volume s clock head caller call id (get id s.lasting.volumes)) d
 found_decides s clock head caller call id w d there same is = subst (λ (o : Option Stored). Decides s clock head (in_volume s clock head caller call id o) d) (sym there) (found_by s clock head caller call id w d same is)
+
+-- ---- what is decided in any state is decided in those of a kind
+
+pub in_those : {E : Type 0} (x : outcome.Result Decided E) (F : ServerState → Decided → Type 0) (K : ServerState → Type 0) → IfOk x (λ (d : Decided). (s : ServerState) → F s d) → IfOk x (λ (d : Decided). (s : ServerState) → K s → F s d)
+in_those {E} (Ok d) F K h = λ s k. h s
+in_those {E} (Err e) F K h = tt
