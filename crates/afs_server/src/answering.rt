@@ -15,6 +15,7 @@ ghost use Rattle.afs_server.specs.Handling.{Answers, Turns};
 ghost use Rattle.afs_server.specs.Seen.{backs_seen, lasting_of, KeepsForNodes, Serves};
 
 use crate::server::FileServer;
+use afs_callbacks::answering::Replied;
 use afs_disk::Disk;
 use afs_history::lines::Outs;
 use afs_num::sequences::Octets;

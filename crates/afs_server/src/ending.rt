@@ -4,6 +4,7 @@ ghost use Rattle.std.specs.Prelude.{◌≡◌, ◌≤◌, ◌<◌};
 ghost use Rattle.afs_breaks.specs.Promises.{expired};
 
 use crate::server::FileServer;
+use afs_callbacks::ending::Ended;
 use afs_disk::Disk;
 use afs_history::lines::Outs;
 use afs_volstore::VolStore;
