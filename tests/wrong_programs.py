@@ -89,9 +89,14 @@ def lacks(crate):
     return None
 
 
+def head(crate):
+    """The file with which a crate begins: a program's is another than a library's."""
+    return "src/main.rt" if os.path.isfile(f"{edits.ROOT}/crates/{crate}/src/main.rt") else "src/lib.rt"
+
+
 def command(crate, functions, kept):
     """The kit's prover on some functions of the crate in the current folder, as rt check calls it."""
-    words = [f"{kit()}/bin/rattle", "check", "--crate-name", crate, "src/lib.rt", "--extern", f"std={kit()}/rlibs/std.rlib"]
+    words = [f"{kit()}/bin/rattle", "check", "--crate-name", crate, head(crate), "--extern", f"std={kit()}/rlibs/std.rlib"]
     words += ["-L", f"dependency={kit()}/rlibs"]
     for name in named_below()[crate]:
         words += ["--extern", f"{name}={rlib(name) if name in named_below() else f'{kit()}/rlibs/{name}.rlib'}"]

@@ -147,7 +147,7 @@ tag_small = lit< tt
 end_small : end_tag < 2 ^ 32
 end_small = lit< tt
 
-abbrev NextIs : List ℕ → Option ℕ → List ℕ → Type 0
+abbrev pub NextIs : List ℕ → Option ℕ → List ℕ → Type 0
 NextIs bytes None rest = Takes bytes (word end_tag) rest
 NextIs bytes (Some n) rest = Takes bytes (word vnode_tag) rest
 
@@ -164,7 +164,7 @@ next_by false true bytes tag left o rest other is t e =
     subst (λ (p : Option ℕ). NextIs bytes p rest) both.0 (subst (λ (r : List ℕ). Takes bytes (word vnode_tag) r) both.1 front)
 next_by false false bytes tag left o rest other neither t e = absurd cc
 
-next_is : (bytes : List ℕ) (o : Option ℕ) (rest : List ℕ) → IsBytes bytes → next_at bytes ≡ took o rest → NextIs bytes o rest
+pub next_is : (bytes : List ℕ) (o : Option ℕ) (rest : List ℕ) → IsBytes bytes → next_at bytes ≡ took o rest → NextIs bytes o rest
 unfolding next_at
 next_is bytes o rest fits e =
     let a = bound (word_field.at bytes) (λ tag. cond (nat_eq tag.0 end_tag) (took None tag.1) (cond (nat_eq tag.0 vnode_tag) (number_ahead tag.1) (bad_at bytes))) o rest e in

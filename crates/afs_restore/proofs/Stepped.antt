@@ -1,0 +1,62 @@
+-- What one step makes of the reading.
+use Rattle.std.proofs.Common.{◌≡◌, ℕ, zero, suc, ◌+◌, ◌<◌, true, false, cond, List, [], ◌∷◌, drop, slice_get, Option, Some, None, nat_eq, refl, ap, subst, ◌∙◌, arith}
+use Rattle.afs_dumps.specs.Laws.{IsReading}
+use Rattle.afs_dumps.specs.Feeding.{Stage, at_pair, at_image, begun, stepped, words_at, IsAtEnd}
+use Rattle.afs_dumps.specs.Fields.{Taken, took, cut_at, bad_at, ◌>>=◌}
+use Rattle.afs_dumps.specs.Dumps.{Headers}
+use Rattle.afs_dumps.specs.Streams.{by_next, dump_at, image_words_field, next_at, only_end, ImageWords}
+use Rattle.afs_dumps.proofs.Feeding.{readers_read_on}
+
+-- ---- a step of the reading
+
+pub goes_on : (stage later : Stage) (left rest : List ℕ) → stepped stage left ≡ took later rest → (bytes : List ℕ) → IsReading bytes stage left → IsReading bytes later rest
+goes_on stage later left rest e bytes reading = readers_read_on.step bytes left rest stage later reading e
+
+pub is_cut : (stage : Stage) (left rest : List ℕ) → (IsAtEnd stage → ⊥) → stepped stage left ≡ cut_at rest → (bytes : List ℕ) → IsReading bytes stage left → dump_at bytes ≡ cut_at rest
+is_cut stage left rest before e bytes reading = readers_read_on.cut bytes left rest stage reading before e
+
+pub is_bad : (stage : Stage) (left rest : List ℕ) → stepped stage left ≡ bad_at rest → (bytes : List ℕ) → IsReading bytes stage left → dump_at bytes ≡ bad_at rest
+is_bad stage left rest e bytes reading = readers_read_on.bad bytes left rest stage reading e
+
+-- where no pair is left, the images come
+pub images_come : (h : Headers) (least : ℕ) (ps : List (ℕ × ℕ)) (left bytes : List ℕ) → IsReading bytes (at_pair h zero least ps) left → IsReading bytes (at_image (begun h ps)) left
+images_come h least ps left bytes reading = goes_on (at_pair h zero least ps) (at_image (begun h ps)) left left refl bytes reading
+
+-- ---- the words of the next image: its vnode is looked for in the list
+
+abbrev pub found_words : List (ℕ × ℕ) → Option ℕ → List ℕ → Taken (Option (ImageWords × List (ℕ × ℕ)))
+found_words ps None rest = took None rest
+found_words [] (Some m) rest = bad_at rest
+found_words (p ∷ ps) (Some m) rest = cond (nat_eq m p.0) ((image_words_field p).at rest >>= λ w. took (Some (w.0, ps)) w.1) (found_words ps (Some m) rest)
+
+looked : (p : ℕ × ℕ) (ps : List (ℕ × ℕ)) (next : Taken (Option ℕ)) (other : Taken (Option (ImageWords × List (ℕ × ℕ)))) → other ≡ (next >>= λ o. found_words ps o.0 o.1) →
+    (next >>= λ o. by_next p.0 o.0 o.1 None ((image_words_field p).at o.1 >>= λ w. took (Some (w.0, ps)) w.1) other) ≡ (next >>= λ o. found_words (p ∷ ps) o.0 o.1)
+looked p ps (took None rest) other is = refl
+looked p ps (took (Some m) rest) other is = ap (cond (nat_eq m p.0) ((image_words_field p).at rest >>= λ w. took (Some (w.0, ps)) w.1)) is
+looked p ps (cut_at left) other is = refl
+looked p ps (bad_at left) other is = refl
+
+end_looked : (next : Taken (Option ℕ)) → (next >>= λ o. only_end o.0 o.1 None) ≡ (next >>= λ o. found_words [] o.0 o.1)
+end_looked (took None rest) = refl
+end_looked (took (Some m) rest) = refl
+end_looked (cut_at left) = refl
+end_looked (bad_at left) = refl
+
+pub words_found : (ps : List (ℕ × ℕ)) (bytes : List ℕ) → words_at ps bytes ≡ (next_at bytes >>= λ o. found_words ps o.0 o.1)
+words_found [] bytes = end_looked (next_at bytes)
+words_found (p ∷ ps) bytes = looked p ps (next_at bytes) (words_at ps bytes) (words_found ps bytes)
+
+pub found_here : (ps : List (ℕ × ℕ)) (k m : ℕ) (p : ℕ × ℕ) (rest : List ℕ) → slice_get ps k ≡ Some p → nat_eq m p.0 ≡ true → ((j : ℕ) (q : ℕ × ℕ) → j < k → slice_get ps j ≡ Some q → nat_eq m q.0 ≡ false) →
+    found_words ps (Some m) rest ≡ ((image_words_field p).at rest >>= λ w. took (Some (w.0, drop (k + 1) ps)) w.1)
+found_here [] k m p rest here test before = absurd cc
+found_here (q ∷ ps) zero m p rest here test before =
+    let is : q ≡ p = cc in
+    subst (λ (r : ℕ × ℕ). found_words (q ∷ ps) (Some m) rest ≡ ((image_words_field r).at rest >>= λ w. took (Some (w.0, ps)) w.1)) is (rw (ap (λ (r : ℕ × ℕ). nat_eq m r.0) is ∙ test) refl)
+found_here (q ∷ ps) (suc k) m p rest here test before =
+    let next : suc k + 1 ≡ suc (k + 1) = omega arith in
+    rw (before zero q (omega arith) refl, next)
+    (found_here ps k m p rest here test (λ j r lt e. before (suc j) r (omega (arith, lt)) e))
+
+pub found_nowhere : (ps : List (ℕ × ℕ)) (m : ℕ) (rest : List ℕ) → ((j : ℕ) (q : ℕ × ℕ) → slice_get ps j ≡ Some q → nat_eq m q.0 ≡ false) → found_words ps (Some m) rest ≡ bad_at rest
+found_nowhere [] m rest none = refl
+found_nowhere (q ∷ ps) m rest none = rw (none zero q refl) (found_nowhere ps m rest (λ j r e. none (suc j) r e))

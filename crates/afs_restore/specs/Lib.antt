@@ -1,0 +1,5 @@
+pub mod Reading
+pub mod Filling
+pub mod Restoring
+pub mod Steps
+pub mod ReadOn
