@@ -17,7 +17,8 @@ use Rattle.afs_grammar.specs.CellScripts.{IsCellScript}
 use Rattle.afs_grammar.specs.Lines.{volumes_at}
 use Rattle.afs_law.specs.Laws.{SetUpsAreFirst}
 use Rattle.afs_scripts.specs.SetUps.{NumbersAscend, SetUpsAreAccepted}
-use Rattle.afs_server.specs.Seen.{first_memory, state_seen, IsPromiseToNode, Memory, Serves}
+use Rattle.afs_server.specs.Seen.{first_memory, state_seen, Memory, Serves}
+use Rattle.afs_callbacks.specs.States.{IsPromiseToNode}
 use Rattle.afs_server_parts.specs.Turning.{IsBreakToNode}
 use Rattle.afs_volstore.specs.Opening.{IsSetUpFault, IsSetUpSoFar}
 use Rattle.afs_volstore.specs.Stores.{IsCaused, IsKept, Store}

@@ -15,12 +15,12 @@ use Rattle.afs_rows.specs.ServerSteps.{stepped}
 use Rattle.afs_rows.specs.States.{BackCall, Backs, ServerState}
 use Rattle.afs_server_parts.specs.Turning.{IsBreakToNode}
 use Rattle.afs_volstore.specs.Stores.{Store}
-use Rattle.afs_server.specs.Ending.{lists_timed}
+use Rattle.afs_callbacks.specs.Ending.{lists_timed}
 use Rattle.afs_server.specs.Handling.{Makes}
 use Rattle.afs_server.specs.Seen.{Memory}
-use Rattle.afs_server.proofs.Drawing.{pumped_draws, pumped_lists}
-use Rattle.afs_server.proofs.Lasting.{ended_promises, lasting_to_nodes, timed_to_nodes}
-use Rattle.afs_server.proofs.Making.{timed_last, timed_lists}
+use Rattle.afs_callbacks.proofs.Drawing.{pumped_draws, pumped_lists}
+use Rattle.afs_callbacks.proofs.Lasting.{ended_promises, lasting_to_nodes, timed_to_nodes}
+use Rattle.afs_callbacks.proofs.Timed.{timed_last, timed_lists}
 
 -- the lists after a step
 pub lists_after : {D : Type 0} (me : Node) (state : ServerState) (ls before : List Line) (t : row.Turn) (m : Memory) (s : Store D) (outs : Outs) → Makes (stepped me state ls t) before m s outs → m.lists ≡ t.backs.lists

@@ -19,9 +19,9 @@ use Rattle.afs_records.specs.Records.{FitsRecord}
 use Rattle.afs_rows.specs.ServerRow.{key_of, made, record_of, saves, versioned, Change}
 use Rattle.afs_rows.specs.States.{ServerState}
 use Rattle.afs_memory.specs.Telling.{in_words, version_within}
-use Rattle.afs_server.specs.Deciding.{AreCounted, IsCounted, IsMade, IsOfWords}
+use Rattle.afs_decisions.specs.Deciding.{AreCounted, IsCounted, IsMade, IsOfWords}
 use Rattle.afs_server.specs.Putting.{IsToldAgain}
-use Rattle.afs_server.specs.Saving.{change_kept}
+use Rattle.afs_callbacks.specs.Saving.{change_kept}
 
 -- ---- lines in words
 

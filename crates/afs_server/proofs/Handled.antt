@@ -24,7 +24,7 @@ use Rattle.afs_rows.specs.Callbacks.{fids_found, gives_up_all, grants_found, hel
 use Rattle.afs_rows.specs.ServerRow.{drops, granted_in, granted_new, made, promise_ticks, refuses, repeats, result, saves, shows, tells_boot, Decision}
 use Rattle.afs_rows.specs.States.{BackCall, Backs, ServerState}
 use Rattle.afs_server.proofs.Drawn.{breaks_drawn, ended_draws, expired_draws, filter_shorter}
-use Rattle.afs_server.proofs.Turned.{repeated_backs}
+use Rattle.afs_callbacks.proofs.Turned.{repeated_backs}
 
 -- ---- the lists of promises, with the breaks that they may become
 

@@ -9,7 +9,8 @@ use Rattle.afs_rows.specs.Callbacks as row
 use Rattle.afs_rows.specs.Callbacks.{if_to, is_back_awaited, no_turn, renews, renews_by, settles, settles_by}
 use Rattle.afs_rows.specs.States.{Backs}
 use Rattle.afs_server_parts.specs.Called.{call_seen, Called, IsGoodOrNone}
-use Rattle.afs_server.specs.Hearing.{answered_turn, heard_by, is_heard, noticed_turn, renewed_turn, settled_turn}
+use Rattle.afs_server.specs.Hearing.{answered_turn, noticed_turn, renewed_turn, settled_turn}
+use Rattle.afs_callbacks.specs.Hearing.{heard_by, is_heard}
 
 settled_at : (a b : Bool) (me : Node) (head : Head) (k : Backs) (c : Called) →
     settled_turn me head k (cond (a && b) (Some c) None) ≡ cond a (cond b (settles me head.from (call_seen c) k) (no_turn k)) (no_turn k)

@@ -1,25 +1,24 @@
 -- A step of the code is that of its row.
-use Rattle.std.proofs.Common.{◌≡◌, ℕ, Bool, true, false, cond, List, [], ◌∷◌, ◌++◌, refl, sym, ap, subst, ◌∙◌}
-use Rattle.std.specs.Prelude.{nat_lt}
+use Rattle.std.proofs.Common.{◌≡◌, ℕ, List, [], ◌++◌, sym, ap, subst, ◌∙◌}
 use Rattle.std.specs.List.{All}
 use Rattle.afs_num.specs.Nodes.{IsNode}
 use Rattle.afs_num.specs.declared.types.Node.{Node}
 use Rattle.afs_history.specs.declared.lines.Line.{Line}
 use Rattle.afs_history.specs.declared.lines.Outs.{Outs}
 use Rattle.afs_records.specs.Durable.{Durable}
-use Rattle.afs_model.specs.Messages.{messages_spelled, parcels_read}
 use Rattle.afs_breaks.specs.Promises.{Lists}
 use Rattle.afs_rows.specs.Callbacks as row
-use Rattle.afs_rows.specs.Callbacks.{ends_all, pumped, timed, Started}
-use Rattle.afs_rows.specs.States.{BackCall, Backs, Held, Lasting, Seat, ServerState}
+use Rattle.afs_rows.specs.Callbacks.{pumped}
+use Rattle.afs_rows.specs.States.{Lasting, Seat, ServerState}
 use Rattle.afs_rows.specs.ServerSteps.{stepped}
-use Rattle.afs_server_parts.specs.Called.{calls_seen, known_to, AreGoodCalls, Callee}
+use Rattle.afs_server_parts.specs.Called.{calls_seen, known_to, AreGoodCalls}
 use Rattle.afs_server_parts.specs.Turning.{IsBreakToNode}
 use Rattle.afs_volstore.specs.Stores.{Store}
-use Rattle.afs_server.specs.Ending.{backs_left, lists_timed, Ends}
+use Rattle.afs_callbacks.specs.Ending.{backs_left, Ends}
 use Rattle.afs_server.specs.Handling.{server_seen, Makes}
-use Rattle.afs_server.specs.Seen.{backs_seen, lasting_of, IsPromiseToNode, IsToNodes, KeepsForNodes, Memory, Serves}
-use Rattle.afs_server.specs.declared.ending.Ended.{Ended}
+use Rattle.afs_server.specs.Seen.{backs_seen, callbacks_of, lasting_of, KeepsForNodes, Memory, Serves}
+use Rattle.afs_callbacks.specs.States.{CallbackState, IsPromiseToNode, IsToNodes}
+use Rattle.afs_callbacks.specs.declared.ending.Ended.{Ended}
 
 -- what is in memory after a step
 pub record Leaves {D : Type 0} (old : ServerState) (e : Ended) (m : Memory) (s : Store D) : Type 0 where
@@ -39,20 +38,6 @@ makes_stepped me old before ls t e m s left ends lines =
       lines = lines;
       sent = ends.sent;
     }
-
-timed_by : (b : Bool) (t u : row.Turn) (l : Lists) (k : Lists) → t.backs.lists ≡ l → u.backs.lists ≡ k → (cond b t u).backs.lists ≡ cond b l k
-timed_by true t u l k p q = p
-timed_by false t u l k p q = q
-
-pub timed_lists : (me : Node) (boot : ℕ) (n : Node) (c : BackCall) (b : Backs) → (timed me boot n c b).backs.lists ≡ lists_timed c b.lists
-timed_lists me boot n c b = timed_by (nat_lt c.tries 2) _ _ b.lists (ends_all c.breaks b.lists) refl refl
-
-last_by : (b : Bool) (t u : row.Turn) (k : ℕ) → t.backs.last_call ≡ k → u.backs.last_call ≡ k → (cond b t u).backs.last_call ≡ k
-last_by true t u k p q = p
-last_by false t u k p q = q
-
-pub timed_last : (me : Node) (boot : ℕ) (n : Node) (c : BackCall) (b : Backs) → (timed me boot n c b).backs.last_call ≡ b.last_call
-timed_last me boot n c b = last_by (nat_lt c.tries 2) _ _ b.last_call refl refl
 
 -- a step that leaves what is on the disk as it is
 pub steps : {D : Type 0} (state : ServerState) (ls : List Line) (t : row.Turn) (old new : Memory) (s u : Store D) (e : Ended) (l : Lists) (outs : Outs) →
@@ -99,8 +84,16 @@ pub as_asked : {D : Type 0} (P : Node → ℕ → ℕ → Type 0) (s : Store D) 
 as_asked {D} P s n boot last node boots lasts h =
     subst (λ (k : ℕ). P s.node s.durable.boot k) lasts (subst (λ (k : ℕ). P s.node k last) boots (subst (λ (m : Node). P m boot last) node h))
 
-pub to_nodes : (me n : Node) (m : Memory) (d : Durable) → n ≡ me → Serves me m d → IsToNodes n m
-to_nodes me n m d is serves = subst (λ (x : Node). IsToNodes x m) (sym is) (record { node = serves.node; owed = serves.owed; calls = serves.calls })
+-- and of the callbacks that a step read by those that its server had in memory
+pub as_planned : {D : Type 0} (P : Node → ℕ → ℕ → CallbackState → Type 0) (s : Store D) (m : Memory) (n : Node) (boot last : ℕ) (k : CallbackState) → n ≡ s.node → boot ≡ s.durable.boot → last ≡ s.drawn → k ≡ callbacks_of m →
+    P n boot last k → P s.node s.durable.boot s.drawn (callbacks_of m)
+as_planned {D} P s m n boot last k node boots lasts seen h =
+    subst (P s.node s.durable.boot s.drawn) seen (as_asked (λ (x : Node) (a b : ℕ). P x a b k) s n boot last node boots lasts h)
+
+pub to_nodes : (me n : Node) (m : Memory) (d : Durable) (k : CallbackState) → n ≡ me → k ≡ callbacks_of m → Serves me m d → IsToNodes n k
+to_nodes me n m d k is seen serves =
+    let own : IsToNodes me (callbacks_of m) = record { node = serves.node; owed = serves.owed; calls = serves.calls } in
+    subst (λ (x : Node). IsToNodes x k) (sym is) (subst (IsToNodes me) (sym seen) own)
 
 -- memory as it was inside, but for its promises and what the step left
 pub remembered : (inside old new : Memory) (l k : Lists) (e : Ended) → inside ≡ old → l ≡ k → new ≡ record inside { lists = l; callees = e.callees.items; held = e.held } → new ≡ record old { lists = k; callees = e.callees.items; held = e.held }

@@ -22,12 +22,12 @@ use Rattle.afs_server_parts.specs.Turning.{IsBreakToNode}
 use Rattle.afs_server_parts.specs.Telling.{grants_seen}
 use Rattle.afs_server_parts.specs.declared.telling.Grant.{Grant}
 use Rattle.afs_volstore.specs.Stores.{Store}
-use Rattle.afs_server.specs.Deciding.{leaves_disk, Decides, FitsDecided, IsReading, LeavesDisk}
+use Rattle.afs_decisions.specs.Deciding.{leaves_disk, Decides, FitsDecided, IsReading, LeavesDisk}
 use Rattle.afs_server.specs.Handling.{lines_behind, record_decided, server_seen, Does, Handles, IsDone, IsWritten, Makes}
 use Rattle.afs_server.specs.Putting.{calls_for, DoesAll, IsFew, IsInterrupted, IsMadeOf, IsStill, IsToldAgain}
 use Rattle.afs_server.specs.Seen.{backs_seen, lasting_of, Memory, Serves}
-use Rattle.afs_server.specs.declared.decided.Decided.{Decided}
-use Rattle.afs_server.specs.declared.decided.Decided.TheVariants as decided
+use Rattle.afs_decisions.specs.declared.decided.Decided.{Decided}
+use Rattle.afs_decisions.specs.declared.decided.Decided.TheVariants as decided
 use Rattle.afs_server.specs.declared.faults.NodeFault.{NodeFault}
 use Rattle.afs_server.specs.declared.faults.NodeFault.TheVariants as faults
 use Rattle.afs_server.proofs.Drawn.{breaks_drawn, drawn_after, expired_draws, lists_after}

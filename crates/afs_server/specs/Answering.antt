@@ -1,32 +1,19 @@
--- What a server sends and answers in a step.
-use Rattle.std.specs.Prelude.{◌≡◌, ℕ, List, [], ◌∷◌, Bool, false, ◌&&◌, Option, Some, None, nat_eq}
+-- What a server keeps of its replies, and sends again.
+use Rattle.std.specs.Prelude.{◌≡◌, ℕ, List, Bool, false, ◌&&◌, Option, Some, None, nat_eq}
 use Rattle.std.specs.Borrow.{Bor}
 use Rattle.afs_num.specs.declared.messages.Message.{Message}
 use Rattle.afs_num.specs.declared.types.Head.{Head}
 use Rattle.afs_num.specs.declared.types.Key.{Key}
 use Rattle.afs_rows.specs.Callbacks as row
-use Rattle.afs_rows.specs.Callbacks.{held_under, is_seat_of, key_answered, no_turn, repeats_by}
+use Rattle.afs_rows.specs.Callbacks.{held_under, is_seat_of, key_answered, repeats_by}
 use Rattle.afs_rows.specs.ServerRow.{seat_for}
 use Rattle.afs_rows.specs.States.{Backs, Lasting, Seat}
 use Rattle.afs_model.specs.Calls.{call_seat, call_seated}
 use Rattle.afs_server_parts.specs.Kept.{Spells}
-use Rattle.afs_breaks.specs.Promises.{Lists}
-
--- a message goes out
-abbrev pub sent_turn : Message → Backs → row.Turn
-sent_turn m b = record (no_turn b) { sent = m ∷ [] }
-
--- a reply goes out, now or once these breaks have ended
-abbrev pub answer_turn : Message → List ℕ → Bool → Backs → row.Turn
-answer_turn reply waits again b = record (no_turn b) { outs = record { reply = reply; waits = waits; again = again } ∷ [] }
 
 -- a kept reply is asked again
 abbrev pub repeated_turn : Message → Lasting → Backs → row.Turn
 repeated_turn reply l b = repeats_by b reply (held_under (key_answered reply) b.held) (is_seat_of reply (call_seat reply.head.to l.kept))
-
--- with these promises and owed breaks
-abbrev pub with_lists : Lists → Backs → Backs
-with_lists l b = record b { lists = l }
 
 -- these bytes are kept as the reply to the call of this header
 abbrev pub KeepsReply : Head → List ℕ → List Seat → List Seat → Type 0

@@ -1,21 +1,11 @@
 -- Replies and notices that a server gets to its own calls.
-use Rattle.std.specs.Prelude.{ℕ, Bool, ◌&&◌, Option, Some, None, if◌then◌else◌}
-use Rattle.afs_num.specs.Nodes.{same_node}
+use Rattle.std.specs.Prelude.{ℕ, Option, Some, None}
 use Rattle.afs_num.specs.declared.types.Head.{Head}
 use Rattle.afs_num.specs.declared.types.Node.{Node}
 use Rattle.afs_rows.specs.Callbacks as row
-use Rattle.afs_rows.specs.Callbacks.{if_to, is_back_awaited, no_turn, renews, renews_by, settles, settles_by}
+use Rattle.afs_rows.specs.Callbacks.{if_to, no_turn, renews, renews_by, settles, settles_by}
 use Rattle.afs_rows.specs.States.{Backs}
 use Rattle.afs_server_parts.specs.Called.{call_seen, Called}
-
--- the message is for this server, and is to this call
-abbrev pub is_heard : Node → ℕ → Head → Called → Bool
-is_heard me boot head c = same_node head.to me && is_back_awaited boot (call_seen c) head
-
--- the unanswered call of the message's sender, if the message is to that
-abbrev pub heard_by : Node → ℕ → Head → Option Called → Option Called
-heard_by me boot head None = None
-heard_by me boot head (Some c) = if is_heard me boot head c then Some c else None
 
 -- what the row does with a reply or a refusal, and with a notice
 abbrev pub answered_turn : Node → ℕ → Head → Backs → row.Turn

@@ -1,10 +1,7 @@
 pub mod Again
 pub mod Answering
-pub mod Deciding
-pub mod Ending
 pub mod Handling
 pub mod Hearing
 pub mod Putting
 pub mod Saving
 pub mod Seen
-pub mod Several

@@ -10,17 +10,16 @@ use Rattle.afs_num.specs.declared.types.Node.TheVariants.{Loc}
 use Rattle.afs_ideal.specs.Tables.{Table}
 use Rattle.afs_records.specs.Durable as disk
 use Rattle.afs_records.specs.Durable.{Durable}
-use Rattle.afs_breaks.specs.declared.types.Promise.{Promise}
 use Rattle.afs_breaks.specs.Promises.{Lists, no_lists}
 use Rattle.afs_model.specs.Calls.{call_seat}
-use Rattle.afs_rows.specs.Callbacks as row
-use Rattle.afs_rows.specs.Callbacks.{first_backs, owe_line, risen_turn}
+use Rattle.afs_rows.specs.Callbacks.{first_backs, risen_turn}
 use Rattle.afs_rows.specs.ServerSteps.{stepped}
 use Rattle.afs_rows.specs.Steps.{Step}
 use Rattle.afs_rows.specs.States.{Backs, Held, Lasting, Seat, ServerState}
-use Rattle.afs_server_parts.specs.Called.{call_to, calls_seen, known_to, AreGoodCalls, Called, Callee}
+use Rattle.afs_server_parts.specs.Called.{call_to, AreGoodCalls, Called, Callee}
 use Rattle.afs_server_parts.specs.Kept.{reply_in}
 use Rattle.afs_server_parts.specs.Turning.{IsBreakToNode}
+use Rattle.afs_callbacks.specs.States.{backs_at, CallbackState, IsPromiseToNode}
 
 -- ---- what the disk keeps
 
@@ -82,9 +81,13 @@ pub record Memory : Type 0 where
 abbrev pub first_memory : Memory
 first_memory = record { boot = 1; seats = []; lists = no_lists; callees = []; held = [] }
 
+-- its callbacks
+abbrev pub callbacks_of : Memory → CallbackState
+callbacks_of m = record { lists = m.lists; callees = m.callees; held = m.held }
+
 -- with the last number of its own calls, which its store draws
 abbrev pub backs_seen : Memory → ℕ → Backs
-backs_seen m drawn = record { lists = m.lists; last_call = drawn; calls = calls_seen m.callees; known = known_to m.callees; held = m.held }
+backs_seen m drawn = backs_at (callbacks_of m) drawn
 
 -- and with what is on the disk
 abbrev pub state_seen : Memory → Durable → ℕ → ServerState
@@ -103,10 +106,6 @@ waits_by m n = option_map (key_called m.boot) (call_to m.callees n)
 abbrev pub begun_state : Durable → ServerState
 begun_state d = record { lasting = lasting_of d; seats = (lasting_of d).kept; backs = first_backs }
 
--- with these breaks on all
-abbrev pub risen_with : Node → Lists → row.Turn
-risen_with me l = record { backs = record first_backs { lists = l }; lines = map (owe_line me) l.owed; sent = []; outs = [] }
-
 -- what a start does over a store that has begun its boot
 abbrev pub begun_step : Node → Durable → ℕ → ℕ → Step ServerState
 begun_step me d clock count = stepped me (begun_state d) (risen_turn me clock count).lines (risen_turn me clock count)
@@ -119,20 +118,11 @@ pub record CanDraw (m : Memory) (drawn : ℕ) : Type 0 where
   pub calls : drawn < 4000000000
   pub breaks : m.lists.last_owed + length m.lists.promises < 4000000000
 
-abbrev pub IsPromiseToNode : Promise → Type 0
-IsPromiseToNode p = IsNode p.client
-
 -- The server `me` is in the boot that its store keeps; what it promised, owes, calls and keeps is of nodes of the cell.
 pub record Serves (me : Node) (m : Memory) (d : Durable) : Type 0 where
   pub node : IsNode me
   pub boot : m.boot ≡ d.boot
   pub kept : KeepsForNodes d
   pub promises : All IsPromiseToNode m.lists.promises
-  pub owed : All IsBreakToNode m.lists.owed
-  pub calls : AreGoodCalls me m.callees
-
--- what it promised, owes and calls is of nodes of the cell
-pub record IsToNodes (me : Node) (m : Memory) : Type 0 where
-  pub node : IsNode me
   pub owed : All IsBreakToNode m.lists.owed
   pub calls : AreGoodCalls me m.callees

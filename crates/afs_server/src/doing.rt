@@ -6,12 +6,12 @@ ghost use Rattle.afs_model.specs.Heads.{IsSoundHead};
 ghost use Rattle.afs_rows.specs.Callbacks.{turn_for};
 ghost use Rattle.afs_rows.specs.Callbacks as row;
 ghost use Rattle.afs_rows.specs.ServerRow.{Decision};
-ghost use Rattle.afs_server.specs.Deciding.{CanBeTold, Decides, LeavesDisk, Runs};
+ghost use Rattle.afs_decisions.specs.Deciding.{CanBeTold, Decides, LeavesDisk, Runs};
 ghost use Rattle.afs_server.specs.Handling.{server_seen, Does};
 ghost use Rattle.afs_server.specs.Seen.{Serves};
 
-use crate::decided::Decided;
 use crate::server::FileServer;
+use afs_decisions::decided::Decided;
 use afs_disk::Disk;
 use afs_history::lines::Outs;
 use afs_num::types::{Head, Mem};

@@ -20,17 +20,17 @@ ghost use Rattle.afs_rows.specs.ServerRow.{begun_after, called, decides, device_
 ghost use Rattle.afs_rows.specs.ServerSteps.{server_row};
 ghost use Rattle.afs_volstore.specs.Stores.{LeftAround};
 ghost use Rattle.afs_memory.specs.Telling.{in_words};
-ghost use Rattle.afs_server.specs.Deciding.{leaves_disk, CanBeTold, Decides, FitsDecided, IsByClient, IsUnder, Runs};
+ghost use Rattle.afs_decisions.specs.Deciding.{leaves_disk, CanBeTold, Decides, FitsDecided, IsByClient, IsUnder, Runs};
 ghost use Rattle.afs_server.specs.Handling.{calls_served, record_decided, server_seen, Handles, IsDone, IsQuiet, IsWritten, Ran};
 ghost use Rattle.afs_server.specs.Hearing.{answered_turn, noticed_turn};
 ghost use Rattle.afs_server.specs.Putting.{DoesAll, OnDisk};
 ghost use Rattle.afs_server.specs.Seen.{backs_seen, lasting_of, CanDraw, Serves};
 ghost use Rattle.afs_server.specs.declared.faults.NodeFault.TheVariants as faults;
 
-use crate::decided::Decided;
-use crate::deciding::CALLS;
 use crate::faults::NodeFault;
 use crate::server::FileServer;
+use afs_decisions::decided::Decided;
+use afs_decisions::deciding::CALLS;
 use afs_disk::Disk;
 use afs_history::lines::Outs;
 use afs_message::messages::read_message;

@@ -3,7 +3,6 @@
 #![tactic(auto)]
 
 mod answering;
-mod decided;
 mod deciding;
 mod doing;
 mod ending;
@@ -14,7 +13,6 @@ pub mod laws;
 mod node;
 mod putting;
 mod restoring;
-mod saving;
 mod server;
 mod several;
 mod showing;

@@ -1,32 +1,25 @@
 //! The steps of a file server.
 
-ghost use Rattle.std.specs.Prelude.{◌≡◌, ◌≤◌, ◌+◌, ◌∷◌, [], ℕ, false, None, Some, length, IfOk, IsErrOf, IsSome, OnOk, OnErr};
-ghost use Rattle.afs_num.specs.declared.records.StoreRecord as records;
+ghost use Rattle.std.specs.Prelude.{◌≡◌, ◌≤◌, ◌+◌, [], None, Some, length, IfOk, IsErrOf, IsSome, OnOk, OnErr};
 ghost use Rattle.afs_num.specs.Nodes.{IsNode};
-ghost use Rattle.afs_disk.specs.Disk.{LeavesOnly, SameDisk};
-ghost use Rattle.afs_journal.specs.Log.{SameCounts};
-ghost use Rattle.afs_model.specs.Messages.{received_by, FindsMessages};
-ghost use Rattle.afs_volstore.specs.Stores.{StandsAround};
 ghost use Rattle.afs_server.specs.declared.faults.NodeFault.TheVariants as faults;
-ghost use Rattle.afs_history.specs.declared.lines.Line.TheVariants as lines;
-ghost use Rattle.afs_records.specs.Durable.{folded, Durable};
-ghost use Rattle.afs_rows.specs.ServerRow.{begun_after, decides, device_calls};
-ghost use Rattle.afs_rows.specs.ServerSteps.{back_timeout_row, server_row, wake_row};
+ghost use Rattle.afs_rows.specs.ServerSteps.{back_timeout_row, wake_row};
 ghost use Rattle.afs_rows.specs.States as rows;
 ghost use Rattle.afs_server_parts.specs.Called.{call_to, calls_seen};
-ghost use Rattle.afs_server.specs.Handling.{calls_served, record_decided, server_seen, Handles, IsDone, IsQuiet, IsWritten, Makes, Ran};
-ghost use Rattle.afs_server.specs.Seen.{begun_step, lasting_of, waits_by, CanDraw, Serves};
+ghost use Rattle.afs_server.specs.Handling.{server_seen, Handles, Makes};
+ghost use Rattle.afs_server.specs.Seen.{begun_step, waits_by, CanDraw, Serves};
 
 use crate::faults::NodeFault;
-use crate::restoring::{callers_kept, owed_to_clients, rise};
+use crate::restoring::callers_kept;
 use crate::server::FileServer;
+use afs_callbacks::Callbacks;
+use afs_callbacks::restoring::{owed_to_clients, rise};
 use afs_disk::Disk;
 use afs_history::lines::Outs;
-use afs_num::sequences::Sequence;
 use afs_num::types::{Key, Mem, Node};
-use afs_server_parts::callees::{BackCall, find_call};
+use afs_server_parts::callees::BackCall;
 use afs_volstore::VolStore;
-use std::alloc::{AllocError, Global};
+use std::alloc::Global;
 
 /// A promise lasts so many ticks.
 const PROMISE_TICKS: u32 = 7200;
@@ -37,7 +30,7 @@ impl FileServer {
         requires { IsSome (call_to self.now.callees callee) }
         ensures { IfOk result (λ c. call_to self.now.callees callee ≡ Some c) }
     {
-        match find_call(&self.callees, callee) {
+        match self.callbacks().call_to(callee) {
             Some(call) => Ok(call.copy(self.alloc)?),
             None => unreachable!(),
         }
@@ -104,12 +97,11 @@ impl FileServer {
         let callers = callers_kept(alloc, store)?;
         let promises = owed_to_clients(alloc, clients, now + PROMISE_TICKS)?;
         let ended = rise(alloc, store.node(), store.boot_number(), &promises)?;
+        let callbacks = Callbacks::owing(alloc, promises);
         let mut server = FileServer {
             alloc,
             callers,
-            promises,
-            callees: Vec::new(alloc),
-            held: Sequence::new(alloc),
+            callbacks,
         };
         let outs = server.keep(store, ended);
         Ok((server, outs))
@@ -119,7 +111,7 @@ impl FileServer {
     pub fn waits_on(&self, callee: Node) -> Option<Key>
         ensures { result ≡ waits_by self.now callee }
     {
-        let call = find_call(&self.callees, callee)?;
+        let call = self.callbacks().call_to(callee)?;
         Some(Key {
             node: call.server,
             epoch: self.callers.boot(),

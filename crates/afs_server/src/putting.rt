@@ -16,19 +16,20 @@ ghost use Rattle.afs_rows.specs.ServerRow as rows;
 ghost use Rattle.afs_rows.specs.ServerRow.{is_client, refusal, roomed};
 ghost use Rattle.afs_server_parts.specs.Kept.{IsSpelling};
 ghost use Rattle.afs_memory.specs.Named.{IsNamed};
-ghost use Rattle.afs_server.specs.Answering.{answer_turn};
-ghost use Rattle.afs_server.specs.Deciding.{CanBeTold, CanBeWritten, IsMade};
+ghost use Rattle.afs_callbacks.specs.Answering.{answer_turn};
+ghost use Rattle.afs_decisions.specs.Deciding.{CanBeTold, IsMade};
+ghost use Rattle.afs_callbacks.specs.Saving.{CanBeWritten, hits_each};
 ghost use Rattle.afs_server.specs.Handling.{record_decided, server_seen, Answers};
 ghost use Rattle.afs_server.specs.Putting.{Commits, DoesAll, OnDisk, Prepares};
-ghost use Rattle.afs_server.specs.Saving.{hits_each, Puts};
+ghost use Rattle.afs_server.specs.Saving.{Puts};
 ghost use Rattle.afs_server.specs.Seen.{backs_seen, CanDraw, Serves};
-ghost use Rattle.afs_server.specs.declared.decided.Decided.TheVariants as decided;
+ghost use Rattle.afs_decisions.specs.declared.decided.Decided.TheVariants as decided;
 ghost use Rattle.afs_server.specs.declared.faults.NodeFault.TheVariants as faults;
 
 use crate::answering::keep_reply;
 use crate::faults::NodeFault;
-use crate::saving::{Planned, withdraw_lasting};
 use crate::server::FileServer;
+use afs_callbacks::saving::Planned;
 use afs_disk::Disk;
 use afs_history::lines::Outs;
 use afs_num::faults::StoreFault;
@@ -99,12 +100,12 @@ impl FileServer {
         ensures disk { OnDisk D.seen D.left_by D.size D.may_leave D.moment D.left_since D.faults D.own_faults D.calls D.setting D.limit (Some planned.rec) store.old.durable store.old.disk store.new.disk result }
     {
         self.callers.reserve(1)?;
-        self.promises
-            .grant_all(head.from, planned.granted.as_slice(), now + PROMISE_TICKS)?;
+        self.callbacks
+            .grant(head.from, planned.granted.as_slice(), now + PROMISE_TICKS)?;
         commit(store)?;
         let (ended, kept, withdrawn) = planned.into_rest();
         keep_reply(&mut self.callers, head, kept);
-        withdraw_lasting(&mut self.promises, &withdrawn, now);
+        self.callbacks.withdraw(&withdrawn, now);
         let outs = self.keep(store, ended);
         Ok(outs)
     }
@@ -183,7 +184,7 @@ impl FileServer {
             OnDisk D.seen D.left_by D.size D.may_leave D.moment D.left_since D.faults D.own_faults D.calls D.setting D.limit (record_decided store.old.durable.boot now (roomed (server_seen self.old store.old) now head.now c)) store.old.durable store.old.disk store.new.disk result }
     {
         let (change, names) = change.into_parts();
-        let planned = self.plan_change(
+        let planned = self.callbacks().plan_change(
             store.node(),
             store.boot_number(),
             store.last_number(),

@@ -1,20 +1,11 @@
 //! A file server in memory.
 
 ghost use Rattle.std.specs.Prelude.{◌≡◌, ◌≤◌, IfOk};
-ghost use Rattle.afs_breaks.specs.Promises.{lasting_breaks};
-ghost use Rattle.afs_rows.specs.Callbacks.{expired, no_turn};
-ghost use Rattle.afs_server.specs.Seen.{backs_seen, first_memory};
-ghost use Rattle.std.specs.List.{All};
-ghost use Rattle.afs_server_parts.specs.Turning.{IsBreakToNode, IsTurn};
+ghost use Rattle.afs_server.specs.Seen.{first_memory, callbacks_of};
 
-use afs_breaks::types::OwedBreak;
-use afs_num::sequences::Sequence;
+use afs_callbacks::Callbacks;
 use afs_num::types::Mem;
-use afs_promise::Promises;
-use afs_server_parts::callees::Callee;
 use afs_server_parts::callers::Callers;
-use afs_server_parts::held::HeldReply;
-use afs_server_parts::turns::Turn;
 use std::alloc::Global;
 use std::marker::Model;
 
@@ -23,9 +14,7 @@ use std::marker::Model;
 pub struct FileServer {
     pub(crate) alloc: Global,
     pub(crate) callers: Callers,
-    pub(crate) promises: Promises,
-    pub(crate) callees: Vec<Callee>,
-    pub(crate) held: Sequence<HeldReply>,
+    pub(crate) callbacks: Callbacks,
 }
 
 /// It ends by a drop of its own: what holds a server has one drop to prove where it ends.
@@ -34,11 +23,9 @@ impl Drop for FileServer {
         let FileServer {
             alloc: _,
             callers: _,
-            promises,
-            callees: _,
-            held: _,
+            callbacks,
         } = self;
-        drop(promises);
+        drop(callbacks);
     }
 }
 
@@ -47,20 +34,7 @@ impl Model for FileServer {
 
     ghost Value = { Memory };
 
-    ghost view = { λ s. record { boot = s.callers.boot; seats = s.callers.seats; lists = s.promises; callees = s.callees.items; held = s.held } };
-}
-
-/// The breaks that are owed once those have ended whose time has come.
-fn lasting_breaks(alloc: Global, promises: &Promises, now: u32) -> Mem<Vec<OwedBreak>>
-    ensures { IfOk result (λ os. os.items ≡ lasting_breaks now promises.now.owed) }
-{
-    let mut lasting = Vec::new(alloc);
-    for owed in promises.owed().iter() {
-        if owed.expiry > now {
-            lasting.push(owed)?;
-        }
-    }
-    Ok(lasting)
+    ghost view = { λ s. record { boot = s.callers.boot; seats = s.callers.seats; lists = s.callbacks.lists; callees = s.callbacks.callees; held = s.callbacks.held } };
 }
 
 impl FileServer {
@@ -69,25 +43,18 @@ impl FileServer {
         requires { clients ≤ 16 }
         ensures { IfOk result (λ s. s ≡ first_memory) }
     {
-        let callees = Vec::with_capacity(alloc, clients as usize)?;
+        let callbacks = Callbacks::new(alloc, clients)?;
         Ok(FileServer {
             alloc,
             callers: Callers::new(alloc, 1),
-            promises: Promises::new(alloc),
-            callees,
-            held: Sequence::new(alloc),
+            callbacks,
         })
     }
 
-    /// A step in which nothing happens but that time has passed.
-    pub(crate) fn turn(&self, last: u32, now: u32) -> Mem<Turn>
-        ensures turn { IfOk result (λ t. IsTurn (no_turn (expired now (backs_seen self.now last))) t) }
-        ensures nodes { All IsBreakToNode self.now.lists.owed → IfOk result (λ t. All IsBreakToNode t.owed.items) }
-        ensures last { IfOk result (λ t. t.calls.last ≡ last) }
-        ensures callees { IfOk result (λ t. t.calls.callees.items ≡ self.now.callees) }
+    /// Its callbacks. It takes no memory.
+    pub(crate) fn callbacks(&self) -> &Callbacks
+        ensures { result.now ≡ callbacks_of self.now }
     {
-        let owed = lasting_breaks(self.alloc, &self.promises, now)?;
-        let turn = Turn::new(self.alloc, owed, last, &self.callees, self.held.as_slice())?;
-        Ok(turn)
+        &self.callbacks
     }
 }

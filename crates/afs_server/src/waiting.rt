@@ -1,87 +1,33 @@
 //! A server's own calls wait too long, and time passes.
 
-ghost use Rattle.std.specs.Prelude.{◌≡◌, ◌≤◌, [], IfOk};
 ghost use Rattle.afs_breaks.specs.Promises.{expired};
 ghost use Rattle.afs_rows.specs.Callbacks as row;
-ghost use Rattle.afs_rows.specs.Callbacks.{ends_all, no_turn, pumped, timed};
-ghost use Rattle.afs_server_parts.specs.Called.{call_seen, AreGoodCalls, IsGoodCall};
-ghost use Rattle.afs_server.specs.Ending.{lists_timed, Ends};
+ghost use Rattle.afs_rows.specs.Callbacks.{no_turn, timed};
+ghost use Rattle.afs_server_parts.specs.Called.{call_seen, IsGoodCall};
 ghost use Rattle.afs_server.specs.Handling.{Turns};
-ghost use Rattle.afs_server.specs.Seen.{backs_seen, IsToNodes, Serves};
+ghost use Rattle.afs_server.specs.Seen.{backs_seen, Serves};
 
-use crate::ending::{Ended, end};
 use crate::server::FileServer;
-use afs_breaks::types::OwedBreak;
 use afs_disk::Disk;
 use afs_history::lines::Outs;
 use afs_num::types::{Mem, Node};
-use afs_promise::Promises;
 use afs_server_parts::callees::BackCall;
 use afs_volstore::VolStore;
 
-/// These breaks are given up.
-fn quit_all(promises: &mut Promises, breaks: &[OwedBreak])
-    ensures { promises.new ≡ ends_all breaks.now promises.old }
-{
-    for owed in breaks {
-        promises.quit(owed.number);
-    }
-}
-
-/// What a timeout of this call leaves of the promises. It takes no memory.
-fn time_out(promises: &mut Promises, call: &BackCall, now: u32)
-    ensures { promises.new ≡ lists_timed (call_seen call.now) (expired now promises.old) }
-{
-    promises.expire(now);
-    if call.tries >= 2 {
-        quit_all(promises, call.breaks.as_slice());
-    }
-}
-
 impl FileServer {
-    /// What comes of it that time has passed.
-    fn plan_wake(&self, server: Node, boot: u32, last: u32, now: u32) -> Mem<Ended>
-        requires nodes { IsToNodes server self.now }
-        ensures ends { IfOk result (λ e. Ends (expired now self.now.lists) (pumped server boot (no_turn (row.expired now (backs_seen self.now last)))) e) }
-        ensures lines { IfOk result (λ e. e.outs.lines ≡ []) }
-        ensures drawn { IfOk result (λ e. last ≤ e.last) }
-        ensures good { IfOk result (λ e. AreGoodCalls server e.callees.items) }
-    {
-        let turn = self.turn(last, now)?;
-        let ended = end(self.alloc, server, boot, turn)?;
-        Ok(ended)
-    }
-
     /// Nothing happens but that time has passed.
     pub(crate) fn pass<D: Disk>(&mut self, store: &mut VolStore<D>, now: u32) -> Mem<Outs>
         requires serves { Serves store.old.node self.old store.old.durable }
         ensures { Turns (no_turn (row.expired now (backs_seen self.old store.old.drawn))) self.old self.new store.old store.new result }
     {
-        let ended = self.plan_wake(store.node(), store.boot_number(), store.last_number(), now)?;
+        let ended = self.callbacks().plan_wake(
+            store.node(),
+            store.boot_number(),
+            store.last_number(),
+            now,
+        )?;
         let outs = self.keep_at(store, ended, now);
         Ok(outs)
-    }
-
-    /// What comes of a timeout of this call.
-    fn plan_timeout(
-        &self,
-        boot: u32,
-        last: u32,
-        callee: Node,
-        call: &BackCall,
-        now: u32,
-    ) -> Mem<Ended>
-        requires nodes { IsToNodes call.now.server self.now }
-        requires good { IsGoodCall call.now.server callee call.now }
-        ensures ends { IfOk result (λ e. Ends (lists_timed (call_seen call.now) (expired now self.now.lists)) (pumped call.now.server boot (timed call.now.server boot callee (call_seen call.now) (row.expired now (backs_seen self.now last)))) e) }
-        ensures lines { IfOk result (λ e. e.outs.lines ≡ (timed call.now.server boot callee (call_seen call.now) (row.expired now (backs_seen self.now last))).lines) }
-        ensures drawn { IfOk result (λ e. last ≤ e.last) }
-        ensures good { IfOk result (λ e. AreGoodCalls call.now.server e.callees.items) }
-    {
-        let mut turn = self.turn(last, now)?;
-        turn.time_out(self.alloc, boot, callee, call)?;
-        let ended = end(self.alloc, call.server, boot, turn)?;
-        Ok(ended)
     }
 
     /// This call has waited too long.
@@ -96,8 +42,14 @@ impl FileServer {
         requires good { IsGoodCall store.old.node callee call.now }
         ensures { Turns (timed store.old.node store.old.durable.boot callee (call_seen call.now) (row.expired now (backs_seen self.old store.old.drawn))) self.old self.new store.old store.new result }
     {
-        let ended = self.plan_timeout(store.boot_number(), store.last_number(), callee, call, now)?;
-        time_out(&mut self.promises, call, now);
+        let ended = self.callbacks().plan_timeout(
+            store.boot_number(),
+            store.last_number(),
+            callee,
+            call,
+            now,
+        )?;
+        self.callbacks.time_out(call, now);
         let outs = self.keep(store, ended);
         Ok(outs)
     }

@@ -4,9 +4,9 @@ use Rattle.afs_ideal.specs.Operations.{the_user, Caller}
 use Rattle.afs_ideal.specs.Tables.{get}
 use Rattle.afs_num.specs.declared.types.Fid.{Fid}
 use Rattle.afs_rows.specs.ServerRow.{sight_in, sights}
-use Rattle.afs_server.specs.Several.{AreFirst, IsFault, SeesAll, TellsOne}
+use Rattle.afs_decisions.specs.Several.{AreFirst, IsFault, SeesAll, TellsOne}
 use Rattle.afs_volume.proofs.Walked.{from_place}
-use Rattle.afs_server.proofs.Sights.{all_first, fault_first, next_first, none_first}
+use Rattle.afs_decisions.proofs.Sights.{all_first, fault_first, next_first, none_first}
 use Rattle.afs_server.proofs.several.see_all.Goals as goal
 
 pub loop-fid-init : goal.loop-fid-init

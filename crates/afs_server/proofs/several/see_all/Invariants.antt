@@ -1,7 +1,7 @@
 use Rattle.std.proofs.Common.{drop}
 use Rattle.afs_ideal.specs.Operations.{the_user}
 use Rattle.afs_rows.specs.ServerRow.{sights}
-use Rattle.afs_server.specs.Several.{AreFirst}
+use Rattle.afs_decisions.specs.Several.{AreFirst}
 use Rattle.afs_server.proofs.several.see_all.Given as goal
 
 abbrev pub invariant-loop-fid : goal.invariant-loop-fid

@@ -2,7 +2,7 @@ use Rattle.std.proofs.Common.{◌≡◌, List}
 use Rattle.afs_ideal.specs.Operations.{the_user}
 use Rattle.afs_ideal.specs.Tables.{get}
 use Rattle.afs_rows.specs.ServerRow.{sight_in}
-use Rattle.afs_server.proofs.Sights.{tells_one}
+use Rattle.afs_decisions.proofs.Sights.{tells_one}
 use Rattle.afs_server.proofs.several.see_next.Goals as goal
 
 pub returns : goal.returns

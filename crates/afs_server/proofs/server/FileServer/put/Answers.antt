@@ -7,40 +7,42 @@ use Rattle.afs_model.specs.Calls.{call_seated}
 use Rattle.afs_records.specs.Durable.{folded, Durable}
 use Rattle.afs_records.specs.Records.{FitsRecord}
 use Rattle.afs_rows.specs.ServerRow.{seat_for}
-use Rattle.afs_server.specs.Saving.{withdraws_each, IsPut, IsTaken}
+use Rattle.afs_callbacks.specs.Saving.{withdraws_each}
+use Rattle.afs_callbacks.specs.States.{backs_at, CallbackState}
+use Rattle.afs_server.specs.Saving.{IsPut, IsTaken}
 use Rattle.afs_server.specs.Seen.{Memory}
 use Rattle.afs_volstore.specs.Stores.{Store}
 use Rattle.afs_server_parts.specs.Kept.{IsSpelling, Spells}
-use Rattle.afs_server.specs.declared.ending.Ended.{Ended}
+use Rattle.afs_callbacks.specs.declared.ending.Ended.{Ended}
 use Rattle.afs_server.specs.declared.faults.NodeFault.{NodeFault}
 use Rattle.afs_server.specs.declared.faults.NodeFault.TheVariants as nodes
 use Rattle.afs_promise.specs.Found.{without_found}
-use Rattle.afs_server.proofs.Found.{found_held, found_then, found_withdrawn}
-use Rattle.afs_server.proofs.Holding.{all_few}
+use Rattle.afs_callbacks.proofs.Found.{found_held, found_then, found_withdrawn}
+use Rattle.afs_callbacks.proofs.Holding.{all_few}
 use Rattle.afs_server.proofs.Still.{handed_up, is_still, out_of_memory, same_counts, same_disk, with_fault, with_value, OfDisk}
 use Rattle.afs_server.proofs.server.FileServer.put.Goals as goal
 
 some_is : {A : Type 0} (x y : A) → ◌≡◌ {A = Option A} (Some x) (Some y) → x ≡ y
 some_is x y e = cc
 
-pub withdraw_lasting-requires-clause-held : goal.withdraw_lasting-requires-clause-held
-withdraw_lasting-requires-clause-held g c =
-    let granted = c.in_ok-grant_all.ensures.ok in
+pub withdraw-requires-clause-held : goal.withdraw-requires-clause-held
+withdraw-requires-clause-held g c =
+    let granted = ap (λ (k : CallbackState). k.lists) c.in_ok-grant.ensures.ok in
     let now = c.args.now in
     let n = c.args.head.now.from in
     let p = c.args.planned in
     let old = c.args.self.now.lists in
-    let lists : c.grant_all.new.self ≡ grants_all n (now + 7200) p.granted old = granted ∙ (λ i. grants_all n (now + 7200) (c.as_slice.ensures i) (c.self.view_is i).lists) in
+    let lists : c.grant.new.self.lists ≡ grants_all n (now + 7200) p.granted old = granted ∙ (λ i. grants_all n (now + 7200) (c.as_slice.ensures i) (c.self.view_is i).lists) in
     let late : nat_lt now (now + 7200) ≡ true = lt-ltb now (now + 7200) (omega arith) in
     let given : c.deref.result.now ≡ p.withdrawn.items = c.deref.ensures.value ∙ c.into_rest-ended.ensures.withdrawn in
-    subst (λ (ps : List Promise). length ps + length (without_found ps (lasting now c.grant_all.new.self.promises)) ≤ length (lasting now c.grant_all.new.self.promises)) (sym given)
-    (found_held n p.changed (lasting now c.grant_all.new.self.promises) p.withdrawn.items (found_then now n (now + 7200) p.changed p.granted old c.grant_all.new.self p.withdrawn.items late lists c.requires.withdraws))
+    subst (λ (ps : List Promise). length ps + length (without_found ps (lasting now c.grant.new.self.lists.promises)) ≤ length (lasting now c.grant.new.self.lists.promises)) (sym given)
+    (found_held n p.changed (lasting now c.grant.new.self.lists.promises) p.withdrawn.items (found_then now n (now + 7200) p.changed p.granted old c.grant.new.self.lists p.withdrawn.items late lists c.requires.withdraws))
 
-pub withdraw_lasting-requires-clause-number : goal.withdraw_lasting-requires-clause-number
-withdraw_lasting-requires-clause-number g c =
-    let granted = c.in_ok-grant_all.ensures.ok in
-    let lists : c.grant_all.new.self ≡ grants_all c.args.head.now.from (c.args.now + 7200) c.args.planned.granted c.args.self.now.lists = granted ∙ (λ i. grants_all c.args.head.now.from (c.args.now + 7200) (c.as_slice.ensures i) (c.self.view_is i).lists) in
-    all_few c.args.head.now.from (c.args.now + 7200) c.args.planned.granted c.args.self.now.lists c.grant_all.new.self lists c.requires.draws
+pub withdraw-requires-clause-number : goal.withdraw-requires-clause-number
+withdraw-requires-clause-number g c =
+    let granted = ap (λ (k : CallbackState). k.lists) c.in_ok-grant.ensures.ok in
+    let lists : c.grant.new.self.lists ≡ grants_all c.args.head.now.from (c.args.now + 7200) c.args.planned.granted c.args.self.now.lists = granted ∙ (λ i. grants_all c.args.head.now.from (c.args.now + 7200) (c.as_slice.ensures i) (c.self.view_is i).lists) in
+    all_few c.args.head.now.from (c.args.now + 7200) c.args.planned.granted c.args.self.now.lists c.grant.new.self.lists lists c.requires.draws
 
 pub keep_reply-requires-clause-spelling : goal.keep_reply-requires-clause-spelling
 keep_reply-requires-clause-spelling g c = subst IsSpelling (sym c.into_rest-ended.ensures.kept) c.requires.spelling
@@ -65,20 +67,20 @@ returns-clause-puts g c =
     let mid = c.commit.new.store in
     let t = c.keep-outs.new.store in
     let now = c.args.now in
-    let granted = c.in_ok-grant_all.ensures.ok in
-    let promised : c.grant_all.new.self ≡ grants_all head.from (now + 7200) p.granted old.lists = granted ∙ (λ i. grants_all head.from (now + 7200) (c.as_slice.ensures i) (c.self.view_is i).lists) in
+    let granted = ap (λ (k : CallbackState). k.lists) c.in_ok-grant.ensures.ok in
+    let promised : c.grant.new.self.lists ≡ grants_all head.from (now + 7200) p.granted old.lists = granted ∙ (λ i. grants_all head.from (now + 7200) (c.as_slice.ensures i) (c.self.view_is i).lists) in
     let late : nat_lt now (now + 7200) ≡ true = lt-ltb now (now + 7200) (omega arith) in
-    let then = found_then now head.from (now + 7200) p.changed p.granted old.lists c.grant_all.new.self p.withdrawn.items late promised c.requires.withdraws in
+    let then = found_then now head.from (now + 7200) p.changed p.granted old.lists c.grant.new.self.lists p.withdrawn.items late promised c.requires.withdraws in
     let is : c.into_rest-ended.result.0 ≡ p.ended = c.into_rest-ended.ensures.ended in
     let given : c.deref.result.now ≡ p.withdrawn.items = c.deref.ensures.value ∙ c.into_rest-ended.ensures.withdrawn in
-    let gone : c.withdraw_lasting.new.promises ≡ withdrawn (without_found p.withdrawn.items (lasting now c.grant_all.new.self.promises)) p.withdrawn.items (expired now c.grant_all.new.self) =
-    c.withdraw_lasting.ensures ∙ (λ i. withdrawn (without_found (given i) (lasting now c.grant_all.new.self.promises)) (given i) (expired now c.grant_all.new.self)) in
-    let lists : c.withdraw_lasting.new.promises ≡ withdraws_each head.from p.changed (expired now (grants_all head.from (now + 7200) p.granted old.lists)) =
+    let gone : c.withdraw.new.self.lists ≡ withdrawn (without_found p.withdrawn.items (lasting now c.grant.new.self.lists.promises)) p.withdrawn.items (expired now c.grant.new.self.lists) =
+    ap (λ (k : CallbackState). k.lists) c.withdraw.ensures ∙ (λ i. withdrawn (without_found (given i) (lasting now c.grant.new.self.lists.promises)) (given i) (expired now c.grant.new.self.lists)) in
+    let lists : c.withdraw.new.self.lists ≡ withdraws_each head.from p.changed (expired now (grants_all head.from (now + 7200) p.granted old.lists)) =
     gone
-    ∙ (found_withdrawn head.from p.changed (expired now c.grant_all.new.self) p.withdrawn.items then
+    ∙ (found_withdrawn head.from p.changed (expired now c.grant.new.self.lists) p.withdrawn.items then
     ∙ ap (λ (l : Lists). withdraws_each head.from p.changed (expired now l)) promised) in
-    let memory : c.keep-outs.new.self ≡ record old { seats = c.keep_reply.new.callers.seats; lists = c.withdraw_lasting.new.promises; callees = p.ended.callees.items; held = p.ended.held } =
-    c.keep-outs.ensures.server ∙ (λ i. record { boot = (c.keep_reply.ensures.boot ∙ (c.in_ok-reserve.ensures.boot ∙ ap (λ (m : Memory). m.boot) c.self.view_is)) i; seats = c.keep_reply.new.callers.seats; lists = c.withdraw_lasting.new.promises; callees = (is i).callees.items; held = (is i).held }) in
+    let memory : c.keep-outs.new.self ≡ record old { seats = c.keep_reply.new.callers.seats; lists = c.withdraw.new.self.lists; callees = p.ended.callees.items; held = p.ended.held } =
+    c.keep-outs.ensures.server ∙ (λ i. record { boot = (c.keep_reply.ensures.boot ∙ (c.in_ok-reserve.ensures.boot ∙ ap (λ (m : Memory). m.boot) c.self.view_is)) i; seats = c.keep_reply.new.callers.seats; lists = c.withdraw.new.self.lists; callees = (is i).callees.items; held = (is i).held }) in
     let store : t ≡ record mid { drawn = p.ended.last } = c.keep-outs.ensures.store ∙ (λ i. record mid { drawn = (is i).last }) in
     let commits = c.in_ok-commit.ensures.commits p.rec c.requires.prepared in
     let durable : t.durable ≡ mid.durable = ap (λ (u : Store g.row.D.Denot). u.durable) store in
@@ -120,10 +122,10 @@ returns-in_err-reserve-clause-disk g c =
     subst (λ (r : Result Outs NodeFault). OfDisk g.D.Disk.seen g.D.Disk.left_by g.D.Disk.size g.D.Disk.may_leave g.D.Disk.moment g.D.Disk.left_since g.D.Disk.faults g.D.Disk.own_faults g.D.Disk.calls g.D.Disk.setting g.D.Disk.limit (Some c.args.planned.rec) s.durable s.disk s.disk r) (sym is)
     (is_still g.D.Disk.seen g.D.Disk.left_by g.D.Disk.size g.D.Disk.may_leave g.D.Disk.moment g.D.Disk.left_since g.D.Disk.faults g.D.Disk.own_faults g.D.Disk.calls g.D.Disk.setting g.D.Disk.limit (Some c.args.planned.rec) s.durable s.disk s.disk (Err nodes.OutOfMemory) tt (same_disk g.D.Disk.seen g.D.Disk.left_by g.D.Disk.size g.D.Disk.may_leave g.D.Disk.moment g.D.Disk.left_since g.D.Disk.faults g.D.Disk.own_faults g.D.Disk.calls g.D.Disk.setting g.D.Disk.limit s.disk) (same_counts g.D.Disk.seen g.D.Disk.left_by g.D.Disk.size g.D.Disk.may_leave g.D.Disk.moment g.D.Disk.left_since g.D.Disk.faults g.D.Disk.own_faults g.D.Disk.calls g.D.Disk.setting g.D.Disk.limit s.disk))
 
-pub returns-in_err-grant_all-clause-disk : goal.returns-in_err-grant_all-clause-disk
-returns-in_err-grant_all-clause-disk g c =
+pub returns-in_err-grant-clause-disk : goal.returns-in_err-grant-clause-disk
+returns-in_err-grant-clause-disk g c =
     let s = c.args.store.now in
-    let is = out_of_memory c.from_residual-in_err-grant_all.result c.from_residual-in_err-grant_all.ensures.1 in
+    let is = out_of_memory c.from_residual-in_err-grant.result c.from_residual-in_err-grant.ensures.1 in
     subst (λ (r : Result Outs NodeFault). OfDisk g.D.Disk.seen g.D.Disk.left_by g.D.Disk.size g.D.Disk.may_leave g.D.Disk.moment g.D.Disk.left_since g.D.Disk.faults g.D.Disk.own_faults g.D.Disk.calls g.D.Disk.setting g.D.Disk.limit (Some c.args.planned.rec) s.durable s.disk s.disk r) (sym is)
     (is_still g.D.Disk.seen g.D.Disk.left_by g.D.Disk.size g.D.Disk.may_leave g.D.Disk.moment g.D.Disk.left_since g.D.Disk.faults g.D.Disk.own_faults g.D.Disk.calls g.D.Disk.setting g.D.Disk.limit (Some c.args.planned.rec) s.durable s.disk s.disk (Err nodes.OutOfMemory) tt (same_disk g.D.Disk.seen g.D.Disk.left_by g.D.Disk.size g.D.Disk.may_leave g.D.Disk.moment g.D.Disk.left_since g.D.Disk.faults g.D.Disk.own_faults g.D.Disk.calls g.D.Disk.setting g.D.Disk.limit s.disk) (same_counts g.D.Disk.seen g.D.Disk.left_by g.D.Disk.size g.D.Disk.may_leave g.D.Disk.moment g.D.Disk.left_since g.D.Disk.faults g.D.Disk.own_faults g.D.Disk.calls g.D.Disk.setting g.D.Disk.limit s.disk))
 

@@ -6,12 +6,14 @@ use Rattle.afs_breaks.specs.Promises.{no_lists, Lists}
 use Rattle.afs_rows.specs.Callbacks.{pumped}
 use Rattle.afs_rows.specs.States.{Backs}
 use Rattle.afs_records.specs.Durable.{Durable}
+use Rattle.afs_callbacks.specs.States.{backs_at, CallbackState}
 use Rattle.afs_server_parts.specs.Called.{AreGoodCalls}
 use Rattle.afs_server_parts.specs.Turning.{IsBreakToNode}
 use Rattle.afs_volstore.specs.Stores.{Store}
-use Rattle.afs_server.specs.Ending.{Ends}
-use Rattle.afs_server.specs.Seen.{risen_with, IsPromiseToNode, KeepsForNodes, Memory}
-use Rattle.afs_server.proofs.Drawing.{pumped_draws}
+use Rattle.afs_callbacks.specs.Ending.{Ends}
+use Rattle.afs_callbacks.specs.States.{risen_with, IsPromiseToNode}
+use Rattle.afs_server.specs.Seen.{KeepsForNodes, Memory}
+use Rattle.afs_callbacks.proofs.Drawing.{pumped_draws}
 use Rattle.afs_server.proofs.Drawn.{breaks_drawn, clients_draw}
 use Rattle.afs_server.proofs.Making.{as_asked}
 use Rattle.afs_server.proofs.server.FileServer.restart.Goals as goal
@@ -22,7 +24,7 @@ returns-clause-serves g c =
     let e = c.in_ok-ended.ended in
     let planned = c.in_ok-ended.ensures.good in
     let kept : c.keep-outs.new.store ≡ record store { drawn = e.last } = c.keep-outs.ensures.store in
-    let lists : c.keep-outs.new.self.lists ≡ c.in_ok-promises.promises = ap (λ (m : Memory). m.lists) c.keep-outs.ensures.server in
+    let lists : c.keep-outs.new.self.lists ≡ c.in_ok-promises.promises = ap (λ (m : Memory). m.lists) c.keep-outs.ensures.server ∙ ap (λ (k : CallbackState). k.lists) c.owing-callbacks.ensures in
     let callees : c.keep-outs.new.self.callees ≡ e.callees.items = ap (λ (m : Memory). m.callees) c.keep-outs.ensures.server in
     let boot : c.keep-outs.new.self.boot ≡ store.durable.boot = ap (λ (m : Memory). m.boot) c.keep-outs.ensures.server ∙ c.in_ok-callers.ensures.boot in
     let good : AreGoodCalls store.node e.callees.items = subst (λ (n : Node). AreGoodCalls n e.callees.items) c.node.ensures planned in
@@ -48,7 +50,7 @@ returns-clause-draws g c =
     let ends : Ends l (pumped store.node store.durable.boot (risen_with store.node l)) e =
     as_asked (λ (n : Node) (boot last : ℕ). Ends l (pumped n boot (risen_with n l)) e) store c.node.result c.boot_number.result store.drawn c.node.ensures c.boot_number.ensures refl planned in
     let kept : c.keep-outs.new.store ≡ record store { drawn = e.last } = c.keep-outs.ensures.store in
-    let lists : c.keep-outs.new.self.lists ≡ l = ap (λ (m : Memory). m.lists) c.keep-outs.ensures.server in
+    let lists : c.keep-outs.new.self.lists ≡ l = ap (λ (m : Memory). m.lists) c.keep-outs.ensures.server ∙ ap (λ (k : CallbackState). k.lists) c.owing-callbacks.ensures in
     let drawn = ap (λ (x : Store _). x.drawn) kept in
     let last = ap (λ (b : Backs). b.last_call) ends.backs in
     let most = pumped_draws store.node store.durable.boot (risen_with store.node l) c.in_ok-promises.ensures.nodes in

@@ -1,5 +1,5 @@
-use Rattle.std.proofs.Common.{ℕ, ◌≡◌, ◌≤◌, ◌+◌, length, arith, refl, ap, sym, subst, ◌∙◌}
-use Rattle.std.specs.List.{AllByRecursion}
+use Rattle.std.proofs.Common.{ℕ, ◌≡◌, ◌≤◌, ◌<◌, ◌+◌, length, arith, refl, ap, sym, subst, ◌∙◌}
+use Rattle.std.specs.List.{All, AllByRecursion}
 use Rattle.std.specs.Prelude.{Result, Err, map}
 use Rattle.afs_history.specs.declared.lines.Outs.{Outs}
 use Rattle.afs_num.specs.declared.records.RecordBody.{RecordBody}
@@ -10,8 +10,10 @@ use Rattle.afs_records.specs.Durable.{Durable}
 use Rattle.afs_rows.specs.Callbacks as row
 use Rattle.afs_rows.specs.Callbacks.{turn_for}
 use Rattle.afs_rows.specs.ServerRow.{roomed}
+use Rattle.afs_breaks.specs.Promises.{lasting}
+use Rattle.afs_callbacks.specs.States.{CallbackState, IsPromiseToNode}
 use Rattle.afs_server.specs.Handling.{record_decided, server_seen}
-use Rattle.afs_server.specs.Saving.{change_kept, fids_granted, new_grants, reply_told}
+use Rattle.afs_callbacks.specs.Saving.{change_kept, fids_granted, hits_each, new_grants, reply_told}
 use Rattle.afs_server.specs.Seen.{Serves}
 use Rattle.afs_server.specs.declared.faults.NodeFault.{NodeFault}
 use Rattle.afs_server.specs.declared.faults.NodeFault.TheVariants as nodes
@@ -23,11 +25,17 @@ use Rattle.afs_server.proofs.Roomed.{disk_all}
 use Rattle.afs_server.proofs.Making.{to_nodes}
 use Rattle.afs_server.proofs.Saves.{does_all, is_besides, is_taken, planned_as, same_store, wanting, was_prepared}
 use Rattle.afs_server.proofs.Still.{is_still, out_of_memory, same_counts, same_disk, OfDisk}
-use Rattle.afs_server.proofs.Withdrawn.{few_granted}
+use Rattle.afs_callbacks.proofs.Withdrawn.{few_granted}
 use Rattle.afs_server.proofs.server.FileServer.save.Goals as goal
 
 pub plan_change-requires-clause-nodes : goal.plan_change-requires-clause-nodes
-plan_change-requires-clause-nodes g c = to_nodes c.args.store.now.node c.node.result c.args.self.now c.args.store.now.durable c.node.ensures c.requires.serves
+plan_change-requires-clause-nodes g c = to_nodes c.args.store.now.node c.node.result c.args.self.now c.args.store.now.durable c.callbacks.result.now c.node.ensures c.callbacks.ensures c.requires.serves
+
+pub plan_change-requires-clause-promised : goal.plan_change-requires-clause-promised
+plan_change-requires-clause-promised g c = subst (λ (k : CallbackState). All IsPromiseToNode k.lists.promises) (sym c.callbacks.ensures) c.requires.serves.promises
+
+pub plan_change-requires-clause-draws : goal.plan_change-requires-clause-draws
+plan_change-requires-clause-draws g c = subst (λ (k : CallbackState). k.lists.last_owed + length k.lists.promises < 4000000000) (sym c.callbacks.ensures) c.requires.draws.breaks
 
 pub prepare-requires-clause-fits : goal.prepare-requires-clause-fits
 prepare-requires-clause-fits g c = c.in_ok-planned.ensures.fits
@@ -62,7 +70,8 @@ put_or_refuse-requires-clause-draws g c =
     omega (arith, long, few, draws)
 
 pub put_or_refuse-requires-clause-withdraws : goal.put_or_refuse-requires-clause-withdraws
-put_or_refuse-requires-clause-withdraws g c = c.in_ok-planned.ensures.withdrawn
+put_or_refuse-requires-clause-withdraws g c =
+    c.in_ok-planned.ensures.withdrawn ∙ ap (λ (k : CallbackState). hits_each c.args.head.now.from c.in_ok-planned.planned.changed (lasting c.args.now k.lists.promises)) c.callbacks.ensures
 
 pub put_or_refuse-requires-clause-drawn : goal.put_or_refuse-requires-clause-drawn
 put_or_refuse-requires-clause-drawn g c =
@@ -74,7 +83,7 @@ pub put_or_refuse-requires-clause-spelling : goal.put_or_refuse-requires-clause-
 put_or_refuse-requires-clause-spelling g c =
     let s = c.args.store.now in
     let p = c.in_ok-planned.planned in
-    let plan = planned_as s c.args.now c.args.head.now c.args.id c.into_parts-change.result.0 c.args.change c.args.self.now p c.node.result c.boot_number.result c.last_number.result c.into_parts-change.ensures.change c.node.ensures c.boot_number.ensures c.last_number.ensures c.in_ok-planned.ensures in
+    let plan = planned_as s c.args.now c.args.head.now c.args.id c.into_parts-change.result.0 c.args.change c.args.self.now p c.node.result c.boot_number.result c.last_number.result c.callbacks.result.now c.into_parts-change.ensures.change c.node.ensures c.boot_number.ensures c.last_number.ensures c.callbacks.ensures c.in_ok-planned.ensures in
     (reply_told c.args.store.now.durable.boot c.args.head.now (c.args.now + 7200) c.args.change, plan.kept)
 
 pub put_or_refuse-requires-clause-up : goal.put_or_refuse-requires-clause-up
@@ -132,7 +141,7 @@ pub returns-clause-does : goal.returns-clause-does
 returns-clause-does g c =
     let s = c.args.store.now in
     let p = c.in_ok-planned.planned in
-    let plan = planned_as s c.args.now c.args.head.now c.args.id c.into_parts-change.result.0 c.args.change c.args.self.now p c.node.result c.boot_number.result c.last_number.result c.into_parts-change.ensures.change c.node.ensures c.boot_number.ensures c.last_number.ensures c.in_ok-planned.ensures in
+    let plan = planned_as s c.args.now c.args.head.now c.args.id c.into_parts-change.result.0 c.args.change c.args.self.now p c.node.result c.boot_number.result c.last_number.result c.callbacks.result.now c.into_parts-change.ensures.change c.node.ensures c.boot_number.ensures c.last_number.ensures c.callbacks.ensures c.in_ok-planned.ensures in
     λ k there made.
     let mid = c.prepare.new.store in
     let node = c.requires.head.0 in
@@ -144,7 +153,7 @@ pub returns-clause-disk : goal.returns-clause-disk
 returns-clause-disk g c =
     let s = c.args.store.now in
     let p = c.in_ok-planned.planned in
-    let plan = planned_as s c.args.now c.args.head.now c.args.id c.into_parts-change.result.0 c.args.change c.args.self.now p c.node.result c.boot_number.result c.last_number.result c.into_parts-change.ensures.change c.node.ensures c.boot_number.ensures c.last_number.ensures c.in_ok-planned.ensures in
+    let plan = planned_as s c.args.now c.args.head.now c.args.id c.into_parts-change.result.0 c.args.change c.args.self.now p c.node.result c.boot_number.result c.last_number.result c.callbacks.result.now c.into_parts-change.ensures.change c.node.ensures c.boot_number.ensures c.last_number.ensures c.callbacks.ensures c.in_ok-planned.ensures in
     λ k there made.
     let mid = c.prepare.new.store in
     let put = c.put_or_refuse.ensures in

@@ -1,8 +1,8 @@
 use Rattle.std.proofs.Common.{◌≡◌, true, rules}
 use Rattle.std.proofs.lemmas.Result.{IfOk-weaker}
-use Rattle.afs_server.specs.Deciding.{is_on_volume}
+use Rattle.afs_decisions.specs.Deciding.{is_on_volume}
 use Rattle.afs_server.specs.Handling.{server_seen}
-use Rattle.afs_server.proofs.Admitting.{volume_serves}
+use Rattle.afs_decisions.proofs.Admitting.{volume_serves}
 use Rattle.afs_server.proofs.server.FileServer.serve.Goals as goal
 
 pub returns-then-is_on_volume-clause-decides : goal.returns-then-is_on_volume-clause-decides

@@ -1,7 +1,7 @@
 use Rattle.std.proofs.Common.{◌≡◌, []}
 use Rattle.afs_num.specs.declared.calls.FsCall.TheVariants as calls
 use Rattle.afs_server.specs.Handling.{server_seen}
-use Rattle.afs_server.proofs.Admitting.{time_told}
+use Rattle.afs_decisions.proofs.Admitting.{time_told}
 use Rattle.afs_server.proofs.server.FileServer.serve_else.Goals as goal
 
 pub returns-in-GetTime-clause-decides : goal.returns-in-GetTime-clause-decides

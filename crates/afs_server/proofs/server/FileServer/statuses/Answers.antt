@@ -2,7 +2,7 @@ use Rattle.std.proofs.Common.{◌≡◌, length}
 use Rattle.afs_ideal.specs.Operations.{the_user}
 use Rattle.afs_rows.specs.ServerRow.{sights}
 use Rattle.afs_server.specs.Handling.{server_seen}
-use Rattle.afs_server.proofs.Sights.{told_can_be_told, told_decides, told_fits}
+use Rattle.afs_decisions.proofs.Sights.{told_can_be_told, told_decides, told_fits}
 use Rattle.afs_server.proofs.server.FileServer.statuses.Goals as goal
 
 pub returns-clause-decides : goal.returns-clause-decides

@@ -5,7 +5,7 @@ use Rattle.afs_rows.specs.Callbacks.{no_turn}
 use Rattle.afs_server.specs.Handling.{server_seen}
 use Rattle.afs_server.specs.Seen.{backs_seen}
 use Rattle.afs_server.proofs.Drawn.{breaks_drawn, drawn_after, expired_draws, lists_after}
-use Rattle.afs_server.proofs.Lasting.{lasting_to_nodes}
+use Rattle.afs_callbacks.proofs.Lasting.{lasting_to_nodes}
 use Rattle.afs_server.proofs.server.FileServer.wake.Goals as goal
 
 pub returns-clause-draws : goal.returns-clause-draws

@@ -1,0 +1,12 @@
+pub mod Drawing
+pub mod Found
+pub mod Granting
+pub mod Holding
+pub mod Lasting
+pub mod Numbered
+pub mod Recorded
+pub mod Short
+pub mod Spelled
+pub mod Timed
+pub mod Turned
+pub mod Withdrawn

@@ -1,0 +1,6 @@
+use Rattle.std.proofs.Common.{◌≡◌, ◌++◌, drop}
+use Rattle.afs_rows.specs.Callbacks.{alls}
+use Rattle.afs_callbacks.proofs.saving.add_alls.Given as goal
+
+abbrev pub invariant-loop-one : goal.invariant-loop-one
+invariant-loop-one l = l.waits ++ alls (drop l.one-index l.owed) ≡ l.fn.waits ++ alls l.owed

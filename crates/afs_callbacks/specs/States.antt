@@ -1,0 +1,42 @@
+-- A file server's callbacks: its promises and the breaks that it owes, the nodes that it calls, and replies that wait.
+use Rattle.std.specs.Prelude.{ℕ, List, [], map}
+use Rattle.std.specs.List.{All}
+use Rattle.afs_num.specs.Nodes.{IsNode}
+use Rattle.afs_num.specs.declared.types.Node.{Node}
+use Rattle.afs_breaks.specs.declared.types.Promise.{Promise}
+use Rattle.afs_breaks.specs.Promises.{Lists, no_lists}
+use Rattle.afs_rows.specs.Callbacks as row
+use Rattle.afs_rows.specs.Callbacks.{first_backs, owe_line}
+use Rattle.afs_rows.specs.States.{Backs, Held}
+use Rattle.afs_server_parts.specs.Called.{calls_seen, known_to, AreGoodCalls, Callee}
+use Rattle.afs_server_parts.specs.Turning.{IsBreakToNode}
+
+pub record CallbackState : Type 0 where
+  pub lists : Lists
+  pub callees : List Callee
+  pub held : List Held
+
+-- nothing is promised, owed, called or held
+abbrev pub no_callbacks : CallbackState
+no_callbacks = record { lists = no_lists; callees = []; held = [] }
+
+-- with the last number of the server's own calls
+abbrev pub backs_at : CallbackState → ℕ → Backs
+backs_at k last = record { lists = k.lists; last_call = last; calls = calls_seen k.callees; known = known_to k.callees; held = k.held }
+
+-- ---- a server that begins again
+
+-- with these breaks on all
+abbrev pub risen_with : Node → Lists → row.Turn
+risen_with me l = record { backs = record first_backs { lists = l }; lines = map (owe_line me) l.owed; sent = []; outs = [] }
+
+-- ---- whose they are
+
+abbrev pub IsPromiseToNode : Promise → Type 0
+IsPromiseToNode p = IsNode p.client
+
+-- what it promised, owes and calls is of nodes of the cell
+pub record IsToNodes (me : Node) (k : CallbackState) : Type 0 where
+  pub node : IsNode me
+  pub owed : All IsBreakToNode k.lists.owed
+  pub calls : AreGoodCalls me k.callees

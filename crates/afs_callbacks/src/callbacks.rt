@@ -1,0 +1,126 @@
+//! A file server's callbacks: what it promised, owes, calls and holds back.
+
+ghost use Rattle.std.specs.Prelude.{◌≡◌, ◌≤◌, IfOk, []};
+ghost use Rattle.afs_breaks.specs.Promises.{lasting_breaks, expired};
+ghost use Rattle.afs_rows.specs.Callbacks as row;
+ghost use Rattle.afs_rows.specs.Callbacks.{no_turn};
+ghost use Rattle.std.specs.List.{All};
+ghost use Rattle.afs_server_parts.specs.Turning.{IsBreakToNode, IsTurn};
+ghost use Rattle.afs_callbacks.specs.States.{backs_at, no_callbacks, CallbackState};
+ghost use Rattle.std.specs.Option.{option_copied};
+ghost use Rattle.afs_server_parts.specs.Called.{call_to};
+
+use afs_breaks::types::OwedBreak;
+use afs_num::sequences::Sequence;
+use afs_num::types::{Mem, Node};
+use afs_promise::Promises;
+use afs_server_parts::callees::{BackCall, Callee, find_call};
+use afs_server_parts::held::HeldReply;
+use afs_server_parts::turns::Turn;
+use std::alloc::Global;
+use std::marker::Model;
+
+/// What a file server promised, and the breaks that it owes; the nodes that it calls, with the calls that they haven't answered;
+/// and replies that wait for breaks.
+pub struct Callbacks {
+    pub(crate) alloc: Global,
+    pub(crate) promises: Promises,
+    pub(crate) callees: Vec<Callee>,
+    pub(crate) held: Sequence<HeldReply>,
+}
+
+/// They end by a drop of their own: what holds them has one drop to prove where it ends.
+impl Drop for Callbacks {
+    fn drop(self) {
+        let Callbacks {
+            alloc: _,
+            promises,
+            callees: _,
+            held: _,
+        } = self;
+        drop(promises);
+    }
+}
+
+impl Model for Callbacks {
+    ghost use Rattle.afs_callbacks.specs.States.{CallbackState};
+
+    ghost Value = { CallbackState };
+
+    ghost view = { λ s. record { lists = s.promises; callees = s.callees.items; held = s.held } };
+}
+
+/// The breaks that are owed once those have ended whose time has come.
+fn lasting_breaks(alloc: Global, promises: &Promises, now: u32) -> Mem<Vec<OwedBreak>>
+    ensures { IfOk result (λ os. os.items ≡ lasting_breaks now promises.now.owed) }
+{
+    let mut lasting = Vec::new(alloc);
+    for owed in promises.owed().iter() {
+        if owed.expiry > now {
+            lasting.push(owed)?;
+        }
+    }
+    Ok(lasting)
+}
+
+impl Callbacks {
+    /// Those of a server at set-up, in a cell of so many clients: it promised nothing and owes nothing.
+    pub fn new(alloc: Global, clients: u8) -> Mem<Callbacks>
+        requires { clients ≤ 16 }
+        ensures { IfOk result (λ k. k ≡ no_callbacks) }
+    {
+        let callees = Vec::with_capacity(alloc, clients as usize)?;
+        Ok(Callbacks {
+            alloc,
+            promises: Promises::new(alloc),
+            callees,
+            held: Sequence::new(alloc),
+        })
+    }
+
+    /// Those of a server that begins again: it has these promises and owes these breaks, and has called nobody yet.
+    pub fn owing(alloc: Global, promises: Promises) -> Callbacks
+        ensures { result ≡ record { lists = promises; callees = []; held = [] } }
+    {
+        Callbacks {
+            alloc,
+            promises,
+            callees: Vec::new(alloc),
+            held: Sequence::new(alloc),
+        }
+    }
+
+    /// The server's unanswered call to this node. It takes no memory.
+    pub fn call_to(&self, node: Node) -> Option<&BackCall>
+        ensures { option_copied result ≡ call_to self.now.callees node }
+    {
+        find_call(&self.callees, node)
+    }
+
+    /// A step in which nothing happens but that time has passed.
+    pub(crate) fn turn(&self, last: u32, now: u32) -> Mem<Turn>
+        ensures turn { IfOk result (λ t. IsTurn (no_turn (row.expired now (backs_at self.now last))) t) }
+        ensures nodes { All IsBreakToNode self.now.lists.owed → IfOk result (λ t. All IsBreakToNode t.owed.items) }
+        ensures last { IfOk result (λ t. t.calls.last ≡ last) }
+        ensures callees { IfOk result (λ t. t.calls.callees.items ≡ self.now.callees) }
+    {
+        let owed = lasting_breaks(self.alloc, &self.promises, now)?;
+        let turn = Turn::new(self.alloc, owed, last, &self.callees, self.held.as_slice())?;
+        Ok(turn)
+    }
+
+    /// Promises and breaks end whose time has come. It takes no memory.
+    pub fn expire(&mut self, now: u32)
+        ensures { self.new ≡ record self.old { lists = expired now self.old.lists } }
+    {
+        self.promises.expire(now);
+    }
+
+    /// The nodes that are called, and the replies that wait, are those that a step left. It takes no memory.
+    pub fn keep(&mut self, callees: Vec<Callee>, held: Sequence<HeldReply>)
+        ensures { self.new ≡ record self.old { callees = callees.items; held = held } }
+    {
+        self.callees = callees;
+        self.held = held;
+    }
+}

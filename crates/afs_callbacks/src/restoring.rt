@@ -1,0 +1,59 @@
+//! A server begins again: the breaks that it then owes, and what comes of them.
+
+ghost use Rattle.std.specs.Prelude.{◌≡◌, ◌≤◌, ◌+◌, [], map, IfOk};
+ghost use Rattle.std.specs.List.{All};
+ghost use Rattle.afs_num.specs.Nodes.{IsNode};
+ghost use Rattle.afs_breaks.specs.Promises.{no_lists};
+ghost use Rattle.afs_rows.specs.Callbacks.{owe_line, owed_to_clients, pumped};
+ghost use Rattle.afs_server_parts.specs.Called.{AreGoodCalls};
+ghost use Rattle.afs_server_parts.specs.Turning.{IsBreakToNode};
+ghost use Rattle.afs_callbacks.specs.Ending.{Ends};
+ghost use Rattle.afs_callbacks.specs.States.{risen_with};
+
+use crate::ending::{Ended, end};
+use afs_breaks::types::OwedBreak;
+use afs_num::types::{Mem, Node};
+use afs_promise::Promises;
+use afs_server_parts::telling::tell_owed;
+use afs_server_parts::turns::Turn;
+use std::alloc::Global;
+
+/// Each client of the cell, of which there are so many, is owed a break on all until this time.
+pub fn owed_to_clients(alloc: Global, clients: u8, expiry: u32) -> Mem<Promises>
+    requires { clients ≤ 16 }
+    ensures lists { IfOk result (λ p. p ≡ owed_to_clients expiry 0 clients no_lists) }
+    ensures promises { IfOk result (λ p. p.promises ≡ []) }
+    ensures nodes { IfOk result (λ p. All IsBreakToNode p.owed) }
+{
+    let mut promises = Promises::new(alloc);
+    for before in 0..clients {
+        promises.owe_all(Node::Client(before + 1), expiry)?;
+    }
+    Ok(promises)
+}
+
+/// The breaks that are owed.
+fn all_breaks(alloc: Global, promises: &Promises) -> Mem<Vec<OwedBreak>>
+    ensures { IfOk result (λ os. os.items ≡ promises.now.owed) }
+{
+    let mut breaks = Vec::new(alloc);
+    for owed in promises.owed().iter() {
+        breaks.push(owed)?;
+    }
+    Ok(breaks)
+}
+
+/// What comes of it that these breaks are owed, by a server that has called nobody yet.
+pub fn rise(alloc: Global, server: Node, boot: u32, promises: &Promises) -> Mem<Ended>
+    requires server { IsNode server }
+    requires nodes { All IsBreakToNode promises.now.owed }
+    ensures ends { IfOk result (λ e. Ends promises.now (pumped server boot (risen_with server promises.now)) e) }
+    ensures lines { IfOk result (λ e. e.outs.lines ≡ map (owe_line server) promises.now.owed) }
+    ensures good { IfOk result (λ e. AreGoodCalls server e.callees.items) }
+{
+    let owed = all_breaks(alloc, promises)?;
+    let mut turn = Turn::new(alloc, owed, 0, &[], &[])?;
+    tell_owed(&mut turn.lines, server, &turn.owed)?;
+    let ended = end(alloc, server, boot, turn)?;
+    Ok(ended)
+}

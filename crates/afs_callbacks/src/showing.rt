@@ -1,0 +1,103 @@
+//! What comes of it that a reading call is told what it asked, and what is promised with that.
+
+ghost use Rattle.std.specs.Prelude.{◌≡◌, ◌≤◌, [], false, map, IfOk, OnErr, OnOk};
+ghost use Rattle.afs_num.specs.declared.messages.Carried.TheVariants as carried;
+ghost use Rattle.afs_num.specs.declared.messages.Reply.TheVariants as tell;
+ghost use Rattle.afs_shape.specs.Rows.{IsWithin};
+ghost use Rattle.afs_model.specs.CellRows.{cell_replies, reply_number};
+ghost use Rattle.afs_model.specs.Heads.{IsSoundHead};
+ghost use Rattle.afs_breaks.specs.Promises.{grants_all, lasting_breaks, Lists};
+ghost use Rattle.afs_rows.specs.Callbacks.{pumped};
+ghost use Rattle.afs_rows.specs.ServerRow.{granted, promised_in, replied};
+ghost use Rattle.afs_server_parts.specs.Called.{AreGoodCalls};
+ghost use Rattle.afs_server_parts.specs.Kept.{Spells};
+ghost use Rattle.afs_server_parts.specs.Telling.{grant_line};
+ghost use Rattle.afs_server_parts.specs.declared.telling.Grant as told;
+ghost use Rattle.afs_callbacks.specs.Answering.{answer_turn, with_lists};
+ghost use Rattle.afs_callbacks.specs.Ending.{Ends};
+ghost use Rattle.afs_callbacks.specs.States.{IsToNodes, backs_at};
+
+use crate::answering::{Replied, reply_told};
+use crate::callbacks::Callbacks;
+use crate::saving::fids_granted;
+use afs_history::lines::Lines;
+use afs_num::calls::FsReply;
+use afs_num::types::{Head, Mem, Node};
+use afs_promise::Promises;
+use afs_server_parts::telling::{Grant, tell_grants};
+use std::alloc::Global;
+use std::slice::from_ref;
+
+/// The lines of promises to a client.
+fn granted_lines(
+    alloc: Global,
+    server: Node,
+    client: Node,
+    expiry: u32,
+    grants: &[Grant],
+) -> Mem<Lines>
+    ensures { IfOk result (λ ls. ls ≡ map (grant_line server client expiry) grants.now) }
+{
+    let mut lines = Lines::new(alloc);
+    tell_grants(&mut lines, server, client, expiry, grants)?;
+    Ok(lines)
+}
+
+/// A client is granted these promises until this time.
+fn grant_told(
+    alloc: Global,
+    promises: &mut Promises,
+    client: Node,
+    grants: &[Grant],
+    expiry: u32,
+) -> Mem<()>
+    ensures granted { OnOk result (promises.new ≡ grants_all client expiry (map (λ (g : told.Grant). g.fid) grants.now) promises.old) }
+    ensures err { OnErr result (promises.new ≡ promises.old) }
+{
+    match grants {
+        [grant] => promises.grant_all(client, from_ref(&grant.fid), expiry),
+        _ => {
+            let fids = fids_granted(alloc, grants)?;
+            promises.grant_all(client, fids.as_slice(), expiry)
+        }
+    }
+}
+
+impl Callbacks {
+    /// What comes of it that a call that reads is told this, and granted these promises.
+    pub fn plan_shown(
+        &self,
+        server: Node,
+        boot: u32,
+        last: u32,
+        head: &Head,
+        told: FsReply,
+        grants: &[Grant],
+        expiry: u32,
+        now: u32,
+    ) -> Mem<Replied>
+        requires nodes { IsToNodes server self.now }
+        requires head { IsSoundHead head.now }
+        requires opcode { head.now.opcode ≡ reply_number (tell.File told) }
+        requires within { IsWithin cell_replies (tell.File told) }
+        ensures ends { IfOk result (λ r. (l : Lists) → l.owed ≡ lasting_breaks now self.now.lists.owed → Ends l (pumped server boot (answer_turn (replied boot head.now (carried.Reply (tell.File (promised_in expiry told)))) [] false (with_lists l (backs_at self.now last)))) r.ended) }
+        ensures lines { IfOk result (λ r. r.ended.outs.lines ≡ map (grant_line server head.now.from expiry) grants.now) }
+        ensures drawn { IfOk result (λ r. last ≤ r.ended.last) }
+        ensures good { IfOk result (λ r. AreGoodCalls server r.ended.callees.items) }
+        ensures kept { IfOk result (λ r. Spells (replied boot head.now (carried.Reply (tell.File (promised_in expiry told)))) r.kept) }
+    {
+        let reply = reply_told(self.alloc, boot, head, told, expiry)?;
+        let lines = granted_lines(self.alloc, server, head.from, expiry, grants)?;
+        let mut replied = self.plan_spelled(server, boot, last, reply, now)?;
+        replied.ended.outs.lines = lines;
+        Ok(replied)
+    }
+
+    /// A client is granted these promises until this time.
+    pub fn grant_told(&mut self, client: Node, grants: &[Grant], expiry: u32) -> Mem<()>
+        ensures ok { OnOk result (self.new ≡ record self.old { lists = grants_all client expiry (map (λ (g : told.Grant). g.fid) grants.now) self.old.lists }) }
+        ensures err { OnErr result (self.new ≡ self.old) }
+    {
+        grant_told(self.alloc, &mut self.promises, client, grants, expiry)
+    }
+}

@@ -1,0 +1,10 @@
+pub mod Admitting
+pub mod Codes
+pub mod Counting
+pub mod Decisions
+pub mod Outcomes
+pub mod Retold
+pub mod Sights
+pub mod Spelled
+pub mod Stamped
+pub mod Written

@@ -1,6 +1,0 @@
-use Rattle.std.proofs.Common.{◌≡◌, ◌++◌, drop}
-use Rattle.afs_server.specs.Saving.{fids_granted}
-use Rattle.afs_server.proofs.saving.fids_granted.Given as goal
-
-abbrev pub invariant-loop-grant : goal.invariant-loop-grant
-invariant-loop-grant l = l.fids ++ fids_granted (drop l.grant-index l.grants) ≡ fids_granted l.fn.grants

@@ -1,4 +1,0 @@
-use Rattle.afs_server.proofs.server.FileServer.plan_spelled.Goals as goal
-
-pub returns-clause-ends : goal.returns-clause-ends
-returns-clause-ends c l owes = c.in_ok-ended.ensures.ends l owes

@@ -1,6 +1,0 @@
-use Rattle.std.proofs.Common.{◌≡◌, ◌++◌}
-use Rattle.afs_breaks.specs.Promises.{lasting_breaks}
-use Rattle.afs_server.proofs.server.lasting_breaks.Given as goal
-
-abbrev pub invariant-loop-owed : goal.invariant-loop-owed
-invariant-loop-owed l = l.lasting.items ++ lasting_breaks l.now l.owed-iterator ≡ lasting_breaks l.now l.promises.owed
