@@ -123,7 +123,8 @@ abbrev pub is_other : ℕ → Actor → Bool
 is_other i (actors.Node (Server j)) = not (nat_eq j i)
 is_other i actor = false
 
--- the disk of this server fails by itself with this input, which made this entry
+-- The disk of this server fails by itself with this input, which made this entry. Where the entry is of no server, such a failure counts for
+-- each.
 abbrev pub falls_at : ℕ → Input → Entry → ℕ
 falls_at i x e = if is_other i e.actor then 0 else falls x
 
