@@ -32,10 +32,10 @@ module _ {R T S P : Type 0} (k : Folding R T S P) (sound : IsSound k) where
   is_taken r j c d = ap is_some (sound.folds r j c d) ∙ mapped_some (k.placed (j + place_length k r) c) (k.done r d)
 
   -- what was put makes the journal so long
-  pub put_folds : (r : R) (gate gate2 limit limit2 : ℕ) (d e : T) → gate2 ≡ gate + length (k.spelled r) + 9 → limit2 ≡ limit → k.done r d ≡ Some e → k.folded r (k.placed (gate + 1) limit d) ≡ Some (k.placed (gate2 + 1) limit2 e)
-  put_folds r gate gate2 limit limit2 d e longer same is =
+  pub put_folds : (r : R) (rec : List ℕ) (gate gate2 limit limit2 : ℕ) (d e : T) → rec ≡ k.spelled r → gate2 ≡ gate + length rec + 9 → limit2 ≡ limit → k.done r d ≡ Some e → k.folded r (k.placed (gate + 1) limit d) ≡ Some (k.placed (gate2 + 1) limit2 e)
+  put_folds r rec gate gate2 limit limit2 d e spelled longer same is =
       folded_is r (gate + 1) limit d e is
-      ∙ (ap (λ (j : ℕ). Some (k.placed j limit e)) (let z : gate + 1 + place_length k r ≡ gate2 + 1 = omega (arith, longer) in z) ∙ ap (λ (l : ℕ). Some (k.placed (gate2 + 1) l e)) (sym same))
+      ∙ (ap (λ (j : ℕ). Some (k.placed j limit e)) (let z : gate + 1 + place_length k r ≡ gate2 + 1 = omega (arith, ap length spelled, longer) in z) ∙ ap (λ (l : ℕ). Some (k.placed (gate2 + 1) l e)) (sym same))
 
   -- ---- a record as it is read
 
@@ -100,3 +100,13 @@ module _ {R T S P : Type 0} (k : Folding R T S P) (sound : IsSound k) where
   left_around r j c d bytes b stands fits can left =
       let after = some_of (k.folded r (k.placed j c d)) (is_taken r j c d ∙ can) in
       (left, around r j c d after.0 bytes b stands fits after.1 left)
+
+-- the record that waits is the one that was seen to
+pub record_is : {R P : Type 0} (f : P → R) (o : Option P) (p : P) (seen : Option R) (r : R) → o ≡ Some p → option_map f o ≡ seen → seen ≡ Some r → f p ≡ r
+record_is {R} {P} f o p seen r is view has = some_is (f p) r (sym (ap (option_map f) is) ∙ (view ∙ has))
+
+pub none_is_taken : {A : Type 0} (o : Option A) → is_some o ≡ true → o ≡ None → ⊥
+none_is_taken {A} o some none = no (sym (ap is_some none) ∙ some)
+  where
+    no : ◌≡◌ {A = Bool} false true → ⊥
+    no e = cc

@@ -40,7 +40,7 @@ module _ {R T S P D : Type 0} (k : Folding R T S P) (seen : D → Option (List �
   whole_so : (s : StoreOf D R T) → IsMade (Stands k) k.capacity seen may_leave limit node log s → s ≡ record { durable = s.durable; disk = log.disk; node = node; prepared = None; closed = false; count = log.count; drawn = 0 }
   whole_so s made = made.rest ∙ ap (λ (b : Bool). record { durable = s.durable; disk = log.disk; node = node; prepared = None; closed = b; count = log.count; drawn = 0 }) is.open_is
 
-  attached_so : (s : StoreOf D R T) → IsMade (Stands k) k.capacity seen may_leave limit node log s → IsAttached (Stands k) k.capacity seen may_leave calls setting limit node disk s
+  pub attached_so : (s : StoreOf D R T) → IsMade (Stands k) k.capacity seen may_leave limit node log s → IsAttached (Stands k) k.capacity seen may_leave calls setting limit node disk s
   attached_so s made =
       subst (λ (x : StoreOf D R T). IsAttached (Stands k) k.capacity seen may_leave calls setting limit node disk x) (sym (whole_so s made))
       (record {
@@ -54,7 +54,7 @@ module _ {R T S P D : Type 0} (k : Folding R T S P) (seen : D → Option (List �
         rests = is.rests;
       })
 
-  refused_so : (e : StoreFault × D) → IsNotMade k.first_bad log e → IsRefused k.first_bad seen faults own_faults calls setting limit disk e
+  pub refused_so : (e : StoreFault × D) → IsNotMade k.first_bad log e → IsRefused k.first_bad seen faults own_faults calls setting limit disk e
   refused_so e not = record {
     refusal = fault_at_attach e.0 not.refusal;
     bad = λ n same bytes at. subst (λ (rs : List (List ℕ)). k.first_bad (limit disk) rs ≡ Some n) (is.found bytes at) (not.bad n same (limit disk));
