@@ -4,7 +4,7 @@ use Rattle.afs_num.specs.declared.types.Node.{Node}
 use Rattle.afs_disk.specs.Fuses.{Fused}
 use Rattle.afs_store.specs.Rereading.{disk_after, IsAttached, IsRefused, IsTakenUp}
 use Rattle.afs_store.specs.Stores.{IsKept, Stands, StoreOf}
-use Rattle.afs_store.proofs.rereading.«Store+Fuse+D++R+T+S».attach_again.Goals as goal
+use Rattle.afs_store.proofs.rereading.«Store+Fuse+D+R+T+S».attach_again.Goals as goal
 
 pub again-requires-clause-limit : goal.again-requires-clause-limit
 again-requires-clause-limit g c =
