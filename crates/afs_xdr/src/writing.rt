@@ -40,14 +40,14 @@ impl Writer {
     }
 
     /// Appends a word.
+    #[tactic(auto, unfolding(crate::specs::Words::word))]
+    #[inline]
     pub fn word(&mut self, n: u32) -> Result<(), AllocError>
         ensures ok { OnOk result (self.new ≡ self.old ++ word n) }
         ensures fits { n < 2 ^ 32 }
         ensures err { OnErr result (self.new ≡ self.old) }
     {
-        self.bytes.reserve(4)?;
-        put_word(&mut self.bytes, n);
-        Ok(())
+        self.bytes.extend_from_slice(&n.to_be_bytes())
     }
 
     /// Appends words.
@@ -97,7 +97,8 @@ impl Writer {
         Ok(())
     }
 
-    /// The bytes, in the block in which they were laid; in one of their size where that is larger by more than a quarter of it.
+    /// The bytes, in the block in which they were laid; or in one of their size, where more than a quarter of it would be
+    /// left free.
     pub fn into_vec(self) -> Result<Vec<u8>, AllocError>
         ensures { IfOk result (λ v. v.items ≡ self) }
     {
@@ -110,8 +111,8 @@ impl Writer {
     }
 }
 
-/// Appends bytes where there is room for them.
-#[inline]
+/// Appends bytes where there is room for them. It is laid into its callers, so that of a word four bytes are moved at once.
+#[inline(always)]
 fn put(out: &mut Vec<u8>, bytes: &[u8])
     requires { vec_len out.old + length bytes.now ≤ vec_capacity out.old }
     ensures items { out.new.items ≡ out.old.items ++ bytes.now }
@@ -125,6 +126,7 @@ fn put(out: &mut Vec<u8>, bytes: &[u8])
 
 /// Appends a word where there is room for it.
 #[tactic(auto, unfolding(crate::specs::Words::word))]
+#[inline(always)]
 fn put_word(out: &mut Vec<u8>, n: u32)
     requires { vec_len out.old + 4 ≤ vec_capacity out.old }
     ensures items { out.new.items ≡ out.old.items ++ word n }
