@@ -1,7 +1,6 @@
 pub mod Calls
 pub mod Finding
 pub mod First
-pub mod Keeping
 pub mod Read
 pub mod Released
 pub mod Same

@@ -4,8 +4,10 @@ ghost use Rattle.std.specs.Prelude.{◌≡◌, ◌≤◌, [], Some, true, IfOk, 
 ghost use Rattle.afs_num.specs.Keyed.{HasRoom, KeepsRoom};
 ghost use Rattle.afs_model.specs.Calls.{admitted, call_seat, call_seated, paired, runs};
 ghost use Rattle.afs_model.specs.Messages.{received};
-ghost use Rattle.afs_server_parts.specs.Kept.{is_whole, reply_in, IsSpelling, Says};
+ghost use Rattle.afs_call.specs.Admitting.{means};
+ghost use Rattle.afs_server_parts.specs.Kept.{is_whole, reply_in, IsSpelling};
 
+use crate::spelled::SpelledMessage;
 use afs_call::{Admit, CallTable};
 use afs_message::messages::read_message;
 use afs_num::messages::Received;
@@ -39,21 +41,19 @@ fn is_message(alloc: Global, bytes: &[u8]) -> Mem<bool>
     Ok(is_whole(&received))
 }
 
-/// A table of calls whose kept replies are messages, in their spellings.
+/// A table of calls whose kept replies are messages.
 #[derive(Drop)]
 pub struct Callers {
-    table: CallTable,
+    table: CallTable<SpelledMessage>,
 }
 
 impl Model for Callers {
-    ghost use Rattle.std.specs.List.{All};
-    ghost use Rattle.afs_server_parts.specs.Kept.{Served, read_seats, KeepsSpelling};
+    ghost use Rattle.afs_num.specs.declared.messages.Message.{Message};
+    ghost use Rattle.afs_model.specs.Calls.{Calls};
 
-    ghost Value = { Served };
+    ghost Value = { Calls Message };
 
-    ghost view = { λ c. record { boot = c.table.boot; seats = read_seats c.table.seats; room = c.table.room } };
-
-    ghost invariant = { λ c. All KeepsSpelling c.table.seats };
+    ghost view = { λ c. c.table };
 }
 
 impl Callers {
@@ -85,8 +85,8 @@ impl Callers {
     }
 
     /// What becomes of a call. It takes no memory.
-    pub fn admit(&self, head: &Head) -> Admit<'_>
-        ensures { Says result (admitted self.now.boot self.now.seats head.now) }
+    pub fn admit(&self, head: &Head) -> Admit<'_, SpelledMessage>
+        ensures { means result ≡ admitted self.now.boot self.now.seats head.now }
     {
         self.table.admit(head)
     }
@@ -100,7 +100,7 @@ impl Callers {
         ensures seats { self.new.seats ≡ call_seated (record { caller = key.node; epoch = key.epoch; number = key.number; reply = reply_in (Some reply) }) self.old.seats }
         ensures room { KeepsRoom (call_seat key.node self.old.seats) self.old.room self.new.room }
     {
-        self.table.answer(key, reply);
+        self.table.answer(key, SpelledMessage::of_spelling(reply));
     }
 
     /// The seat of a caller as it was kept, with this reply to its last call: none where the bytes spell no message. A caller's
