@@ -96,7 +96,7 @@ impl CacheManager {
             half: Half::Call,
             from: self.node,
             to: callee,
-            epoch: self.calls.epoch,
+            epoch: self.callers.boot(),
             number,
             boot,
             stamp: 0,

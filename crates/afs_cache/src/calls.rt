@@ -5,15 +5,13 @@ ghost use Rattle.afs_num.specs.Nodes.{IsNode, same_node};
 ghost use Rattle.afs_rows.specs.ClientRow.{boot_of, with_boot};
 
 use afs_num::keyed::{Keyed, find_keyed, put_first};
-use afs_num::messages::Message;
 use afs_num::types::{Mem, Node};
 use std::marker::Model;
 
-/// The numbers of its calls: its epoch, and the last call's number in it, whom that is for, how often it was timed out, and
-/// whether a break spoils its reply.
+/// The numbers of its calls: the last call's number in its epoch, whom that is for, how often it was timed out, and whether a
+/// break spoils its reply.
 #[derive(Drop)]
 pub struct Calls {
-    pub epoch: u32,
     pub last: u32,
     pub callee: Node,
     pub tries: u32,
@@ -22,11 +20,10 @@ pub struct Calls {
 
 impl Calls {
     /// No call was made in this epoch.
-    pub fn new(epoch: u32) -> Calls
-        ensures { result ≡ record { epoch = epoch; last = 0; callee = Node.Server 1; tries = 0; spoiled = false } }
+    pub fn new() -> Calls
+        ensures { result ≡ record { last = 0; callee = Node.Server 1; tries = 0; spoiled = false } }
     {
         Calls {
-            epoch,
             last: 0,
             callee: Node::Server(1),
             tries: 0,
@@ -43,44 +40,6 @@ impl Calls {
         self.callee = callee;
         self.tries = 0;
         self.spoiled = false;
-    }
-}
-
-/// The last call of a server, and the reply to it.
-#[derive(Drop)]
-pub struct Seat {
-    pub caller: Node,
-    pub epoch: u32,
-    pub number: u32,
-    pub reply: Option<Message>,
-}
-
-impl Model for Seat {
-    ghost use Rattle.std.specs.Prelude.{IfSome};
-    ghost use Rattle.afs_num.specs.declared.messages.Message.{Message};
-    ghost use Rattle.afs_model.specs.Calls.{CallSeat};
-    ghost use Rattle.afs_model.specs.Messages.{HasSpelling};
-
-    ghost Value = { CallSeat Message };
-
-    ghost view = { λ s. record { caller = s.caller; epoch = s.epoch; number = s.number; reply = s.reply } };
-
-    ghost invariant = { λ s. IfSome s.reply HasSpelling };
-}
-
-impl Keyed for Seat {
-    type Key = Node;
-
-    ghost key = { λ s. s.caller };
-
-    ghost same = { same_node };
-
-    fn key(&self) -> Node {
-        self.caller
-    }
-
-    fn is_under(&self, other: &Node) -> bool {
-        self.caller.is(other)
     }
 }
 

@@ -2,7 +2,6 @@
 #![tactic(auto)]
 
 mod acting;
-mod admitting;
 mod asked;
 mod breaks;
 mod calls;

@@ -42,7 +42,7 @@ impl CacheManager {
         lines.push(Line::Timeout {
             caller: self.node,
             callee: self.calls.callee,
-            epoch: self.calls.epoch,
+            epoch: self.callers.boot(),
             number: self.calls.last,
             count,
         })?;

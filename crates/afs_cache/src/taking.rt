@@ -595,7 +595,7 @@ impl CacheManager {
         match &self.asked {
             Some(asked) => {
                 head.from.is(&self.calls.callee)
-                    && head.epoch == self.calls.epoch
+                    && head.epoch == self.callers.boot()
                     && head.number == self.calls.last
                     && head.opcode == opcode(asked.file_call())
             }

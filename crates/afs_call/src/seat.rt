@@ -1,10 +1,10 @@
 ghost use Rattle.std.specs.Prelude.{◌≡◌, Some, None, nat_eq, ◌&&◌};
 ghost use Rattle.afs_num.specs.Nodes.{same_node};
-ghost use Rattle.afs_model.specs.Calls.{call_seat, compared, is_last_call, pair_below, repeated};
+ghost use Rattle.afs_model.specs.Calls.{call_seat, compared, is_last_call, key_of, pair_below, repeated};
 ghost use Rattle.afs_call.specs.Admitting.{means};
 
 use afs_num::keyed::{Keyed, find_keyed};
-use afs_num::types::{Key, Node};
+use afs_num::types::{Head, Key, Node};
 use std::marker::Model;
 
 /// What becomes of a call.
@@ -52,6 +52,17 @@ impl<R: Drop> Keyed for Seat<R> {
 
     fn is_under(&self, other: &Node) -> bool {
         self.caller.is(other)
+    }
+}
+
+/// The key of the call of this header.
+pub fn key_of(head: &Head) -> Key
+    ensures { result ≡ key_of head.now }
+{
+    Key {
+        node: head.from,
+        epoch: head.epoch,
+        number: head.number,
     }
 }
 

@@ -3,7 +3,7 @@ ghost use Rattle.afs_num.specs.Keyed.{HasRoom, KeepsRoom};
 ghost use Rattle.afs_model.specs.Calls.{Calls, runs, call_seat, call_seated, paired, admitted, started, finished};
 ghost use Rattle.afs_call.specs.Admitting.{means};
 
-use crate::seat::{Admit, Seat, is_last};
+use crate::seat::{Admit, Seat, is_last, key_of};
 use afs_num::keyed::{find_keyed, put_last};
 use afs_num::types::{Head, Key, Mem};
 use std::alloc::Global;
@@ -91,6 +91,18 @@ impl<R: Drop> CallTable<R> {
         ensures room { KeepsRoom (call_seat key.node self.old.seats) self.old.room self.new.room }
     {
         put_last(&mut self.seats, Seat::ended(key, reply));
+    }
+
+    /// A call that was admitted to run ends with this reply, which is kept.
+    pub fn keep(&mut self, head: &Head, reply: R) -> Mem<()>
+        requires { admitted self.old.boot self.old.seats head.now ≡ runs }
+        ensures boot { self.new.boot ≡ self.old.boot }
+        ensures seats { OnOk result (self.new.seats ≡ call_seated (record { caller = head.now.from; epoch = head.now.epoch; number = head.now.number; reply = Some reply }) self.old.seats) }
+        ensures err { OnErr result (self.new.seats ≡ self.old.seats) }
+    {
+        self.reserve(1)?;
+        self.answer(key_of(head), reply);
+        Ok(())
     }
 
     /// A call has ended with this reply, which is kept where the call is still its caller's last one. It takes no

@@ -22,12 +22,12 @@ use afs_decisions::deciding::{
     volume_called,
 };
 use afs_disk::Disk;
+use afs_message::spelled::SpelledMessage;
 use afs_num::calls::{FsCall, FsReply};
 use afs_num::messages::{Call, Carried, Received};
 use afs_num::types::{Head, Mem};
 use afs_reads::read;
 use afs_server_parts::few::Few;
-use afs_server_parts::spelled::SpelledMessage;
 use afs_volstore::VolStore;
 
 impl FileServer {

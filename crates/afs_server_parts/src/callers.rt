@@ -5,11 +5,11 @@ ghost use Rattle.afs_num.specs.Keyed.{HasRoom, KeepsRoom};
 ghost use Rattle.afs_model.specs.Calls.{admitted, call_seat, call_seated, paired, runs};
 ghost use Rattle.afs_model.specs.Messages.{received};
 ghost use Rattle.afs_call.specs.Admitting.{means};
-ghost use Rattle.afs_server_parts.specs.Kept.{is_whole, reply_in, IsSpelling};
+ghost use Rattle.afs_message.specs.Spelled.{is_whole, reply_in, IsSpelling};
 
-use crate::spelled::SpelledMessage;
 use afs_call::{Admit, CallTable};
 use afs_message::messages::read_message;
+use afs_message::spelled::SpelledMessage;
 use afs_num::messages::Received;
 use afs_num::sequences::Octets;
 use afs_num::types::{Head, Key, Mem};

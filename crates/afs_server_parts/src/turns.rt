@@ -13,10 +13,10 @@ use crate::callees::{BackCall, Callee, copy_callees, end_call, known, set_call, 
 use crate::calling::send_call;
 use crate::held::{HeldReply, copy_replies};
 use crate::owed::{end_breaks, still_owed};
-use crate::spelled::Sent;
 use crate::telling::{tell_quit, tell_settled, tell_timeout};
 use afs_breaks::types::OwedBreak;
 use afs_history::lines::Lines;
+use afs_message::spelled::Sent;
 use afs_num::sequences::Sequence;
 use afs_num::types::{Mem, Node};
 use std::alloc::Global;

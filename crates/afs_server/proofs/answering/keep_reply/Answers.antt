@@ -1,6 +1,6 @@
 use Rattle.std.proofs.Common.{◌≡◌, rules, Some, ap}
 use Rattle.afs_model.specs.Calls.{call_seat}
-use Rattle.afs_server_parts.specs.Kept.{message_in, reply_in}
+use Rattle.afs_message.specs.Spelled.{message_in, reply_in}
 use Rattle.afs_server.proofs.Turned.{room_for}
 use Rattle.afs_server.proofs.answering.keep_reply.Goals as goal
 

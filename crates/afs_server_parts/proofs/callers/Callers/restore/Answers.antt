@@ -2,8 +2,8 @@ use Rattle.std.proofs.Common.{◌≡◌, None, Option, ap, sym, ◌∙◌}
 use Rattle.afs_num.specs.declared.messages.Message.{Message}
 use Rattle.afs_model.specs.Calls.{call_seated, Calls}
 use Rattle.afs_model.specs.Messages.{received}
-use Rattle.afs_server_parts.specs.Kept.{message_in}
-use Rattle.afs_server_parts.proofs.Read.{no_message}
+use Rattle.afs_message.specs.Spelled.{message_in}
+use Rattle.afs_message.proofs.Read.{no_message}
 use Rattle.afs_server_parts.proofs.callers.Callers.restore.Goals as goal
 
 pub returns-else-branch-clause-seats : goal.returns-else-branch-clause-seats

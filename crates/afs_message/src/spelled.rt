@@ -2,9 +2,9 @@
 
 ghost use Rattle.std.specs.Prelude.{◌≡◌, ◌∷◌, ◌++◌, [], Some, IfOk, OnErr, OnOk};
 ghost use Rattle.afs_model.specs.Messages.{messages_spelled, parcels_read, HasSpelling};
-ghost use Rattle.afs_server_parts.specs.Kept.{reply_in, IsMessage, IsSpelling, Spells};
+ghost use Rattle.afs_message.specs.Spelled.{reply_in, IsMessage, IsSpelling, Spells};
 
-use afs_message::messages::encode_message;
+use crate::messages::encode_message;
 use afs_num::messages::Message;
 use afs_num::sequences::Octets;
 use afs_num::types::{Head, Mem, Parcel, Parcels};
@@ -22,7 +22,7 @@ pub struct SpelledMessage {
 impl Model for SpelledMessage {
     ghost use Rattle.afs_num.specs.declared.messages.Message.{Message};
     ghost use Rattle.afs_model.specs.Messages.{received, HasSpelling};
-    ghost use Rattle.afs_server_parts.specs.Kept.{message_read, IsMessage};
+    ghost use Rattle.afs_message.specs.Spelled.{message_read, IsMessage};
 
     ghost Value = { Message };
 
@@ -105,7 +105,7 @@ pub struct Sent {
 impl Model for Sent {
     ghost use Rattle.std.specs.Prelude.{List, map};
     ghost use Rattle.afs_num.specs.declared.messages.Message.{Message};
-    ghost use Rattle.afs_server_parts.specs.Sending.{parcel_message, AreMessages};
+    ghost use Rattle.afs_message.specs.Sending.{parcel_message, AreMessages};
 
     ghost Value = { List Message };
 

@@ -4,8 +4,8 @@ use Rattle.afs_model.specs.CellRows.{all_calls}
 use Rattle.afs_model.specs.Messages.{received, HasSpelling, IsSoundReceived}
 use Rattle.afs_model.proofs.Headers.{no_header, read_head_is}
 use Rattle.afs_model.proofs.Spellings.{read_sound}
-use Rattle.afs_server_parts.specs.Kept.{message_in, message_read}
-use Rattle.afs_server_parts.proofs.spelled.SpelledMessage.of_spelling.Goals as goal
+use Rattle.afs_message.specs.Spelled.{message_in, message_read}
+use Rattle.afs_message.proofs.spelled.SpelledMessage.of_spelling.Goals as goal
 
 pub unreachable-requires : goal.unreachable-requires
 unreachable-requires c =
