@@ -124,11 +124,8 @@ impl Turn {
         let known = known(&self.calls.callees, node);
         send_call(alloc, boot, node, known, call, &mut self.calls.sent)?;
         tell_timeout(&mut self.lines, call.server, boot, node, call.number, tries)?;
-        set_call(
-            &mut self.calls.callees,
-            node,
-            Some(call.waited(alloc, tries)?),
-        )?;
+        let waited = call.waited(alloc, tries)?;
+        set_call(&mut self.calls.callees, node, Some(waited))?;
         Ok(())
     }
 
