@@ -1,6 +1,7 @@
 -- What is left after the end of a step.
-use Rattle.std.specs.Prelude.{◌≡◌, nat_lt, if◌then◌else◌}
+use Rattle.std.specs.Prelude.{◌≡◌, if◌then◌else◌}
 use Rattle.afs_breaks.specs.Promises.{Lists}
+use Rattle.afs_model.specs.Calls.{is_sent_again}
 use Rattle.afs_model.specs.Messages.{messages_spelled, parcels_read}
 use Rattle.afs_rows.specs.Callbacks.{ends_all, Started}
 use Rattle.afs_rows.specs.States.{BackCall, Backs}
@@ -17,6 +18,6 @@ pub record Ends (l : Lists) (s : Started) (e : Ended) : Type 0 where
 
 -- ---- a timeout
 
--- the third gives the breaks up
+-- the last gives the breaks up
 abbrev pub lists_timed : BackCall → Lists → Lists
-lists_timed c l = if nat_lt c.tries 2 then l else ends_all c.breaks l
+lists_timed c l = if is_sent_again c.tries then l else ends_all c.breaks l

@@ -24,7 +24,7 @@ use Rattle.afs_records.specs.Records.{FitsRecord}
 use Rattle.afs_rows.specs.Callbacks.{alls, numbers, owe_line, pumped}
 use Rattle.afs_rows.specs.ServerRow.{key_of, promised_in, replied, versioned}
 use Rattle.afs_server_parts.specs.Called.{AreGoodCalls}
-use Rattle.afs_server_parts.specs.Kept.{Spells}
+use Rattle.afs_message.specs.Spelled.{Spells}
 use Rattle.afs_server_parts.specs.Telling.{grant_line}
 use Rattle.afs_server_parts.specs.declared.telling.Grant.{Grant}
 use Rattle.afs_callbacks.specs.Answering.{answer_turn, with_lists}

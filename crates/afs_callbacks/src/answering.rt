@@ -11,7 +11,7 @@ ghost use Rattle.afs_rows.specs.Callbacks as row;
 ghost use Rattle.afs_rows.specs.Callbacks.{gives_up_all, pumped};
 ghost use Rattle.afs_rows.specs.ServerRow.{boot_told, given_up_read, promised_in, read_reply_to, refusal, replied};
 ghost use Rattle.afs_server_parts.specs.Called.{AreGoodCalls};
-ghost use Rattle.afs_server_parts.specs.Kept.{Spells};
+ghost use Rattle.afs_message.specs.Spelled.{Spells};
 ghost use Rattle.afs_server_parts.specs.Turning.{backs_with, IsFresh, IsTurn};
 ghost use Rattle.afs_callbacks.specs.Answering.{answer_turn, sent_turn, with_lists};
 ghost use Rattle.afs_callbacks.specs.Ending.{Ends};
@@ -19,12 +19,12 @@ ghost use Rattle.afs_callbacks.specs.States.{IsToNodes, backs_at};
 
 use crate::callbacks::Callbacks;
 use crate::ending::{Ended, end};
+use afs_message::spelled::SpelledMessage;
 use afs_num::calls::FsReply;
 use afs_num::sequences::{Octets, Sequence};
 use afs_num::types::{Fid, Head, Mem, Node};
 use afs_promise::Promises;
 use afs_server_parts::replies::{notice, promised, refusal, reply};
-use afs_server_parts::spelled::SpelledMessage;
 use afs_server_parts::turns::Turn;
 use std::alloc::Global;
 

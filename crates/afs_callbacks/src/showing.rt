@@ -10,7 +10,7 @@ ghost use Rattle.afs_breaks.specs.Promises.{grants_all, lasting_breaks, Lists};
 ghost use Rattle.afs_rows.specs.Callbacks.{pumped};
 ghost use Rattle.afs_rows.specs.ServerRow.{granted, promised_in, replied};
 ghost use Rattle.afs_server_parts.specs.Called.{AreGoodCalls};
-ghost use Rattle.afs_server_parts.specs.Kept.{Spells};
+ghost use Rattle.afs_message.specs.Spelled.{Spells};
 ghost use Rattle.afs_server_parts.specs.Telling.{grant_line};
 ghost use Rattle.afs_server_parts.specs.declared.telling.Grant as told;
 ghost use Rattle.afs_callbacks.specs.Answering.{answer_turn, with_lists};

@@ -15,7 +15,7 @@ use Rattle.afs_records.specs.Durable as disk
 use Rattle.afs_records.specs.Durable.{changed_stored, folded, place_length, placing, with_journal, Durable, Stored}
 use Rattle.afs_rows.specs.ServerRow.{carried_by, change_reply_to, key_of, lasting_after, promise_ticks, record_of, replied, result, seat_for, seat_placed, stored_by, Change}
 use Rattle.afs_rows.specs.States.{Lasting, Seat}
-use Rattle.afs_server_parts.specs.Kept.{message_in, Spells}
+use Rattle.afs_message.specs.Spelled.{message_in, Spells}
 use Rattle.afs_decisions.specs.Deciding.{IsMade}
 use Rattle.afs_callbacks.specs.Saving.{change_kept, reply_told}
 use Rattle.afs_server.specs.Seen.{lasting_of, or_loc, seat_kept, AreToNodes, IsToNode}

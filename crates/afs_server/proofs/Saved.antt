@@ -25,7 +25,7 @@ use Rattle.afs_rows.specs.ServerRow.{change_reply_to, does, granted, granted_in,
 use Rattle.afs_rows.specs.ServerSteps.{stepped}
 use Rattle.afs_rows.specs.States.{Lasting, ServerState}
 use Rattle.afs_server_parts.specs.Called.{AreGoodCalls}
-use Rattle.afs_server_parts.specs.Kept.{Spells}
+use Rattle.afs_message.specs.Spelled.{Spells}
 use Rattle.afs_server_parts.specs.Telling.{grant_line}
 use Rattle.afs_server_parts.specs.Turning.{IsBreakToNode}
 use Rattle.afs_server_parts.specs.declared.telling.Grant.{Grant}

@@ -15,7 +15,7 @@ use Rattle.afs_rows.specs.Callbacks.{turn_for}
 use Rattle.afs_rows.specs.ServerRow.{begun_after, change_reply_to, no_room, record_of, refusal, refuses, roomed, saves, Change, Decision}
 use Rattle.afs_rows.specs.States.{durable_of}
 use Rattle.afs_callbacks.specs.States.{CallbackState}
-use Rattle.afs_server_parts.specs.Kept.{Spells}
+use Rattle.afs_message.specs.Spelled.{Spells}
 use Rattle.afs_volstore.specs.Stores.{Store}
 use Rattle.afs_callbacks.specs.Answering.{answer_turn}
 use Rattle.afs_decisions.specs.Deciding.{IsMade}

@@ -17,7 +17,7 @@ use Rattle.afs_rows.specs.ServerSteps.{stepped}
 use Rattle.afs_rows.specs.Steps.{Step}
 use Rattle.afs_rows.specs.States.{Backs, Held, Lasting, Seat, ServerState}
 use Rattle.afs_server_parts.specs.Called.{call_to, AreGoodCalls, Called, Callee}
-use Rattle.afs_server_parts.specs.Kept.{reply_in}
+use Rattle.afs_message.specs.Spelled.{reply_in}
 use Rattle.afs_server_parts.specs.Turning.{IsBreakToNode}
 use Rattle.afs_callbacks.specs.States.{backs_at, CallbackState, IsPromiseToNode}
 

@@ -8,7 +8,7 @@ ghost use Rattle.afs_breaks.specs.Promises.{expired};
 ghost use Rattle.afs_rows.specs.Callbacks as row;
 ghost use Rattle.afs_rows.specs.Callbacks.{gives_up_all, is_seat_of};
 ghost use Rattle.afs_rows.specs.ServerRow.{boot_told, given_up_read, read_reply_to, refusal, replied};
-ghost use Rattle.afs_server_parts.specs.Kept.{IsSpelling};
+ghost use Rattle.afs_message.specs.Spelled.{IsSpelling};
 ghost use Rattle.afs_callbacks.specs.Answering.{answer_turn, sent_turn, with_lists};
 ghost use Rattle.afs_server.specs.Answering.{is_answer_to, repeated_turn, KeepsReply};
 ghost use Rattle.afs_server.specs.Handling.{Answers, Turns};
@@ -18,11 +18,11 @@ use crate::server::FileServer;
 use afs_callbacks::answering::Replied;
 use afs_disk::Disk;
 use afs_history::lines::Outs;
+use afs_message::spelled::SpelledMessage;
 use afs_num::sequences::Octets;
 use afs_num::types::{Fid, Head, Key, Mem};
 use afs_server_parts::callers::Callers;
 use afs_server_parts::replies::{key, refusal, reply};
-use afs_server_parts::spelled::SpelledMessage;
 use afs_volstore::VolStore;
 
 /// Whether this reply, which a store keeps, is to the same call as a reply of this header.
@@ -54,7 +54,7 @@ pub fn keep_reply(callers: &mut Callers, head: &Head, reply: Octets)
     ensures boot { callers.new.boot ≡ callers.old.boot }
     ensures seats { KeepsReply head.now reply callers.old.seats callers.new.seats }
 {
-    callers.keep(key(head), reply);
+    callers.answer(key(head), SpelledMessage::of_spelling(reply));
 }
 
 /// The reply to the call of this header, which ran, is kept.

@@ -14,7 +14,7 @@ ghost use Rattle.afs_rows.specs.Callbacks as row;
 ghost use Rattle.afs_rows.specs.Callbacks.{turn_for};
 ghost use Rattle.afs_rows.specs.ServerRow as rows;
 ghost use Rattle.afs_rows.specs.ServerRow.{is_client, refusal, roomed};
-ghost use Rattle.afs_server_parts.specs.Kept.{IsSpelling};
+ghost use Rattle.afs_message.specs.Spelled.{IsSpelling};
 ghost use Rattle.afs_memory.specs.Named.{IsNamed};
 ghost use Rattle.afs_callbacks.specs.Answering.{answer_turn};
 ghost use Rattle.afs_decisions.specs.Deciding.{CanBeTold, IsMade};

@@ -10,7 +10,7 @@ ghost use Rattle.afs_breaks.specs.Promises.{expired, grants_all};
 ghost use Rattle.afs_rows.specs.Callbacks.{gives_up_all, grants_found};
 ghost use Rattle.afs_rows.specs.ServerRow as row;
 ghost use Rattle.afs_rows.specs.ServerRow.{granted, read_reply_to, replied};
-ghost use Rattle.afs_server_parts.specs.Kept.{IsSpelling};
+ghost use Rattle.afs_message.specs.Spelled.{IsSpelling};
 ghost use Rattle.afs_server_parts.specs.declared.telling.Grant as told;
 ghost use Rattle.afs_callbacks.specs.Answering.{answer_turn, with_lists};
 ghost use Rattle.afs_server.specs.Answering.{KeepsReply};

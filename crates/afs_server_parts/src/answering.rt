@@ -11,8 +11,8 @@ ghost use Rattle.afs_server_parts.specs.Turning.{backs_with, waits_again, IsFres
 
 use crate::held::{HeldReply, copy_numbers};
 use crate::owed::alls;
-use crate::spelled::SpelledMessage;
 use crate::turns::Turn;
+use afs_message::spelled::SpelledMessage;
 use afs_num::sequences::Sequence;
 use afs_num::types::{Head, Key, Mem};
 use std::alloc::Global;

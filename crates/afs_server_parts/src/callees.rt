@@ -78,15 +78,14 @@ impl BackCall {
         })
     }
 
-    /// It has waited too long once more.
-    pub fn waited(&self, alloc: Global) -> Mem<BackCall>
-        requires { self.now.tries < 2 }
-        ensures { IfOk result (λ c. c ≡ record self.now { tries = self.now.tries + 1 }) }
+    /// The same call, which has had so many timeouts by now.
+    pub fn waited(&self, alloc: Global, tries: u32) -> Mem<BackCall>
+        ensures { IfOk result (λ c. c ≡ record self.now { tries = tries }) }
     {
         Ok(BackCall {
             server: self.server,
             number: self.number,
-            tries: self.tries + 1,
+            tries,
             breaks: self.breaks.copy(alloc)?,
         })
     }

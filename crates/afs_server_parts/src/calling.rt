@@ -7,8 +7,8 @@ ghost use Rattle.afs_server_parts.specs.Called.{call_seen};
 
 use crate::callees::BackCall;
 use crate::few::Few;
-use crate::spelled::{Sent, SpelledMessage};
 use afs_breaks::types::OwedBreak;
+use afs_message::spelled::{Sent, SpelledMessage};
 use afs_num::calls::{AfsCallBack, CallBacks, Fids, FsCall};
 use afs_num::messages::{Call, Carried, Message};
 use afs_num::sequences::{Octets, Sequence};

@@ -11,6 +11,5 @@ pub mod held;
 pub mod owed;
 pub mod pumping;
 pub mod replies;
-pub mod spelled;
 pub mod telling;
 pub mod turns;

@@ -1,6 +1,6 @@
 //! What a step plans with a server's calls, before anything is changed.
 
-ghost use Rattle.std.specs.Prelude.{◌≡◌, ◌<◌, Some, IfOk, OnOk};
+ghost use Rattle.std.specs.Prelude.{◌≡◌, ◌+◌, Some, IfOk, OnOk};
 ghost use Rattle.std.specs.List.{All};
 ghost use Rattle.afs_num.specs.Nodes.{IsNode};
 ghost use Rattle.afs_num.specs.declared.types.Node.{Node};
@@ -13,10 +13,11 @@ use crate::callees::{BackCall, Callee, copy_callees, end_call, known, set_call, 
 use crate::calling::send_call;
 use crate::held::{HeldReply, copy_replies};
 use crate::owed::{end_breaks, still_owed};
-use crate::spelled::Sent;
 use crate::telling::{tell_quit, tell_settled, tell_timeout};
 use afs_breaks::types::OwedBreak;
+use afs_call::{LAST_TIMEOUT, Timeout, timed_out};
 use afs_history::lines::Lines;
+use afs_message::spelled::Sent;
 use afs_num::sequences::Sequence;
 use afs_num::types::{Mem, Node};
 use std::alloc::Global;
@@ -103,27 +104,28 @@ impl Turn {
         Ok(())
     }
 
-    /// The call has waited too long: it is sent again.
-    fn retry(&mut self, alloc: Global, boot: u32, node: Node, call: &BackCall) -> Mem<()>
+    /// The call has waited too long: it is sent again, and has had so many timeouts by now.
+    fn retry(
+        &mut self,
+        alloc: Global,
+        boot: u32,
+        node: Node,
+        call: &BackCall,
+        tries: u32,
+    ) -> Mem<()>
         requires fresh { IsFresh self.old }
         requires server { IsNode call.now.server }
         requires good { IsGoodCall call.now.server node call.now }
-        requires tries { call.now.tries < 2 }
+        requires tries { tries ≡ call.now.tries + 1 }
         ensures turn { OnOk result ((l : Lists) → l.owed ≡ self.old.owed.items → IsTurn (retries call.now.server boot node (call_seen call.now) (backs_with l self.old.held self.old.calls)) self.new) }
         ensures good { OnOk result (AreGoodCalls call.now.server self.old.calls.callees.items → AreGoodCalls call.now.server self.new.calls.callees.items) }
         ensures owed { OnOk result (All IsBreakToNode self.old.owed.items → All IsBreakToNode self.new.owed.items) }
     {
         let known = known(&self.calls.callees, node);
         send_call(alloc, boot, node, known, call, &mut self.calls.sent)?;
-        tell_timeout(
-            &mut self.lines,
-            call.server,
-            boot,
-            node,
-            call.number,
-            call.tries + 1,
-        )?;
-        set_call(&mut self.calls.callees, node, Some(call.waited(alloc)?))?;
+        tell_timeout(&mut self.lines, call.server, boot, node, call.number, tries)?;
+        let waited = call.waited(alloc, tries)?;
+        set_call(&mut self.calls.callees, node, Some(waited))?;
         Ok(())
     }
 
@@ -134,7 +136,14 @@ impl Turn {
         ensures good { OnOk result ((me : Node) → AreGoodCalls me self.old.calls.callees.items → AreGoodCalls me self.new.calls.callees.items) }
         ensures owed { OnOk result (All IsBreakToNode self.old.owed.items → All IsBreakToNode self.new.owed.items) }
     {
-        tell_timeout(&mut self.lines, call.server, boot, node, call.number, 3)?;
+        tell_timeout(
+            &mut self.lines,
+            call.server,
+            boot,
+            node,
+            call.number,
+            LAST_TIMEOUT,
+        )?;
         let ended = still_owed(alloc, call.breaks.as_slice(), &self.owed)?;
         tell_quit(&mut self.lines, call.server, node, ended.as_slice())?;
         end_breaks(&mut self.owed, call.breaks.as_slice());
@@ -151,10 +160,9 @@ impl Turn {
         ensures good { OnOk result (AreGoodCalls call.now.server self.old.calls.callees.items → AreGoodCalls call.now.server self.new.calls.callees.items) }
         ensures owed { OnOk result (All IsBreakToNode self.old.owed.items → All IsBreakToNode self.new.owed.items) }
     {
-        if call.tries < 2 {
-            self.retry(alloc, boot, node, call)?;
-        } else {
-            self.quit(alloc, boot, node, call)?;
+        match timed_out(call.tries) {
+            Timeout::Again(tries) => self.retry(alloc, boot, node, call, tries)?,
+            Timeout::Dead => self.quit(alloc, boot, node, call)?,
         }
         Ok(())
     }

@@ -3,7 +3,7 @@ use Rattle.afs_num.specs.declared.messages.Message.{Message}
 use Rattle.afs_model.specs.Messages.{HasSpelling}
 use Rattle.afs_rows.specs.Callbacks.{pumped}
 use Rattle.afs_rows.specs.ServerRow.{refusal}
-use Rattle.afs_server_parts.specs.Kept.{Spells}
+use Rattle.afs_message.specs.Spelled.{Spells}
 use Rattle.afs_callbacks.specs.Answering.{answer_turn, with_lists}
 use Rattle.afs_callbacks.specs.Ending.{Ends}
 use Rattle.afs_callbacks.proofs.Spelled.{refused_spelled}

@@ -5,7 +5,7 @@ use Rattle.afs_rows.specs.Callbacks.{alls, numbers, pumped}
 use Rattle.afs_num.specs.declared.messages.Carried.TheVariants as carried
 use Rattle.afs_num.specs.declared.messages.Reply.TheVariants as tell
 use Rattle.afs_rows.specs.ServerRow.{promised_in, replied}
-use Rattle.afs_server_parts.specs.Kept.{Spells}
+use Rattle.afs_message.specs.Spelled.{Spells}
 use Rattle.afs_callbacks.specs.Answering.{answer_turn, with_lists}
 use Rattle.afs_callbacks.specs.Ending.{Ends}
 use Rattle.afs_callbacks.proofs.callbacks.Callbacks.plan_saved.Goals as goal

@@ -11,7 +11,7 @@ use Rattle.afs_callbacks.specs.States.{backs_at, CallbackState}
 use Rattle.afs_server.specs.Handling.{server_seen}
 use Rattle.afs_server.specs.Seen.{backs_seen, Memory}
 use Rattle.afs_server_parts.specs.Called.{AreGoodCalls}
-use Rattle.afs_server_parts.specs.Kept.{Spells}
+use Rattle.afs_message.specs.Spelled.{Spells}
 use Rattle.afs_server_parts.specs.Turning.{IsBreakToNode}
 use Rattle.afs_callbacks.proofs.Granting.{given_up_owed, given_up_to_nodes}
 use Rattle.afs_callbacks.proofs.Lasting.{lasting_promised, lasting_to_nodes}

@@ -5,7 +5,7 @@ use Rattle.afs_num.specs.declared.messages.Received.TheVariants.{Whole}
 use Rattle.afs_model.specs.Messages.{received}
 use Rattle.afs_shape.proofs.Codecs.{IsBytes}
 use Rattle.afs_model.proofs.Spellings.{read_spelled}
-use Rattle.afs_server_parts.specs.Kept.{is_whole, message_in, IsSpelling}
+use Rattle.afs_message.specs.Spelled.{is_whole, message_in, IsSpelling}
 
 spelling_by : (bytes : List ℕ) (r : Received) → IsBytes bytes → received bytes ≡ r → is_whole r ≡ true → IsSpelling bytes
 spelling_by bytes (Whole m) fits e t = (m, record { spelled = sym (read_spelled bytes m fits e).0; read = e })

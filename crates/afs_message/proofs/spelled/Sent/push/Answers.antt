@@ -1,7 +1,7 @@
 use Rattle.std.proofs.Common.{sym, subst}
-use Rattle.afs_server_parts.specs.Sending.{AreMessages}
-use Rattle.afs_server_parts.proofs.Sending.{all_more, is_message}
-use Rattle.afs_server_parts.proofs.spelled.Sent.push.Goals as goal
+use Rattle.afs_message.specs.Sending.{AreMessages}
+use Rattle.afs_message.proofs.Sending.{all_more, is_message}
+use Rattle.afs_message.proofs.spelled.Sent.push.Goals as goal
 
 pub invariant_of-self-2 : goal.invariant_of-self-2
 invariant_of-self-2 c =

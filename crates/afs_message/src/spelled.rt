@@ -1,10 +1,10 @@
 //! Messages in their spelling.
 
-ghost use Rattle.std.specs.Prelude.{◌≡◌, ◌∷◌, ◌++◌, [], IfOk, OnErr, OnOk};
+ghost use Rattle.std.specs.Prelude.{◌≡◌, ◌∷◌, ◌++◌, [], Some, IfOk, OnErr, OnOk};
 ghost use Rattle.afs_model.specs.Messages.{messages_spelled, parcels_read, HasSpelling};
-ghost use Rattle.afs_server_parts.specs.Kept.{IsMessage, IsSpelling, Spells};
+ghost use Rattle.afs_message.specs.Spelled.{reply_in, IsMessage, IsSpelling, Spells};
 
-use afs_message::messages::encode_message;
+use crate::messages::encode_message;
 use afs_num::messages::Message;
 use afs_num::sequences::Octets;
 use afs_num::types::{Head, Mem, Parcel, Parcels};
@@ -21,14 +21,14 @@ pub struct SpelledMessage {
 
 impl Model for SpelledMessage {
     ghost use Rattle.afs_num.specs.declared.messages.Message.{Message};
-    ghost use Rattle.afs_model.specs.Messages.{received};
-    ghost use Rattle.afs_server_parts.specs.Kept.{message_read, IsMessage};
+    ghost use Rattle.afs_model.specs.Messages.{received, HasSpelling};
+    ghost use Rattle.afs_message.specs.Spelled.{message_read, IsMessage};
 
     ghost Value = { Message };
 
     ghost view = { λ m. message_read m.head (received m.bytes) };
 
-    ghost invariant = { λ m. IsMessage m.head m.bytes };
+    ghost invariant = { λ m. record { is : IsMessage m.head m.bytes; sound : HasSpelling (message_read m.head (received m.bytes)) } };
 }
 
 impl SpelledMessage {
@@ -52,17 +52,14 @@ impl SpelledMessage {
         SpelledMessage::of(alloc, &message)
     }
 
-    /// The message that these bytes spell.
-    pub fn read(alloc: Global, bytes: &[u8]) -> Mem<SpelledMessage>
-        requires { IsSpelling bytes.now }
-        ensures value { IfOk result (λ m. Spells m bytes.now) }
-        ensures sound { IfOk result HasSpelling }
+    /// The message that these bytes spell. It takes no memory.
+    pub fn of_spelling(bytes: Octets) -> SpelledMessage
+        requires { IsSpelling bytes }
+        ensures value { Spells result bytes }
+        ensures read { reply_in (Some bytes) ≡ Some result }
     {
-        match read_head(bytes) {
-            Ok(head) => {
-                let bytes = Octets::from_slice(alloc, bytes)?;
-                Ok(SpelledMessage { head, bytes })
-            }
+        match read_head(bytes.as_slice()) {
+            Ok(head) => SpelledMessage { head, bytes },
             Err(_) => unreachable!(),
         }
     }
@@ -79,8 +76,10 @@ impl SpelledMessage {
         &self.bytes
     }
 
+    /// The same message. It has a spelling.
     pub fn copy(&self, alloc: Global) -> Mem<SpelledMessage>
-        ensures { IfOk result (λ m. m ≡ self.now) }
+        ensures same { IfOk result (λ m. m ≡ self.now) }
+        ensures sound { IfOk result HasSpelling }
     {
         Ok(SpelledMessage {
             head: self.head,
@@ -106,7 +105,7 @@ pub struct Sent {
 impl Model for Sent {
     ghost use Rattle.std.specs.Prelude.{List, map};
     ghost use Rattle.afs_num.specs.declared.messages.Message.{Message};
-    ghost use Rattle.afs_server_parts.specs.Sending.{parcel_message, AreMessages};
+    ghost use Rattle.afs_message.specs.Sending.{parcel_message, AreMessages};
 
     ghost Value = { List Message };
 

@@ -7,8 +7,8 @@ use Rattle.afs_num.specs.declared.messages.Message.{Message}
 use Rattle.afs_num.specs.declared.messages.Received.{Received}
 use Rattle.afs_num.specs.declared.messages.Received.TheVariants.{Whole}
 use Rattle.afs_model.specs.Messages.{messages_spelled, parcels_read, received, spelled}
-use Rattle.afs_server_parts.specs.Kept.{message_read, IsMessage}
-use Rattle.afs_server_parts.specs.Sending.{parcel_message, AreMessages}
+use Rattle.afs_message.specs.Spelled.{message_read, IsMessage}
+use Rattle.afs_message.specs.Sending.{parcel_message, AreMessages}
 
 abbrev Read : Type 0
 Read = Head × List ℕ × Received
