@@ -6,7 +6,6 @@ ghost use Rattle.std.specs.Option.{option_copied};
 ghost use Rattle.afs_num.specs.declared.types.Node.{Node};
 ghost use Rattle.afs_breaks.specs.Promises.{Lists};
 ghost use Rattle.afs_rows.specs.Callbacks.{alls, held_under, is_reply_to, key_answered, no_turn, repeats_by};
-ghost use Rattle.afs_server_parts.specs.Called.{AreGoodCalls};
 ghost use Rattle.afs_server_parts.specs.Turning.{backs_with, waits_again, IsFresh, IsTurn};
 
 use crate::held::{HeldReply, copy_numbers};
@@ -55,6 +54,7 @@ impl Turn {
         ensures turn { OnOk result ((l : Lists) → l.owed ≡ self.old.owed.items → IsTurn (record (no_turn (backs_with l self.old.held self.old.calls)) { sent = message ∷ [] }) self.new) }
         ensures good { self.new.calls.callees ≡ self.old.calls.callees }
         ensures owed { self.new.owed ≡ self.old.owed }
+        ensures stand { self.new.stand ≡ self.old.stand }
     {
         self.calls.sent.push(message)?;
         Ok(())
@@ -66,6 +66,7 @@ impl Turn {
         ensures turn { OnOk result ((l : Lists) → l.owed ≡ self.old.owed.items → IsTurn (record (no_turn (backs_with l self.old.held self.old.calls)) { outs = record { reply = reply; waits = waits; again = again } ∷ [] }) self.new) }
         ensures good { self.new.calls.callees ≡ self.old.calls.callees }
         ensures owed { self.new.owed ≡ self.old.owed }
+        ensures stand { self.new.stand ≡ self.old.stand }
     {
         self.outs.push(HeldReply {
             reply,
@@ -109,6 +110,7 @@ impl Turn {
         ensures turn { OnOk result ((l : Lists) → l.owed ≡ self.old.owed.items → IsTurn (repeats_by (backs_with l self.old.held self.old.calls) reply (held_under (key_answered reply) self.old.held) good) self.new) }
         ensures good { self.new.calls.callees ≡ self.old.calls.callees }
         ensures owed { self.new.owed ≡ self.old.owed }
+        ensures stand { self.new.stand ≡ self.old.stand }
     {
         match self.waits_again(alloc, &reply, good)? {
             Some(waits) => self.answer(reply, waits, true)?,
