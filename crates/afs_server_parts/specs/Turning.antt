@@ -1,6 +1,6 @@
 -- What a step plans with a server's promises, calls and replies, and the turn of its row that this is.
 use Rattle.std.specs.List.{All}
-use Rattle.std.specs.Prelude.{◌≡◌, ℕ, List, [], ◌∷◌, Bool, true, false, ◌&&◌, Option, Some, None, if◌then◌else◌}
+use Rattle.std.specs.Prelude.{◌≡◌, ◌≤◌, ℕ, List, [], ◌∷◌, Bool, true, false, ◌&&◌, Option, Some, None, if◌then◌else◌}
 use Rattle.afs_num.specs.Nodes.{IsNode}
 use Rattle.afs_breaks.specs.Promises.{Lists, without_break}
 use Rattle.afs_breaks.specs.declared.types.OwedBreak.{OwedBreak}
@@ -42,11 +42,12 @@ pub record IsFresh (t : Turn) : Type 0 where
 abbrev pub IsBreakToNode : OwedBreak → Type 0
 IsBreakToNode o = IsNode o.client
 
--- what it owes and calls is of nodes of the cell, and so is who makes it
+-- who makes it, what it owes and whom it calls are nodes of the cell, and it draws its calls behind the last one
 pub record IsReady (t : Turn) : Type 0 where
   pub node : IsNode t.stand.node
   pub owed : All IsBreakToNode t.owed.items
   pub calls : AreGoodCalls t.calls.callees.items
+  pub drawn : t.stand.last ≤ t.calls.last
 
 -- for which breaks a kept reply waits that is asked again, if it is given at all
 abbrev pub waits_again : List OwedBreak → Option Held → Bool → Option (List ℕ)

@@ -2,7 +2,7 @@
 
 ghost use Rattle.std.specs.Prelude.{IfOk};
 ghost use Rattle.afs_rows.specs.Callbacks as row;
-ghost use Rattle.afs_server_parts.specs.Ending.{IsPlan};
+ghost use Rattle.afs_server_parts.specs.Ending.{IsPlanOf};
 ghost use Rattle.afs_server_parts.specs.Turning.{IsReady, IsTurn};
 
 use crate::callees::Callee;
@@ -28,7 +28,7 @@ impl Turn {
     /// Replies whose breaks have ended go out, and then calls for what is owed.
     pub fn end(self, alloc: Global) -> Mem<Ended>
         requires { IsReady self }
-        ensures plan { IfOk result (λ e. (t : row.Turn) → IsTurn t self → IsPlan self.stand t.backs.lists t t.lines e) }
+        ensures { IfOk result (λ e. (t : row.Turn) → IsTurn t self → IsPlanOf self.stand t e) }
     {
         let mut turn = self;
         turn.pump(alloc)?;

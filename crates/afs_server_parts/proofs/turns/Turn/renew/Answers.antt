@@ -6,4 +6,5 @@ returns-clause-ready c h = record {
   node = h.node;
   owed = h.owed;
   calls = good_same _ _ c.in_ok-set_known.ensures.calls h.calls;
+  drawn = h.drawn;
 }

@@ -21,4 +21,5 @@ returns-clause-ready c h = record {
   node = h.node;
   owed = c.end_breaks.ensures.nodes h.owed;
   calls = good_put c.args.node None _ _ c.in_ok-end_call.ensures.calls h.calls tt;
+  drawn = h.drawn;
 }
