@@ -3,8 +3,8 @@
 
 mod acting;
 mod asked;
+mod boots;
 mod breaks;
-mod calls;
 mod looks;
 mod messages;
 mod node;

@@ -13,10 +13,10 @@ ghost use Rattle.afs_cache.specs.Managing.{Answers, Takes, number_limit, times_o
 ghost use Rattle.afs_cache.specs.Lasting.{lasting};
 
 use crate::asked::Asked;
-use crate::calls::{Calls, KnownBoot};
+use crate::boots::KnownBoot;
 use crate::messages::CLIENT_CALLS;
 use afs_acts::{Location, locations};
-use afs_call::CallTable;
+use afs_call::{CallTable, Caller};
 use afs_entries::Cache;
 use afs_history::acts::Act;
 use afs_history::lines::Outs;
@@ -40,7 +40,9 @@ pub struct CacheManager {
     /// The servers that call, in its epoch.
     pub(crate) callers: CallTable<SpelledMessage>,
     pub(crate) cache: Cache,
-    pub(crate) calls: Calls,
+    /// Its own calls, and whether a break spoils the reply to the last one.
+    pub(crate) calls: Caller,
+    pub(crate) spoiled: bool,
     /// The act that runs, with its call, and how often it was told to wait.
     pub(crate) asked: Option<Asked>,
     pub(crate) busy: u32,
@@ -53,7 +55,7 @@ impl Model for CacheManager {
 
     ghost Value = { NodeState ClientState };
 
-    ghost view = { λ c. record { node = c.node; state = record { epoch = c.callers.boot; last = c.calls.last; user = c.user; capacity = c.cache.capacity; table = c.table.items; boots = c.boots.items; seats = c.callers.seats; cache = c.cache.entries; running = running_of c.asked; busy = c.busy; callee = c.calls.callee; tries = c.calls.tries; spoiled = c.calls.spoiled; gifts = gifts_of c.asked } } };
+    ghost view = { λ c. record { node = c.node; state = record { epoch = c.callers.boot; last = c.calls.last; user = c.user; capacity = c.cache.capacity; table = c.table.items; boots = c.boots.items; seats = c.callers.seats; cache = c.cache.entries; running = running_of c.asked; busy = c.busy; callee = c.calls.callee; tries = c.calls.tries; spoiled = c.spoiled; gifts = gifts_of c.asked } } };
 
     ghost invariant = { λ c. FitsClient c.node c.user c.calls.callee };
 }
@@ -85,7 +87,8 @@ impl CacheManager {
             boots: Vec::new(alloc),
             callers: CallTable::new(alloc, epoch),
             cache: Cache::new(alloc, capacity)?,
-            calls: Calls::new(),
+            calls: Caller::new(Node::Server(1)),
+            spoiled: false,
             asked: None,
             busy: 0,
         })

@@ -104,7 +104,7 @@ impl CacheManager {
         ensures { self.new ≡ record self.old { state = record self.old.state { cache = unlisted fids.now self.old.state.cache; spoiled = is_spoiled || self.old.state.spoiled } } }
     {
         self.cache.drop_all(fids);
-        self.calls.spoiled = is_spoiled || self.calls.spoiled;
+        self.spoiled = is_spoiled || self.spoiled;
     }
 
     /// A server's call is answered, and nothing else is told.

@@ -10,6 +10,7 @@ ghost use Rattle.afs_callbacks.specs.Waiting.{lists_timed};
 
 use crate::callbacks::Callbacks;
 use afs_breaks::types::OwedBreak;
+use afs_call::{Timeout, timed_out};
 use afs_num::types::{Mem, Node};
 use afs_promise::Promises;
 use afs_server_parts::calling::BreakCall;
@@ -30,8 +31,9 @@ fn time_out(promises: &mut Promises, call: &BreakCall, now: u32)
     ensures { promises.new ≡ lists_timed call.now (expired now promises.old) }
 {
     promises.expire(now);
-    if call.tries >= 2 {
-        quit_all(promises, call.content.as_slice());
+    match timed_out(call.tries) {
+        Timeout::Again(_) => {}
+        Timeout::Dead => quit_all(promises, call.content.as_slice()),
     }
 }
 
@@ -64,7 +66,7 @@ impl Callbacks {
         Ok(ended)
     }
 
-    /// This call has waited too long: its breaks end with the third time. It takes no memory.
+    /// This call has waited too long: its breaks end with the last time. It takes no memory.
     pub fn time_out(&mut self, call: &BreakCall, now: u32)
         ensures { self.new ≡ record self.old { lists = lists_timed call.now (expired now self.old.lists) } }
     {

@@ -23,7 +23,7 @@ use Rattle.afs_ideal.specs.Operations.{Found}
 use Rattle.afs_history.specs.declared.lines.Line.{Line}
 use Rattle.afs_rows.specs.ServerRow.{Decision, drops, tells_boot, repeats, refuses, shows, saves, made, granted_in, change_reply_to, read_reply_to, refusal, boot_told, promise_ticks}
 use Rattle.afs_rows.specs.States.{BackCall, Held, Backs, Seat, ServerState}
-use Rattle.afs_model.specs.Calls.{call_seat}
+use Rattle.afs_model.specs.Calls.{call_seat, is_sent_again, last_timeout}
 use Rattle.afs_history.specs.declared.lines.Line.TheVariants as lines
 use Rattle.afs_num.specs.declared.histories.Version.{Version}
 
@@ -278,7 +278,7 @@ turned_in me s clock b d (Unserved head) = turn_for me s clock b d
 turned_in me s clock b d (Unreadable head) = turn_for me s clock b d
 turned_in me s clock b d (Whole m) = turned_by me s clock b d m.head m.carried
 
--- ---- its timeouts: the third gives the breaks up
+-- ---- its timeouts: the last gives the breaks up
 
 abbrev pub timeout_line : Node → ℕ → Node → ℕ → ℕ → Line
 timeout_line me boot n number count = lines.Timeout me n boot number count
@@ -294,13 +294,13 @@ retries me boot n c b = record {
 abbrev pub quits : Node → ℕ → Node → BackCall → Backs → Turn
 quits me boot n c b = record {
   backs = ends_call n c b;
-  lines = timeout_line me boot n c.number 3 ∷ map (quit_line me n) (still_owed c b);
+  lines = timeout_line me boot n c.number last_timeout ∷ map (quit_line me n) (still_owed c b);
   sent = [];
   outs = [];
 }
 
 abbrev pub timed : Node → ℕ → Node → BackCall → Backs → Turn
-timed me boot n c b = if nat_lt c.tries 2 then retries me boot n c b else quits me boot n c b
+timed me boot n c b = if is_sent_again c.tries then retries me boot n c b else quits me boot n c b
 
 -- ---- the end of each step: replies whose breaks have ended go out, and then calls for what is owed
 

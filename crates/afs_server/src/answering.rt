@@ -54,7 +54,7 @@ pub fn keep_reply(callers: &mut Callers, head: &Head, reply: Octets)
     ensures boot { callers.new.boot ≡ callers.old.boot }
     ensures seats { KeepsReply head.now reply callers.old.seats callers.new.seats }
 {
-    callers.keep(key(head), reply);
+    callers.answer(key(head), SpelledMessage::of_spelling(reply));
 }
 
 /// The reply to the call of this header, which ran, is kept.

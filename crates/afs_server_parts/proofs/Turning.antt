@@ -1,10 +1,11 @@
 -- A plan is the turn of its row.
 use Rattle.std.proofs.Common.{◌≡◌, ℕ, Bool, true, false, cond, ◌&&◌, List, [], ◌∷◌, ◌++◌, not, Option, Some, None, refl, sym, ap, subst, ◌∙◌, append_assoc}
-use Rattle.std.specs.Prelude.{filter, is_some, nat_lt}
+use Rattle.std.specs.Prelude.{filter, is_some}
 use Rattle.std.proofs.lemmas.List.{map-append}
 use Rattle.std.proofs.lemmas.List.Elements.{filter-append}
 use Rattle.afs_num.specs.declared.types.Node.{Node}
 use Rattle.afs_num.specs.declared.messages.Message.{Message}
+use Rattle.afs_model.specs.Calls.{is_sent_again}
 use Rattle.afs_history.specs.declared.lines.Line.{Line}
 use Rattle.afs_breaks.specs.Promises.{Lists, ends}
 use Rattle.afs_breaks.specs.declared.types.OwedBreak.{OwedBreak}
@@ -89,7 +90,10 @@ asks_at b m None false w e = ap (row.asked_again b m) (numbers_of [] w e)
 pub asks_again : (t : Turn) (b : Backs) (os : List OwedBreak) (m : Message) (o : Option Held) (good : Bool) (w : List ℕ) → b.lists.owed ≡ os → waits_again os o good ≡ Some w → IsTurn (row.asked_again b m w) t → IsTurn (row.repeats_by b m o good) t
 asks_again t b os m o good w q e is = subst (λ (x : row.Turn). IsTurn x t) (sym (asks_at b m o good w (ap (λ (xs : List OwedBreak). waits_again xs o good) q ∙ e))) is
 
--- ---- a timeout that isn't the last
+-- ---- a timeout that isn't the last, and the last
 
-pub timed_first : (me : Node) (boot : ℕ) (n : Node) (c : BackCall) (b : Backs) (t : Turn) → nat_lt c.tries 2 ≡ true → IsTurn (row.retries me boot n c b) t → IsTurn (row.timed me boot n c b) t
+pub timed_first : (me : Node) (boot : ℕ) (n : Node) (c : BackCall) (b : Backs) (t : Turn) → is_sent_again c.tries ≡ true → IsTurn (row.retries me boot n c b) t → IsTurn (row.timed me boot n c b) t
 timed_first me boot n c b t first is = subst (λ (x : Bool). IsTurn (cond x (row.retries me boot n c b) (row.quits me boot n c b)) t) (sym first) is
+
+pub timed_last : (me : Node) (boot : ℕ) (n : Node) (c : BackCall) (b : Backs) (t : Turn) → is_sent_again c.tries ≡ false → IsTurn (row.quits me boot n c b) t → IsTurn (row.timed me boot n c b) t
+timed_last me boot n c b t last is = subst (λ (x : Bool). IsTurn (cond x (row.retries me boot n c b) (row.quits me boot n c b)) t) (sym last) is

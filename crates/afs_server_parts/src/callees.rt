@@ -83,14 +83,13 @@ impl<C: Copies> BackCall<C> {
         })
     }
 
-    /// It has waited too long once more.
-    pub fn waited(&self, alloc: Global) -> Mem<BackCall<C>>
-        requires { self.now.tries < 2 }
-        ensures { IfOk result (λ c. c ≡ record self.now { tries = self.now.tries + 1 }) }
+    /// The same call, which has had so many timeouts by now.
+    pub fn waited(&self, alloc: Global, tries: u32) -> Mem<BackCall<C>>
+        ensures { IfOk result (λ c. c ≡ record self.now { tries = tries }) }
     {
         Ok(BackCall {
             number: self.number,
-            tries: self.tries + 1,
+            tries,
             content: self.content.copy(alloc)?,
         })
     }

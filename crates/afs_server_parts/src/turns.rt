@@ -1,6 +1,6 @@
 //! What a step of a node plans with its calls, before anything is changed.
 
-ghost use Rattle.std.specs.Prelude.{◌≡◌, ◌<◌, Some, IfOk, OnOk};
+ghost use Rattle.std.specs.Prelude.{◌≡◌, ◌+◌, Some, IfOk, OnOk};
 ghost use Rattle.afs_num.specs.Nodes.{IsNode};
 ghost use Rattle.afs_num.specs.declared.types.Node.{Node};
 ghost use Rattle.afs_breaks.specs.Promises.{Lists};
@@ -15,6 +15,7 @@ use crate::held::{HeldReply, copy_replies};
 use crate::owed::{end_breaks, still_owed};
 use crate::telling::{tell_quit, tell_settled, tell_timeout};
 use afs_breaks::types::OwedBreak;
+use afs_call::{LAST_TIMEOUT, Timeout, timed_out};
 use afs_history::lines::Lines;
 use afs_message::spelled::Sent;
 use afs_num::sequences::Sequence;
@@ -107,12 +108,12 @@ impl Turn {
         Ok(())
     }
 
-    /// The call has waited too long: it is sent again.
-    fn retry(&mut self, alloc: Global, node: Node, call: &BreakCall) -> Mem<()>
+    /// The call has waited too long: it is sent again, and has had so many timeouts by now.
+    fn retry(&mut self, alloc: Global, node: Node, call: &BreakCall, tries: u32) -> Mem<()>
         requires fresh { IsFresh self.old }
         requires stands { IsNode self.old.stand.node }
         requires good { IsGoodCall node call.now }
-        requires tries { call.now.tries < 2 }
+        requires tries { tries ≡ call.now.tries + 1 }
         ensures turn { OnOk result ((l : Lists) → l.owed ≡ self.old.owed.items → IsTurn (retries self.old.stand.node self.old.stand.boot node call.now (backs_with l self.old.held self.old.calls)) self.new) }
         ensures stand { self.new.stand ≡ self.old.stand }
         ensures ready { OnOk result (IsReady self.old → IsReady self.new) }
@@ -126,9 +127,10 @@ impl Turn {
             stand.boot,
             node,
             call.number,
-            call.tries + 1,
+            tries,
         )?;
-        set_call(&mut self.calls.callees, node, Some(call.waited(alloc)?))?;
+        let waited = call.waited(alloc, tries)?;
+        set_call(&mut self.calls.callees, node, Some(waited))?;
         Ok(())
     }
 
@@ -146,7 +148,7 @@ impl Turn {
             stand.boot,
             node,
             call.number,
-            3,
+            LAST_TIMEOUT,
         )?;
         let ended = still_owed(alloc, call.content.as_slice(), &self.owed)?;
         tell_quit(&mut self.lines, stand.node, node, ended.as_slice())?;
@@ -164,10 +166,9 @@ impl Turn {
         ensures stand { self.new.stand ≡ self.old.stand }
         ensures ready { OnOk result (IsReady self.old → IsReady self.new) }
     {
-        if call.tries < 2 {
-            self.retry(alloc, node, call)?;
-        } else {
-            self.quit(alloc, node, call)?;
+        match timed_out(call.tries) {
+            Timeout::Again(tries) => self.retry(alloc, node, call, tries)?,
+            Timeout::Dead => self.quit(alloc, node, call)?,
         }
         Ok(())
     }

@@ -1,47 +1,12 @@
-//! The calls that a client makes, and those that it was made.
+//! The boot numbers of servers, as a client knows them.
 
-ghost use Rattle.std.specs.Prelude.{◌≡◌, ◌+◌, ◌<◌, false, OnErr, OnOk};
-ghost use Rattle.afs_num.specs.Nodes.{IsNode, same_node};
+ghost use Rattle.std.specs.Prelude.{◌≡◌, OnErr, OnOk};
+ghost use Rattle.afs_num.specs.Nodes.{same_node};
 ghost use Rattle.afs_rows.specs.ClientRow.{boot_of, with_boot};
 
 use afs_num::keyed::{Keyed, find_keyed, put_first};
 use afs_num::types::{Mem, Node};
 use std::marker::Model;
-
-/// The numbers of its calls: the last call's number in its epoch, whom that is for, how often it was timed out, and whether a
-/// break spoils its reply.
-#[derive(Drop)]
-pub struct Calls {
-    pub last: u32,
-    pub callee: Node,
-    pub tries: u32,
-    pub spoiled: bool,
-}
-
-impl Calls {
-    /// No call was made in this epoch.
-    pub fn new() -> Calls
-        ensures { result ≡ record { last = 0; callee = Node.Server 1; tries = 0; spoiled = false } }
-    {
-        Calls {
-            last: 0,
-            callee: Node::Server(1),
-            tries: 0,
-            spoiled: false,
-        }
-    }
-
-    /// A call under the next number.
-    pub fn start(&mut self, callee: Node)
-        requires { self.old.last < 4294967295 }
-        ensures { self.new ≡ record self.old { last = self.old.last + 1; callee = callee; tries = 0; spoiled = false } }
-    {
-        self.last += 1;
-        self.callee = callee;
-        self.tries = 0;
-        self.spoiled = false;
-    }
-}
 
 /// The boot number of a server, as it was told.
 #[derive(Drop)]
