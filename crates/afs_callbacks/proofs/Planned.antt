@@ -1,7 +1,9 @@
 -- What a step plans is the turn of its row.
-use Rattle.std.proofs.Common.{◌≡◌, List, subst, ◌∙◌}
+use Rattle.std.proofs.Common.{◌≡◌, ◌≤◌, ℕ, List, refl, subst, ◌∙◌}
 use Rattle.afs_history.specs.declared.lines.Line.{Line}
+use Rattle.afs_num.specs.declared.messages.Message.{Message}
 use Rattle.afs_breaks.specs.Promises.{Lists}
+use Rattle.afs_breaks.specs.declared.types.OwedBreak.{OwedBreak}
 use Rattle.afs_rows.specs.Callbacks as row
 use Rattle.afs_rows.specs.Callbacks.{no_turn}
 use Rattle.afs_rows.specs.States.{Backs}
@@ -11,7 +13,8 @@ use Rattle.afs_server_parts.specs.declared.ending.Ended.{Ended}
 use Rattle.afs_server_parts.specs.declared.turns.Stand.{Stand}
 use Rattle.afs_server_parts.specs.declared.turns.Turn.{Turn}
 use Rattle.afs_server_parts.proofs.Turning.{turned}
-use Rattle.afs_callbacks.specs.Answering.{with_lists}
+use Rattle.afs_callbacks.specs.Answering.{with_lists, IsReplied}
+use Rattle.afs_callbacks.specs.States.{CallbackState}
 use Rattle.afs_callbacks.proofs.Turned.{answered_with}
 
 -- what the end of this turn gives
@@ -43,3 +46,7 @@ retold s t ls ms told e is plan = record {
   owed = plan.owed;
   calls = plan.calls;
 }
+
+-- numbers of calls are drawn behind the last one, whatever is promised
+pub answer_drawn : (s : Stand) (k : CallbackState) (reply : Message) (owed : List OwedBreak) (waits : List ℕ) (ls : List Line) (e : Ended) (bytes : List ℕ) → IsReplied s k reply owed waits ls e bytes → s.last ≤ e.last
+answer_drawn s k reply owed waits ls e bytes is = (is.answer (record k.lists { owed = owed }) refl).drawn

@@ -114,12 +114,7 @@ impl Callbacks {
     }
 
     /// What comes of a reply to a call that ran, in its spelling. It goes out at once, and its bytes are to be kept.
-    pub(crate) fn plan_spelled(
-        &self,
-        stand: Stand,
-        reply: SpelledMessage,
-        now: u32,
-    ) -> Mem<Replied>
+    pub(crate) fn plan_spelled(&self, stand: Stand, reply: SpelledMessage, now: u32) -> Mem<Replied>
         requires { IsToNodes stand.node self.now }
         ensures { IfOk result (λ r. IsRepliedNow stand self.now now reply [] r.ended r.kept) }
     {

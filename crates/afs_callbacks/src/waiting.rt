@@ -49,13 +49,7 @@ impl Callbacks {
     }
 
     /// What comes of a timeout of this call.
-    pub fn plan_timeout(
-        &self,
-        stand: Stand,
-        callee: Node,
-        call: &BreakCall,
-        now: u32,
-    ) -> Mem<Ended>
+    pub fn plan_timeout(&self, stand: Stand, callee: Node, call: &BreakCall, now: u32) -> Mem<Ended>
         requires nodes { IsToNodes stand.node self.now }
         requires good { IsGoodCall callee call.now }
         ensures { IfOk result (IsPlanOf stand (timed stand.node stand.boot callee call.now (backs_by self.now stand now))) }

@@ -16,6 +16,7 @@ use Rattle.afs_rows.specs.ServerRow.{does, keeps, saves, record_of, Decision}
 use Rattle.afs_rows.specs.ServerSteps.{stepped}
 use Rattle.afs_rows.specs.States.{ServerState}
 use Rattle.afs_rows.specs.Steps.{Step}
+use Rattle.afs_server_parts.specs.declared.turns.Stand.{Stand}
 use Rattle.afs_server.specs.Seen.{Memory, state_seen, Serves}
 
 -- the calls that it serves
@@ -24,6 +25,10 @@ calls_served = 130 ∷ 131 ∷ 132 ∷ 133 ∷ 134 ∷ 135 ∷ 136 ∷ 137 ∷ 1
 
 abbrev pub server_seen : {D : Type 0} → Memory → Store D → ServerState
 server_seen {D} m s = state_seen m s.durable s.drawn
+
+-- who makes a step over this store
+abbrev pub stand_of : {D : Type 0} → Store D → Stand
+stand_of {D} s = record { node = s.node; boot = s.durable.boot; last = s.drawn }
 
 -- The step was made: the new state is its, and so is what was given out. Its lines are these and then the node's.
 pub record Makes {D : Type 0} (step : Step ServerState) (before : List Line) (m : Memory) (s : Store D) (outs : Outs) : Type 0 where

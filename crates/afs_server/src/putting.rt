@@ -27,6 +27,7 @@ ghost use Rattle.afs_decisions.specs.declared.decided.Decided.TheVariants as dec
 ghost use Rattle.afs_server.specs.declared.faults.NodeFault.TheVariants as faults;
 
 use crate::answering::keep_reply;
+use crate::ending::stand;
 use crate::faults::NodeFault;
 use crate::server::FileServer;
 use afs_callbacks::saving::Planned;
@@ -184,15 +185,9 @@ impl FileServer {
             OnDisk D.seen D.left_by D.size D.may_leave D.moment D.left_since D.faults D.own_faults D.calls D.setting D.limit (record_decided store.old.durable.boot now (roomed (server_seen self.old store.old) now head.now c)) store.old.durable store.old.disk store.new.disk result }
     {
         let (change, names) = change.into_parts();
-        let planned = self.callbacks().plan_change(
-            store.node(),
-            store.boot_number(),
-            store.last_number(),
-            head,
-            id,
-            change,
-            now,
-        )?;
+        let planned = self
+            .callbacks()
+            .plan_change(stand(store), head, id, change, now)?;
         let room = prepare(store, &planned.rec, names)?;
         self.put_or_refuse(store, head, room, planned, now)
     }
