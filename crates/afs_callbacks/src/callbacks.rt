@@ -12,9 +12,8 @@ use afs_breaks::types::OwedBreak;
 use afs_num::sequences::Sequence;
 use afs_num::types::{Mem, Node};
 use afs_promise::Promises;
-use afs_server_parts::callees::{Callee, find_call};
-use afs_server_parts::calling::BreakCall;
-use afs_server_parts::few::Few;
+use afs_server_parts::callees::find_call;
+use afs_server_parts::calling::{BreakCall, BreakCallee};
 use afs_server_parts::held::HeldReply;
 use afs_server_parts::turns::{Stand, Turn};
 use std::alloc::Global;
@@ -25,7 +24,7 @@ use std::marker::Model;
 pub struct Callbacks {
     pub(crate) alloc: Global,
     pub(crate) promises: Promises,
-    pub(crate) callees: Vec<Callee<Few<OwedBreak>>>,
+    pub(crate) callees: Vec<BreakCallee>,
     pub(crate) held: Sequence<HeldReply>,
 }
 
@@ -118,7 +117,7 @@ impl Callbacks {
     }
 
     /// The nodes that are called, and the replies that wait, are those that a step left. It takes no memory.
-    pub fn keep(&mut self, callees: Vec<Callee<Few<OwedBreak>>>, held: Sequence<HeldReply>)
+    pub fn keep(&mut self, callees: Vec<BreakCallee>, held: Sequence<HeldReply>)
         ensures { self.new ≡ record self.old { callees = callees.items; held = held } }
     {
         self.callees = callees;

@@ -4,7 +4,7 @@ ghost use Rattle.std.specs.Prelude.{◌≡◌, ◌≤◌, ◌++◌, ◌∷◌, [
 ghost use Rattle.afs_num.specs.Nodes.{IsNode};
 ghost use Rattle.afs_rows.specs.Callbacks.{break_message, breaks_call, breaks_opcode, broken_until, call_for, carries_for, fids_of, first_of, is_for, most_breaks, opcode_for};
 
-use crate::callees::BackCall;
+use crate::callees::{BackCall, Callee};
 use crate::few::Few;
 use crate::turns::Stand;
 use afs_breaks::types::OwedBreak;
@@ -17,6 +17,9 @@ use std::alloc::Global;
 
 /// A call that brings breaks.
 pub type BreakCall = BackCall<Few<OwedBreak>>;
+
+/// A node to which such calls go.
+pub type BreakCallee = Callee<Few<OwedBreak>>;
 
 /// Whether it is a break on a fid for this node.
 fn is_for(owed: &OwedBreak, node: Node) -> bool

@@ -5,11 +5,9 @@ ghost use Rattle.afs_rows.specs.Callbacks as row;
 ghost use Rattle.afs_server_parts.specs.Ending.{IsPlanOf};
 ghost use Rattle.afs_server_parts.specs.Turning.{IsReady, IsTurn};
 
-use crate::callees::Callee;
-use crate::few::Few;
+use crate::calling::BreakCallee;
 use crate::held::HeldReply;
 use crate::turns::{Calls, Turn};
-use afs_breaks::types::OwedBreak;
 use afs_history::lines::Outs;
 use afs_num::sequences::Sequence;
 use afs_num::types::Mem;
@@ -20,7 +18,7 @@ use std::alloc::Global;
 pub struct Ended {
     pub outs: Outs,
     pub last: u32,
-    pub callees: Vec<Callee<Few<OwedBreak>>>,
+    pub callees: Vec<BreakCallee>,
     pub held: Sequence<HeldReply>,
 }
 

@@ -8,9 +8,8 @@ ghost use Rattle.afs_rows.specs.Callbacks.{quits, renews, retries, settles, time
 ghost use Rattle.afs_server_parts.specs.Called.{IsGoodCall};
 ghost use Rattle.afs_server_parts.specs.Turning.{backs_with, IsFresh, IsReady, IsTurn};
 
-use crate::callees::{Callee, copy_callees, end_call, known, set_call, set_known};
-use crate::calling::{BreakCall, send_call};
-use crate::few::Few;
+use crate::callees::{copy_callees, end_call, known, set_call, set_known};
+use crate::calling::{BreakCall, BreakCallee, send_call};
 use crate::held::{HeldReply, copy_replies};
 use crate::owed::{end_breaks, still_owed};
 use crate::telling::{tell_quit, tell_settled, tell_timeout};
@@ -34,7 +33,7 @@ pub struct Stand {
 #[derive(Drop)]
 pub struct Calls {
     pub last: u32,
-    pub callees: Vec<Callee<Few<OwedBreak>>>,
+    pub callees: Vec<BreakCallee>,
     pub sent: Sent,
 }
 
@@ -56,7 +55,7 @@ impl Turn {
         alloc: Global,
         stand: Stand,
         owed: Vec<OwedBreak>,
-        callees: &[Callee<Few<OwedBreak>>],
+        callees: &[BreakCallee],
         held: &[HeldReply],
     ) -> Mem<Turn>
         ensures fresh { IfOk result (λ t. IsFresh t) }
