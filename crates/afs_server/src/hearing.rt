@@ -1,12 +1,9 @@
 //! What a server does with replies and notices to its own calls.
-
-ghost use Rattle.afs_breaks.specs.Promises.{expired};
-ghost use Rattle.afs_rows.specs.Callbacks as row;
 ghost use Rattle.afs_rows.specs.Callbacks.{renews, settles};
 ghost use Rattle.afs_server_parts.specs.Called.{IsGoodCall, IsGoodOrNone};
-ghost use Rattle.afs_server.specs.Handling.{Turns};
+ghost use Rattle.afs_server.specs.Handling.{backs_then, Turns};
 ghost use Rattle.afs_server.specs.Hearing.{answered_turn, noticed_turn, renewed_turn, settled_turn};
-ghost use Rattle.afs_server.specs.Seen.{backs_seen, Serves};
+ghost use Rattle.afs_server.specs.Seen.{Serves};
 
 use crate::ending::stand;
 use crate::server::FileServer;
@@ -26,7 +23,7 @@ impl FileServer {
         now: u32,
     ) -> Mem<Outs>
         requires serves { Serves store.old.node self.old store.old.durable }
-        ensures { Turns (settles store.old.node node call.now (row.expired now (backs_seen self.old store.old.drawn))) self.old self.new store.old store.new result }
+        ensures { Turns (settles store.old.node node call.now (backs_then self.old store.old now)) self.old self.new store.old store.new result }
     {
         let ended = self
             .callbacks()
@@ -47,7 +44,7 @@ impl FileServer {
     ) -> Mem<Outs>
         requires serves { Serves store.old.node self.old store.old.durable }
         requires good { IsGoodCall node call.now }
-        ensures { Turns (renews store.old.node store.old.durable.boot node known call.now (row.expired now (backs_seen self.old store.old.drawn))) self.old self.new store.old store.new result }
+        ensures { Turns (renews store.old.node store.old.durable.boot node known call.now (backs_then self.old store.old now)) self.old self.new store.old store.new result }
     {
         let ended = self
             .callbacks()
@@ -65,7 +62,7 @@ impl FileServer {
         now: u32,
     ) -> Mem<Outs>
         requires serves { Serves store.old.node self.old store.old.durable }
-        ensures { Turns (settled_turn store.old.node head.now (row.expired now (backs_seen self.old store.old.drawn)) call) self.old self.new store.old store.new result }
+        ensures { Turns (settled_turn store.old.node head.now (backs_then self.old store.old now) call) self.old self.new store.old store.new result }
     {
         match call {
             Some(call) => {
@@ -89,7 +86,7 @@ impl FileServer {
     ) -> Mem<Outs>
         requires serves { Serves store.old.node self.old store.old.durable }
         requires good { IsGoodOrNone head.now.from call }
-        ensures { Turns (renewed_turn store.old.node store.old.durable.boot head.now (row.expired now (backs_seen self.old store.old.drawn)) call) self.old self.new store.old store.new result }
+        ensures { Turns (renewed_turn store.old.node store.old.durable.boot head.now (backs_then self.old store.old now) call) self.old self.new store.old store.new result }
     {
         match call {
             Some(call) => {
@@ -111,7 +108,7 @@ impl FileServer {
         now: u32,
     ) -> Mem<Outs>
         requires serves { Serves store.old.node self.old store.old.durable }
-        ensures { Turns (answered_turn store.old.node store.old.durable.boot head.now (row.expired now (backs_seen self.old store.old.drawn))) self.old self.new store.old store.new result }
+        ensures { Turns (answered_turn store.old.node store.old.durable.boot head.now (backs_then self.old store.old now)) self.old self.new store.old store.new result }
     {
         let call = self
             .callbacks()
@@ -128,7 +125,7 @@ impl FileServer {
         now: u32,
     ) -> Mem<Outs>
         requires serves { Serves store.old.node self.old store.old.durable }
-        ensures { Turns (noticed_turn store.old.node store.old.durable.boot head.now (row.expired now (backs_seen self.old store.old.drawn))) self.old self.new store.old store.new result }
+        ensures { Turns (noticed_turn store.old.node store.old.durable.boot head.now (backs_then self.old store.old now)) self.old self.new store.old store.new result }
     {
         let call = self
             .callbacks()

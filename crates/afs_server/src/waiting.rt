@@ -1,11 +1,8 @@
 //! A server's own calls wait too long, and time passes.
-
-ghost use Rattle.afs_breaks.specs.Promises.{expired};
-ghost use Rattle.afs_rows.specs.Callbacks as row;
 ghost use Rattle.afs_rows.specs.Callbacks.{no_turn, timed};
 ghost use Rattle.afs_server_parts.specs.Called.{IsGoodCall};
-ghost use Rattle.afs_server.specs.Handling.{Turns};
-ghost use Rattle.afs_server.specs.Seen.{backs_seen, Serves};
+ghost use Rattle.afs_server.specs.Handling.{backs_then, Turns};
+ghost use Rattle.afs_server.specs.Seen.{Serves};
 
 use crate::ending::stand;
 use crate::server::FileServer;
@@ -19,7 +16,7 @@ impl FileServer {
     /// Nothing happens but that time has passed.
     pub(crate) fn pass<D: Disk>(&mut self, store: &mut VolStore<D>, now: u32) -> Mem<Outs>
         requires serves { Serves store.old.node self.old store.old.durable }
-        ensures { Turns (no_turn (row.expired now (backs_seen self.old store.old.drawn))) self.old self.new store.old store.new result }
+        ensures { Turns (no_turn (backs_then self.old store.old now)) self.old self.new store.old store.new result }
     {
         let ended = self.callbacks().plan_wake(stand(store), now)?;
         let outs = self.keep_at(store, ended, now);
@@ -36,7 +33,7 @@ impl FileServer {
     ) -> Mem<Outs>
         requires serves { Serves store.old.node self.old store.old.durable }
         requires good { IsGoodCall callee call.now }
-        ensures { Turns (timed store.old.node store.old.durable.boot callee call.now (row.expired now (backs_seen self.old store.old.drawn))) self.old self.new store.old store.new result }
+        ensures { Turns (timed store.old.node store.old.durable.boot callee call.now (backs_then self.old store.old now)) self.old self.new store.old store.new result }
     {
         let ended = self
             .callbacks()
