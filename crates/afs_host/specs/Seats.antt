@@ -11,7 +11,7 @@ use Rattle.afs_model.specs.Messages.{messages_spelled, parcels_read}
 use Rattle.afs_rows.specs.Runs.{unarmed, Armed, Fall, Host}
 use Rattle.afs_rows.specs.States.{ServerState}
 use Rattle.afs_volstore.specs.Stores.{Store}
-use Rattle.afs_server_parts.specs.Called.{calls_seen}
+use Rattle.afs_server_parts.specs.Called.{call_to}
 use Rattle.afs_server.specs.Handling.{server_seen, SameStore}
 use Rattle.afs_server.specs.Seen.{Memory, Serves}
 use Rattle.afs_host.specs.Hosts.{HostStep}
@@ -39,7 +39,7 @@ disk_of {D} r = r.store.disk.disk
 
 -- it waits for a reply of this node
 abbrev pub waits_for : {D : Type 0} → Running D → Node → Bool
-waits_for {D} r callee = is_some (calls_seen r.memory.callees callee)
+waits_for {D} r callee = is_some (call_to r.memory.callees callee)
 
 -- ---- the host
 

@@ -7,7 +7,6 @@ ghost use Rattle.afs_rows.specs.Runs.{Host};
 ghost use Rattle.afs_rows.specs.States.{BackCall};
 ghost use Rattle.afs_server.specs.Handling.{server_seen};
 ghost use Rattle.afs_server.specs.Seen.{CanDraw, Serves};
-ghost use Rattle.afs_server_parts.specs.Called.{calls_seen};
 ghost use Rattle.afs_volstore.specs.Stores.{IsCounted, IsKept};
 ghost use Rattle.afs_host.specs.Hosts.{crashed, set_to_fail, set_to_stop, timed_out, woken};
 ghost use Rattle.afs_host.specs.Seats.{count_mark, disk_of, waits_for, CanRun, GoesOn, IsDown, IsStepUp, IsUp, OnlyDraws};
@@ -60,7 +59,7 @@ impl<D: Disk> Running<D> {
     pub fn waits_on(&self, callee: Node) -> bool
         ensures { result ≡ waits_for self.now callee }
     {
-        self.server.waits_on(callee).is_some()
+        self.server.waits_on(self.store.node(), callee).is_some()
     }
 
     /// Its unanswered call to this node has waited too long.

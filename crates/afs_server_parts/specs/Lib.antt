@@ -1,4 +1,5 @@
 pub mod Called
+pub mod Ending
 pub mod Few
 pub mod Telling
 pub mod Turning

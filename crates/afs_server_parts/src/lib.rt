@@ -6,6 +6,7 @@ mod answering;
 pub mod callees;
 pub mod callers;
 pub mod calling;
+pub mod ending;
 pub mod few;
 pub mod held;
 pub mod owed;
