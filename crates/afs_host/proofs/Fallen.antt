@@ -5,14 +5,14 @@ use Rattle.afs_num.specs.declared.types.Node.{Node}
 use Rattle.afs_history.specs.declared.lines.Line.{Line}
 use Rattle.afs_history.specs.declared.lines.Line.TheVariants as lines
 use Rattle.afs_disk.specs.Disk.{IsBeyond, LeavesJust}
-use Rattle.afs_rows.specs.Runs.{Armed}
-use Rattle.afs_host.specs.Hosts.{fall_line}
-use Rattle.afs_host.specs.Seats.{count_mark, disk_of, Resting, Running}
+use Rattle.afs_rows.specs.Hosts.{Armed, fall_line}
+use Rattle.afs_host.specs.Seats.{disk_of, Resting, ServerRunning}
+use Rattle.afs_host.specs.Views.{count_mark}
 use Rattle.afs_host.specs.Serving.{HasFallen}
 use Rattle.afs_host.specs.Setting.{pick_of, stops_now}
 
 -- what is left of the disk, whichever it was
-pub record Remains {D : Type 0} (seen : D → Option (List ℕ)) (may_leave : D → List ℕ → Type 0) (faults limit : D → ℕ) (r : Running D) (s : Resting D) : Type 0 where
+pub record Remains {D : Type 0} (seen : D → Option (List ℕ)) (may_leave : D → List ℕ → Type 0) (faults limit : D → ℕ) (r : ServerRunning D) (s : Resting D) : Type 0 where
   pub mark : s.mark ≡ count_mark r.store.count
   pub told : IsSome (seen s.disk) ↔ IsSome (seen (disk_of r))
   pub image : IsSome (seen s.disk) → (c : List ℕ) → may_leave s.disk c → may_leave (disk_of r) c
@@ -20,7 +20,7 @@ pub record Remains {D : Type 0} (seen : D → Option (List ℕ)) (may_leave : D 
   pub same_limit : limit s.disk ≡ limit (disk_of r)
 
 -- the disk as it was
-pub as_it_was : {D : Type 0} (seen : D → Option (List ℕ)) (may_leave : D → List ℕ → Type 0) (faults limit : D → ℕ) (r : Running D) (s : Resting D) → s ≡ record { disk = disk_of r; mark = count_mark r.store.count } → Remains seen may_leave faults limit r s
+pub as_it_was : {D : Type 0} (seen : D → Option (List ℕ)) (may_leave : D → List ℕ → Type 0) (faults limit : D → ℕ) (r : ServerRunning D) (s : Resting D) → s ≡ record { disk = disk_of r; mark = count_mark r.store.count } → Remains seen may_leave faults limit r s
 as_it_was {D} seen may_leave faults limit r s is = subst (Remains seen may_leave faults limit r) (sym is) (record {
   mark = refl;
   told = ((λ told. told), (λ told. told));
@@ -36,7 +36,7 @@ no_fault : (n m : Node) → lines.Crash n ≡ lines.Fault m → ⊥
 no_fault n m e = absurd cc
 
 -- by a stop
-pub stopped_so : {D : Type 0} (seen : D → Option (List ℕ)) (left_by : D → ℕ → Option (List ℕ)) (may_leave : D → List ℕ → Type 0) (faults limit : D → ℕ) (r : Running D) (s : Resting D) (came : Bool) (node : Node) → (IsBeyond r.store.disk.stop r.store.disk.calls → came ≡ true) → (came ≡ true → IsBeyond r.store.disk.stop r.store.disk.calls) →
+pub stopped_so : {D : Type 0} (seen : D → Option (List ℕ)) (left_by : D → ℕ → Option (List ℕ)) (may_leave : D → List ℕ → Type 0) (faults limit : D → ℕ) (r : ServerRunning D) (s : Resting D) (came : Bool) (node : Node) → (IsBeyond r.store.disk.stop r.store.disk.calls → came ≡ true) → (came ≡ true → IsBeyond r.store.disk.stop r.store.disk.calls) →
     node ≡ r.store.node → stops_now came r.armed ≡ true → Remains seen may_leave faults limit r s → seen s.disk ≡ left_by (disk_of r) (pick_of r.armed) → IfSome (seen s.disk) (λ bytes. LeavesJust bytes (may_leave s.disk)) → HasFallen seen left_by may_leave faults limit r s (lines.Crash node)
 stopped_so {D} seen left_by may_leave faults limit r s came node came_so came_is is stops left picked rests = record {
   came = came;
@@ -54,7 +54,7 @@ stopped_so {D} seen left_by may_leave faults limit r s came node came_so came_is
 }
 
 -- or by a failure
-pub failed_so : {D : Type 0} (seen : D → Option (List ℕ)) (left_by : D → ℕ → Option (List ℕ)) (may_leave : D → List ℕ → Type 0) (faults limit : D → ℕ) (r : Running D) (s : Resting D) (came : Bool) (node : Node) → (IsBeyond r.store.disk.stop r.store.disk.calls → came ≡ true) → (came ≡ true → IsBeyond r.store.disk.stop r.store.disk.calls) →
+pub failed_so : {D : Type 0} (seen : D → Option (List ℕ)) (left_by : D → ℕ → Option (List ℕ)) (may_leave : D → List ℕ → Type 0) (faults limit : D → ℕ) (r : ServerRunning D) (s : Resting D) (came : Bool) (node : Node) → (IsBeyond r.store.disk.stop r.store.disk.calls → came ≡ true) → (came ≡ true → IsBeyond r.store.disk.stop r.store.disk.calls) →
     node ≡ r.store.node → stops_now came r.armed ≡ false → Remains seen may_leave faults limit r s → s.disk ≡ disk_of r → HasFallen seen left_by may_leave faults limit r s (lines.Fault node)
 failed_so {D} seen left_by may_leave faults limit r s came node came_so came_is is stops left same = record {
   came = came;

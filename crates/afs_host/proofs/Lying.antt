@@ -12,12 +12,13 @@ use Rattle.afs_records.specs.Durable.{effect_of, first_folded, fold_all, fold_fr
 use Rattle.afs_records.specs.Records.{record_at, record_bytes}
 use Rattle.afs_volstore.specs.Stands.{Stands}
 use Rattle.afs_records.proofs.Forms.{bound, some_is}
-use Rattle.afs_rows.specs.Runs.{begun_by_disk, Fall, MayFind}
+use Rattle.afs_rows.specs.ServerHosts.{begun_by_disk}
+use Rattle.afs_rows.specs.Hosts.{Fall, MayFind}
 use Rattle.afs_rows.specs.States.{Lasting, ServerState}
 use Rattle.afs_volstore.specs.Stores.{IsCounted, IsKept, StandsAround}
 use Rattle.afs_memory.specs.Telling.{in_words}
 use Rattle.afs_server.specs.Seen.{lasting_of}
-use Rattle.afs_host.specs.Seats.{count_mark}
+use Rattle.afs_host.specs.Views.{count_mark}
 use Rattle.afs_host.specs.Standing.{record_of_fall, Lies, LiesAfter, LiesAs, LiesBefore, LiesFound, LiesIn, StandsFor}
 
 pub some_of : {A : Type 0} (o : Option A) → IsSome o → (x : A) × (o ≡ Some x)
@@ -101,7 +102,7 @@ pub record Begins (me : Node) (s : ServerState) (fall : Fall) (records : List (L
   pub read_again : record_at (record_bytes r) ≡ Some r
   pub made : record_of_fall me s fall ≡ Some r
   pub left : (e : Durable) → folded r durable ≡ Some e → lasting_of e ≡ (begun_by_disk me s true fall).state.lasting
-  pub told : (ls : List Line) → (begun_by_disk me s true fall).before ls ≡ map in_words (effect_of me r durable) ++ ls
+  pub told : (begun_by_disk me s true fall).before ≡ map in_words (effect_of me r durable)
 
 abbrev begun_before : (me : Node) (s : ServerState) (fall : Fall) (records : List (List ℕ)) (count : ℕ) (durable : Durable) (r : StoreRecord) → Begins me s fall records count durable r → LiesBefore s (count_mark count) records
 begun_before me s fall records count durable r b = record {

@@ -1,6 +1,6 @@
-pub mod Hosts
 pub mod Seats
 pub mod Serving
 pub mod Setting
 pub mod Standing
 pub mod Starting
+pub mod Views
