@@ -38,11 +38,12 @@ use Rattle.afs_num.specs.declared.types.Node.{Node}
 use Rattle.afs_num.specs.declared.types.Node.TheVariants.{Admin, Client, Loc, Server}
 use Rattle.afs_rows.specs.Callbacks.{Started, Turn, asked_again, carries_for, expired, fids_found, first_of, held_after, held_under, is_back_awaited, is_for, is_ready, is_seat_of, key_answered, most_breaks, no_turn, owe_line, pumped, put, put_at, quit_line, quits, renews, renews_by, repeats_by, retries, risen_turn, settle_line, settles, settles_by, started_call, starts, starts_by, still_owed, timed, turn_for, turned_by, turned_in}
 use Rattle.afs_rows.specs.ClientRow.{begin_row, client_row, timeout_row}
-use Rattle.afs_rows.specs.Runs.{Armed, Cell, Entry, Fall, Host, Moved, at_rest, begun_by_disk, blow_line, client_falls, client_moves, client_rises, in_boot, in_step, server_falls, server_moves, server_set, server_stays, start, ticked, unarmed, voided}
-use Rattle.afs_rows.specs.ServerRow.{Begun, Change, Decision, Reading, begun_after, decides, does, drops, granted, granted_in, made, promise_ticks, refuses, repeats, revived, saves, shows, tells_boot, versioned}
+use Rattle.afs_law.proofs.Steps.{blow_line, server_falls, server_moves, server_set, server_stays}
+use Rattle.afs_rows.specs.Runs.{Armed, Cell, Entry, Fall, Moved, at_rest, begun_by_disk, client_falls, client_moves, client_rises, in_boot, in_step, start, ticked, unarmed, voided, ServerHost}
+use Rattle.afs_rows.specs.ServerRow.{Change, Decision, Reading, begun_after, decides, does, drops, granted, granted_in, made, promise_ticks, refuses, repeats, revived, saves, shows, tells_boot, versioned}
 use Rattle.afs_rows.specs.ServerSteps.{back_timeout_row, server_row, start_row, wake_row}
 use Rattle.afs_rows.specs.States.{BackCall, Backs, Held, ServerState}
-use Rattle.afs_rows.specs.Steps.{Step}
+use Rattle.afs_rows.specs.Steps.{Step, Begun}
 use Rattle.std.proofs.Common.{zero, suc, ◌≡◌, ◌+◌, ◌<◌, ◌≤◌, ◌⊎◌, inl, inr, ℕ, Bool, true, false, cond, List, [], ◌∷◌, ◌++◌, map, Option, Some, None, refl, sym, ap, subst, ◌∙◌, arith, filter, not, length, nat_eq, nat_lt, eqb-true, eq-eqb}
 use Rattle.std.specs.Prelude.{⊤, ◌&&◌}
 
@@ -684,7 +685,7 @@ abbrev ByDown : ℕ → Option Fall → Backs → List Line → Type 0
 ByDown i None b ls = Listed (Server i) b ls
 ByDown i (Some fall) b ls = EndedNone (Server i) ls
 
-abbrev IsSingly : ℕ → Host → List Line → Type 0
+abbrev IsSingly : ℕ → ServerHost → List Line → Type 0
 IsSingly i x ls = ByDown i x.down x.state.backs ls
 
 abbrev SinglyIn : Cell → List Entry → Type 0
@@ -745,13 +746,13 @@ SinglyStep c past m = Singles past m
 besides_single : (s : Script) (c : Cell) (past : List Entry) (m : Moved) → PlacedSingly s c past → EachLine (IsInPlace s) m.entry.actor past [] m.entry.lines → ((i : ℕ) → m.entry.actor ≡ actors.Node (Server i) → ⊥) → m.cell.hosts ≡ c.hosts → Singles past m
 besides_single s c past m h p other same = record {
   once = others_once s m.entry.actor past [] m.entry.lines other p;
-  singly = λ i. subst (λ (hosts : ℕ → Host). IsSingly i (hosts i) (lines_of (m.entry ∷ past))) (sym same) (down_over i (c.hosts i).down (c.hosts i).state.backs (lines_of past) (lines_of (m.entry ∷ past)) (λ n x. others_ended s m.entry.actor i n past [] m.entry.lines (lines_of past) (other i) p x) (h.1 i));
+  singly = λ i. subst (λ (hosts : ℕ → ServerHost). IsSingly i (hosts i) (lines_of (m.entry ∷ past))) (sym same) (down_over i (c.hosts i).down (c.hosts i).state.backs (lines_of past) (lines_of (m.entry ∷ past)) (λ n x. others_ended s m.entry.actor i n past [] m.entry.lines (lines_of past) (other i) p x) (h.1 i));
 }
 
 -- of one server
-own_single : (s : Script) (c : Cell) (past : List Entry) (i : ℕ) (x : Host) (ls : List Line) (sent : List Message) → PlacedSingly s c past → EachLine (IsInPlace s) (actors.Node (Server i)) past [] ls → IsSingly i x (onto (lines_of past) ls) → (j : ℕ) → IsSingly j (put i x c.hosts j) (onto (lines_of past) ls)
+own_single : (s : Script) (c : Cell) (past : List Entry) (i : ℕ) (x : ServerHost) (ls : List Line) (sent : List Message) → PlacedSingly s c past → EachLine (IsInPlace s) (actors.Node (Server i)) past [] ls → IsSingly i x (onto (lines_of past) ls) → (j : ℕ) → IsSingly j (put i x c.hosts j) (onto (lines_of past) ls)
 own_single s c past i x ls sent h p own j =
-    at_put i j (λ (y : Host). IsSingly j y (onto (lines_of past) ls)) x c.hosts (λ same. subst (λ (k : ℕ). IsSingly k x (onto (lines_of past) ls)) same own)
+    at_put i j (λ (y : ServerHost). IsSingly j y (onto (lines_of past) ls)) x c.hosts (λ same. subst (λ (k : ℕ). IsSingly k x (onto (lines_of past) ls)) same own)
     (λ other. down_over j (c.hosts j).down (c.hosts j).state.backs (lines_of past) (onto (lines_of past) ls) (λ n y. others_ended s (actors.Node (Server i)) j n past [] ls (lines_of past) (λ e. other (one_server i j e)) p y) (h.1 j))
   where
     one_server : (i j : ℕ) → actors.Node (Server i) ≡ actors.Node (Server j) → i ≡ j
@@ -773,7 +774,7 @@ set_single s c past i l armed h p b = record {
 stays_single : (s : Script) (c : Cell) (past : List Entry) (i : ℕ) (after : Bool) (was : Fall) (l : Line) (fall : Fall) → PlacedSingly s c past → EachLine (IsInPlace s) (actors.Node (Server i)) past [] ((begun_by_disk (Server i) (c.hosts i).state after was).before (l ∷ [])) → is_breakless l ≡ true → EndedNone (Server i) (onto (lines_of past) ((begun_by_disk (Server i) (c.hosts i).state after was).before (l ∷ [])))
     → Singles past (server_stays c i (begun_by_disk (Server i) (c.hosts i).state after was) l fall)
 stays_single s c past i after was l fall h p b none =
-    let f : Begun = begun_by_disk (Server i) (c.hosts i).state after was in
+    let f : Begun ServerState = begun_by_disk (Server i) (c.hosts i).state after was in
     record {
       once = breakless_once (actors.Node (Server i)) past [] (f.before (l ∷ [])) (disk_lines is_breakless (λ n key z. refl) (λ v. refl) (Server i) (c.hosts i).state after was (l ∷ []) (rw b refl));
       singly = own_single s c past i (record { state = f.state; down = Some fall; armed = unarmed }) (f.before (l ∷ [])) [] h p none;

@@ -1,6 +1,6 @@
 -- A node of the cell with a disk of its own: its host. What an input makes of one host, and what it tells and sends then. It is the
 -- same for every kind of node; what one kind does with a message, and how it begins again, is its `Kind`.
-use Rattle.std.specs.Prelude.{◌≡◌, ◌≤◌, ℕ, zero, suc, ◌+◌, ◌-◌, List, [], ◌∷◌, ◌++◌, Bool, true, false, not, ◌&&◌, ◌||◌, nat_eq, nat_lt, Option, Some, None, if◌then◌else◌}
+use Rattle.std.specs.Prelude.{◌≡◌, ◌≤◌, ℕ, zero, suc, ◌+◌, ◌-◌, List, [], ◌∷◌, Bool, true, false, not, ◌&&◌, ◌||◌, nat_eq, nat_lt, Option, Some, None, if◌then◌else◌}
 use Rattle.std.specs.Option.{option_map}
 use Rattle.afs_num.specs.declared.messages.Message.{Message}
 use Rattle.afs_num.specs.declared.messages.Received.{Received}
@@ -206,7 +206,7 @@ settled can o = if can then comes_up else is_full
 
 -- it stays down, in the state that was found
 abbrev pub stays : {S : Type 0} → Begun S → Line → Fall → HostStep S
-stays {S} f l fall = record { host = record { state = f.state; down = Some fall; armed = unarmed }; lines = f.before ++ l ∷ []; sent = [] }
+stays {S} f l fall = record { host = record { state = f.state; down = Some fall; armed = unarmed }; lines = f.before (l ∷ []); sent = [] }
 
 -- it begins with this, and ends so
 abbrev pub ends : {S : Type 0} → Kind S → Host S → ℕ → ℕ → Begun S → Fall → Outcome → HostStep S

@@ -414,6 +414,6 @@ revived s = record s { lasting = lasting_started s.lasting; seats = s.lasting.ke
 abbrev pub begun_after : Node → ServerState → ℕ → Decision → Begun ServerState
 begun_after me s clock (saves head c) = record {
   state = saved head clock c s;
-  before = lines.Change me (key_of head) (length (made c)) ∷ versioned (made c) [];
+  before = λ ls. lines.Change me (key_of head) (length (made c)) ∷ versioned (made c) ls;
 }
 begun_after me s clock d = begun_before s

@@ -1,5 +1,5 @@
 -- The steps of a file server, each with its new state, its lines and the messages that it sends.
-use Rattle.std.specs.Prelude.{ℕ, ◌+◌, List, [], ◌∷◌, ◌++◌}
+use Rattle.std.specs.Prelude.{ℕ, ◌+◌, List, [], ◌∷◌}
 use Rattle.afs_num.specs.declared.types.Node.{Node}
 use Rattle.afs_num.specs.declared.messages.Received.{Received}
 use Rattle.afs_rows.specs.Callbacks.{Turn, expired, no_turn, turned_in, timed, pumped, risen_turn}
@@ -32,4 +32,4 @@ wake_row me s clock = stepped me s [] (no_turn (expired clock s.backs))
 -- it begins again, in a cell of so many clients
 unfoldable pub start_row : Node → ℕ → ℕ → Begun ServerState → Step ServerState
 start_row me clock count begun =
-    stepped me (revived begun.state) (begun.before ++ lines.Restart me (begun.state.lasting.boot + 1) ∷ (risen_turn me clock count).lines) (risen_turn me clock count)
+    stepped me (revived begun.state) (begun.before (lines.Restart me (begun.state.lasting.boot + 1) ∷ (risen_turn me clock count).lines)) (risen_turn me clock count)

@@ -1,5 +1,5 @@
 -- What a step of a node gives, and what its restart begins with.
-use Rattle.std.specs.Prelude.{List, []}
+use Rattle.std.specs.Prelude.{List}
 use Rattle.afs_num.specs.declared.messages.Message.{Message}
 use Rattle.afs_history.specs.declared.lines.Line.{Line}
 
@@ -10,11 +10,11 @@ pub record Step (S : Type 0) : Type 0 where
   pub sent : List Message
 
 -- what a restart begins with: the state before the interrupted step, or that after it, at the step's own clock; and the lines that
--- the step would have told, which come before those of the restart
+-- the step would have told, put before those of the restart
 pub record Begun (S : Type 0) : Type 0 where
   pub state : S
-  pub before : List Line
+  pub before : List Line → List Line
 
 -- nothing was interrupted, or nothing of it is on the disk
 abbrev pub begun_before : {S : Type 0} → S → Begun S
-begun_before {S} s = record { state = s; before = [] }
+begun_before {S} s = record { state = s; before = λ ls. ls }
