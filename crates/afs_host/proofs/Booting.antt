@@ -28,9 +28,10 @@ use Rattle.afs_rows.specs.ServerRow.{lasting_started}
 use Rattle.afs_rows.specs.Steps.{Begun}
 use Rattle.afs_rows.specs.ServerSteps.{start_row}
 use Rattle.afs_rows.specs.States.{durable_of, Lasting, ServerState}
+use Rattle.afs_rows.specs.ServerHosts.{can_start}
 use Rattle.afs_volstore.specs.Stores.{IsCounted, IsKept, LeftAround, SameBut, Store}
 use Rattle.afs_server.specs.Seen.{begun_state, begun_step, lasting_of}
-use Rattle.afs_host.specs.Views.{count_mark}
+use Rattle.afs_host.specs.Views.{count_mark, shown_store}
 use Rattle.afs_host.specs.Seats.{IsStepDown, IsStepUp, Resting, ServerRunning}
 use Rattle.afs_host.specs.Standing.{Lies, LiesFound}
 use Rattle.afs_host.specs.Starting.{begun_with, BootsFrom, BootsOver, HasRisen, IsFound, Rises, Stays}
@@ -97,7 +98,7 @@ memory_failed f is failed = absurd cc
 -- ---- it doesn't fit
 
 pub full_boots : {D : Type 0} (seen : D → Option (List ℕ)) (may_leave : D → List ℕ → Type 0) (faults limit : D → ℕ) (begun : Begun ServerState) (records : List (List ℕ)) (front : List Line) (s t : Store (Fused D)) (clock count : ℕ) → IsFound seen begun records front s → SameBut s t → can_boot s.durable ≡ false →
-    IsKept t.durable (seen t.disk.disk) (may_leave t.disk.disk) → IsCounted t.count (seen t.disk.disk) → t.durable.capacity ≡ limit t.disk.disk → (result : Start (ServerRunning D) (Resting D)) → Stays t front (lines.Full s.node) result →
+    IsKept t.durable (seen t.disk.disk) (may_leave t.disk.disk) → IsCounted t.count (seen t.disk.disk) → t.durable.capacity ≡ limit t.disk.disk → (result : Start (ServerRunning D) (Resting D)) → Stays (shown_store t) front (lines.Full s.node) result →
     BootsFrom seen may_leave faults limit begun records s.node clock count s.disk.disk result
 full_boots {D} seen may_leave faults limit begun records front s t clock count found same not kept counted capacity (starts.Up r outs) stays_so = absurd stays_so
 full_boots {D} seen may_leave faults limit begun records front s t clock count found same not kept counted capacity (starts.Down d ls) stays_so =
@@ -114,7 +115,7 @@ full_boots {D} seen may_leave faults limit begun records front s t clock count f
           lies = λ told c left. inl (kept_before t.durable t.count (seen t.disk.disk) (may_leave t.disk.disk) begun.state read kept counted told c left);
           found = λ bytes at. (false, (tt, kept_there t.durable t.count (seen t.disk.disk) (may_leave t.disk.disk) begun.state read kept counted bytes at));
         };
-        lines = stays_so.1 ∙ ap (λ (f : List Line). f ++ lines.Full s.node ∷ []) (sym found.before);
+        lines = stays_so.1 ∙ sym (found.before (lines.Full s.node ∷ []));
         sent = refl;
       }),
     )
@@ -156,7 +157,7 @@ failed_lies {D} seen may_leave moment left_since now kept_law faults limit begun
     }) c is around.1
 
 pub failed_boots : {D : Type 0} (seen : D → Option (List ℕ)) (may_leave : D → List ℕ → Type 0) (moment : D → ℕ) (left_since : D → ℕ → List ℕ → Type 0) (now : (disk : D) (t : ℕ) (c : List ℕ) → t ≤ moment disk → may_leave disk c → left_since disk t c) (kept_law : StartsAreKept) (faults limit : D → ℕ)
-    (begun : Begun ServerState) (records : List (List ℕ)) (front : List Line) (s t : Store (Fused D)) (clock count : ℕ) → IsFound seen begun records front s → BootFails seen moment left_since faults limit s t → ((bytes : List ℕ) → seen t.disk.disk ≡ Some bytes → may_leave t.disk.disk bytes) → (result : Start (ServerRunning D) (Resting D)) → Stays t front (lines.Fault s.node) result →
+    (begun : Begun ServerState) (records : List (List ℕ)) (front : List Line) (s t : Store (Fused D)) (clock count : ℕ) → IsFound seen begun records front s → BootFails seen moment left_since faults limit s t → ((bytes : List ℕ) → seen t.disk.disk ≡ Some bytes → may_leave t.disk.disk bytes) → (result : Start (ServerRunning D) (Resting D)) → Stays (shown_store t) front (lines.Fault s.node) result →
     BootsFrom seen may_leave faults limit begun records s.node clock count s.disk.disk result
 failed_boots {D} seen may_leave moment left_since now kept_law faults limit begun records front s t clock count found fails shows (starts.Up r outs) stays_so = absurd stays_so
 failed_boots {D} seen may_leave moment left_since now kept_law faults limit begun records front s t clock count found fails shows (starts.Down d ls) stays_so =
@@ -175,7 +176,7 @@ failed_boots {D} seen may_leave moment left_since now kept_law faults limit begu
             found = λ bytes at. subst (λ (n : ℕ). LiesFound s.node begun.state in_boot (count_mark n) (whole_records bytes)) (sym number)
                 (found_free s.node begun.state in_boot (count_mark s.count) (whole_records bytes) (λ after. tt) (failed_lies seen may_leave moment left_since now kept_law faults limit begun records front s.node s t found fails bytes (shows bytes at)));
           };
-          lines = stays_so.1 ∙ ap (λ (f : List Line). f ++ lines.Fault s.node ∷ []) (sym found.before);
+          lines = stays_so.1 ∙ sym (found.before (lines.Fault s.node ∷ []));
           sent = refl;
         }),
         subst (λ (x : Resting D). Rose (faults s.disk.disk) (faults x.disk)) (sym stays_so.0) fails.rose,
@@ -222,13 +223,13 @@ risen_sent : (me : Node) (clock count : ℕ) (begun : Begun ServerState) (d : Du
 unfolding start_row
 risen_sent me clock count begun d read = ap (λ (l : Lasting). (pumped me l.boot (risen_turn me clock count)).sent) read
 
-risen_lines : (me : Node) (clock count : ℕ) (begun : Begun ServerState) (front : List Line) (d : Durable) → lasting_of d ≡ lasting_started begun.state.lasting → begun.before ≡ front →
+risen_lines : (me : Node) (clock count : ℕ) (begun : Begun ServerState) (front : List Line) (d : Durable) → lasting_of d ≡ lasting_started begun.state.lasting → ((ls : List Line) → begun.before ls ≡ front ++ ls) →
     front ++ lines.Restart me d.boot ∷ (begun_step me d clock count).lines ≡ (start_row me clock count begun).lines
 unfolding start_row
 risen_lines me clock count begun front d read before =
     ap (λ (l : Lasting). front ++ lines.Restart me l.boot ∷ (risen_turn me clock count).lines) read ∙ sym (before (lines.Restart me (begun.state.lasting.boot + 1) ∷ (risen_turn me clock count).lines))
 
-risen_up : {D : Type 0} (begun : Begun ServerState) (front : List Line) (s t : Store (Fused D)) (clock count : ℕ) (r : ServerRunning D) (outs : Outs) → lasting_of s.durable ≡ begun.state.lasting → begun.before ≡ front →
+risen_up : {D : Type 0} (begun : Begun ServerState) (front : List Line) (s t : Store (Fused D)) (clock count : ℕ) (r : ServerRunning D) (outs : Outs) → lasting_of s.durable ≡ begun.state.lasting → ((ls : List Line) → begun.before ls ≡ front ++ ls) →
     t ≡ record s { durable = started s.durable; disk = t.disk; prepared = None; count = s.count + 1 } → HasRisen t front count clock r outs → IsStepUp r [] outs (goes unarmed (start_row s.node clock count begun))
 risen_up {D} begun front s t clock count r outs read before store risen =
     let node : t.node ≡ s.node = ap (λ (x : Store (Fused D)). x.node) store in
@@ -264,14 +265,14 @@ risen_over {D} faults front s t clock count can store quiet (starts.Down d ls) r
 risen_over {D} faults front s t clock count can store quiet (starts.Unchanged d) risen = absurd risen
 risen_over {D} faults front s t clock count can store quiet (starts.Lost d) risen = (not_full (begun_state s.durable) s.durable refl can, ap faults risen ∙ quiet)
 
-pub full_over : {D : Type 0} (faults : D → ℕ) (front : List Line) (s t : Store (Fused D)) (clock count : ℕ) → can_boot s.durable ≡ false → faults t.disk.disk ≡ faults s.disk.disk → (result : Start (ServerRunning D) (Resting D)) → Stays t front (lines.Full s.node) result →
+pub full_over : {D : Type 0} (faults : D → ℕ) (front : List Line) (s t : Store (Fused D)) (clock count : ℕ) → can_boot s.durable ≡ false → faults t.disk.disk ≡ faults s.disk.disk → (result : Start (ServerRunning D) (Resting D)) → Stays (shown_store t) front (lines.Full s.node) result →
     BootsOver faults s.durable front s.node clock count (faults s.disk.disk) result
 full_over {D} faults front s t clock count not quiet (starts.Up r outs) stays_so = absurd stays_so
 full_over {D} faults front s t clock count not quiet (starts.Down d ls) stays_so = inl (settled_full (begun_state s.durable) s.durable refl not, (stays_so.1, ap (λ (x : Resting D). faults x.disk) stays_so.0 ∙ quiet))
 full_over {D} faults front s t clock count not quiet (starts.Unchanged d) stays_so = absurd stays_so
 full_over {D} faults front s t clock count not quiet (starts.Lost d) stays_so = absurd stays_so
 
-pub failed_over : {D : Type 0} (faults : D → ℕ) (front : List Line) (s t : Store (Fused D)) (clock count : ℕ) → can_boot s.durable ≡ true → Rose (faults s.disk.disk) (faults t.disk.disk) → (result : Start (ServerRunning D) (Resting D)) → Stays t front (lines.Fault s.node) result →
+pub failed_over : {D : Type 0} (faults : D → ℕ) (front : List Line) (s t : Store (Fused D)) (clock count : ℕ) → can_boot s.durable ≡ true → Rose (faults s.disk.disk) (faults t.disk.disk) → (result : Start (ServerRunning D) (Resting D)) → Stays (shown_store t) front (lines.Fault s.node) result →
     BootsOver faults s.durable front s.node clock count (faults s.disk.disk) result
 failed_over {D} faults front s t clock count can rose (starts.Up r outs) stays_so = absurd stays_so
 failed_over {D} faults front s t clock count can rose (starts.Down d ls) stays_so =

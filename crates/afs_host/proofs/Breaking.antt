@@ -18,7 +18,7 @@ use Rattle.afs_records.specs.Durable.{folded, Durable}
 use Rattle.afs_records.specs.Records.{record_bytes, FitsRecord}
 use Rattle.afs_records.proofs.Spelled.{record_read}
 use Rattle.afs_rows.specs.Hosts.{in_step, leaves_after, struck, Armed, Blow, fall_line, served, served_by}
-use Rattle.afs_rows.specs.ServerHosts.{ServerHost}
+use Rattle.afs_rows.specs.ServerHosts.{ServerHost, server_kind}
 use Rattle.afs_rows.specs.ServerRow.{begun_after, decides, device_calls, drops, refuses, repeats, saves, shows, tells_boot, Decision}
 use Rattle.afs_rows.specs.States.{ServerState}
 use Rattle.afs_volstore.specs.Stores.{IsCounted, IsKept, LeftAround, Store}

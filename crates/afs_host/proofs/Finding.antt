@@ -114,7 +114,7 @@ pub record Finds (me : Node) (s : ServerState) (fall : Fall) (durable : Durable)
   pub after : Bool
   pub may : MayFind fall after
   pub read : lasting_of durable ≡ (begun_by_disk me s after fall).state.lasting
-  pub before : (begun_by_disk me s after fall).before ≡ front
+  pub before : (ls : List Line) → (begun_by_disk me s after fall).before ls ≡ front ++ ls
 
 finds_before : (me : Node) (s : ServerState) (fall : Fall) (mark : Mark) (records : List (List ℕ)) (durable : Durable) (front : List Line) (capacity : ℕ) → durable.capacity ≡ capacity → s.lasting.capacity ≡ capacity →
     StandFor records durable → lines_begun me mark capacity records ≡ Some front → MayFind fall false → LiesBefore s mark records → Finds me s fall durable front
@@ -126,7 +126,7 @@ finds_before me s fall mark records durable front capacity dc sc stands lines ma
       after = false;
       may = may;
       read = ap lasting_of same ∙ (b.before.read ∙ ap (λ (x : Begun ServerState). x.state.lasting) (sym (state_before me s fall)));
-      before = ap (λ (x : Begun ServerState). x.before) (state_before me s fall) ∙ sym none;
+      before = λ ls. ap (λ (x : Begun ServerState). x.before ls) (state_before me s fall) ∙ ap (λ (f : List Line). f ++ ls) (sym none);
     }
 
 finds_after : (me : Node) (s : ServerState) (fall : Fall) (mark : Mark) (records : List (List ℕ)) (durable : Durable) (front : List Line) (capacity : ℕ) → durable.capacity ≡ capacity → s.lasting.capacity ≡ capacity →
@@ -147,7 +147,7 @@ finds_after me s fall mark records durable front capacity dc sc stands lines may
       after = true;
       may = may;
       read = ap lasting_of same ∙ a.after.read;
-      before = a.told ∙ sym told;
+      before = λ ls. a.told ls ∙ ap (λ (f : List Line). f ++ ls) (sym told);
     }
 
 finds_by : (me : Node) (s : ServerState) (fall : Fall) (mark : Mark) (records : List (List ℕ)) (durable : Durable) (front : List Line) (capacity : ℕ) → durable.capacity ≡ capacity → s.lasting.capacity ≡ capacity →

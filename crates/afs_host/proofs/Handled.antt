@@ -12,7 +12,7 @@ use Rattle.afs_disk.specs.Disk.{PassesAll, Setting}
 use Rattle.afs_disk.specs.Fuses.{Fused}
 use Rattle.afs_model.specs.Messages.{received, received_by, FindsMessages}
 use Rattle.afs_rows.specs.Hosts.{lowered, steady, Armed, given, served}
-use Rattle.afs_rows.specs.ServerHosts.{ServerHost}
+use Rattle.afs_rows.specs.ServerHosts.{ServerHost, server_kind}
 use Rattle.afs_rows.specs.ServerRow.{decides, device_calls, Decision}
 use Rattle.afs_rows.specs.ServerSteps.{server_row}
 use Rattle.afs_volstore.specs.Stores.{Store}

@@ -102,7 +102,7 @@ pub record Begins (me : Node) (s : ServerState) (fall : Fall) (records : List (L
   pub read_again : record_at (record_bytes r) ≡ Some r
   pub made : record_of_fall me s fall ≡ Some r
   pub left : (e : Durable) → folded r durable ≡ Some e → lasting_of e ≡ (begun_by_disk me s true fall).state.lasting
-  pub told : (begun_by_disk me s true fall).before ≡ map in_words (effect_of me r durable)
+  pub told : (ls : List Line) → (begun_by_disk me s true fall).before ls ≡ map in_words (effect_of me r durable) ++ ls
 
 abbrev begun_before : (me : Node) (s : ServerState) (fall : Fall) (records : List (List ℕ)) (count : ℕ) (durable : Durable) (r : StoreRecord) → Begins me s fall records count durable r → LiesBefore s (count_mark count) records
 begun_before me s fall records count durable r b = record {

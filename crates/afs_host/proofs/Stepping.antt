@@ -28,7 +28,7 @@ use Rattle.afs_model.specs.CellRows.{call_number}
 use Rattle.afs_model.specs.Messages.{is_unserved, is_whole, messages_spelled, FoundBy}
 use Rattle.afs_rows.specs.Callbacks.{expired, turned_in}
 use Rattle.afs_rows.specs.Hosts.{fail_blow, lowered, sooner, steady, stop_blow, struck, within, Armed, Blow, goes, served, served_by, HostStep}
-use Rattle.afs_rows.specs.ServerHosts.{ServerHost}
+use Rattle.afs_rows.specs.ServerHosts.{ServerHost, server_kind}
 use Rattle.afs_rows.specs.ServerRow.{admits, called, decides, device_calls, drops, hears, is_client, not_served, refuses, repeats, runs, runs_carried, runs_received, saves, serves_call, shows, tells_boot, whole, Decision}
 use Rattle.afs_rows.specs.ServerSteps.{done, server_row}
 use Rattle.afs_rows.specs.States.{BackCall, ServerState}

@@ -44,7 +44,7 @@ pub record LiesAfter (me : Node) (s : ServerState) (fall : Fall) (mark : Mark) (
   pub made : record_of_fall me s fall ≡ Some last
   pub read_again : record_at (record_bytes last) ≡ Some last
   pub after : StandsFor records (begun_by_disk me s true fall).state.lasting
-  pub told : (begun_by_disk me s true fall).before ≡ map in_words (effect_of me last before.before.durable)
+  pub told : (ls : List Line) → (begun_by_disk me s true fall).before ls ≡ map in_words (effect_of me last before.before.durable) ++ ls
 
 -- ---- a node of any kind
 

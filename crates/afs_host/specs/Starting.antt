@@ -57,7 +57,7 @@ IsStarted {D} seen may_leave faults limit me clock count old (starts.Lost s) =
 
 -- a restart over this durable part, which tells these lines first
 abbrev pub begun_with : Durable → List Line → Begun ServerState
-begun_with d front = record { state = begun_state d; before = front }
+begun_with d front = record { state = begun_state d; before = λ ls. front ++ ls }
 
 -- The record of the boot was put after what was found, and the server is up in that boot; or it didn't fit, or the disk failed while
 -- it was written, and the server stays down. Or memory ran out before the record was begun, or once it was on the disk. Where it isn't
@@ -114,7 +114,7 @@ GoesOnStarted {D} me old (starts.Lost s) = Unit {0}
 -- A store that was made of a disk which held these records: the restart begins so, and with these lines.
 pub record IsFound {D : Type 0} (seen : D → Option (List ℕ)) (begun : Begun ServerState) (records : List (List ℕ)) (front : List Line) (s : Store (Fused D)) : Type 0 where
   pub read : lasting_of s.durable ≡ begun.state.lasting
-  pub before : begun.before ≡ front
+  pub before : (ls : List Line) → begun.before ls ≡ front ++ ls
   pub stands : StandFor records s.durable
   pub counted : s.count ≡ length records
   pub told : (bytes : List ℕ) × ((seen s.disk.disk ≡ Some bytes) × (whole_records bytes ≡ records))
