@@ -11,10 +11,11 @@ use Rattle.afs_history.specs.declared.lines.Line.TheVariants as lines
 use Rattle.afs_history.specs.declared.lines.Outs.{Outs}
 use Rattle.afs_disk.specs.Disk.{Rose}
 use Rattle.afs_model.specs.Messages.{received}
-use Rattle.afs_rows.specs.Runs.{Host}
-use Rattle.afs_host.specs.Hosts.{HostStep}
-use Rattle.afs_host.specs.Seats.{disk_of, IsStepDown, IsUp, Resting, Running}
-use Rattle.afs_host.specs.Serving.{HasFallen, HasServed}
+use Rattle.afs_rows.specs.ServerHosts.{ServerHost, server_kind}
+use Rattle.afs_rows.specs.Hosts.{HostStep}
+use Rattle.afs_rows.specs.States.{ServerState}
+use Rattle.afs_host.specs.Seats.{disk_of, IsStepDown, IsUp, Resting, ServerRunning}
+use Rattle.afs_host.specs.Serving.{HasServed, HasFallen}
 use Rattle.afs_host.specs.declared.seats.Seat.TheVariants.{Down, Up}
 use Rattle.afs_clients.specs.Happening.{ClientTells}
 use Rattle.afs_cell.specs.Happening.{HasHeard, IsFallen, IsSeatOf, SeatGoes, SeatHappens, SeatKeeps, ServersHappened}
@@ -35,7 +36,7 @@ put_twice (suc (suc n)) x y (z ∷ zs) = ap (λ ws. z ∷ ws) (put_twice (suc n)
 
 module _ {D : Type 0} (seen : D → Option (List ℕ)) (left_by : D → ℕ → Option (List ℕ)) (may_leave : D → List ℕ → Type 0) (faults limit : D → ℕ) where
   -- what is so of the server once it is down is so of what comes of its fall
-  pub by_fall : (Is : ServerSeat D → Happened → Type 0) (r : Running D) → ((s : Resting D) (line : Line) → HasFallen seen left_by may_leave faults limit r s line → ((outs : Outs) → ClientTells line outs → Is (Down s) (happened.Step outs)) × Is (Down s) happened.Lost)
+  pub by_fall : (Is : ServerSeat D → Happened → Type 0) (r : ServerRunning D) → ((s : Resting D) (line : Line) → HasFallen seen left_by may_leave faults limit r s line → ((outs : Outs) → ClientTells line outs → Is (Down s) (happened.Step outs)) × Is (Down s) happened.Lost)
       → SeatBecomes seen left_by may_leave faults limit Is (Up r) None
   by_fall Is r each (Up x) what falls = absurd falls
   by_fall Is r each (Down s) happened.Nothing falls = absurd falls
@@ -43,14 +44,14 @@ module _ {D : Type 0} (seen : D → Option (List ℕ)) (left_by : D → ℕ → 
   by_fall Is r each (Down s) happened.Unchanged falls = absurd falls
   by_fall Is r each (Down s) happened.Lost falls = (each s falls.0 falls.1).1
 
-  pub fell_happens : (i clock place : ℕ) (bytes : List ℕ) (seat : ServerSeat D) (was r : Running D) → seat ≡ Up was → IsSeatOf i seat
-      → ((s : Resting D) (line : Line) → HasFallen seen left_by may_leave faults limit r s line → (h : Host) → IsUp was h → (m : Message) → received bytes ≡ Whole m → (place : ℕ) → HasServed was.store.node h clock place m (IsStepDown seen may_leave limit was.store.node s (lines.Given place ∷ line ∷ [])) (Rose (faults (disk_of was)) (faults s.disk)))
+  pub fell_happens : (i clock place : ℕ) (bytes : List ℕ) (seat : ServerSeat D) (was r : ServerRunning D) → seat ≡ Up was → IsSeatOf i seat
+      → ((s : Resting D) (line : Line) → HasFallen seen left_by may_leave faults limit r s line → (h : ServerHost) → IsUp was h → (m : Message) → received bytes ≡ Whole m → (place : ℕ) → HasServed (server_kind was.store.node) h clock place m (IsStepDown seen may_leave limit was.store.node s (lines.Given place ∷ line ∷ [])) (Rose (faults (disk_of was)) (faults s.disk)))
       → SeatBecomes seen left_by may_leave faults limit (λ s what. SeatHappens seen may_leave faults limit i (lines.Given place ∷ []) IsFallen (HasHeard (Server i) clock place bytes) seat s what) (Up r) None
   fell_happens i clock place bytes seat was r is own served =
       by_fall (λ s what. SeatHappens seen may_leave faults limit i (lines.Given place ∷ []) IsFallen (HasHeard (Server i) clock place bytes) seat s what) r
       (λ s line has. ((λ outs tells. heard_down seen may_leave faults limit i clock place bytes seat was s line outs is own tells (served s line has)), tt))
 
-  pub fell_keeps : (seat : ServerSeat D) (was r : Running D) → seat ≡ Up was
+  pub fell_keeps : (seat : ServerSeat D) (was r : ServerRunning D) → seat ≡ Up was
       → ((s : Resting D) (line : Line) → HasFallen seen left_by may_leave faults limit r s line → IsSome (seen s.disk) ↔ IsSome (seen (disk_of was)))
       → ((s : Resting D) (line : Line) → HasFallen seen left_by may_leave faults limit r s line → limit s.disk ≡ limit (disk_of was))
       → ((s : Resting D) (line : Line) → HasFallen seen left_by may_leave faults limit r s line → faults (disk_of was) ≤ faults s.disk)
@@ -73,7 +74,7 @@ module _ {D : Type 0} (seen : D → Option (List ℕ)) (left_by : D → ℕ → 
   up_at old was seat found up = (seat, (at_here i seat was old found, up))
 
   -- what became of it in its place, and of what stands there once it has fallen
-  module _ (front : List Line) (IsVoid : Host → Type 0) (Has : Host → (HostStep → Type 0) → Type 0 → Type 0) (old : List (ServerSeat D)) (was seat : ServerSeat D) (found : at_place old i ≡ Some was) where
+  module _ (front : List Line) (IsVoid : ServerHost → Type 0) (Has : ServerHost → (HostStep ServerState → Type 0) → Type 0 → Type 0) (old : List (ServerSeat D)) (was seat : ServerSeat D) (found : at_place old i ≡ Some was) where
     pub server_changed : (new : List (ServerSeat D)) (what : Happened) → new ≡ put_place i seat old → SeatHappens seen may_leave faults limit i front IsVoid Has was seat what → SeatGoes i was seat what → SeatKeeps seen faults limit was seat
         → ServersHappened seen may_leave faults limit i front IsVoid Has old new what
     server_changed new what put happens goes keeps = inr (record { was = was; now = seat; found = found; put = put; happens = happens; goes = goes; keeps = keeps })

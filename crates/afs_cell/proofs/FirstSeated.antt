@@ -5,7 +5,7 @@ use Rattle.afs_num.specs.declared.types.Node.TheVariants.{Server}
 use Rattle.afs_history.specs.declared.scripts.Script.{Script}
 use Rattle.afs_disk.specs.Disk.{Rose}
 use Rattle.afs_disk.specs.declared.disks.Lent.{Lent}
-use Rattle.afs_host.specs.Seats.{Running}
+use Rattle.afs_host.specs.Seats.{ServerRunning}
 use Rattle.afs_host.specs.declared.seats.Seat.TheVariants.{Down, Up}
 use Rattle.afs_cell.specs.Ends.{AreLeft, IsRefused, IsRefusedBy, NoneFell, NoneRose, RoseAt}
 use Rattle.afs_cell.specs.FirstSeats.{AreBack, AreFirstSeats, IsBack, IsFirstSeat, IsFirstServer, IsRefusedAt}
@@ -34,7 +34,7 @@ handed_all {D} back one two three all ls rest x none a b c d =
 
 module _ {D : Type 0} (seen : D → Option (List ℕ)) (may_leave : D → List ℕ → Type 0) (faults limit : D → ℕ) (s : Script) where
   -- one server more
-  pub one_seat_more : (i j : ℕ) (ls : List (Lent D)) (seats : List (ServerSeat D)) (l : Lent D) (rest : List (Lent D)) (r : Running D) → AreFirstSeats seen may_leave faults limit s i ls seats (l ∷ rest) → j ≡ i + length seats → IsFirstServer seen may_leave faults limit s j l.disk r
+  pub one_seat_more : (i j : ℕ) (ls : List (Lent D)) (seats : List (ServerSeat D)) (l : Lent D) (rest : List (Lent D)) (r : ServerRunning D) → AreFirstSeats seen may_leave faults limit s i ls seats (l ∷ rest) → j ≡ i + length seats → IsFirstServer seen may_leave faults limit s j l.disk r
       → AreFirstSeats seen may_leave faults limit s i ls (seats ++ Up r ∷ []) rest
   one_seat_more i j ls [] l rest r e at first =
       let here : j ≡ i = omega (arith, at) in

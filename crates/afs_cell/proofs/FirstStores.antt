@@ -22,7 +22,7 @@ use Rattle.afs_callbacks.specs.States.{IsPromiseToNode}
 use Rattle.afs_server_parts.specs.Turning.{IsBreakToNode}
 use Rattle.afs_volstore.specs.Opening.{IsSetUpFault, IsSetUpSoFar}
 use Rattle.afs_volstore.specs.Stores.{IsCaused, IsKept, Store}
-use Rattle.afs_host.specs.Seats.{CanRun, Running}
+use Rattle.afs_host.specs.Seats.{CanRun, ServerRunning}
 use Rattle.afs_cell.specs.Ends.{IsLeftAt}
 use Rattle.afs_cell.specs.FirstSeats.{IsBack, IsCausedAt, IsFirstServer, IsFirstStore, IsRefusedAt}
 use Rattle.afs_cell.specs.Refusing.{refused_as}
@@ -122,12 +122,12 @@ module _ {D : Type 0} (seen : D → Option (List ℕ)) (may_leave : D → List �
         calls = λ n. tt;
       })))
 
-  pub first_server : (old : D) (t : Store (Fused D)) (m : Memory) (r : Running D) → IsFirstStore seen may_leave faults limit s i old t → m ≡ first_memory → r ≡ record { memory = m; store = t; armed = record { stop = None; fail = None } } → CanRun r → IsFirstServer seen may_leave faults limit s i old r
+  pub first_server : (old : D) (t : Store (Fused D)) (m : Memory) (r : ServerRunning D) → IsFirstStore seen may_leave faults limit s i old t → m ≡ first_memory → r ≡ record { memory = m; store = t; armed = record { stop = None; fail = None } } → CanRun r → IsFirstServer seen may_leave faults limit s i old r
   first_server old t m r first is value can =
-      let stored : r.store ≡ t = ap (λ (x : Running D). x.store) value in
+      let stored : r.store ≡ t = ap (λ (x : ServerRunning D). x.store) value in
       let node : t.node ≡ Server i = ap (λ (x : Store (Fused D)). x.node) first.rest in
       let drawn : t.drawn ≡ 0 = ap (λ (x : Store (Fused D)). x.drawn) first.rest in
-      let memory : r.memory ≡ first_memory = ap (λ (x : Running D). x.memory) value ∙ is in
+      let memory : r.memory ≡ first_memory = ap (λ (x : ServerRunning D). x.memory) value ∙ is in
       let none : r.memory.lists.last_owed + length r.memory.lists.promises ≡ 0 = ap (λ (x : Memory). x.lists.last_owed + length x.lists.promises) memory in
       let few : r.store.disk.calls ≤ 12 = subst (λ (x : Store (Fused D)). x.disk.calls ≤ 12) (sym stored) first.few in
       let drew : r.store.drawn ≡ 0 = ap (λ (x : Store (Fused D)). x.drawn) stored ∙ drawn in
@@ -142,7 +142,7 @@ module _ {D : Type 0} (seen : D → Option (List ℕ)) (may_leave : D → List �
         host = record {
           state = sym (ap₂ (λ (x : Memory) (y : Store (Fused D)). state_seen x y.durable y.drawn) memory stored ∙ ap₂ (λ (d : Durable) (n : ℕ). state_seen first_memory d n) first.durable_is drawn);
           down = refl;
-          armed = sym (ap (λ (x : Running D). x.armed) value);
+          armed = sym (ap (λ (x : ServerRunning D). x.armed) value);
         };
         same_limit = ap (λ (x : Store (Fused D)). limit x.disk.disk) stored ∙ first.same_limit;
         quiet = ap (λ (x : Store (Fused D)). faults x.disk.disk) stored ∙ first.quiet;

@@ -10,7 +10,9 @@ use Rattle.afs_disk.specs.declared.disks.Lent.{Lent}
 use Rattle.afs_journal.specs.Records.{whole_records}
 use Rattle.afs_records.specs.Durable.{Durable}
 use Rattle.afs_volstore.specs.Stands.{Stands}
-use Rattle.afs_rows.specs.Runs.{at_rest, begun_by_disk, in_boot, in_step, Cell, Fall, MayBegin, MayFind}
+use Rattle.afs_rows.specs.Runs.{Cell}
+use Rattle.afs_rows.specs.ServerHosts.{begun_by_disk}
+use Rattle.afs_rows.specs.Hosts.{at_rest, in_boot, in_step, Fall, MayBegin, MayFind}
 use Rattle.afs_rows.specs.ServerRow.{begun_after, decides, drops, refuses, repeats, saves, shows, tells_boot, Decision}
 use Rattle.afs_rows.specs.States.{Lasting, ServerState}
 use Rattle.afs_host.specs.Seats.{IsDown, Resting}

@@ -9,10 +9,11 @@ use Rattle.afs_history.specs.declared.lines.Line.TheVariants as lines
 use Rattle.afs_history.specs.declared.lines.Outs.{Outs}
 use Rattle.afs_history.specs.declared.scripts.Event.TheVariants as events
 use Rattle.afs_disk.specs.Disk.{Rose}
-use Rattle.afs_rows.specs.Runs.{back_timed, comes_up, fails_early, fails_midway, given_at, given_to, gives, gives_out, has_host, if_host, is_full, message_at, moved, server_armed, server_given, server_restarted, server_stopped, server_timed, server_waits, server_wakes, sets_fail, sets_stop, starts_again, steady, stops, voided, wakes, at_rest, in_boot, in_step, leaves_after, Cell, Fall, Input, Luck, MayBegin, Moved, Outcome}
+use Rattle.afs_rows.specs.Runs.{back_timed, given_at, given_to, gives, has_host, if_host, message_at, moved, server_armed, server_given, server_restarted, server_stopped, server_timed, server_waits, server_wakes, sets_fail, sets_stop, starts_again, stops, voided, wakes, Cell, Input, Moved}
+use Rattle.afs_rows.specs.Hosts.{comes_up, fails_early, fails_midway, gives_out, is_full, steady, at_rest, in_boot, in_step, leaves_after, Fall, Luck, MayBegin, Outcome, crashed, restarted, served, set_to_fail, set_to_stop, Fails, GivesOut, HostStep}
 use Rattle.afs_schedule.specs.Schedules.{left_by, IsInput, IsLuck, Turn}
 use Rattle.afs_host.specs.Hosts as host
-use Rattle.afs_host.specs.Hosts.{crashed, restarted, served, set_to_fail, set_to_stop, timed_out, woken, Fails, GivesOut, HostStep}
+use Rattle.afs_rows.specs.ServerHosts.{timed_out, woken, server_kind}
 use Rattle.afs_host.proofs.Placed.{moved_crashed, moved_restarted, moved_served, moved_set_to_fail, moved_set_to_stop, moved_timed_out, moved_woken}
 use Rattle.afs_clients.specs.Happening.{IsGiven}
 use Rattle.afs_cell.specs.Happening.{HasHeard, HasStep, IsFallen, IsSeatStep, IsVoidServer}
@@ -69,7 +70,7 @@ module _ {D : Type 0} (seen : D → Option (List ℕ)) (may_leave : D → List �
       record {
         input = gives place s.luck;
         is_one = (s.luck, (refl, luck_is s.luck s.is_luck));
-        step = served (Server i) (t.cell.hosts i) t.cell.clock place s.luck f.message;
+        step = served (server_kind (Server i)) (t.cell.hosts i) t.cell.clock place s.luck f.message;
         moves = moved_served t.cell i place s.luck f.message f.at (sym (ap (λ h. h.to) f.carries.head) ∙ to) (host_there w.servers i was t.cell here cell.host_count) heard.0;
         left = refl;
         good = s.is;
@@ -107,7 +108,7 @@ module _ {D : Type 0} (seen : D → Option (List ℕ)) (may_leave : D → List �
   link_input t w i (server.Crash pick) was now outs cell here h = record {
     input = stops i;
     is_one = refl;
-    step = crashed (Server i) (t.cell.hosts i);
+    step = crashed (server_kind (Server i)) (t.cell.hosts i);
     moves = moved_crashed t.cell i (host_there w.servers i was t.cell here cell.host_count) h.0;
     left = refl;
     good = h.1;
@@ -116,7 +117,7 @@ module _ {D : Type 0} (seen : D → Option (List ℕ)) (may_leave : D → List �
   link_input t w i server.Restart was now outs cell here h = record {
     input = starts_again i h.1.1.after h.1.1.outcome;
     is_one = (h.1.1.after, (h.1.1.outcome, (subst (λ (d : Option Fall). MayBegin d h.1.1.after) (sym h.1.0) h.1.1.may, refl)));
-    step = restarted (Server i) (t.cell.hosts i) t.cell.clock t.cell.count h.1.1.after h.1.1.outcome h.0;
+    step = restarted (server_kind (Server i)) (t.cell.hosts i) t.cell.clock t.cell.count h.1.1.after h.1.1.outcome h.0;
     moves = moved_restarted t.cell i h.1.1.after h.1.1.outcome h.0 (host_there w.servers i was t.cell here cell.host_count) h.1.0;
     left = refl;
     good = h.1.1.is;
@@ -125,7 +126,7 @@ module _ {D : Type 0} (seen : D → Option (List ℕ)) (may_leave : D → List �
   link_input t w i (server.Stop calls pick) was now outs cell here h = record {
     input = sets_stop i calls pick;
     is_one = refl;
-    step = set_to_stop (Server i) (t.cell.hosts i) calls pick;
+    step = set_to_stop (server_kind (Server i)) (t.cell.hosts i) calls pick;
     moves = moved_set_to_stop t.cell i calls pick (host_there w.servers i was t.cell here cell.host_count) h.0;
     left = refl;
     good = h.1;
@@ -134,7 +135,7 @@ module _ {D : Type 0} (seen : D → Option (List ℕ)) (may_leave : D → List �
   link_input t w i (server.Fail call) was now outs cell here h = record {
     input = sets_fail i call;
     is_one = refl;
-    step = set_to_fail (Server i) (t.cell.hosts i) call;
+    step = set_to_fail (server_kind (Server i)) (t.cell.hosts i) call;
     moves = moved_set_to_fail t.cell i call (host_there w.servers i was t.cell here cell.host_count) h.0;
     left = refl;
     good = h.1;
@@ -187,11 +188,11 @@ void_input c i server.Wake none = gone c i (server_wakes c i (c.hosts i).down) (
 void_input c i (server.Crash pick) none = gone c i (server_stopped c i (c.hosts i).down) (either c i (server_stopped c i) (λ fall. refl) none)
 void_input c i server.Restart none = void_restart c i false none
 void_input c i (server.Stop calls pick) none =
-    gone c i (server_armed c i (lines.Stop (Server i) calls pick) (record (c.hosts i).armed { stop = Some (calls, pick) }) (c.hosts i).down)
-    (either c i (server_armed c i (lines.Stop (Server i) calls pick) (record (c.hosts i).armed { stop = Some (calls, pick) })) (λ fall. refl) none)
+    gone c i (server_armed c i (set_to_stop (server_kind (Server i)) (c.hosts i) calls pick) (c.hosts i).down)
+    (either c i (server_armed c i (set_to_stop (server_kind (Server i)) (c.hosts i) calls pick)) (λ fall. refl) none)
 void_input c i (server.Fail call) none =
-    gone c i (server_armed c i (lines.Fail (Server i) call) (record (c.hosts i).armed { fail = Some call }) (c.hosts i).down)
-    (either c i (server_armed c i (lines.Fail (Server i) call) (record (c.hosts i).armed { fail = Some call })) (λ fall. refl) none)
+    gone c i (server_armed c i (set_to_fail (server_kind (Server i)) (c.hosts i) call) (c.hosts i).down)
+    (either c i (server_armed c i (set_to_fail (server_kind (Server i)) (c.hosts i) call)) (λ fall. refl) none)
 
 -- a restart may always begin in some way
 some_begin : (d : Option Fall) → (after : Bool) × MayBegin d after

@@ -3,8 +3,8 @@ use Rattle.std.proofs.Common.{refl, ap, sym, subst, ◌∙◌, ◌≡◌, ◌-�
 use Rattle.std.specs.List.{insert}
 use Rattle.afs_num.specs.Places.{at_place}
 use Rattle.afs_num.specs.declared.types.Node.TheVariants.{Server}
-use Rattle.afs_rows.specs.Runs.{Host}
-use Rattle.afs_host.specs.Seats.{Running}
+use Rattle.afs_rows.specs.ServerHosts.{ServerHost}
+use Rattle.afs_host.specs.Seats.{ServerRunning}
 use Rattle.afs_host.specs.declared.seats.Seat.TheVariants.{Up}
 use Rattle.afs_server.specs.Handling.{server_seen}
 use Rattle.afs_cell.specs.Happening.{HasStep, IsVoidServer, ServersHappened, Settles}
@@ -48,11 +48,11 @@ module _ {D : Type 0} (seen : D → Option (List ℕ)) (left_by : D → ℕ → 
 
   module _ (may_leave : D → List ℕ → Type 0) (faults limit : D → ℕ) where
     -- a server that is up isn't void for a crash
-    up_not_void : (i pick : ℕ) (r : Running D) (old new : List (ServerSeat D)) (clock count : ℕ) → at_place old i ≡ Some (Up r)
+    up_not_void : (i pick : ℕ) (r : ServerRunning D) (old new : List (ServerSeat D)) (clock count : ℕ) → at_place old i ≡ Some (Up r)
         → ServersHappened seen may_leave faults limit i [] (IsVoidServer (server.Crash pick)) (HasStep (Server i) clock count (server.Crash pick)) old new happened.Nothing → ⊥
     up_not_void i pick r old new clock count at (inl none) = none_some (Up r) (sym none.none ∙ at)
     up_not_void i pick r old new clock count at (inr one) =
-        let h : Host = record { state = server_seen r.memory r.store; armed = r.armed; down = None } in
+        let h : ServerHost = record { state = server_seen r.memory r.store; armed = r.armed; down = None } in
         let same : one.was ≡ Up r = some_is one.was (Up r) (sym one.found ∙ at) in
         let void = one.happens.1 h (subst (λ (s : ServerSeat D). IsHost seen may_leave limit i s h) (sym same) (record { state = refl; down = refl; armed = refl })) in
         none_some void.0 void.1

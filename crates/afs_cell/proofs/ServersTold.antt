@@ -9,9 +9,11 @@ use Rattle.afs_history.specs.declared.lines.Outs.{Outs}
 use Rattle.afs_history.specs.declared.scripts.Event.TheVariants as events
 use Rattle.afs_history.specs.declared.scripts.Script.{Script}
 use Rattle.afs_disk.specs.Disk.{Rose}
-use Rattle.afs_rows.specs.Runs.{has_host, Host, Input}
+use Rattle.afs_rows.specs.Runs.{has_host, Input}
+use Rattle.afs_rows.specs.ServerHosts.{ServerHost}
 use Rattle.afs_schedule.specs.Schedules.{IsInput, Turn}
-use Rattle.afs_host.specs.Hosts.{HostStep}
+use Rattle.afs_rows.specs.Hosts.{HostStep}
+use Rattle.afs_rows.specs.States.{ServerState}
 use Rattle.afs_clients.specs.Happening.{entry_of, front_lines, void_entry, IsGiven}
 use Rattle.afs_cell.specs.Happening.{HasHeard, HasStep, IsFallen, IsSeatStep, IsVoidServer, OneHappened, ServersHappened, Settles}
 use Rattle.afs_cell.specs.Steps.{IsAt, Stepped}
@@ -31,7 +33,7 @@ abbrev with_servers : {D : Type 0} → WorldState D → List (ServerSeat D) → 
 with_servers {D} w servers = record w { servers = servers }
 
 module _ {D : Type 0} (seen : D → Option (List ℕ)) (may_leave : D → List ℕ → Type 0) (faults limit : D → ℕ) (s : Script) (is : Turn → Input → Type 0) (w : WorldState D) (i : ℕ) (front : Option Line)
-    (IsVoid : Host → Type 0) (Has : Host → (HostStep → Type 0) → Type 0 → Type 0) where
+    (IsVoid : ServerHost → Type 0) (Has : ServerHost → (HostStep ServerState → Type 0) → Type 0 → Type 0) where
   abbrev Voids : Type 0
   Voids = AllTell seen w.servers → (t : Turn) → IsAt seen may_leave limit w t.cell t.left → (has_host t.cell i ≡ false) ⊎ IsVoid (t.cell.hosts i) → Voided (is t) t
 

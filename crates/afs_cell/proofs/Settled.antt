@@ -10,7 +10,8 @@ use Rattle.afs_history.specs.declared.lines.Entry as kept
 use Rattle.afs_history.specs.declared.lines.Line.{Line}
 use Rattle.afs_history.specs.declared.lines.Outs.{Outs}
 use Rattle.afs_history.specs.declared.scripts.Script.{Script}
-use Rattle.afs_rows.specs.Runs.{moved, voided, Cell, Entry, Host, Input, Moved}
+use Rattle.afs_rows.specs.Runs.{moved, voided, Cell, Entry, Input, Moved}
+use Rattle.afs_rows.specs.ServerHosts.{ServerHost}
 use Rattle.afs_schedule.specs.Schedules.{Turn}
 use Rattle.afs_text.specs.Telling.{told, sent_by}
 use Rattle.afs_host.specs.declared.seats.Seat.TheVariants.{Up, Down}
@@ -184,7 +185,7 @@ module _ {D : Type 0} (seen : D → Option (List ℕ)) (may_leave : D → List �
 
   pub step_wants : (s : Script) (is : Turn → Input → Type 0) (w : WorldState D) (i : ℕ) (was now : ServerSeat D) → IsSafe limit s w → at_place w.servers i ≡ Some was
       → ((entries : ℕ) → IsReadySeat i entries was → IsReadySeat i entries now) → SeatKeeps seen faults limit was now
-      → ((h : Host) → IsHost seen may_leave limit i was h → IsHost seen may_leave limit i now h) → Stepped seen may_leave faults limit s is w (put_server w i now) (Err faulty.OutOfMemory)
+      → ((h : ServerHost) → IsHost seen may_leave limit i was h → IsHost seen may_leave limit i now h) → Stepped seen may_leave faults limit s is w (put_server w i now) (Err faulty.OutOfMemory)
   step_wants s is w i was now safe found goes keeps same = record {
     steps = (
       record { script = refl; history = refl; wire = refl; clock = refl },

@@ -8,7 +8,7 @@ use Rattle.afs_disk.specs.declared.disks.Lent.{Lent}
 use Rattle.afs_rows.specs.Runs.{first_host, first_lasting, first_stored, volumes_at}
 use Rattle.afs_rows.specs.States.{durable_of}
 use Rattle.afs_volstore.specs.Stores.{IsKept, Store}
-use Rattle.afs_host.specs.Seats.{disk_of, IsUp, Running}
+use Rattle.afs_host.specs.Seats.{disk_of, IsUp, ServerRunning}
 use Rattle.afs_host.specs.declared.seats.Seat.TheVariants.{Down, Up}
 use Rattle.afs_cell.specs.Ends.{IsLeftAt}
 use Rattle.afs_cell.specs.Worlds.{IsReady, ServerSeat}
@@ -28,7 +28,7 @@ pub record IsFirstStore {D : Type 0} (seen : D → Option (List ℕ)) (may_leave
   pub left : IsLeftAt seen may_leave s i old t.disk.disk
 
 -- A server at set-up, over that disk.
-pub record IsFirstServer {D : Type 0} (seen : D → Option (List ℕ)) (may_leave : D → List ℕ → Type 0) (faults limit : D → ℕ) (s : Script) (i : ℕ) (old : D) (r : Running D) : Type 0 where
+pub record IsFirstServer {D : Type 0} (seen : D → Option (List ℕ)) (may_leave : D → List ℕ → Type 0) (faults limit : D → ℕ) (s : Script) (i : ℕ) (old : D) (r : ServerRunning D) : Type 0 where
   pub ready : IsReady i 0 r
   pub host : IsUp r (first_host s i)
   pub same_limit : limit (disk_of r) ≡ limit old

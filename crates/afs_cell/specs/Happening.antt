@@ -9,10 +9,10 @@ use Rattle.afs_history.specs.declared.lines.Line.{Line}
 use Rattle.afs_history.specs.declared.lines.Outs.{Outs}
 use Rattle.afs_disk.specs.Disk.{Rose}
 use Rattle.afs_model.specs.Messages.{messages_spelled, parcels_read, received}
-use Rattle.afs_rows.specs.Runs.{Fall, Host}
-use Rattle.afs_rows.specs.States.{BackCall}
+use Rattle.afs_rows.specs.Hosts.{Fall, crashed, set_to_fail, set_to_stop, HostStep}
+use Rattle.afs_rows.specs.ServerHosts.{ServerHost, timed_out, woken, server_kind}
+use Rattle.afs_rows.specs.States.{BackCall, ServerState}
 use Rattle.afs_server.specs.Seen.{CanDraw}
-use Rattle.afs_host.specs.Hosts.{crashed, set_to_fail, set_to_stop, timed_out, woken, HostStep}
 use Rattle.afs_host.specs.Seats.{CanRun}
 use Rattle.afs_host.specs.Serving.{HasServed}
 use Rattle.afs_host.specs.Starting.{HasStarted}
@@ -30,43 +30,43 @@ use Rattle.afs_clients.specs.Happening.{entry_of, front_lines, void_entry, NoneH
 -- ---- servers
 
 -- the host is down
-abbrev pub IsFallen : Host → Type 0
+abbrev pub IsFallen : ServerHost → Type 0
 IsFallen h = (fall : Fall) × (h.down ≡ Some fall)
 
 -- nothing comes of this at the host
-abbrev pub IsVoidServer : ServerInput → Host → Type 0
+abbrev pub IsVoidServer : ServerInput → ServerHost → Type 0
 IsVoidServer (server.TimeOut callee) h = IsFallen h ⊎ (h.state.backs.calls callee ≡ None)
 IsVoidServer server.Restart h = h.down ≡ None
 IsVoidServer input h = IsFallen h
 
 -- What it makes of this, at this time in a cell of so many clients, has a step that `Is` tells of. Where its disk fails by itself, the
 -- disk's count rose.
-abbrev pub HasStep : Node → ℕ → ℕ → ServerInput → Host → (HostStep → Type 0) → Type 0 → Type 0
+abbrev pub HasStep : Node → ℕ → ℕ → ServerInput → ServerHost → (HostStep ServerState → Type 0) → Type 0 → Type 0
 HasStep me clock count (server.TimeOut callee) h Is rose = (h.down ≡ None) × ((b : BackCall) × ((h.state.backs.calls callee ≡ Some b) × Is (timed_out me h clock callee b)))
 HasStep me clock count server.Wake h Is rose = (h.down ≡ None) × Is (woken me h clock)
-HasStep me clock count (server.Crash pick) h Is rose = (h.down ≡ None) × Is (crashed me h)
-HasStep me clock count server.Restart h Is rose = (fall : Fall) × ((h.down ≡ Some fall) × HasStarted me h clock count fall Is rose)
-HasStep me clock count (server.Stop calls pick) h Is rose = (h.down ≡ None) × Is (set_to_stop me h calls pick)
-HasStep me clock count (server.Fail call) h Is rose = (h.down ≡ None) × Is (set_to_fail me h call)
+HasStep me clock count (server.Crash pick) h Is rose = (h.down ≡ None) × Is (crashed (server_kind me) h)
+HasStep me clock count server.Restart h Is rose = (fall : Fall) × ((h.down ≡ Some fall) × HasStarted (server_kind me) h clock count fall Is rose)
+HasStep me clock count (server.Stop calls pick) h Is rose = (h.down ≡ None) × Is (set_to_stop (server_kind me) h calls pick)
+HasStep me clock count (server.Fail call) h Is rose = (h.down ≡ None) × Is (set_to_fail (server_kind me) h call)
 
 -- the message of a place, by its bytes
-abbrev pub HasHeard : Node → ℕ → ℕ → List ℕ → Host → (HostStep → Type 0) → Type 0 → Type 0
-HasHeard me clock place bytes h Is rose = (h.down ≡ None) × ((m : Message) → received bytes ≡ Whole m → HasServed me h clock place m Is rose)
+abbrev pub HasHeard : Node → ℕ → ℕ → List ℕ → ServerHost → (HostStep ServerState → Type 0) → Type 0 → Type 0
+HasHeard me clock place bytes h Is rose = (h.down ≡ None) × ((m : Message) → received bytes ≡ Whole m → HasServed (server_kind me) h clock place m Is rose)
 
 -- the server is what the host is after this step, and gave this out; these lines come before its own
-pub record IsSeatStep {D : Type 0} (seen : D → Option (List ℕ)) (may_leave : D → List ℕ → Type 0) (limit : D → ℕ) (i : ℕ) (new : ServerSeat D) (front : List Line) (outs : Outs) (s : HostStep) : Type 0 where
+pub record IsSeatStep {D : Type 0} (seen : D → Option (List ℕ)) (may_leave : D → List ℕ → Type 0) (limit : D → ℕ) (i : ℕ) (new : ServerSeat D) (front : List Line) (outs : Outs) (s : HostStep ServerState) : Type 0 where
   pub host : IsHost seen may_leave limit i new s.host
   pub lines : front ++ outs.lines ≡ s.lines
   pub sent : parcels_read outs.parcels ≡ messages_spelled s.sent
 
 -- Nothing came of it, and it wasn't for such a server; or the server made a step; or memory was wanting, and it stands for what it
 -- stood for, or can't be told of.
-abbrev pub SeatHappens : {D : Type 0} → (D → Option (List ℕ)) → (D → List ℕ → Type 0) → (D → ℕ) → (D → ℕ) → ℕ → List Line → (Host → Type 0) → (Host → (HostStep → Type 0) → Type 0 → Type 0) →
+abbrev pub SeatHappens : {D : Type 0} → (D → Option (List ℕ)) → (D → List ℕ → Type 0) → (D → ℕ) → (D → ℕ) → ℕ → List Line → (ServerHost → Type 0) → (ServerHost → (HostStep ServerState → Type 0) → Type 0 → Type 0) →
     ServerSeat D → ServerSeat D → Happened → Type 0
-SeatHappens {D} seen may_leave faults limit i front IsVoid Has old new happened.Nothing = (new ≡ old) × ((h : Host) → IsHost seen may_leave limit i old h → IsVoid h)
+SeatHappens {D} seen may_leave faults limit i front IsVoid Has old new happened.Nothing = (new ≡ old) × ((h : ServerHost) → IsHost seen may_leave limit i old h → IsVoid h)
 SeatHappens {D} seen may_leave faults limit i front IsVoid Has old new (happened.Step outs) =
-    IsSome (seen (seat_disk old)) → (h : Host) → IsHost seen may_leave limit i old h → Has h (IsSeatStep seen may_leave limit i new front outs) (Rose (faults (seat_disk old)) (faults (seat_disk new)))
-SeatHappens {D} seen may_leave faults limit i front IsVoid Has old new happened.Unchanged = (h : Host) → IsHost seen may_leave limit i old h → IsHost seen may_leave limit i new h
+    IsSome (seen (seat_disk old)) → (h : ServerHost) → IsHost seen may_leave limit i old h → Has h (IsSeatStep seen may_leave limit i new front outs) (Rose (faults (seat_disk old)) (faults (seat_disk new)))
+SeatHappens {D} seen may_leave faults limit i front IsVoid Has old new happened.Unchanged = (h : ServerHost) → IsHost seen may_leave limit i old h → IsHost seen may_leave limit i new h
 SeatHappens {D} seen may_leave faults limit i front IsVoid Has old new happened.Lost = Unit {0}
 
 -- it can be given what comes next
@@ -94,7 +94,7 @@ IsSeatOf {D} i (Down s) = Unit {0}
 -- ---- the servers
 
 -- one server took it
-pub record OneHappened {D : Type 0} (seen : D → Option (List ℕ)) (may_leave : D → List ℕ → Type 0) (faults limit : D → ℕ) (i : ℕ) (front : List Line) (IsVoid : Host → Type 0) (Has : Host → (HostStep → Type 0) → Type 0 → Type 0) (old new : List (ServerSeat D)) (what : Happened) : Type 0 where
+pub record OneHappened {D : Type 0} (seen : D → Option (List ℕ)) (may_leave : D → List ℕ → Type 0) (faults limit : D → ℕ) (i : ℕ) (front : List Line) (IsVoid : ServerHost → Type 0) (Has : ServerHost → (HostStep ServerState → Type 0) → Type 0 → Type 0) (old new : List (ServerSeat D)) (what : Happened) : Type 0 where
   pub was : ServerSeat D
   pub now : ServerSeat D
   pub found : at_place old i ≡ Some was
@@ -103,7 +103,7 @@ pub record OneHappened {D : Type 0} (seen : D → Option (List ℕ)) (may_leave 
   pub goes : SeatGoes i was now what
   pub keeps : SeatKeeps seen faults limit was now
 
-abbrev pub ServersHappened : {D : Type 0} → (D → Option (List ℕ)) → (D → List ℕ → Type 0) → (D → ℕ) → (D → ℕ) → ℕ → List Line → (Host → Type 0) → (Host → (HostStep → Type 0) → Type 0 → Type 0) →
+abbrev pub ServersHappened : {D : Type 0} → (D → Option (List ℕ)) → (D → List ℕ → Type 0) → (D → ℕ) → (D → ℕ) → ℕ → List Line → (ServerHost → Type 0) → (ServerHost → (HostStep ServerState → Type 0) → Type 0 → Type 0) →
     List (ServerSeat D) → List (ServerSeat D) → Happened → Type 0
 ServersHappened {D} seen may_leave faults limit i front IsVoid Has old new what =
     NoneHappened i old new what ⊎ OneHappened seen may_leave faults limit i front IsVoid Has old new what

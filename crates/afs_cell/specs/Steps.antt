@@ -5,7 +5,9 @@ use Rattle.afs_history.specs.declared.scripts.Script.{Script}
 use Rattle.afs_disk.specs.declared.disks.Lent.{Lent}
 use Rattle.afs_num.specs.declared.types.Node.{Node}
 use Rattle.afs_num.specs.declared.types.Node.TheVariants.{Client, Server}
-use Rattle.afs_rows.specs.Runs.{begun_by_disk, moved, start, Cell, Fall, Input, MayBegin}
+use Rattle.afs_rows.specs.Runs.{moved, start, Cell, Input}
+use Rattle.afs_rows.specs.Hosts.{Fall, MayBegin}
+use Rattle.afs_rows.specs.ServerHosts.{begun_by_disk}
 use Rattle.afs_rows.specs.States.{ServerState}
 use Rattle.afs_server.specs.Seen.{lasting_of}
 use Rattle.afs_records.specs.Durable.{Durable}

@@ -9,8 +9,10 @@ use Rattle.afs_history.specs.declared.scripts.Script.{Script}
 use Rattle.afs_grammar.specs.CellScripts.{IsCellScript}
 use Rattle.afs_model.specs.Messages.{messages_spelled, parcels_read}
 use Rattle.afs_rows.specs.Going.{ClientState}
-use Rattle.afs_rows.specs.Runs.{fails_early, fails_midway, gives, gives_out, start, starts_again, Cell, Entry, Host, Input, Leads}
-use Rattle.afs_host.specs.Seats.{CanRun, IsDown, IsUp, Resting, Running}
+use Rattle.afs_rows.specs.Runs.{gives, start, starts_again, Cell, Entry, Input, Leads}
+use Rattle.afs_rows.specs.ServerHosts.{ServerHost}
+use Rattle.afs_rows.specs.Hosts.{fails_early, fails_midway, gives_out}
+use Rattle.afs_host.specs.Seats.{CanRun, IsDown, IsUp, Resting, ServerRunning}
 use Rattle.afs_host.specs.declared.seats.Seat.{Seat}
 use Rattle.afs_host.specs.declared.seats.Seat.TheVariants.{Up, Down}
 use Rattle.afs_clients.specs.Places.{Each}
@@ -19,7 +21,7 @@ use Rattle.afs_clients.specs.declared.clients.ClientSeat.{ClientSeat}
 use Rattle.afs_clients.specs.Seating.{IsHanded}
 
 abbrev pub ServerSeat : Type 0 → Type 0
-ServerSeat D = Seat (Running D) (Resting D)
+ServerSeat D = Seat (ServerRunning D) (Resting D)
 
 -- What was told and let go: so many entries, which sent so many messages; and of the messages so many, as nothing delivers them any more.
 pub record LetGo : Type 0 where
@@ -50,7 +52,7 @@ pub record HistoryTold : Type 0 where
 -- ---- the cell
 
 -- the server of this number is the host, up or down
-abbrev pub IsHost : {D : Type 0} → (D → Option (List ℕ)) → (D → List ℕ → Type 0) → (D → ℕ) → ℕ → ServerSeat D → Host → Type 0
+abbrev pub IsHost : {D : Type 0} → (D → Option (List ℕ)) → (D → List ℕ → Type 0) → (D → ℕ) → ℕ → ServerSeat D → ServerHost → Type 0
 IsHost {D} seen may_leave limit i (Up r) h = IsUp r h
 IsHost {D} seen may_leave limit i (Down s) h = IsDown seen may_leave limit (Server i) s h
 
@@ -72,7 +74,7 @@ pub record IsCell {D : Type 0} (seen : D → Option (List ℕ)) (may_leave : D �
 
 -- A server can be given what comes next, in a history of so many entries: no step draws more than so many numbers, nor makes more
 -- than four device calls; setting up makes at most twelve, a restart ten.
-pub record IsReady {D : Type 0} (i entries : ℕ) (r : Running D) : Type 0 where
+pub record IsReady {D : Type 0} (i entries : ℕ) (r : ServerRunning D) : Type 0 where
   pub node : r.store.node ≡ Server i
   pub can_run : CanRun r
   pub calls_drawn : r.store.drawn ≤ 204 * (entries + 1)

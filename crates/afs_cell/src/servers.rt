@@ -16,7 +16,7 @@ use afs_clients::happening::{Happened, ServerInput};
 use afs_clients::telling::told_alone;
 use afs_disk::Disk;
 use afs_history::lines::{Line, Outs};
-use afs_host::{Resting, Running, Seat, ServerSeat, Start};
+use afs_host::{Resting, Seat, ServerRunning, ServerSeat, Start};
 use afs_num::sequences::Sequence;
 use afs_num::types::Node;
 use afs_server::faults::NodeFault;
@@ -59,7 +59,7 @@ pub fn fall<D: Disk>(alloc: Global, seat: ServerSeat<D>) -> (ServerSeat<D>, Happ
 }
 
 /// The server's unanswered call to this node times out.
-fn time_out<D: Disk>(mut running: Running<D>, callee: Node, now: u32) -> (ServerSeat<D>, Happened)
+fn time_out<D: Disk>(mut running: ServerRunning<D>, callee: Node, now: u32) -> (ServerSeat<D>, Happened)
     requires can { CanStep (seat.Up running) }
     requires now { now ≤ 1000000000 }
     ensures happens { (i count : ℕ) → IsSeatOf i (seat.Up running) → SeatHappens D.seen D.may_leave D.faults D.limit i [] (IsVoidServer (input.TimeOut callee)) (HasStep (Server i) now count (input.TimeOut callee)) (seat.Up running) result.0 result.1 }
@@ -76,7 +76,7 @@ fn time_out<D: Disk>(mut running: Running<D>, callee: Node, now: u32) -> (Server
 }
 
 /// Time has passed at the server.
-fn wake<D: Disk>(mut running: Running<D>, now: u32) -> (ServerSeat<D>, Happened)
+fn wake<D: Disk>(mut running: ServerRunning<D>, now: u32) -> (ServerSeat<D>, Happened)
     requires can { CanStep (seat.Up running) }
     requires now { now ≤ 1000000000 }
     ensures happens { (i : ℕ) → IsSeatOf i (seat.Up running) → SeatHappens D.seen D.may_leave D.faults D.limit i [] (IsVoidServer input.Wake) (HasStep (Server i) now 0 input.Wake) (seat.Up running) result.0 result.1 }
@@ -92,7 +92,7 @@ fn wake<D: Disk>(mut running: Running<D>, now: u32) -> (ServerSeat<D>, Happened)
 /// The server crashes, and its disk with this pick.
 fn crash<D: Disk>(
     alloc: Global,
-    running: Running<D>,
+    running: ServerRunning<D>,
     server: u8,
     pick: u8,
 ) -> (ServerSeat<D>, Happened)
@@ -113,7 +113,7 @@ fn crash<D: Disk>(
 /// The disk is set to stop the server.
 fn set_to_stop<D: Disk>(
     alloc: Global,
-    mut running: Running<D>,
+    mut running: ServerRunning<D>,
     server: u8,
     calls: u32,
     pick: u8,
@@ -137,7 +137,7 @@ fn set_to_stop<D: Disk>(
 /// The disk is set to fail.
 fn set_to_fail<D: Disk>(
     alloc: Global,
-    mut running: Running<D>,
+    mut running: ServerRunning<D>,
     server: u8,
     call: u32,
 ) -> (ServerSeat<D>, Happened)
@@ -161,7 +161,7 @@ fn set_to_fail<D: Disk>(
 /// A server that is up is given something that is no message.
 fn take_up<D: Disk>(
     alloc: Global,
-    running: Running<D>,
+    running: ServerRunning<D>,
     server: u8,
     now: u32,
     given: ServerInput,

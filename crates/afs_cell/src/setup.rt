@@ -17,7 +17,7 @@ use afs_clients::places::Places;
 use afs_clients::setup::{clients_at_first, lines_at};
 use afs_disk::{Disk, Disks, Fuse, Lent};
 use afs_history::scripts::Script;
-use afs_host::{Running, Seat, ServerSeat};
+use afs_host::{Running, Seat, ServerRunning, ServerSeat};
 use afs_law::laws::set_ups_are_first;
 use afs_num::faults::StoreFault;
 use afs_num::types::{Mem, Node};
@@ -71,7 +71,7 @@ fn server_at_first<D: Disk>(
     script: &Script,
     server: u8,
     disk: D,
-) -> Result<Running<D>, (SetupFault, D)>
+) -> Result<ServerRunning<D>, (SetupFault, D)>
     requires script { IsCellScript script.now }
     requires server { (1 ≤ server) × (server ≤ script.now.servers) }
     requires capacity { D.limit disk ≡ script.now.capacity }
@@ -107,7 +107,7 @@ impl<D: Disk + Drop> Rooms<D> {
 }
 
 /// A server takes its seat, for which there is room.
-fn sit<D: Disk>(seats: &mut Vec<ServerSeat<D>>, running: Running<D>)
+fn sit<D: Disk>(seats: &mut Vec<ServerSeat<D>>, running: ServerRunning<D>)
     requires room { length seats.old.items < vec_capacity seats.old }
     ensures items { seats.new.items ≡ seats.old.items ++ Up running ∷ [] }
     ensures room { vec_capacity seats.old ≤ vec_capacity seats.new }
