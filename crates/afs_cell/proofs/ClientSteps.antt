@@ -7,7 +7,7 @@ use Rattle.afs_num.specs.declared.histories.Actor.TheVariants as actors
 use Rattle.afs_num.specs.declared.messages.Message.{Message}
 use Rattle.afs_num.specs.declared.messages.Received.TheVariants.{Whole}
 use Rattle.afs_num.specs.declared.types.Node.{Node}
-use Rattle.afs_num.specs.declared.types.Node.TheVariants.{Client}
+use Rattle.afs_num.specs.declared.types.Node.TheVariants.{Client, Server}
 use Rattle.afs_num.specs.declared.types.Parcel.{Parcel}
 use Rattle.afs_history.specs.declared.acts.Act.{Act}
 use Rattle.afs_history.specs.declared.scripts.Task.{Task}
@@ -116,7 +116,7 @@ module _ {D : Type 0} (seen : D → Option (List ℕ)) (may_leave : D → List �
   at_moved w t is n was now front outs found link at = record {
     cell = record {
       host_count = link.moves.host_count ∙ at.cell.host_count;
-      hosts = λ j z here. subst (λ (h : ℕ → ServerHost). IsHost seen may_leave limit j z (h j)) (sym link.moves.hosts) (at.cell.hosts j z here);
+      hosts = λ j z here. subst (λ (h : ℕ → ServerHost). IsHost seen may_leave limit (Server j) z (h j)) (sym link.moves.hosts) (at.cell.hosts j z here);
       count = link.moves.count ∙ (at.cell.count ∙ sym (length_put n now w.clients));
       clients =
           each_put (λ (j : ℕ) (z : ClientSeat). IsClient z (t.cell.clients j) (t.cell.away j)) (λ (j : ℕ) (z : ClientSeat). IsClient z ((moved t.cell link.input).cell.clients j) ((moved t.cell link.input).cell.away j)) n now was w.clients found at.cell.clients

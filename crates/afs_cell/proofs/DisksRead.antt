@@ -1,5 +1,6 @@
 -- The disks of the servers are read, one after the other.
 use Rattle.std.proofs.Common.{refl, arith, append_assoc, append-nil, ap, sym, subst, ◌∙◌, ◌≡◌, ◌+◌, ◌≤◌, ℕ, zero, suc, List, [], ◌∷◌, ◌++◌, length, false, Option}
+use Rattle.afs_num.specs.declared.types.Node.TheVariants.{Server}
 use Rattle.afs_history.specs.declared.scripts.Script.{Script}
 use Rattle.afs_volstore.specs.Stores.{Store}
 use Rattle.afs_host.specs.declared.seats.Seat.TheVariants.{Down, Up}
@@ -18,7 +19,7 @@ tail_is P x [] h n y e = absurd cc
 tail_is P x (z ∷ zs) h zero y e = absurd cc
 tail_is P x (z ∷ zs) h (suc n) y e = h (suc (suc n)) y e
 
-open_of : {D : Type 0} (i entries : ℕ) (s : ServerSeat D) → IsReadySeat i entries s → IsOpen s
+open_of : {D : Type 0} (i entries : ℕ) (s : ServerSeat D) → IsReadySeat (Server i) entries s → IsOpen s
 open_of {D} i entries (Up r) ready = ready.can_run.up
 open_of {D} i entries (Down x) ready = tt
 

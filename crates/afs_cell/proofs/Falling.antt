@@ -44,12 +44,12 @@ module _ {D : Type 0} (seen : D → Option (List ℕ)) (left_by : D → ℕ → 
   by_fall Is r each (Down s) happened.Unchanged falls = absurd falls
   by_fall Is r each (Down s) happened.Lost falls = (each s falls.0 falls.1).1
 
-  pub fell_happens : (i clock place : ℕ) (bytes : List ℕ) (seat : ServerSeat D) (was r : ServerRunning D) → seat ≡ Up was → IsSeatOf i seat
+  pub fell_happens : (you : Node) (clock place : ℕ) (bytes : List ℕ) (seat : ServerSeat D) (was r : ServerRunning D) → seat ≡ Up was → IsSeatOf you seat
       → ((s : Resting D) (line : Line) → HasFallen seen left_by may_leave faults limit r s line → (h : ServerHost) → IsUp was h → (m : Message) → received bytes ≡ Whole m → (place : ℕ) → HasServed (server_kind was.store.node) h clock place m (IsStepDown seen may_leave limit was.store.node s (lines.Given place ∷ line ∷ [])) (Rose (faults (disk_of was)) (faults s.disk)))
-      → SeatBecomes seen left_by may_leave faults limit (λ s what. SeatHappens seen may_leave faults limit i (lines.Given place ∷ []) IsFallen (HasHeard (Server i) clock place bytes) seat s what) (Up r) None
-  fell_happens i clock place bytes seat was r is own served =
-      by_fall (λ s what. SeatHappens seen may_leave faults limit i (lines.Given place ∷ []) IsFallen (HasHeard (Server i) clock place bytes) seat s what) r
-      (λ s line has. ((λ outs tells. heard_down seen may_leave faults limit i clock place bytes seat was s line outs is own tells (served s line has)), tt))
+      → SeatBecomes seen left_by may_leave faults limit (λ s what. SeatHappens seen may_leave faults limit you (lines.Given place ∷ []) IsFallen (HasHeard you clock place bytes) seat s what) (Up r) None
+  fell_happens you clock place bytes seat was r is own served =
+      by_fall (λ s what. SeatHappens seen may_leave faults limit you (lines.Given place ∷ []) IsFallen (HasHeard you clock place bytes) seat s what) r
+      (λ s line has. ((λ outs tells. heard_down seen may_leave faults limit you clock place bytes seat was s line outs is own tells (served s line has)), tt))
 
   pub fell_keeps : (seat : ServerSeat D) (was r : ServerRunning D) → seat ≡ Up was
       → ((s : Resting D) (line : Line) → HasFallen seen left_by may_leave faults limit r s line → IsSome (seen s.disk) ↔ IsSome (seen (disk_of was)))
@@ -75,13 +75,13 @@ module _ {D : Type 0} (seen : D → Option (List ℕ)) (left_by : D → ℕ → 
 
   -- what became of it in its place, and of what stands there once it has fallen
   module _ (front : List Line) (IsVoid : ServerHost → Type 0) (Has : ServerHost → (HostStep ServerState → Type 0) → Type 0 → Type 0) (old : List (ServerSeat D)) (was seat : ServerSeat D) (found : at_place old i ≡ Some was) where
-    pub server_changed : (new : List (ServerSeat D)) (what : Happened) → new ≡ put_place i seat old → SeatHappens seen may_leave faults limit i front IsVoid Has was seat what → SeatGoes i was seat what → SeatKeeps seen faults limit was seat
+    pub server_changed : (new : List (ServerSeat D)) (what : Happened) → new ≡ put_place i seat old → SeatHappens seen may_leave faults limit (Server i) front IsVoid Has was seat what → SeatGoes (Server i) was seat what → SeatKeeps seen faults limit was seat
         → ServersHappened seen may_leave faults limit i front IsVoid Has old new what
     server_changed new what put happens goes keeps = inr (record { was = was; now = seat; found = found; put = put; happens = happens; goes = goes; keeps = keeps })
 
     pub server_fell : (new : List (ServerSeat D)) (what : Happened) → OneFalls seen left_by may_leave faults limit i (put_place i seat old) new what
-        → SeatBecomes seen left_by may_leave faults limit (λ s w. SeatHappens seen may_leave faults limit i front IsVoid Has was s w) seat None
-        → SeatBecomes seen left_by may_leave faults limit (λ s w. SeatGoes i was s w) seat None
+        → SeatBecomes seen left_by may_leave faults limit (λ s w. SeatHappens seen may_leave faults limit (Server i) front IsVoid Has was s w) seat None
+        → SeatBecomes seen left_by may_leave faults limit (λ s w. SeatGoes (Server i) was s w) seat None
         → SeatBecomes seen left_by may_leave faults limit (λ s w. SeatKeeps seen faults limit was s) seat None
         → ServersHappened seen may_leave faults limit i front IsVoid Has old new what
     server_fell new what fell happens goes keeps =

@@ -98,7 +98,7 @@ module _ {D : Type 0} (seen : D → Option (List ℕ)) (may_leave : D → List �
         ),
       )
 
-  seat_stands : (c : Cell) (i entries : ℕ) (seat : ServerSeat D) → IsHost seen may_leave limit i seat (c.hosts i) → IsReadySeat i entries seat → IsKeptSeat seen may_leave limit seat → (bytes : List ℕ) → seen (seat_disk seat) ≡ Some bytes → StandsFor c i (seat_disk seat) bytes
+  seat_stands : (c : Cell) (i entries : ℕ) (seat : ServerSeat D) → IsHost seen may_leave limit (Server i) seat (c.hosts i) → IsReadySeat (Server i) entries seat → IsKeptSeat seen may_leave limit seat → (bytes : List ℕ) → seen (seat_disk seat) ≡ Some bytes → StandsFor c i (seat_disk seat) bytes
   seat_stands c i entries (Up r) up ready kept bytes e =
       let stands = kept.0 ready.can_run.up in
       (r.store.durable, ((false, (subst (λ (o : Option Fall). MayBegin o false) (sym up.down) tt, sym (ap (λ (x : ServerState). x.lasting) up.state))), (stands.stands bytes e, kept.1)))

@@ -37,15 +37,15 @@ abbrev pub entry_with : Actor → List Line → List Message → Entry
 entry_with actor ls ms = record { actor = actor; lines = ls; sent = ms; volumes = [] }
 
 module _ {D : Type 0} (seen : D → Option (List ℕ)) (may_leave : D → List ℕ → Type 0) (faults limit : D → ℕ) where
-  hosts_placed : (c : Cell) (i : ℕ) (was now : ServerSeat D) (servers : List (ServerSeat D)) (s : HostStep ServerState) → at_place servers i ≡ Some was → IsHost seen may_leave limit i now s.host
-      → Each (λ (j : ℕ) (z : ServerSeat D). IsHost seen may_leave limit j z (c.hosts j)) servers → Each (λ (j : ℕ) (z : ServerSeat D). IsHost seen may_leave limit j z (put i s.host c.hosts j)) (put_place i now servers)
+  hosts_placed : (c : Cell) (i : ℕ) (was now : ServerSeat D) (servers : List (ServerSeat D)) (s : HostStep ServerState) → at_place servers i ≡ Some was → IsHost seen may_leave limit (Server i) now s.host
+      → Each (λ (j : ℕ) (z : ServerSeat D). IsHost seen may_leave limit (Server j) z (c.hosts j)) servers → Each (λ (j : ℕ) (z : ServerSeat D). IsHost seen may_leave limit (Server j) z (put i s.host c.hosts j)) (put_place i now servers)
   hosts_placed c i was now servers s found good each =
-      each_put (λ (j : ℕ) (z : ServerSeat D). IsHost seen may_leave limit j z (c.hosts j)) (λ (j : ℕ) (z : ServerSeat D). IsHost seen may_leave limit j z (put i s.host c.hosts j)) i now was servers found each
-      (λ j z apart h. subst (λ (b : Bool). IsHost seen may_leave limit j z (cond b s.host (c.hosts j))) (sym apart) h)
-      (subst (λ (b : Bool). IsHost seen may_leave limit i now (cond b s.host (c.hosts i))) (sym (eq-eqb i i refl)) good)
+      each_put (λ (j : ℕ) (z : ServerSeat D). IsHost seen may_leave limit (Server j) z (c.hosts j)) (λ (j : ℕ) (z : ServerSeat D). IsHost seen may_leave limit (Server j) z (put i s.host c.hosts j)) i now was servers found each
+      (λ j z apart h. subst (λ (b : Bool). IsHost seen may_leave limit (Server j) z (cond b s.host (c.hosts j))) (sym apart) h)
+      (subst (λ (b : Bool). IsHost seen may_leave limit (Server i) now (cond b s.host (c.hosts i))) (sym (eq-eqb i i refl)) good)
 
   -- the world stands for the cell after the step
-  at_placed : (w : WorldState D) (c : Cell) (left : Node → List Task) (i : ℕ) (was now : ServerSeat D) (front : List Line) (outs : Outs) (s : HostStep ServerState) → at_place w.servers i ≡ Some was → IsSeatStep seen may_leave limit i now front outs s
+  at_placed : (w : WorldState D) (c : Cell) (left : Node → List Task) (i : ℕ) (was now : ServerSeat D) (front : List Line) (outs : Outs) (s : HostStep ServerState) → at_place w.servers i ≡ Some was → IsSeatStep seen may_leave limit (Server i) now front outs s
       → IsAt seen may_leave limit w c left → IsAt seen may_leave limit (after_step w i now front outs) (placed c i s).cell left
   at_placed w c left i was now front outs s found good at = record {
     cell = record {
@@ -66,7 +66,7 @@ module _ {D : Type 0} (seen : D → Option (List ℕ)) (may_leave : D → List �
     pub step : HostStep ServerState
     pub moves : moved t.cell input ≡ placed t.cell i step
     pub left : left_by input t.left ≡ t.left
-    pub good : IsSeatStep seen may_leave limit i now front outs step
+    pub good : IsSeatStep seen may_leave limit (Server i) now front outs step
     pub blames : Blames faults (falls input) was now
 
   pub server_plays : (is : Input → Type 0) (t : Turn) (w : WorldState D) (i : ℕ) (was now : ServerSeat D) (front : List Line) (outs : Outs) → sent_by w.history ≡ length w.wire → at_place w.servers i ≡ Some was

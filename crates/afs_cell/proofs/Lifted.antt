@@ -1,6 +1,7 @@
 -- A node was taken from its place, was given something, and was put back.
 use Rattle.std.proofs.Common.{refl, ◌∙◌, ◌≡◌, ◌-◌, inl, inr, ℕ, List, Option, None}
 use Rattle.std.specs.List.{insert}
+use Rattle.afs_num.specs.declared.types.Node.TheVariants.{Server}
 use Rattle.afs_num.specs.Places.{at_place}
 use Rattle.afs_history.specs.declared.lines.Line.{Line}
 use Rattle.afs_rows.specs.ServerHosts.{ServerHost}
@@ -13,7 +14,7 @@ use Rattle.afs_clients.specs.declared.happening.Happened.{Happened}
 use Rattle.afs_clients.specs.declared.happening.Happened.TheVariants as happened
 
 pub server_put : {D : Type 0} (seen : D → Option (List ℕ)) (may_leave : D → List ℕ → Type 0) (faults limit : D → ℕ) (i : ℕ) (front : List Line) (IsVoid : ServerHost → Type 0) (Has : ServerHost → (HostStep ServerState → Type 0) → Type 0 → Type 0) (old mid : Room (ServerSeat D))
-    (new : List (ServerSeat D)) (was now : ServerSeat D) (what : Happened) → IsLifted i old mid was → new ≡ insert mid.items (i - 1) now → SeatHappens seen may_leave faults limit i front IsVoid Has was now what → SeatGoes i was now what
+    (new : List (ServerSeat D)) (was now : ServerSeat D) (what : Happened) → IsLifted i old mid was → new ≡ insert mid.items (i - 1) now → SeatHappens seen may_leave faults limit (Server i) front IsVoid Has was now what → SeatGoes (Server i) was now what
     → SeatKeeps seen faults limit was now → ServersHappened seen may_leave faults limit i front IsVoid Has old.items new what
 server_put {D} seen may_leave faults limit i front IsVoid Has old mid new was now what lifted is happens goes keeps =
     inr (record { was = was; now = now; found = lifted.found; put = is ∙ lifted.back now; happens = happens; goes = goes; keeps = keeps })

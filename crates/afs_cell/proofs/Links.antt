@@ -62,7 +62,7 @@ module _ {D : Type 0} (seen : D → Option (List ℕ)) (may_leave : D → List �
 
   -- a message
   pub link_message : (t : Turn) (w : WorldState D) (i place : ℕ) (p : Parcel) (was now : ServerSeat D) (outs : Outs) → IsCell seen may_leave limit w t.cell → at_place w.servers i ≡ Some was → at_place w.wire place ≡ Some p → p.head.to ≡ Server i
-      → HasHeard (Server i) t.cell.clock place p.bytes (t.cell.hosts i) (IsSeatStep seen may_leave limit i now (lines.Given place ∷ []) outs) (Rose (faults (seat_disk was)) (faults (seat_disk now)))
+      → HasHeard (Server i) t.cell.clock place p.bytes (t.cell.hosts i) (IsSeatStep seen may_leave limit (Server i) now (lines.Given place ∷ []) outs) (Rose (faults (seat_disk was)) (faults (seat_disk now)))
       → Linked seen may_leave faults limit (IsInput t (events.Deliver place)) t i was now (lines.Given place ∷ []) outs
   link_message t w i place p was now outs cell here at to heard =
       let f = message_found w t.cell place p cell at in
@@ -85,7 +85,7 @@ module _ {D : Type 0} (seen : D → Option (List ℕ)) (may_leave : D → List �
 
   -- what it is given else
   pub link_input : (t : Turn) (w : WorldState D) (i : ℕ) (input : ServerInput) (was now : ServerSeat D) (outs : Outs) → IsCell seen may_leave limit w t.cell → at_place w.servers i ≡ Some was
-      → HasStep (Server i) t.cell.clock t.cell.count input (t.cell.hosts i) (IsSeatStep seen may_leave limit i now [] outs) (Rose (faults (seat_disk was)) (faults (seat_disk now)))
+      → HasStep (Server i) t.cell.clock t.cell.count input (t.cell.hosts i) (IsSeatStep seen may_leave limit (Server i) now [] outs) (Rose (faults (seat_disk was)) (faults (seat_disk now)))
       → Linked seen may_leave faults limit (IsGiven i input t) t i was now [] outs
   link_input t w i (server.TimeOut callee) was now outs cell here h = record {
     input = server_waits i callee;

@@ -39,7 +39,7 @@ module _ {D : Type 0} (seen : D → Option (List ℕ)) (may_leave : D → List �
 
   abbrev Links : Type 0
   Links = AllTell seen w.servers → (t : Turn) → IsAt seen may_leave limit w t.cell t.left → (was now : ServerSeat D) (outs : Outs) → at_place w.servers i ≡ Some was
-      → Has (t.cell.hosts i) (IsSeatStep seen may_leave limit i now (front_lines front) outs) (Rose (faults (seat_disk was)) (faults (seat_disk now))) → Linked seen may_leave faults limit (is t) t i was now (front_lines front) outs
+      → Has (t.cell.hosts i) (IsSeatStep seen may_leave limit (Server i) now (front_lines front) outs) (Rose (faults (seat_disk was)) (faults (seat_disk now))) → Linked seen may_leave faults limit (is t) t i was now (front_lines front) outs
 
   abbrev Result1 : WorldState D → Result (Unit {0}) WorldFault → Type 0
   Result1 new result = Stepped seen may_leave faults limit s is w new result
@@ -94,8 +94,8 @@ module _ {D : Type 0} (seen : D → Option (List ℕ)) (may_leave : D → List �
       server_settles seen may_leave faults limit s (λ (t : Turn). IsGiven i input t) w i None (IsVoidServer input) (HasStep (Server i) w.clock s.clients input) servers what new result safe going place happens
       (λ tell t at none. link_void t i input none)
       (λ tell t at was now outs found has. link_input seen may_leave faults limit t w i input was now outs at.cell found
-      (subst (λ (k : ℕ). HasStep (Server i) t.cell.clock k input (t.cell.hosts i) (IsSeatStep seen may_leave limit i now [] outs) (Rose (faults (seat_disk was)) (faults (seat_disk now)))) (sym (at.cell.count ∙ safe.client_count))
-      (subst (λ (k : ℕ). HasStep (Server i) k s.clients input (t.cell.hosts i) (IsSeatStep seen may_leave limit i now [] outs) (Rose (faults (seat_disk was)) (faults (seat_disk now)))) (sym at.cell.clock) has)))
+      (subst (λ (k : ℕ). HasStep (Server i) t.cell.clock k input (t.cell.hosts i) (IsSeatStep seen may_leave limit (Server i) now [] outs) (Rose (faults (seat_disk was)) (faults (seat_disk now)))) (sym (at.cell.count ∙ safe.client_count))
+      (subst (λ (k : ℕ). HasStep (Server i) k s.clients input (t.cell.hosts i) (IsSeatStep seen may_leave limit (Server i) now [] outs) (Rose (faults (seat_disk was)) (faults (seat_disk now)))) (sym at.cell.clock) has)))
       settles
 
   -- a server was given the message of a place
@@ -109,5 +109,5 @@ module _ {D : Type 0} (seen : D → Option (List ℕ)) (may_leave : D → List �
       let f = message_found seen may_leave faults limit w t.cell place p at.cell found in
       link_void_message t i place f.message f.at (sym (ap (λ h. h.to) f.carries.head) ∙ to) none)
       (λ tell t at was now outs here heard. link_message seen may_leave faults limit t w i place p was now outs at.cell here found to
-      (subst (λ (k : ℕ). HasHeard (Server i) k place p.bytes (t.cell.hosts i) (IsSeatStep seen may_leave limit i now (lines.Given place ∷ []) outs) (Rose (faults (seat_disk was)) (faults (seat_disk now)))) (sym at.cell.clock) heard))
+      (subst (λ (k : ℕ). HasHeard (Server i) k place p.bytes (t.cell.hosts i) (IsSeatStep seen may_leave limit (Server i) now (lines.Given place ∷ []) outs) (Rose (faults (seat_disk was)) (faults (seat_disk now)))) (sym at.cell.clock) heard))
       settles

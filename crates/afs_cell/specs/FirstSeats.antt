@@ -29,7 +29,7 @@ pub record IsFirstStore {D : Type 0} (seen : D → Option (List ℕ)) (may_leave
 
 -- A server at set-up, over that disk.
 pub record IsFirstServer {D : Type 0} (seen : D → Option (List ℕ)) (may_leave : D → List ℕ → Type 0) (faults limit : D → ℕ) (s : Script) (i : ℕ) (old : D) (r : ServerRunning D) : Type 0 where
-  pub ready : IsReady i 0 r
+  pub ready : IsReady (Server i) 0 r
   pub host : IsUp r (first_host s i)
   pub same_limit : limit (disk_of r) ≡ limit old
   pub quiet : faults (disk_of r) ≡ faults old

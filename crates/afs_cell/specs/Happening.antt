@@ -54,26 +54,26 @@ abbrev pub HasHeard : Node → ℕ → ℕ → List ℕ → ServerHost → (Host
 HasHeard me clock place bytes h Is rose = (h.down ≡ None) × ((m : Message) → received bytes ≡ Whole m → HasServed (server_kind me) h clock place m Is rose)
 
 -- the server is what the host is after this step, and gave this out; these lines come before its own
-pub record IsSeatStep {D : Type 0} (seen : D → Option (List ℕ)) (may_leave : D → List ℕ → Type 0) (limit : D → ℕ) (i : ℕ) (new : ServerSeat D) (front : List Line) (outs : Outs) (s : HostStep ServerState) : Type 0 where
-  pub host : IsHost seen may_leave limit i new s.host
+pub record IsSeatStep {D : Type 0} (seen : D → Option (List ℕ)) (may_leave : D → List ℕ → Type 0) (limit : D → ℕ) (me : Node) (new : ServerSeat D) (front : List Line) (outs : Outs) (s : HostStep ServerState) : Type 0 where
+  pub host : IsHost seen may_leave limit me new s.host
   pub lines : front ++ outs.lines ≡ s.lines
   pub sent : parcels_read outs.parcels ≡ messages_spelled s.sent
 
 -- Nothing came of it, and it wasn't for such a server; or the server made a step; or memory was wanting, and it stands for what it
 -- stood for, or can't be told of.
-abbrev pub SeatHappens : {D : Type 0} → (D → Option (List ℕ)) → (D → List ℕ → Type 0) → (D → ℕ) → (D → ℕ) → ℕ → List Line → (ServerHost → Type 0) → (ServerHost → (HostStep ServerState → Type 0) → Type 0 → Type 0) →
+abbrev pub SeatHappens : {D : Type 0} → (D → Option (List ℕ)) → (D → List ℕ → Type 0) → (D → ℕ) → (D → ℕ) → Node → List Line → (ServerHost → Type 0) → (ServerHost → (HostStep ServerState → Type 0) → Type 0 → Type 0) →
     ServerSeat D → ServerSeat D → Happened → Type 0
-SeatHappens {D} seen may_leave faults limit i front IsVoid Has old new happened.Nothing = (new ≡ old) × ((h : ServerHost) → IsHost seen may_leave limit i old h → IsVoid h)
-SeatHappens {D} seen may_leave faults limit i front IsVoid Has old new (happened.Step outs) =
-    IsSome (seen (seat_disk old)) → (h : ServerHost) → IsHost seen may_leave limit i old h → Has h (IsSeatStep seen may_leave limit i new front outs) (Rose (faults (seat_disk old)) (faults (seat_disk new)))
-SeatHappens {D} seen may_leave faults limit i front IsVoid Has old new happened.Unchanged = (h : ServerHost) → IsHost seen may_leave limit i old h → IsHost seen may_leave limit i new h
-SeatHappens {D} seen may_leave faults limit i front IsVoid Has old new happened.Lost = Unit {0}
+SeatHappens {D} seen may_leave faults limit me front IsVoid Has old new happened.Nothing = (new ≡ old) × ((h : ServerHost) → IsHost seen may_leave limit me old h → IsVoid h)
+SeatHappens {D} seen may_leave faults limit me front IsVoid Has old new (happened.Step outs) =
+    IsSome (seen (seat_disk old)) → (h : ServerHost) → IsHost seen may_leave limit me old h → Has h (IsSeatStep seen may_leave limit me new front outs) (Rose (faults (seat_disk old)) (faults (seat_disk new)))
+SeatHappens {D} seen may_leave faults limit me front IsVoid Has old new happened.Unchanged = (h : ServerHost) → IsHost seen may_leave limit me old h → IsHost seen may_leave limit me new h
+SeatHappens {D} seen may_leave faults limit me front IsVoid Has old new happened.Lost = Unit {0}
 
 -- it can be given what comes next
-abbrev pub SeatGoes : {D : Type 0} → ℕ → ServerSeat D → ServerSeat D → Happened → Type 0
-SeatGoes {D} i old new (happened.Step outs) = (entries : ℕ) → IsReadySeat i entries old → IsReadySeat i (entries + 1) new
-SeatGoes {D} i old new happened.Lost = Unit {0}
-SeatGoes {D} i old new other = (entries : ℕ) → IsReadySeat i entries old → IsReadySeat i entries new
+abbrev pub SeatGoes : {D : Type 0} → Node → ServerSeat D → ServerSeat D → Happened → Type 0
+SeatGoes {D} me old new (happened.Step outs) = (entries : ℕ) → IsReadySeat me entries old → IsReadySeat me (entries + 1) new
+SeatGoes {D} me old new happened.Lost = Unit {0}
+SeatGoes {D} me old new other = (entries : ℕ) → IsReadySeat me entries old → IsReadySeat me entries new
 
 -- The disk tells as before, and has the same room; its count of faults doesn't fall.
 pub record SeatKeeps {D : Type 0} (seen : D → Option (List ℕ)) (faults limit : D → ℕ) (old new : ServerSeat D) : Type 0 where
@@ -86,10 +86,10 @@ abbrev pub CanStep : {D : Type 0} → ServerSeat D → Type 0
 CanStep {D} (Up r) = CanRun r × (CanDraw r.memory r.store.drawn × (r.store.disk.calls < 2 ^ 63))
 CanStep {D} (Down s) = Unit {0}
 
--- it is the server of this number
-abbrev pub IsSeatOf : {D : Type 0} → ℕ → ServerSeat D → Type 0
-IsSeatOf {D} i (Up r) = r.store.node ≡ Server i
-IsSeatOf {D} i (Down s) = Unit {0}
+-- it is the server that is this node
+abbrev pub IsSeatOf : {D : Type 0} → Node → ServerSeat D → Type 0
+IsSeatOf {D} me (Up r) = r.store.node ≡ me
+IsSeatOf {D} me (Down s) = Unit {0}
 
 -- ---- the servers
 
@@ -99,8 +99,8 @@ pub record OneHappened {D : Type 0} (seen : D → Option (List ℕ)) (may_leave 
   pub now : ServerSeat D
   pub found : at_place old i ≡ Some was
   pub put : new ≡ put_place i now old
-  pub happens : SeatHappens seen may_leave faults limit i front IsVoid Has was now what
-  pub goes : SeatGoes i was now what
+  pub happens : SeatHappens seen may_leave faults limit (Server i) front IsVoid Has was now what
+  pub goes : SeatGoes (Server i) was now what
   pub keeps : SeatKeeps seen faults limit was now
 
 abbrev pub ServersHappened : {D : Type 0} → (D → Option (List ℕ)) → (D → List ℕ → Type 0) → (D → ℕ) → (D → ℕ) → ℕ → List Line → (ServerHost → Type 0) → (ServerHost → (HostStep ServerState → Type 0) → Type 0 → Type 0) →

@@ -9,7 +9,7 @@ use Rattle.afs_cell.specs.Worlds.{seat_disk, ServerSeat}
 -- a server can be given something, and is that of its number
 pub record CanTake {D : Type 0} (limit : D → ℕ) (i : ℕ) (seat : ServerSeat D) : Type 0 where
   pub can : CanStep seat
-  pub own : IsSeatOf i seat
+  pub own : IsSeatOf (Server i) seat
   pub node : IsNode (Server i)
   pub few : limit (seat_disk seat) ≤ 268435456
 

@@ -2,6 +2,7 @@
 use Rattle.std.specs.Prelude.{◌≡◌, ◌≤◌, ◌⊎◌, ◌+◌, ◌-◌, ◌*◌, ◌^◌, ℕ, List, [], ◌∷◌, Bool, false, not, nat_eq, if◌then◌else◌, Option, length, IsSome}
 use Rattle.afs_num.specs.declared.histories.Actor.{Actor}
 use Rattle.afs_num.specs.declared.histories.Actor.TheVariants as actors
+use Rattle.afs_num.specs.declared.types.Node.{Node}
 use Rattle.afs_num.specs.declared.types.Node.TheVariants.{Server}
 use Rattle.afs_num.specs.declared.types.Parcel.{Parcel}
 use Rattle.afs_history.specs.declared.lines.Entry as kept
@@ -51,10 +52,10 @@ pub record HistoryTold : Type 0 where
 
 -- ---- the cell
 
--- the server of this number is the host, up or down
-abbrev pub IsHost : {D : Type 0} → (D → Option (List ℕ)) → (D → List ℕ → Type 0) → (D → ℕ) → ℕ → ServerSeat D → ServerHost → Type 0
-IsHost {D} seen may_leave limit i (Up r) h = IsUp r h
-IsHost {D} seen may_leave limit i (Down s) h = IsDown seen may_leave limit (Server i) s h
+-- the server that is this node is the host, up or down
+abbrev pub IsHost : {D : Type 0} → (D → Option (List ℕ)) → (D → List ℕ → Type 0) → (D → ℕ) → Node → ServerSeat D → ServerHost → Type 0
+IsHost {D} seen may_leave limit me (Up r) h = IsUp r h
+IsHost {D} seen may_leave limit me (Down s) h = IsDown seen may_leave limit me s h
 
 -- a client's seat has the state that the cell has, and is away where the cell has it away
 pub record IsClient (s : ClientSeat) (state : ClientState) (away : Bool) : Type 0 where
@@ -64,7 +65,7 @@ pub record IsClient (s : ClientSeat) (state : ClientState) (away : Bool) : Type 
 -- the cell that the world stands for
 pub record IsCell {D : Type 0} (seen : D → Option (List ℕ)) (may_leave : D → List ℕ → Type 0) (limit : D → ℕ) (w : WorldState D) (c : Cell) : Type 0 where
   pub host_count : c.host_count ≡ length w.servers
-  pub hosts : Each (λ (i : ℕ) (s : ServerSeat D). IsHost seen may_leave limit i s (c.hosts i)) w.servers
+  pub hosts : Each (λ (i : ℕ) (s : ServerSeat D). IsHost seen may_leave limit (Server i) s (c.hosts i)) w.servers
   pub count : c.count ≡ length w.clients
   pub clients : Each (λ (n : ℕ) (s : ClientSeat). IsClient s (c.clients n) (c.away n)) w.clients
   pub sent : parcels_read w.wire ≡ messages_spelled c.sent
@@ -74,16 +75,16 @@ pub record IsCell {D : Type 0} (seen : D → Option (List ℕ)) (may_leave : D �
 
 -- A server can be given what comes next, in a history of so many entries: no step draws more than so many numbers, nor makes more
 -- than four device calls; setting up makes at most twelve, a restart ten.
-pub record IsReady {D : Type 0} (i entries : ℕ) (r : ServerRunning D) : Type 0 where
-  pub node : r.store.node ≡ Server i
+pub record IsReady {D : Type 0} (me : Node) (entries : ℕ) (r : ServerRunning D) : Type 0 where
+  pub node : r.store.node ≡ me
   pub can_run : CanRun r
   pub calls_drawn : r.store.drawn ≤ 204 * (entries + 1)
   pub breaks_drawn : r.memory.lists.last_owed + length r.memory.lists.promises ≤ 50 * (entries + 1)
   pub device_calls : r.store.disk.calls ≤ 12 + 4 * entries
 
-abbrev pub IsReadySeat : {D : Type 0} → ℕ → ℕ → ServerSeat D → Type 0
-IsReadySeat {D} i entries (Up r) = IsReady i entries r
-IsReadySeat {D} i entries (Down s) = Unit {0}
+abbrev pub IsReadySeat : {D : Type 0} → Node → ℕ → ServerSeat D → Type 0
+IsReadySeat {D} me entries (Up r) = IsReady me entries r
+IsReadySeat {D} me entries (Down s) = Unit {0}
 
 -- A client can be given what comes next, too: no step makes more than one call, or begins more than one epoch.
 pub record IsReadyClient (s : Script) (n entries : ℕ) (seat : ClientSeat) : Type 0 where
@@ -149,7 +150,7 @@ pub record IsSafe {D : Type 0} (limit : D → ℕ) (s : Script) (w : WorldState 
   pub cell_script : IsCellScript s
   pub server_count : length w.servers ≡ s.servers
   pub client_count : length w.clients ≡ s.clients
-  pub servers : w.is_lost ≡ false → Each (λ (i : ℕ) (seat : ServerSeat D). IsReadySeat i (length w.history) seat) w.servers
+  pub servers : w.is_lost ≡ false → Each (λ (i : ℕ) (seat : ServerSeat D). IsReadySeat (Server i) (length w.history) seat) w.servers
   pub clients : w.is_lost ≡ false → Each (λ (n : ℕ) (seat : ClientSeat). IsReadyClient s n (length w.history) seat) w.clients
   pub disks : AllHold limit s.capacity w.servers
   pub sent : sent_by w.history ≡ length w.wire

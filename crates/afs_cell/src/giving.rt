@@ -14,6 +14,7 @@ use afs_clients::happening::{Happened, ServerInput};
 use afs_clients::places::Places;
 use afs_disk::Disk;
 use afs_host::ServerSeat;
+use afs_num::types::Node;
 use std::alloc::Global;
 
 /// The disk of this server ended its step, and it goes down.
@@ -69,7 +70,7 @@ pub fn server_takes<D: Disk>(
     let Some(seat) = servers.lift(server) else {
         return Happened::Nothing;
     };
-    let (seat, happened) = servers::take(alloc, seat, server, clients, now, given);
+    let (seat, happened) = servers::take(alloc, seat, Node::Server(server), clients, now, given);
     servers.put(server, seat);
     happened
 }

@@ -2,7 +2,7 @@
 
 ghost use Rattle.std.specs.Prelude.{◌≡◌, ◌≤◌, [], ◌∷◌, ℕ, IfNone};
 ghost use Rattle.afs_num.specs.Nodes.{IsNode};
-ghost use Rattle.afs_num.specs.declared.types.Node.TheVariants.{Server};
+ghost use Rattle.afs_num.specs.declared.types.Node.{Node as N};
 ghost use Rattle.afs_history.specs.declared.lines.Line.TheVariants as lines;
 ghost use Rattle.afs_host.specs.declared.seats.Seat.TheVariants as seat;
 ghost use Rattle.afs_clients.specs.Happening.{IsDue};
@@ -26,8 +26,8 @@ use std::alloc::Global;
 pub fn hear<D: Disk>(seat: &mut ServerSeat<D>, bytes: &[u8], now: u32) -> Option<Happened>
     requires can { CanStep seat.old }
     requires now { now ≤ 1000000000 }
-    ensures happens { (i place : ℕ) → IsSeatOf i seat.old → SeatBecomes D.seen D.left_by D.may_leave D.faults D.limit (λ s what. SeatHappens D.seen D.may_leave D.faults D.limit i (lines.Given place ∷ []) IsFallen (HasHeard (Server i) now place bytes.now) seat.old s what) seat.new result }
-    ensures goes { (i : ℕ) → IsSeatOf i seat.old → SeatBecomes D.seen D.left_by D.may_leave D.faults D.limit (λ s what. SeatGoes i seat.old s what) seat.new result }
+    ensures happens { (me : N) (place : ℕ) → IsSeatOf me seat.old → SeatBecomes D.seen D.left_by D.may_leave D.faults D.limit (λ s what. SeatHappens D.seen D.may_leave D.faults D.limit me (lines.Given place ∷ []) IsFallen (HasHeard me now place bytes.now) seat.old s what) seat.new result }
+    ensures goes { (me : N) → IsSeatOf me seat.old → SeatBecomes D.seen D.left_by D.may_leave D.faults D.limit (λ s what. SeatGoes me seat.old s what) seat.new result }
     ensures keeps { SeatBecomes D.seen D.left_by D.may_leave D.faults D.limit (λ s what. SeatKeeps D.seen D.faults D.limit seat.old s) seat.new result }
     ensures falls { IfNone result (IsUpSeat seat.new) }
 {
@@ -62,8 +62,8 @@ pub fn fall<D: Disk>(alloc: Global, seat: ServerSeat<D>) -> (ServerSeat<D>, Happ
 fn time_out<D: Disk>(mut running: ServerRunning<D>, callee: Node, now: u32) -> (ServerSeat<D>, Happened)
     requires can { CanStep (seat.Up running) }
     requires now { now ≤ 1000000000 }
-    ensures happens { (i count : ℕ) → IsSeatOf i (seat.Up running) → SeatHappens D.seen D.may_leave D.faults D.limit i [] (IsVoidServer (input.TimeOut callee)) (HasStep (Server i) now count (input.TimeOut callee)) (seat.Up running) result.0 result.1 }
-    ensures goes { (i : ℕ) → IsSeatOf i (seat.Up running) → SeatGoes i (seat.Up running) result.0 result.1 }
+    ensures happens { (me : N) (count : ℕ) → IsSeatOf me (seat.Up running) → SeatHappens D.seen D.may_leave D.faults D.limit me [] (IsVoidServer (input.TimeOut callee)) (HasStep me now count (input.TimeOut callee)) (seat.Up running) result.0 result.1 }
+    ensures goes { (me : N) → IsSeatOf me (seat.Up running) → SeatGoes me (seat.Up running) result.0 result.1 }
     ensures keeps { SeatKeeps D.seen D.faults D.limit (seat.Up running) result.0 }
 {
     if !running.waits_on(callee) {
@@ -79,8 +79,8 @@ fn time_out<D: Disk>(mut running: ServerRunning<D>, callee: Node, now: u32) -> (
 fn wake<D: Disk>(mut running: ServerRunning<D>, now: u32) -> (ServerSeat<D>, Happened)
     requires can { CanStep (seat.Up running) }
     requires now { now ≤ 1000000000 }
-    ensures happens { (i : ℕ) → IsSeatOf i (seat.Up running) → SeatHappens D.seen D.may_leave D.faults D.limit i [] (IsVoidServer input.Wake) (HasStep (Server i) now 0 input.Wake) (seat.Up running) result.0 result.1 }
-    ensures goes { (i : ℕ) → IsSeatOf i (seat.Up running) → SeatGoes i (seat.Up running) result.0 result.1 }
+    ensures happens { (me : N) → IsSeatOf me (seat.Up running) → SeatHappens D.seen D.may_leave D.faults D.limit me [] (IsVoidServer input.Wake) (HasStep me now 0 input.Wake) (seat.Up running) result.0 result.1 }
+    ensures goes { (me : N) → IsSeatOf me (seat.Up running) → SeatGoes me (seat.Up running) result.0 result.1 }
     ensures keeps { SeatKeeps D.seen D.faults D.limit (seat.Up running) result.0 }
 {
     match running.wake(now) {
@@ -93,17 +93,16 @@ fn wake<D: Disk>(mut running: ServerRunning<D>, now: u32) -> (ServerSeat<D>, Hap
 fn crash<D: Disk>(
     alloc: Global,
     running: ServerRunning<D>,
-    server: u8,
+    node: Node,
     pick: u8,
 ) -> (ServerSeat<D>, Happened)
     requires can { CanStep (seat.Up running) }
-    requires server { IsSeatOf server (seat.Up running) }
-    ensures happens { SeatHappens D.seen D.may_leave D.faults D.limit server [] (IsVoidServer (input.Crash pick)) (HasStep (Server server) 0 0 (input.Crash pick)) (seat.Up running) result.0 result.1 }
-    ensures goes { SeatGoes server (seat.Up running) result.0 result.1 }
+    requires own { IsSeatOf node (seat.Up running) }
+    ensures happens { SeatHappens D.seen D.may_leave D.faults D.limit node [] (IsVoidServer (input.Crash pick)) (HasStep node 0 0 (input.Crash pick)) (seat.Up running) result.0 result.1 }
+    ensures goes { SeatGoes node (seat.Up running) result.0 result.1 }
     ensures keeps { SeatKeeps D.seen D.faults D.limit (seat.Up running) result.0 }
     ensures picked { LeavesPick D.seen D.left_by result.1 (input.Crash pick) (seat.Up running) result.0 }
 {
-    let node = Node::Server(server);
     match told_alone(alloc, Line::Crash { node }) {
         Ok(outs) => (Seat::Down(running.crash(pick)), Happened::Step(outs)),
         Err(_) => (Seat::Up(running), Happened::Unchanged),
@@ -114,17 +113,16 @@ fn crash<D: Disk>(
 fn set_to_stop<D: Disk>(
     alloc: Global,
     mut running: ServerRunning<D>,
-    server: u8,
+    node: Node,
     calls: u32,
     pick: u8,
 ) -> (ServerSeat<D>, Happened)
     requires can { CanStep (seat.Up running) }
-    requires server { IsSeatOf server (seat.Up running) }
-    ensures happens { SeatHappens D.seen D.may_leave D.faults D.limit server [] (IsVoidServer (input.Stop calls pick)) (HasStep (Server server) 0 0 (input.Stop calls pick)) (seat.Up running) result.0 result.1 }
-    ensures goes { SeatGoes server (seat.Up running) result.0 result.1 }
+    requires own { IsSeatOf node (seat.Up running) }
+    ensures happens { SeatHappens D.seen D.may_leave D.faults D.limit node [] (IsVoidServer (input.Stop calls pick)) (HasStep node 0 0 (input.Stop calls pick)) (seat.Up running) result.0 result.1 }
+    ensures goes { SeatGoes node (seat.Up running) result.0 result.1 }
     ensures keeps { SeatKeeps D.seen D.faults D.limit (seat.Up running) result.0 }
 {
-    let node = Node::Server(server);
     match told_alone(alloc, Line::Stop { node, calls, pick }) {
         Ok(outs) => {
             running.stop_after(calls, pick);
@@ -138,17 +136,16 @@ fn set_to_stop<D: Disk>(
 fn set_to_fail<D: Disk>(
     alloc: Global,
     mut running: ServerRunning<D>,
-    server: u8,
+    node: Node,
     call: u32,
 ) -> (ServerSeat<D>, Happened)
     requires can { CanStep (seat.Up running) }
-    requires server { IsSeatOf server (seat.Up running) }
+    requires own { IsSeatOf node (seat.Up running) }
     requires due { 1 ≤ call }
-    ensures happens { SeatHappens D.seen D.may_leave D.faults D.limit server [] (IsVoidServer (input.Fail call)) (HasStep (Server server) 0 0 (input.Fail call)) (seat.Up running) result.0 result.1 }
-    ensures goes { SeatGoes server (seat.Up running) result.0 result.1 }
+    ensures happens { SeatHappens D.seen D.may_leave D.faults D.limit node [] (IsVoidServer (input.Fail call)) (HasStep node 0 0 (input.Fail call)) (seat.Up running) result.0 result.1 }
+    ensures goes { SeatGoes node (seat.Up running) result.0 result.1 }
     ensures keeps { SeatKeeps D.seen D.faults D.limit (seat.Up running) result.0 }
 {
-    let node = Node::Server(server);
     match told_alone(alloc, Line::Fail { node, calls: call }) {
         Ok(outs) => {
             running.fail_at(call);
@@ -162,26 +159,26 @@ fn set_to_fail<D: Disk>(
 fn take_up<D: Disk>(
     alloc: Global,
     running: ServerRunning<D>,
-    server: u8,
+    node: Node,
     now: u32,
     given: ServerInput,
 ) -> (ServerSeat<D>, Happened)
     requires can { CanStep (seat.Up running) }
-    requires server { IsSeatOf server (seat.Up running) }
+    requires own { IsSeatOf node (seat.Up running) }
     requires due { IsDue given }
     requires now { now ≤ 1000000000 }
-    ensures happens { (count : ℕ) → SeatHappens D.seen D.may_leave D.faults D.limit server [] (IsVoidServer given) (HasStep (Server server) now count given) (seat.Up running) result.0 result.1 }
-    ensures goes { SeatGoes server (seat.Up running) result.0 result.1 }
+    ensures happens { (count : ℕ) → SeatHappens D.seen D.may_leave D.faults D.limit node [] (IsVoidServer given) (HasStep node now count given) (seat.Up running) result.0 result.1 }
+    ensures goes { SeatGoes node (seat.Up running) result.0 result.1 }
     ensures keeps { SeatKeeps D.seen D.faults D.limit (seat.Up running) result.0 }
     ensures picked { LeavesPick D.seen D.left_by result.1 given (seat.Up running) result.0 }
 {
     match given {
         ServerInput::TimeOut(callee) => time_out(running, callee, now),
         ServerInput::Wake => wake(running, now),
-        ServerInput::Crash(pick) => crash(alloc, running, server, pick),
+        ServerInput::Crash(pick) => crash(alloc, running, node, pick),
         ServerInput::Restart => (Seat::Up(running), Happened::Nothing),
-        ServerInput::Stop { calls, pick } => set_to_stop(alloc, running, server, calls, pick),
-        ServerInput::Fail { call } => set_to_fail(alloc, running, server, call),
+        ServerInput::Stop { calls, pick } => set_to_stop(alloc, running, node, calls, pick),
+        ServerInput::Fail { call } => set_to_fail(alloc, running, node, call),
     }
 }
 
@@ -189,19 +186,19 @@ fn take_up<D: Disk>(
 fn begin_again<D: Disk>(
     alloc: Global,
     resting: Resting<D>,
-    server: u8,
+    node: Node,
     clients: u8,
     now: u32,
 ) -> (ServerSeat<D>, Happened)
-    requires node { IsNode (Server server) }
+    requires node { IsNode node }
     requires limit { D.limit resting.disk ≤ 268435456 }
     requires clients { clients ≤ 16 }
     requires now { now ≤ 1000000000 }
-    ensures happens { SeatHappens D.seen D.may_leave D.faults D.limit server [] (IsVoidServer input.Restart) (HasStep (Server server) now clients input.Restart) (seat.Down resting) result.0 result.1 }
-    ensures goes { SeatGoes server (seat.Down resting) result.0 result.1 }
+    ensures happens { SeatHappens D.seen D.may_leave D.faults D.limit node [] (IsVoidServer input.Restart) (HasStep node now clients input.Restart) (seat.Down resting) result.0 result.1 }
+    ensures goes { SeatGoes node (seat.Down resting) result.0 result.1 }
     ensures keeps { SeatKeeps D.seen D.faults D.limit (seat.Down resting) result.0 }
 {
-    match resting.start(alloc, server, clients, now) {
+    match resting.start(alloc, node, clients, now) {
         Start::Up(running, outs) => (Seat::Up(running), Happened::Step(outs)),
         Start::Down(resting, lines) => (
             Seat::Down(resting),
@@ -219,27 +216,27 @@ fn begin_again<D: Disk>(
 pub fn take<D: Disk>(
     alloc: Global,
     seat: ServerSeat<D>,
-    server: u8,
+    node: Node,
     clients: u8,
     now: u32,
     given: ServerInput,
 ) -> (ServerSeat<D>, Happened)
     requires can { CanStep seat }
-    requires server { IsSeatOf server seat }
-    requires node { IsNode (Server server) }
+    requires own { IsSeatOf node seat }
+    requires node { IsNode node }
     requires limit { D.limit (seat_disk seat) ≤ 268435456 }
     requires clients { clients ≤ 16 }
     requires due { IsDue given }
     requires now { now ≤ 1000000000 }
-    ensures happens { SeatHappens D.seen D.may_leave D.faults D.limit server [] (IsVoidServer given) (HasStep (Server server) now clients given) seat result.0 result.1 }
-    ensures goes { SeatGoes server seat result.0 result.1 }
+    ensures happens { SeatHappens D.seen D.may_leave D.faults D.limit node [] (IsVoidServer given) (HasStep node now clients given) seat result.0 result.1 }
+    ensures goes { SeatGoes node seat result.0 result.1 }
     ensures keeps { SeatKeeps D.seen D.faults D.limit seat result.0 }
     ensures picked { LeavesPick D.seen D.left_by result.1 given seat result.0 }
 {
     match seat {
-        Seat::Up(running) => take_up(alloc, running, server, now, given),
+        Seat::Up(running) => take_up(alloc, running, node, now, given),
         Seat::Down(resting) => match given {
-            ServerInput::Restart => begin_again(alloc, resting, server, clients, now),
+            ServerInput::Restart => begin_again(alloc, resting, node, clients, now),
             _ => (Seat::Down(resting), Happened::Nothing),
         },
     }

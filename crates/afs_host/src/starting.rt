@@ -2,7 +2,6 @@
 
 ghost use Rattle.std.specs.Prelude.{◌≡◌, ◌≤◌, ◌<◌, ◌+◌, ◌↔◌, ◌++◌, ◌∷◌, [], ℕ, List, None, false, vec_capacity, vec_len, IfOk, IsSome};
 ghost use Rattle.afs_num.specs.Nodes.{IsNode};
-ghost use Rattle.afs_num.specs.declared.types.Node.TheVariants.{Server};
 ghost use Rattle.afs_history.specs.declared.lines.Line.TheVariants as lines;
 ghost use Rattle.afs_rows.specs.States.{ServerState};
 ghost use Rattle.afs_rows.specs.Steps.{Begun};
@@ -181,27 +180,26 @@ impl<D: Disk> Resting<D> {
         Start::Down(self, told)
     }
 
-    /// The server of this number begins again, in a cell of so many clients, at this time in ticks. Its disk isn't set. Memory to tell
+    /// The server that is this node begins again, in a cell of so many clients, at this time in ticks. Its disk isn't set. Memory to tell
     /// that the disk failed is taken before the first device call.
     pub fn start(
         self,
         alloc: Global,
-        server: u8,
+        node: Node,
         clients: u8,
         now: u32,
     ) -> Start<ServerRunning<D>, Resting<D>>
-        requires node { IsNode (Server server) }
+        requires node { IsNode node }
         requires limit { D.limit self.disk ≤ 268435456 }
         requires clients { clients ≤ 16 }
         requires now { now ≤ 1000000000 }
-        ensures started { IsSome (D.seen self.disk) → IsStarted D.seen D.may_leave D.faults D.limit (Server server) now clients self result }
-        ensures over { StartsOver D.seen D.faults D.limit (Server server) now clients self result }
-        ensures goes_on { GoesOnStarted (Server server) self result }
+        ensures started { IsSome (D.seen self.disk) → IsStarted D.seen D.may_leave D.faults D.limit node now clients self result }
+        ensures over { StartsOver D.seen D.faults D.limit node now clients self result }
+        ensures goes_on { GoesOnStarted node self result }
         ensures told { IsSome (D.seen (disk_started result)) ↔ IsSome (D.seen self.disk) }
         ensures limit { D.limit (disk_started result) ≡ D.limit self.disk }
         ensures faults { D.faults self.disk ≤ D.faults (disk_started result) }
     {
-        let node = Node::Server(server);
         let Ok(fault) = fault_alone(alloc, node) else {
             return Start::Unchanged(self);
         };

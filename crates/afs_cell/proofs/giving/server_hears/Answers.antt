@@ -22,7 +22,7 @@ returns-in-Some-hear g c = λ place.
     let own = (c.requires.can c.args.server c.at.result.now found).own in
     server_changed g.D.Disk.seen g.D.Disk.left_by g.D.Disk.may_leave g.D.Disk.faults g.D.Disk.limit c.args.server (lines.Given place ∷ []) IsFallen (HasHeard (Server c.args.server) c.args.now place c.args.bytes.now) c.args.servers.now.items c.at.result.now c.hear.new.seat found
     (put_place (c.in-Some.i + 1) c.hear.new.seat c.args.servers.now.items) c.in-Some-hear.happened (ap (λ (k : ℕ). put_place k c.hear.new.seat c.args.servers.now.items) c.in-Some.ensures.some.0)
-    (c.in-Some-hear.ensures.happens c.args.server place own) (c.in-Some-hear.ensures.goes c.args.server own) c.in-Some-hear.ensures.keeps
+    (c.in-Some-hear.ensures.happens (Server c.args.server) place own) (c.in-Some-hear.ensures.goes (Server c.args.server) own) c.in-Some-hear.ensures.keeps
 
 pub returns-in-None : goal.returns-in-None
 returns-in-None g c = λ place.
@@ -31,4 +31,4 @@ returns-in-None g c = λ place.
     server_fell g.D.Disk.seen g.D.Disk.left_by g.D.Disk.may_leave g.D.Disk.faults g.D.Disk.limit c.args.server (lines.Given place ∷ []) IsFallen (HasHeard (Server c.args.server) c.args.now place c.args.bytes.now) c.args.servers.now.items c.at.result.now c.hear.new.seat found
     c.fall.new.servers.items c.fall.result
     (subst (λ (k : ℕ). OneFalls g.D.Disk.seen g.D.Disk.left_by g.D.Disk.may_leave g.D.Disk.faults g.D.Disk.limit c.args.server (put_place k c.hear.new.seat c.args.servers.now.items) c.fall.new.servers.items c.fall.result) c.in-Some.ensures.some.0 c.fall.ensures)
-    (c.in-None.ensures.happens c.args.server place own) (c.in-None.ensures.goes c.args.server own) c.in-None.ensures.keeps
+    (c.in-None.ensures.happens (Server c.args.server) place own) (c.in-None.ensures.goes (Server c.args.server) own) c.in-None.ensures.keeps

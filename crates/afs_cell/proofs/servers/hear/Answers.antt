@@ -9,12 +9,12 @@ use Rattle.std.proofs.Common.{subst}
 use Rattle.afs_cell.proofs.servers.hear.Goals as goal
 
 pub returns-in-Ok-clause-happens : goal.returns-in-Ok-clause-happens
-returns-in-Ok-clause-happens g c = λ i place own.
-    heard_up g.D.Disk.seen g.D.Disk.may_leave g.D.Disk.faults g.D.Disk.limit i c.args.now place c.args.bytes.now c.args.seat.now c.in-Up.running c.serve.new.self c.in-Ok.outs c.in-Up.is own c.in-Ok.ensures.served
+returns-in-Ok-clause-happens g c = λ me place own.
+    heard_up g.D.Disk.seen g.D.Disk.may_leave g.D.Disk.faults g.D.Disk.limit me c.args.now place c.args.bytes.now c.args.seat.now c.in-Up.running c.serve.new.self c.in-Ok.outs c.in-Up.is own c.in-Ok.ensures.served
 
 pub returns-in-Err-Down-clause-happens : goal.returns-in-Err-Down-clause-happens
-returns-in-Err-Down-clause-happens g c = λ i place own.
-    fell_happens g.D.Disk.seen g.D.Disk.left_by g.D.Disk.may_leave g.D.Disk.faults g.D.Disk.limit i c.args.now place c.args.bytes.now c.args.seat.now c.in-Up.running c.serve.new.self c.in-Up.is own
+returns-in-Err-Down-clause-happens g c = λ me place own.
+    fell_happens g.D.Disk.seen g.D.Disk.left_by g.D.Disk.may_leave g.D.Disk.faults g.D.Disk.limit me c.args.now place c.args.bytes.now c.args.seat.now c.in-Up.running c.serve.new.self c.in-Up.is own
     (subst (λ (e : NodeFault). Becomes g.D.Disk.seen g.D.Disk.left_by g.D.Disk.may_leave g.D.Disk.faults g.D.Disk.limit (λ s. IsServed g.D.Disk.seen g.D.Disk.left_by g.D.Disk.size g.D.Disk.may_leave g.D.Disk.moment g.D.Disk.left_since g.D.Disk.faults g.D.Disk.limit c.in-Up.running c.args.now (received c.args.bytes.now) s) c.serve.new.self (Err e)) c.in-Err-Down.field-0-is c.in-Err-Down.ensures.served)
 
 pub returns-in-Err-Down-clause-keeps : goal.returns-in-Err-Down-clause-keeps
