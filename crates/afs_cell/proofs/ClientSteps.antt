@@ -28,7 +28,8 @@ use Rattle.afs_text.specs.Telling.{told, sent_by}
 use Rattle.afs_clients.specs.Happening.{entry_of, ClientHears, ClientMakes, HasBegun, HasFallen, HasRisen, HasTimedOut, IsAsked, IsVoidClient}
 use Rattle.afs_clients.specs.Places.{put_place}
 use Rattle.afs_cell.specs.Steps.{IsAt, Plays}
-use Rattle.afs_cell.specs.Worlds.{falls, IsClient, IsHost, WorldState}
+use Rattle.afs_cell.specs.Worlds.{falls, IsClient, WorldState}
+use Rattle.afs_host.specs.Seated.{IsHost}
 use Rattle.afs_clients.specs.declared.clients.ClientSeat.{ClientSeat}
 use Rattle.afs_clients.specs.declared.happening.ClientInput.{ClientInput}
 use Rattle.afs_clients.specs.declared.happening.ClientInput.TheVariants as client

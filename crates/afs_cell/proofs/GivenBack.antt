@@ -18,9 +18,11 @@ use Rattle.afs_rows.specs.States.{Lasting, ServerState}
 use Rattle.afs_host.specs.Seats.{IsDown, Resting}
 use Rattle.afs_host.specs.Standing.{LiesAs}
 use Rattle.afs_host.specs.declared.seats.Seat.TheVariants.{Down, Up}
-use Rattle.afs_cell.specs.FirstSeats.{AreKeptSeats, IsKeptSeat}
-use Rattle.afs_cell.specs.Steps.{lent_from, AreLent, AreStanding, IsReadAfter, MayBeRead}
-use Rattle.afs_cell.specs.Worlds.{seat_disk, AllHold, IsCell, IsHost, IsReadySeat, IsSafe, ServerSeat, WorldState}
+use Rattle.afs_ends.specs.FirstSeats.{AreKeptSeats, IsKeptSeat}
+use Rattle.afs_cell.specs.Steps.{AreStanding, IsReadAfter, MayBeRead}
+use Rattle.afs_ends.specs.Lends.{lent_from, AreLent}
+use Rattle.afs_host.specs.Seated.{seat_disk, IsHost, IsReadySeat, ServerSeat}
+use Rattle.afs_cell.specs.Worlds.{AllHold, IsCell, IsSafe, WorldState}
 use Rattle.afs_clients.proofs.Numbers.{none_some, some_is}
 
 -- ---- a step leaves the capacity as it is
@@ -42,20 +44,6 @@ each_tail : {A : Type 0} (P : A → Type 0) (x : A) (xs : List A) → ((n : ℕ)
 each_tail P x [] h n y e = absurd (none_some y e)
 each_tail P x (z ∷ zs) h zero y e = absurd (none_some y e)
 each_tail P x (z ∷ zs) h (suc n) y e = h (suc (suc n)) y e
-
--- nothing is left
-pub none_left : {A : Type 0} (xs : List A) (n : ℕ) → n ≡ length xs → n ≡ 0 → xs ≡ []
-none_left [] n e none = refl
-none_left (x ∷ xs) n e none = absurd (omega (arith, e, none))
-
--- one disk more goes back
-pub gives_on : {D : Type 0} (n : ℕ) (back new all : List (Lent D)) (seat : ServerSeat D) (seats rest : List (ServerSeat D)) (d : D) → seats ≡ seat ∷ rest → new ≡ back ++ record { node = n + 1; disk = d } ∷ [] → d ≡ seat_disk seat → back ++ lent_from (n + 1) seats ≡ all
-    → new ++ lent_from ((n + 1) + 1) rest ≡ all
-gives_on {D} n back new all seat seats rest d are given is so_far =
-    ap (λ (ls : List (Lent D)). ls ++ lent_from ((n + 1) + 1) rest) given
-    ∙ (append_assoc back (record { node = n + 1; disk = d } ∷ []) (lent_from ((n + 1) + 1) rest)
-    ∙ (ap (λ (x : D). back ++ record { node = n + 1; disk = x } ∷ lent_from ((n + 1) + 1) rest) is
-    ∙ (ap (λ (ss : List (ServerSeat D)). back ++ lent_from (n + 1) ss) (sym are) ∙ so_far)))
 
 module _ {D : Type 0} (seen : D → Option (List ℕ)) (may_leave : D → List ℕ → Type 0) (limit : D → ℕ) where
   pub lent_all : (capacity i : ℕ) (ss : List (ServerSeat D)) → AllHold limit capacity ss → AreLent limit capacity i (lent_from i ss)

@@ -17,10 +17,11 @@ use Rattle.afs_text.specs.Telling.{told, sent_by}
 use Rattle.afs_rows.specs.Hosts.{HostStep}
 use Rattle.afs_rows.specs.States.{ServerState}
 use Rattle.afs_clients.specs.Happening.{entry_of}
-use Rattle.afs_cell.specs.Happening.{IsSeatStep}
+use Rattle.afs_servers.specs.Happening.{IsSeatStep}
 use Rattle.afs_clients.specs.Places.{put_place, Each}
 use Rattle.afs_cell.specs.Steps.{IsAt, Plays}
-use Rattle.afs_cell.specs.Worlds.{falls, seat_disk, IsHost, ServerSeat, WorldState}
+use Rattle.afs_cell.specs.Worlds.{falls, WorldState}
+use Rattle.afs_host.specs.Seated.{seat_disk, IsHost, ServerSeat}
 use Rattle.afs_cell.proofs.Counts.{counts_put, Blames}
 use Rattle.afs_cell.proofs.Parcels.{messages_of-read, messages_spelled-append, parcels_read-append, told-push}
 use Rattle.afs_clients.proofs.Numbers.{each_put, length_put}

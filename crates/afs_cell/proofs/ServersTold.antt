@@ -15,9 +15,11 @@ use Rattle.afs_schedule.specs.Schedules.{IsInput, Turn}
 use Rattle.afs_rows.specs.Hosts.{HostStep}
 use Rattle.afs_rows.specs.States.{ServerState}
 use Rattle.afs_clients.specs.Happening.{entry_of, front_lines, void_entry, IsGiven}
-use Rattle.afs_cell.specs.Happening.{HasHeard, HasStep, IsFallen, IsSeatStep, IsVoidServer, OneHappened, ServersHappened, Settles}
+use Rattle.afs_cell.specs.Happening.{Settles}
+use Rattle.afs_servers.specs.Happening.{HasHeard, HasStep, IsFallen, IsSeatStep, IsVoidServer, OneHappened, ServersHappened}
 use Rattle.afs_cell.specs.Steps.{IsAt, Stepped}
-use Rattle.afs_cell.specs.Worlds.{most_entries, seat_disk, AllTell, IsSafe, ServerSeat, WorldState}
+use Rattle.afs_host.specs.Seated.{seat_disk, ServerSeat}
+use Rattle.afs_cell.specs.Worlds.{most_entries, AllTell, IsSafe, WorldState}
 use Rattle.afs_cell.specs.declared.faults.WorldFault.{WorldFault}
 use Rattle.afs_cell.specs.declared.faults.WorldFault.TheVariants as faulty
 use Rattle.afs_clients.specs.declared.happening.Happened.{Happened}

@@ -16,10 +16,11 @@ use Rattle.afs_schedule.specs.Schedules.{Turn}
 use Rattle.afs_text.specs.Telling.{told, sent_by}
 use Rattle.afs_host.specs.declared.seats.Seat.TheVariants.{Up, Down}
 use Rattle.afs_clients.specs.Happening.{entry_of, void_entry}
-use Rattle.afs_cell.specs.Happening.{SeatGoes, SeatKeeps}
+use Rattle.afs_servers.specs.Happening.{SeatGoes, SeatKeeps}
 use Rattle.afs_clients.specs.Places.{put_place, Each}
 use Rattle.afs_cell.specs.Steps.{IsAt, Plays, Stepped}
-use Rattle.afs_cell.specs.Worlds.{most_entries, seat_disk, AllHold, AllTell, IsHost, IsReadyClient, IsReadySeat, IsSafe, ServerSeat, WorldState}
+use Rattle.afs_cell.specs.Worlds.{most_entries, AllHold, AllTell, IsReadyClient, IsSafe, WorldState}
+use Rattle.afs_host.specs.Seated.{seat_disk, IsHost, IsReadySeat, ServerSeat}
 use Rattle.afs_clients.specs.declared.clients.ClientSeat.{ClientSeat}
 use Rattle.afs_cell.specs.declared.faults.WorldFault.TheVariants as faulty
 use Rattle.afs_clients.specs.declared.happening.Happened.TheVariants as happened

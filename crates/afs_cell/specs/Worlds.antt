@@ -1,8 +1,7 @@
 -- The program's cell, and the cell of the definitions that it stands for.
-use Rattle.std.specs.Prelude.{◌≡◌, ◌≤◌, ◌⊎◌, ◌+◌, ◌-◌, ◌*◌, ◌^◌, ℕ, List, [], ◌∷◌, Bool, false, not, nat_eq, if◌then◌else◌, Option, length, IsSome}
+use Rattle.std.specs.Prelude.{◌≡◌, ◌≤◌, ◌⊎◌, ◌+◌, ◌-◌, ◌^◌, ℕ, List, ◌∷◌, Bool, false, not, nat_eq, if◌then◌else◌, Option, length, IsSome}
 use Rattle.afs_num.specs.declared.histories.Actor.{Actor}
 use Rattle.afs_num.specs.declared.histories.Actor.TheVariants as actors
-use Rattle.afs_num.specs.declared.types.Node.{Node}
 use Rattle.afs_num.specs.declared.types.Node.TheVariants.{Server}
 use Rattle.afs_num.specs.declared.types.Parcel.{Parcel}
 use Rattle.afs_history.specs.declared.lines.Entry as kept
@@ -11,18 +10,12 @@ use Rattle.afs_grammar.specs.CellScripts.{IsCellScript}
 use Rattle.afs_model.specs.Messages.{messages_spelled, parcels_read}
 use Rattle.afs_rows.specs.Going.{ClientState}
 use Rattle.afs_rows.specs.Runs.{gives, start, starts_again, Cell, Entry, Input, Leads}
-use Rattle.afs_rows.specs.ServerHosts.{ServerHost}
 use Rattle.afs_rows.specs.Hosts.{fails_early, fails_midway, gives_out}
-use Rattle.afs_host.specs.Seats.{CanRun, IsDown, IsUp, Resting, ServerRunning}
-use Rattle.afs_host.specs.declared.seats.Seat.{Seat}
-use Rattle.afs_host.specs.declared.seats.Seat.TheVariants.{Up, Down}
+use Rattle.afs_host.specs.Seated.{seat_disk, IsHost, IsReadySeat, ServerSeat}
 use Rattle.afs_clients.specs.Places.{Each}
 use Rattle.afs_text.specs.Telling.{told, sent_by, AreRead}
 use Rattle.afs_clients.specs.declared.clients.ClientSeat.{ClientSeat}
 use Rattle.afs_clients.specs.Seating.{IsHanded}
-
-abbrev pub ServerSeat : Type 0 → Type 0
-ServerSeat D = Seat (ServerRunning D) (Resting D)
 
 -- What was told and let go: so many entries, which sent so many messages; and of the messages so many, as nothing delivers them any more.
 pub record LetGo : Type 0 where
@@ -52,11 +45,6 @@ pub record HistoryTold : Type 0 where
 
 -- ---- the cell
 
--- the server that is this node is the host, up or down
-abbrev pub IsHost : {D : Type 0} → (D → Option (List ℕ)) → (D → List ℕ → Type 0) → (D → ℕ) → Node → ServerSeat D → ServerHost → Type 0
-IsHost {D} seen may_leave limit me (Up r) h = IsUp r h
-IsHost {D} seen may_leave limit me (Down s) h = IsDown seen may_leave limit me s h
-
 -- a client's seat has the state that the cell has, and is away where the cell has it away
 pub record IsClient (s : ClientSeat) (state : ClientState) (away : Bool) : Type 0 where
   pub state_is : s.client.state ≡ state
@@ -73,19 +61,6 @@ pub record IsCell {D : Type 0} (seen : D → Option (List ℕ)) (may_leave : D �
 
 -- ---- what the next input may rely on
 
--- A server can be given what comes next, in a history of so many entries: no step draws more than so many numbers, nor makes more
--- than four device calls; setting up makes at most twelve, a restart ten.
-pub record IsReady {D : Type 0} (me : Node) (entries : ℕ) (r : ServerRunning D) : Type 0 where
-  pub node : r.store.node ≡ me
-  pub can_run : CanRun r
-  pub calls_drawn : r.store.drawn ≤ 204 * (entries + 1)
-  pub breaks_drawn : r.memory.lists.last_owed + length r.memory.lists.promises ≤ 50 * (entries + 1)
-  pub device_calls : r.store.disk.calls ≤ 12 + 4 * entries
-
-abbrev pub IsReadySeat : {D : Type 0} → Node → ℕ → ServerSeat D → Type 0
-IsReadySeat {D} me entries (Up r) = IsReady me entries r
-IsReadySeat {D} me entries (Down s) = Unit {0}
-
 -- A client can be given what comes next, too: no step makes more than one call, or begins more than one epoch.
 pub record IsReadyClient (s : Script) (n entries : ℕ) (seat : ClientSeat) : Type 0 where
   pub handed : IsHanded s n seat
@@ -93,10 +68,6 @@ pub record IsReadyClient (s : Script) (n entries : ℕ) (seat : ClientSeat) : Ty
   pub last : seat.client.state.last ≤ entries
 
 -- ---- disks
-
-abbrev pub seat_disk : {D : Type 0} → ServerSeat D → D
-seat_disk {D} (Up r) = r.store.disk.disk
-seat_disk {D} (Down s) = s.disk
 
 -- each server's disk tells its bytes
 abbrev pub AllTell : {D : Type 0} → (D → Option (List ℕ)) → List (ServerSeat D) → Type 0

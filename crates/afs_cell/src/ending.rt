@@ -3,12 +3,12 @@
 ghost use Rattle.std.specs.Prelude.{◌≡◌, false, IfErr, IfOk};
 ghost use Rattle.afs_final.specs.Reading.{AreFound};
 ghost use Rattle.afs_cell.specs.Since.{IsWorldSince, StandsSince};
-ghost use Rattle.afs_cell.specs.Steps.{lent_from, AreLent};
+ghost use Rattle.afs_ends.specs.Lends.{lent_from, AreLent};
 
-use crate::disks::give_back;
-use crate::reading::left_of;
 use crate::world::World;
 use afs_disk::{Disk, Disks};
+use afs_ends::disks::give_back;
+use afs_ends::reading::left_of;
 use afs_final::Left;
 use afs_volstore::VolStore;
 

@@ -1,3 +1,4 @@
+pub mod Seated
 pub mod Seats
 pub mod Serving
 pub mod Setting

@@ -1,9 +1,11 @@
 use Rattle.std.proofs.Common.{ap, ap₂, subst, sym, ◌∙◌, ◌≡◌, ◌++◌, List}
 use Rattle.afs_disk.specs.declared.disks.Lent.{Lent}
-use Rattle.afs_cell.specs.FirstSeats.{AreKeptSeats}
+use Rattle.afs_ends.specs.FirstSeats.{AreKeptSeats}
 use Rattle.afs_cell.specs.Since.{whole}
-use Rattle.afs_cell.specs.Steps.{lent_from, AreLent, AreStanding}
-use Rattle.afs_cell.specs.Worlds.{ServerSeat, WorldState}
+use Rattle.afs_cell.specs.Steps.{AreStanding}
+use Rattle.afs_ends.specs.Lends.{lent_from, AreLent}
+use Rattle.afs_host.specs.Seated.{ServerSeat}
+use Rattle.afs_cell.specs.Worlds.{WorldState}
 use Rattle.afs_cell.proofs.GivenBack.{lent_all, standing}
 use Rattle.afs_cell.proofs.world.World.end.Goals as goal
 
