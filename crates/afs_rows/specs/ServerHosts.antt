@@ -1,7 +1,5 @@
 -- A file server as a host: its kind, and the inputs that servers alone have.
 use Rattle.std.specs.Prelude.{ℕ, Bool}
-use Rattle.afs_num.specs.declared.messages.Message.{Message}
-use Rattle.afs_num.specs.declared.messages.Received.{Received}
 use Rattle.afs_num.specs.declared.messages.Received.TheVariants.{Whole}
 use Rattle.afs_num.specs.declared.types.Node.{Node}
 use Rattle.afs_records.specs.Changes.{can_boot}
