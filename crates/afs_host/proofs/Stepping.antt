@@ -35,7 +35,7 @@ use Rattle.afs_rows.specs.States.{BackCall, ServerState}
 use Rattle.afs_rows.specs.Steps.{Step}
 use Rattle.afs_records.proofs.Forms.{some_is}
 use Rattle.afs_volstore.specs.Stores.{Store}
-use Rattle.afs_server_parts.specs.Called.{calls_seen}
+use Rattle.afs_server_parts.specs.Called.{call_to}
 use Rattle.afs_server.specs.Handling.{calls_served, record_decided, server_seen, IsDone, Makes}
 use Rattle.afs_host.specs.Seats.{waits_for, IsStepUp, IsUp, ServerRunning}
 use Rattle.afs_host.specs.Setting.{IsSet}
@@ -232,8 +232,8 @@ called_none (Some b) e = absurd cc
 
 pub waits_some : {D : Type 0} (r : ServerRunning D) (h : ServerHost) (callee : Node) → IsUp r h → waits_for r callee ≡ true → (b : BackCall) × (h.state.backs.calls callee ≡ Some b)
 waits_some {D} r h callee up waits =
-    let b = called_one (calls_seen r.memory.callees callee) waits in
+    let b = called_one (call_to r.memory.callees callee) waits in
     (b.0, ap (λ (s : ServerState). s.backs.calls callee) up.state ∙ b.1)
 
 pub waits_none : {D : Type 0} (r : ServerRunning D) (h : ServerHost) (callee : Node) → IsUp r h → waits_for r callee ≡ false → h.state.backs.calls callee ≡ None
-waits_none {D} r h callee up waits = ap (λ (s : ServerState). s.backs.calls callee) up.state ∙ called_none (calls_seen r.memory.callees callee) waits
+waits_none {D} r h callee up waits = ap (λ (s : ServerState). s.backs.calls callee) up.state ∙ called_none (call_to r.memory.callees callee) waits

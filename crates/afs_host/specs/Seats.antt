@@ -12,7 +12,7 @@ use Rattle.afs_rows.specs.Hosts.{unarmed, Armed, Fall, Host, HostStep}
 use Rattle.afs_rows.specs.ServerHosts.{ServerHost}
 use Rattle.afs_rows.specs.States.{ServerState}
 use Rattle.afs_volstore.specs.Stores.{Store}
-use Rattle.afs_server_parts.specs.Called.{calls_seen}
+use Rattle.afs_server_parts.specs.Called.{call_to}
 use Rattle.afs_server.specs.Handling.{server_seen, SameStore}
 use Rattle.afs_server.specs.Seen.{Memory, Serves}
 use Rattle.afs_host.specs.Setting.{IsSet}
@@ -70,7 +70,7 @@ disk_of {D} r = r.store.disk.disk
 
 -- it waits for a reply of this node
 abbrev pub waits_for : {D : Type 0} → ServerRunning D → Node → Bool
-waits_for {D} r callee = is_some (calls_seen r.memory.callees callee)
+waits_for {D} r callee = is_some (call_to r.memory.callees callee)
 
 abbrev pub IsUp : {D : Type 0} → ServerRunning D → ServerHost → Type 0
 IsUp {D} r h = IsHostUp (λ (m : Memory) (t : Store (Fused D)). server_seen m t) r h
