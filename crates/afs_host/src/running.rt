@@ -18,7 +18,7 @@ use std::marker::Model;
 
 /// A node that is up: what it has in memory, its store, and how its disk is set to stop it or to fail.
 #[derive(Drop)]
-pub struct Running<N: Drop, T: OnDisk> {
+pub struct Running<N, T: OnDisk> {
     pub(crate) memory: N,
     pub(crate) store: T,
     pub(crate) armed: Armed,
@@ -27,7 +27,7 @@ pub struct Running<N: Drop, T: OnDisk> {
 /// A file server that is up, over such a disk.
 pub type ServerRunning<D> = Running<FileServer, VolStore<Fuse<D>>>;
 
-impl<N: Drop, T: OnDisk> Model for Running<N, T> {
+impl<N, T: OnDisk> Model for Running<N, T> {
     ghost use Rattle.afs_host.specs.Setting.{armed_seen};
     ghost use Rattle.afs_host.specs.Seats.{Running};
 

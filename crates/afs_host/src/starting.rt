@@ -111,7 +111,7 @@ fn rise<D: Disk>(
 
 /// A node stays down, and tells this after the lines with which the restart began: what these told is told, so its mark is
 /// that of the store.
-fn stay<U: Drop, T: OnDisk>(store: T, front: Vec<Line>, last: Line) -> Start<U, Resting<T::D>>
+fn stay<U, T: OnDisk>(store: T, front: Vec<Line>, last: Line) -> Start<U, Resting<T::D>>
     requires room { vec_len front < vec_capacity front }
     ensures stays { Stays (T.shown store) front.items last result }
     ensures kept { (T.shown store).closed ≡ false → T.kept store (T.D.seen (T.shown store).fuse.disk) (T.D.may_leave (T.shown store).fuse.disk) }
@@ -171,7 +171,7 @@ fn boot<D: Disk>(
 
 impl<D: Disk> Resting<D> {
     /// A node whose disk can't be taken up stays down, and tells just this, unless memory ran out.
-    fn refused<U: Drop>(self, refusal: StoreFault, told: Lines) -> Start<U, Resting<D>>
+    fn refused<U>(self, refusal: StoreFault, told: Lines) -> Start<U, Resting<D>>
         ensures { IsRefused refusal self told result }
     {
         if refusal == StoreFault::OutOfMemory {

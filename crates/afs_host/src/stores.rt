@@ -12,7 +12,7 @@ use afs_num::types::Node;
 use afs_volstore::VolStore;
 
 /// A node's store over a disk behind a fuse. Every kind of node has its own; of each a host needs just this.
-pub trait OnDisk: Drop {
+pub trait OnDisk {
     /// The disk behind the fuse.
     type D: Disk;
 

@@ -159,7 +159,7 @@ fn end<K: Sink, B: Bank<D: Drop>>(
         }
     };
     let status = tell_left(alloc, sink, left.as_slice(), written);
-    let taken = give_back(bank, left);
+    let taken = give_back(bank, 1, left);
     returned(status, taken)
 }
 
@@ -252,7 +252,7 @@ pub(crate) fn replay<K: Sink, B: Bank<D: Drop>>(
     requires script { IsCellScript script.now }
     ensures { EndsReplay script.now wire place.now (B.tells bank.old place.now) (SetUpLeaves B.D.seen B.D.may_leave B.D.faults script.now (record { sink = span (K.held sink.old) (K.held sink.new); passed = K.passed sink.new; lends = span (B.lends bank.old) (B.lends bank.new); given = span (B.given bank.old) (B.given bank.new); sink_faults = span (K.faults sink.old) (K.faults sink.new); bank_faults = span (B.faults bank.old) (B.faults bank.new); disk_faults = λ (n : ℕ). span (B.lent_faults bank.old n) (B.lent_faults bank.new n) })) (LendingLeaves B.D.seen B.D.faults B.D.limit script.now (record { sink = span (K.held sink.old) (K.held sink.new); passed = K.passed sink.new; lends = span (B.lends bank.old) (B.lends bank.new); given = span (B.given bank.old) (B.given bank.new); sink_faults = span (K.faults sink.old) (K.faults sink.new); bank_faults = span (B.faults bank.old) (B.faults bank.new); disk_faults = λ (n : ℕ). span (B.lent_faults bank.old n) (B.lent_faults bank.new n) })) (record { sink = span (K.held sink.old) (K.held sink.new); passed = K.passed sink.new; lends = span (B.lends bank.old) (B.lends bank.new); given = span (B.given bank.old) (B.given bank.new); sink_faults = span (K.faults sink.old) (K.faults sink.new); bank_faults = span (B.faults bank.old) (B.faults bank.new); disk_faults = λ (n : ℕ). span (B.lent_faults bank.old n) (B.lent_faults bank.new n) }) result }
 {
-    match lend_all(alloc, bank, place, script.servers, script.capacity) {
+    match lend_all(alloc, bank, place, 1, script.servers, script.capacity) {
         Ok(disks) => replay_over(alloc, script, disks, wire, sink, bank),
         Err((fault, disks)) => give_up(bank, disks, status_of_lend(fault)),
     }

@@ -1,6 +1,6 @@
 use Rattle.afs_model.specs.Messages.{received}
 use Rattle.afs_host.proofs.Becoming.{faults_so, goes_on_so, limit_so, mark_so, rests_so, row_so, served_so, told_so}
-use Rattle.afs_host.proofs.running.Running.serve.Goals as goal
+use Rattle.afs_host.proofs.serving.Running+FileServer+VolStore+Fuse+D.serve.Goals as goal
 
 pub returns-clause-served : goal.returns-clause-served
 returns-clause-served g c = served_so g.D.Disk.seen g.D.Disk.left_by g.D.Disk.size g.D.Disk.may_leave g.D.Disk.moment g.D.Disk.left_since g.D.Disk.faults g.D.Disk.limit c.args.self.now c.handle.new.self g.met.D.Disk.leaves g.met.D.Disk.shows c.args.now (received c.args.bytes.now) c.handle.result c.requires.can_run c.handle.ensures.handled

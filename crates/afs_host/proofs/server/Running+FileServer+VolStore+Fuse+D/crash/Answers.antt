@@ -7,7 +7,7 @@ use Rattle.afs_disk.specs.Disk.{LeavesJust}
 use Rattle.afs_journal.specs.Records.{whole_records}
 use Rattle.afs_host.specs.Standing.{Lies, LiesBefore}
 use Rattle.afs_host.proofs.Lying.{if_some, is_told, kept_before, left_image}
-use Rattle.afs_host.proofs.running.Running.crash.Goals as goal
+use Rattle.afs_host.proofs.server.Running+FileServer+VolStore+Fuse+D.crash.Goals as goal
 
 pub returns-clause-step : goal.returns-clause-step
 returns-clause-step g c = λ h up.

@@ -22,7 +22,7 @@ use Rattle.afs_host.proofs.Breaking.{ended_left, ended_lies, saves_calls, Ended}
 use Rattle.afs_host.proofs.Handled.{row_made, Passed, passed_goes_on, passed_step, quiet_then, same_goes_on}
 use Rattle.afs_host.proofs.Heard.{message_of, stands_there}
 use Rattle.afs_host.proofs.Stepping.{made_calls, same_row}
-use Rattle.afs_host.proofs.running.Running.handle.Goals as goal
+use Rattle.afs_host.proofs.serving.Running+FileServer+VolStore+Fuse+D.handle.Goals as goal
 
 pub returns-in-Ok-clause-handled : goal.returns-in-Ok-clause-handled
 returns-in-Ok-clause-handled g c =
