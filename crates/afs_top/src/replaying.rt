@@ -4,7 +4,8 @@ ghost use Rattle.std.specs.Prelude.{◌≡◌, ◌≤◌, ◌⊎◌, ◌+◌, �
 ghost use Rattle.afs_grammar.specs.CellScripts.{IsCellScript};
 ghost use Rattle.afs_outside.specs.Outside.{Puts};
 ghost use Rattle.afs_cell.specs.Since.{whole, IsWorldSince};
-ghost use Rattle.afs_cell.specs.Steps.{AreLent, HasPlayedAll, HasPlayedFirst, HasPlayedSome, LentTell};
+ghost use Rattle.afs_cell.specs.Steps.{HasPlayedAll, HasPlayedFirst, HasPlayedSome};
+ghost use Rattle.afs_ends.specs.Lends.{AreLent, LentTell};
 ghost use Rattle.afs_cell.specs.Worlds.{most_entries, AllTell, HistoryTold};
 ghost use Rattle.afs_final.specs.Reading.{part};
 ghost use Rattle.afs_final.specs.Reading as read;
@@ -18,10 +19,10 @@ ghost use Rattle.afs_top.specs.Playing.{IsWritten, PutsBehind};
 ghost use Rattle.afs_top.specs.Top.{EndsReplay, EndsRun, LendingLeaves, SetUpLeaves};
 
 use crate::playing::{Ended, Told, play};
-use afs_cell::faults::SetupFault;
 use afs_cell::{World, set_up};
 use afs_command::statuses::Status;
 use afs_disk::{Bank, Disk, Disks, LendFault, Place};
+use afs_ends::faults::SetupFault;
 use afs_final::{Kept, Left, fault_in, put_final, told_of};
 use afs_history::scripts::Script;
 use afs_law::laws::{runs_are_legal, runs_end_well};

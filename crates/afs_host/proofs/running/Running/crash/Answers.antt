@@ -1,7 +1,7 @@
 use Rattle.std.specs.Prelude.{◌≡◌, ℕ, List, false}
 use Rattle.std.proofs.Common.{refl, ap, sym, subst, ◌∙◌, inl}
 use Rattle.afs_num.specs.declared.records.Mark.{Mark}
-use Rattle.afs_rows.specs.Runs.{at_rest}
+use Rattle.afs_rows.specs.Hosts.{at_rest}
 use Rattle.afs_rows.specs.States.{ServerState}
 use Rattle.afs_disk.specs.Disk.{LeavesJust}
 use Rattle.afs_journal.specs.Records.{whole_records}

@@ -7,7 +7,7 @@ use Rattle.afs_history.specs.declared.lines.Line.TheVariants as lines
 use Rattle.afs_history.specs.declared.lines.Outs.{Outs}
 use Rattle.afs_disk.specs.Disk.{Setting}
 use Rattle.afs_model.specs.Messages.{received, received_by}
-use Rattle.afs_rows.specs.Runs.{lowered}
+use Rattle.afs_rows.specs.Hosts.{lowered}
 use Rattle.afs_rows.specs.ServerRow.{decides, device_calls, Decision}
 use Rattle.afs_rows.specs.ServerSteps.{server_row}
 use Rattle.afs_volstore.specs.Stores.{Store}
@@ -15,7 +15,7 @@ use Rattle.afs_disk.specs.Fuses.{Fused}
 use Rattle.afs_server.specs.Handling.{calls_served, record_decided, server_seen, Handles, IsQuiet, IsWritten}
 use Rattle.afs_server.specs.declared.faults.NodeFault.{NodeFault}
 use Rattle.afs_server.specs.declared.faults.NodeFault.TheVariants as nodes
-use Rattle.afs_host.specs.Seats.{CanRun, Running}
+use Rattle.afs_host.specs.Seats.{CanRun, ServerRunning}
 use Rattle.afs_host.specs.Serving.{IsBroken, IsHandled, RunsRow}
 use Rattle.afs_host.specs.Setting.{armed_seen}
 use Rattle.afs_host.proofs.Breaking.{ended_left, ended_lies, saves_calls, Ended}
@@ -27,13 +27,13 @@ use Rattle.afs_host.proofs.running.Running.handle.Goals as goal
 pub returns-in-Ok-clause-handled : goal.returns-in-Ok-clause-handled
 returns-in-Ok-clause-handled g c =
     let inside = c.self.inside in
-    let old : Running g.row.D.Denot = record { memory = inside.server; store = inside.store; armed = armed_seen inside.armed } in
-    let new : Running g.row.D.Denot = record { memory = c.handle.new.self; store = c.handle.new.store; armed = armed_seen c.lowered-self-inside.result } in
+    let old : ServerRunning g.row.D.Denot = record { memory = inside.memory; store = inside.store; armed = armed_seen inside.armed } in
+    let new : ServerRunning g.row.D.Denot = record { memory = c.handle.new.self; store = c.handle.new.store; armed = armed_seen c.lowered-self-inside.result } in
     let can = subst CanRun (sym c.self.view_is) c.requires.can_run in
     let e = c.in-Ok.ensures in
-    let d = decides inside.store.node (server_seen inside.server inside.store) c.args.now (received_by calls_served c.args.bytes.now) in
-    let made : c.saturating_sub-made.result * 4 ≡ device_calls (server_seen inside.server inside.store) c.args.now d = ap (λ (n : ℕ). n * 4) (c.saturating_sub-made.ensures ∙ (ap (λ (m : Mark). m.records - c.mark-before.result.records) c.mark.ensures.value ∙ ap (λ (m : Mark). new.store.count - m.records) c.mark-before.ensures.value))
-    ∙ made_calls (server_seen inside.server inside.store) c.args.now d inside.store c.handle.new.store e.kept in
+    let d = decides inside.store.node (server_seen inside.memory inside.store) c.args.now (received_by calls_served c.args.bytes.now) in
+    let made : c.saturating_sub-made.result * 4 ≡ device_calls (server_seen inside.memory inside.store) c.args.now d = ap (λ (n : ℕ). n * 4) (c.saturating_sub-made.ensures ∙ (ap (λ (m : Mark). m.records - c.mark-before.result.records) c.mark.ensures.value ∙ ap (λ (m : Mark). new.store.count - m.records) c.mark-before.ensures.value))
+    ∙ made_calls (server_seen inside.memory inside.store) c.args.now d inside.store c.handle.new.store e.kept in
     let passed : Passed c.args.now c.args.bytes.now old new c.in-Ok.outs = record {
       step = e.step;
       found = e.found;
@@ -48,36 +48,36 @@ returns-in-Ok-clause-handled g c =
       stop = ap (λ (s : Setting). s.stop) e.setting;
       fail = ap (λ (s : Setting). s.fail) e.setting;
     } in
-    subst (λ (x : Running g.row.D.Denot). IsHandled g.D.Disk.seen g.D.Disk.left_by g.D.Disk.size g.D.Disk.may_leave g.D.Disk.moment g.D.Disk.left_since g.D.Disk.faults g.D.Disk.limit x c.args.now (received c.args.bytes.now) new (Ok c.in-Ok.outs)) c.self.view_is
+    subst (λ (x : ServerRunning g.row.D.Denot). IsHandled g.D.Disk.seen g.D.Disk.left_by g.D.Disk.size g.D.Disk.may_leave g.D.Disk.moment g.D.Disk.left_since g.D.Disk.faults g.D.Disk.limit x c.args.now (received c.args.bytes.now) new (Ok c.in-Ok.outs)) c.self.view_is
     (passed_step c.args.now c.args.bytes.now old new c.in-Ok.outs can passed, passed_goes_on c.args.now c.args.bytes.now old new c.in-Ok.outs can passed)
 
 pub returns-in-Ok-clause-row : goal.returns-in-Ok-clause-row
 returns-in-Ok-clause-row g c =
     let inside = c.self.inside in
-    let old : Running g.row.D.Denot = record { memory = inside.server; store = inside.store; armed = armed_seen inside.armed } in
-    let new : Running g.row.D.Denot = record { memory = c.handle.new.self; store = c.handle.new.store; armed = armed_seen c.lowered-self-inside.result } in
+    let old : ServerRunning g.row.D.Denot = record { memory = inside.memory; store = inside.store; armed = armed_seen inside.armed } in
+    let new : ServerRunning g.row.D.Denot = record { memory = c.handle.new.self; store = c.handle.new.store; armed = armed_seen c.lowered-self-inside.result } in
     let e = c.in-Ok.ensures in
-    let d = decides inside.store.node (server_seen inside.server inside.store) c.args.now (received_by calls_served c.args.bytes.now) in
-    let made : c.saturating_sub-made.result * 4 ≡ device_calls (server_seen inside.server inside.store) c.args.now d = ap (λ (n : ℕ). n * 4) (c.saturating_sub-made.ensures ∙ (ap (λ (m : Mark). m.records - c.mark-before.result.records) c.mark.ensures.value ∙ ap (λ (m : Mark). new.store.count - m.records) c.mark-before.ensures.value))
-    ∙ made_calls (server_seen inside.server inside.store) c.args.now d inside.store c.handle.new.store e.kept in
-    subst (λ (x : Running g.row.D.Denot). RunsRow x c.args.now c.args.bytes.now new (Ok c.in-Ok.outs)) c.self.view_is
+    let d = decides inside.store.node (server_seen inside.memory inside.store) c.args.now (received_by calls_served c.args.bytes.now) in
+    let made : c.saturating_sub-made.result * 4 ≡ device_calls (server_seen inside.memory inside.store) c.args.now d = ap (λ (n : ℕ). n * 4) (c.saturating_sub-made.ensures ∙ (ap (λ (m : Mark). m.records - c.mark-before.result.records) c.mark.ensures.value ∙ ap (λ (m : Mark). new.store.count - m.records) c.mark-before.ensures.value))
+    ∙ made_calls (server_seen inside.memory inside.store) c.args.now d inside.store c.handle.new.store e.kept in
+    subst (λ (x : ServerRunning g.row.D.Denot). RunsRow x c.args.now c.args.bytes.now new (Ok c.in-Ok.outs)) c.self.view_is
     (row_made c.args.now c.args.bytes.now old new c.in-Ok.outs e.step (c.lowered-self-inside.ensures ∙ ap (λ (n : ℕ). lowered n (armed_seen inside.armed)) made))
 
 pub returns-in-Err-OutOfMemory-clause-handled : goal.returns-in-Err-OutOfMemory-clause-handled
 returns-in-Err-OutOfMemory-clause-handled g c =
     let inside = c.self.inside in
-    let old : Running g.row.D.Denot = record { memory = inside.server; store = inside.store; armed = armed_seen inside.armed } in
-    let new : Running g.row.D.Denot = record { memory = c.handle.new.self; store = c.handle.new.store; armed = armed_seen inside.armed } in
+    let old : ServerRunning g.row.D.Denot = record { memory = inside.memory; store = inside.store; armed = armed_seen inside.armed } in
+    let new : ServerRunning g.row.D.Denot = record { memory = c.handle.new.self; store = c.handle.new.store; armed = armed_seen inside.armed } in
     let can = subst CanRun (sym c.self.view_is) c.requires.can_run in
-    let s = server_seen inside.server inside.store in
+    let s = server_seen inside.memory inside.store in
     let found = received_by calls_served c.args.bytes.now in
     let e = c.in-Err-OutOfMemory.ensures in
-    let same = subst (λ (f : NodeFault). Handles (server_row inside.store.node s c.args.now 0 found) (lines.Given 0 ∷ []) inside.server c.handle.new.self inside.store c.handle.new.store (Err f)) c.in-Err-OutOfMemory.field-0-is (e.step 0) in
+    let same = subst (λ (f : NodeFault). Handles (server_row inside.store.node s c.args.now 0 found) (lines.Given 0 ∷ []) inside.memory c.handle.new.self inside.store c.handle.new.store (Err f)) c.in-Err-OutOfMemory.field-0-is (e.step 0) in
     let decided = record_decided inside.store.durable.boot c.args.now (decides inside.store.node s c.args.now found) in
     let quiet = e.quiet (subst (λ (f : NodeFault). IsQuiet decided (Err f)) (sym c.in-Err-OutOfMemory.field-0-is) (quiet_then Outs decided)) in
     let stop = ap (λ (x : Setting). x.stop) quiet.1.same_setting in
     let fail = ap (λ (x : Setting). x.fail) quiet.1.same_setting in
-    subst (λ (x : Running g.row.D.Denot). IsHandled g.D.Disk.seen g.D.Disk.left_by g.D.Disk.size g.D.Disk.may_leave g.D.Disk.moment g.D.Disk.left_since g.D.Disk.faults g.D.Disk.limit x c.args.now (received c.args.bytes.now) new (Err nodes.OutOfMemory)) c.self.view_is (
+    subst (λ (x : ServerRunning g.row.D.Denot). IsHandled g.D.Disk.seen g.D.Disk.left_by g.D.Disk.size g.D.Disk.may_leave g.D.Disk.moment g.D.Disk.left_since g.D.Disk.faults g.D.Disk.limit x c.args.now (received c.args.bytes.now) new (Err nodes.OutOfMemory)) c.self.view_is (
       record {
         memory = same.0;
         armed = refl;
@@ -100,14 +100,14 @@ returns-in-Err-OutOfMemory-clause-handled g c =
 pub returns-in-Err-Down-clause-handled : goal.returns-in-Err-Down-clause-handled
 returns-in-Err-Down-clause-handled g c =
     let inside = c.self.inside in
-    let old : Running g.row.D.Denot = record { memory = inside.server; store = inside.store; armed = armed_seen inside.armed } in
-    let new : Running g.row.D.Denot = record { memory = c.handle.new.self; store = c.handle.new.store; armed = armed_seen inside.armed } in
+    let old : ServerRunning g.row.D.Denot = record { memory = inside.memory; store = inside.store; armed = armed_seen inside.armed } in
+    let new : ServerRunning g.row.D.Denot = record { memory = c.handle.new.self; store = c.handle.new.store; armed = armed_seen inside.armed } in
     let can = subst CanRun (sym c.self.view_is) c.requires.can_run in
-    let s = server_seen inside.server inside.store in
+    let s = server_seen inside.memory inside.store in
     let found = received_by calls_served c.args.bytes.now in
     let e = c.in-Err-Down.ensures in
     let is = c.in-Err-Down.field-0-is in
-    let closed = subst (λ (f : NodeFault). Handles (server_row inside.store.node s c.args.now 0 found) (lines.Given 0 ∷ []) inside.server c.handle.new.self inside.store c.handle.new.store (Err f)) is (e.step 0) in
+    let closed = subst (λ (f : NodeFault). Handles (server_row inside.store.node s c.args.now 0 found) (lines.Given 0 ∷ []) inside.memory c.handle.new.self inside.store c.handle.new.store (Err f)) is (e.step 0) in
     let decided = record_decided inside.store.durable.boot c.args.now (decides inside.store.node s c.args.now found) in
     let written : (r : StoreRecord) → decided ≡ Some r → IsWritten {T = Outs} r decided (Err c.in-Err-Down.field-0) = λ r w. subst (λ (f : NodeFault). IsWritten {T = Outs} r decided (Err f)) (sym is) w in
     let err : IsErrOf {T = Outs} {E = NodeFault} (Err c.in-Err-Down.field-0) nodes.Down = ap (λ (f : NodeFault). Err f) is in
@@ -124,7 +124,7 @@ returns-in-Err-Down-clause-handled g c =
       effects = λ r w. e.effects r (written r w);
       told = e.told.0;
     } in
-    subst (λ (x : Running g.row.D.Denot). IsHandled g.D.Disk.seen g.D.Disk.left_by g.D.Disk.size g.D.Disk.may_leave g.D.Disk.moment g.D.Disk.left_since g.D.Disk.faults g.D.Disk.limit x c.args.now (received c.args.bytes.now) new (Err nodes.Down)) c.self.view_is
+    subst (λ (x : ServerRunning g.row.D.Denot). IsHandled g.D.Disk.seen g.D.Disk.left_by g.D.Disk.size g.D.Disk.may_leave g.D.Disk.moment g.D.Disk.left_since g.D.Disk.faults g.D.Disk.limit x c.args.now (received c.args.bytes.now) new (Err nodes.Down)) c.self.view_is
     (record {
       armed = refl;
       closed = closed;
@@ -147,5 +147,5 @@ returns-in-Err-Down-clause-row g c =
     let inside = c.self.inside in
     let e = c.in-Err-Down.ensures in
     let err : IsErrOf {T = Outs} {E = NodeFault} (Err c.in-Err-Down.field-0) nodes.Down = ap (λ (f : NodeFault). Err f) c.in-Err-Down.field-0-is in
-    let of = message_of inside.store.node (server_seen inside.server inside.store) inside.store.durable.boot c.args.now (received_by calls_served c.args.bytes.now) (e.down err) in
+    let of = message_of inside.store.node (server_seen inside.memory inside.store) inside.store.durable.boot c.args.now (received_by calls_served c.args.bytes.now) (e.down err) in
     (of.0, stands_there c.args.bytes.now of.0 of.1)
