@@ -4,6 +4,7 @@ pub mod Scopes
 pub mod ServerRow
 pub mod Callbacks
 pub mod ServerSteps
+pub mod LocRow
 pub mod Going
 pub mod ClientRow
 pub mod Runs
