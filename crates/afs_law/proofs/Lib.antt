@@ -6,6 +6,7 @@ pub mod Owing
 pub mod Backing
 pub mod Turning
 pub mod Words
+pub mod Steps
 pub mod Booting
 pub mod Rising
 pub mod Loading

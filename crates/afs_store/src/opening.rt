@@ -40,7 +40,7 @@ pub(crate) fn made<D: Disk, R: Drop, T: Drop, S: Fold<R, T>>(
     ensures made { MatchResult result (λ r. IsMade (Stands S.fold) S.fold.capacity D.seen D.may_leave D.limit node journal r.0) (IsNotMade S.fold.first_bad journal) }
     ensures lines { IfOk result (λ r. TellsLast S.fold node wanted journal.found r.1) }
 {
-    match fold::<R, T, S>(alloc, node, journal.records().as_slice(), wanted) {
+    match fold::<R, T, S>(alloc, node, journal.records(), wanted) {
         Ok((state, lines)) => Ok((Store::of(alloc, journal, node, state), lines)),
         Err(fault) => Err((fault, journal.into_disk())),
     }

@@ -8,8 +8,8 @@ ghost use Rattle.afs_store.specs.Opening.{IsFoldFault};
 
 use crate::fold::{Fold, Unfit};
 use afs_history::lines::Lines;
+use afs_journal::Found;
 use afs_num::faults::StoreFault;
-use afs_num::sequences::Octets;
 use afs_num::types::Node;
 use std::alloc::Global;
 
@@ -35,7 +35,7 @@ fn take_numbered<R: Drop, T: Drop, S: Fold<R, T>>(
 }
 
 /// The record in a place.
-fn record_in(records: &[Octets], place: usize) -> Option<&Octets>
+fn record_in(records: &Found, place: usize) -> Option<&[u8]>
     ensures { option_copied result ≡ slice_get records.now place }
 {
     records.get(place)
@@ -46,7 +46,7 @@ fn take_in_place<R: Drop, T: Drop, S: Fold<R, T>>(
     alloc: Global,
     node: Node,
     state: &mut S,
-    records: &[Octets],
+    records: &Found,
     place: usize,
 ) -> Result<(), StoreFault>
     requires front { IsFront S.fold (take place records.now) (S.fold.held state.old) }
@@ -59,43 +59,51 @@ fn take_in_place<R: Drop, T: Drop, S: Fold<R, T>>(
         return Ok(());
     };
     let number = place as u64 + 1;
-    take_numbered::<R, T, S>(alloc, node, state, number, false, bytes.as_slice())?;
+    take_numbered::<R, T, S>(alloc, node, state, number, false, bytes)?;
     Ok(())
 }
 
-/// What records make that stand before another.
+/// What the first records make, so many, that stand before another.
 fn fold_front<R: Drop, T: Drop, S: Fold<R, T>>(
     alloc: Global,
     node: Node,
-    records: &[Octets],
+    records: &Found,
+    count: usize,
 ) -> Result<S, StoreFault>
-    ensures folded { IfOk result (λ s. IsFront S.fold records.now (S.fold.held s)) }
+    requires { count < 2 ^ 63 }
+    ensures folded { IfOk result (λ s. IsFront S.fold (take count records.now) (S.fold.held s)) }
     ensures bad { IfErr result (λ e. (n : ℕ) → e ≡ faults.BadRecord n → (capacity : ℕ) (more : List (List ℕ)) → S.fold.first_bad capacity (records.now ++ more) ≡ Some n) }
     ensures refusals { IfErr result (λ e. IsFoldFault e) }
 {
     let mut state = S::nothing(alloc);
-    for place in 0..records.len() {
+    for place in 0..count {
         take_in_place::<R, T, S>(alloc, node, &mut state, records, place)?;
     }
     Ok(state)
 }
 
-/// The last record, and those before it.
-fn split_last(records: &[Octets]) -> Option<(&[Octets], &Octets)>
-    ensures some { IfSome result (λ r. records.now ≡ r.0.now ++ r.1.now ∷ []) }
+/// How many records stand before the last, and that one.
+fn last_of(records: &Found) -> Option<(usize, &[u8])>
+    ensures some { IfSome result (λ r. records.now ≡ take r.0 records.now ++ r.1.now ∷ []) }
+    ensures count { IfSome result (λ r. length records.now ≡ r.0 + 1) }
+    ensures few { IfSome result (λ r. r.0 < 2 ^ 63) }
     ensures none { IfNone result (records.now ≡ []) }
 {
-    match records {
-        [] => None,
-        [front @ .., last] => Some((front, last)),
+    if records.is_empty() {
+        return None;
     }
+    let count = records.len() - 1;
+    let Some(last) = records.get(count) else {
+        unreachable!()
+    };
+    Some((count, last))
 }
 
 /// What all records make, and the lines of the last, where they are wanted.
 pub(crate) fn fold<R: Drop, T: Drop, S: Fold<R, T>>(
     alloc: Global,
     node: Node,
-    records: &[Octets],
+    records: &Found,
     wanted: bool,
 ) -> Result<(S, Lines), StoreFault>
     ensures folded { IfOk result (λ r. (capacity : ℕ) → S.fold.fold_all capacity records.now ≡ Some (S.fold.placed (1 + places_length records.now) capacity (S.fold.held r.0))) }
@@ -103,12 +111,11 @@ pub(crate) fn fold<R: Drop, T: Drop, S: Fold<R, T>>(
     ensures bad { IfErr result (λ e. (n : ℕ) → e ≡ faults.BadRecord n → (capacity : ℕ) → S.fold.first_bad capacity records.now ≡ Some n) }
     ensures refusals { IfErr result (λ e. IsFoldFault e) }
 {
-    let Some((front, last)) = split_last(records) else {
+    let Some((count, last)) = last_of(records) else {
         return Err(StoreFault::BadRecord(1));
     };
-    let mut state = fold_front::<R, T, S>(alloc, node, front)?;
-    let number = front.len() as u64 + 1;
-    let lines =
-        take_numbered::<R, T, S>(alloc, node, &mut state, number, wanted, last.as_slice())?;
+    let mut state = fold_front::<R, T, S>(alloc, node, records, count)?;
+    let number = count as u64 + 1;
+    let lines = take_numbered::<R, T, S>(alloc, node, &mut state, number, wanted, last)?;
     Ok((state, lines))
 }

@@ -50,12 +50,14 @@ impl<D: Disk, R: Drop, T: Drop, S: Fold<R, T>> Model for Store<D, R, T, S> {
 }
 
 impl<D: Disk, R: Drop, T: Drop, S: Fold<R, T>> Store<D, R, T, S> {
-    /// A store over a journal, with what its records make. It takes no memory.
+    /// A store over a journal, with what its records make. These are let go. It takes no memory.
     pub(crate) fn of(alloc: Global, journal: Journal<D>, node: Node, state: S) -> Store<D, R, T, S>
         requires counted { IsCounted journal.count (D.seen journal.disk) }
         requires kept { IsKept S.fold (S.fold.placed (journal.gate + 1) (D.limit journal.disk) (S.fold.held state)) (D.seen journal.disk) (D.may_leave journal.disk) }
         ensures { result ≡ record { durable = S.fold.placed (journal.gate + 1) (D.limit journal.disk) (S.fold.held state); disk = journal.disk; node = node; prepared = None; closed = journal.closed; count = journal.count; drawn = 0 } }
     {
+        let mut journal = journal;
+        journal.forget();
         Store {
             alloc,
             journal,

@@ -1,8 +1,8 @@
 -- The parts of a call of the program.
 use Rattle.std.specs.Prelude.{◌≡◌, ◌⊎◌, ℕ, List, ◌++◌, Option, Some, None, Result, Err, IsOk}
 use Rattle.afs_num.specs.declared.devices.Failed.{Failed}
-use Rattle.afs_cell.specs.declared.faults.SetupFault.{SetupFault}
-use Rattle.afs_cell.specs.declared.faults.SetupFault.TheVariants as setup
+use Rattle.afs_ends.specs.declared.faults.SetupFault.{SetupFault}
+use Rattle.afs_ends.specs.declared.faults.SetupFault.TheVariants as setup
 use Rattle.afs_disk.specs.declared.bank.LendFault.{LendFault}
 use Rattle.afs_disk.specs.declared.bank.LendFault.TheVariants as lending
 use Rattle.afs_outside.specs.Outside.{AppendsFront}

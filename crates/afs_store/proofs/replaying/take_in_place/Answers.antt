@@ -1,7 +1,7 @@
 use Rattle.std.proofs.Common.{◌≡◌, ◌+◌, ℕ, List, None, sym, subst, slice_get, nat_eq, rules}
 use Rattle.afs_num.specs.declared.faults.StoreFault.{StoreFault}
 use Rattle.afs_num.specs.declared.faults.StoreFault.TheVariants as faults
-use Rattle.afs_store.specs.Folds.{IsBadAt, IsFront, TakesOne}
+use Rattle.afs_store.specs.Folds.{IsBadAt, IsFront}
 use Rattle.afs_store.proofs.FoldsOn.{behind_none, goes_on, if_err, is_none_at, stops_at}
 use Rattle.afs_store.proofs.replaying.take_in_place.Goals as goal
 
@@ -14,15 +14,14 @@ returns-in_default-clause-front g c =
 pub returns-in_err-take_numbered-clause-bad : goal.returns-in_err-take_numbered-clause-bad
 returns-in_err-take_numbered-clause-bad g c =
     if_err c.from_residual.result
-    (λ (e : StoreFault). (n : ℕ) → e ≡ faults.BadRecord n → (n ≡ c.args.place + 1) × IsBadAt g.S.Fold.fold (nat_eq (c.args.place + 1) 1) c.as_slice.result.now (g.S.Fold.fold.held c.args.state.now))
+    (λ (e : StoreFault). (n : ℕ) → e ≡ faults.BadRecord n → (n ≡ c.args.place + 1) × IsBadAt g.S.Fold.fold (nat_eq (c.args.place + 1) 1) c.in-Some.bytes.now (g.S.Fold.fold.held c.args.state.now))
     _
     (λ e bad n is capacity more.
     stops_at g.S.Fold.fold g.met.S.Fold.sound c.args.records.now more c.args.place n c.in-Some.bytes.now (g.S.Fold.fold.held c.args.state.now) (sym c.in-Some.ensures) c.requires.front
-    ((bad n is).0, subst (λ (b : List ℕ). IsBadAt g.S.Fold.fold (nat_eq (c.args.place + 1) 1) b (g.S.Fold.fold.held c.args.state.now)) c.as_slice.ensures (bad n is).1)
-    capacity)
+    (bad n is) capacity)
     (search rules)
 
 pub returns-clause-front : goal.returns-clause-front
 returns-clause-front g c =
     goes_on g.S.Fold.fold g.met.S.Fold.sound c.args.records.now c.args.place c.in-Some.bytes.now (g.S.Fold.fold.held c.args.state.now) (g.S.Fold.fold.held c.take_numbered.new.state) (sym c.in-Some.ensures) c.requires.front
-    (subst (λ (b : List ℕ). TakesOne g.S.Fold.fold (nat_eq (c.args.place + 1) 1) b (g.S.Fold.fold.held c.args.state.now) (g.S.Fold.fold.held c.take_numbered.new.state)) c.as_slice.ensures c.in_ok-take_numbered.ensures.taken)
+    c.in_ok-take_numbered.ensures.taken
