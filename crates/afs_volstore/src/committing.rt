@@ -118,7 +118,9 @@ impl<D: Disk> VolStore<D> {
         ensures setting { (D.limit self.new.disk ≡ D.limit self.old.disk) × (D.setting self.new.disk ≡ D.setting self.old.disk) }
     {
         starts_are_kept();
-        self.store.boot()?;
-        Ok(Lines::new(self.alloc))
+        match self.store.boot() {
+            Ok(()) => Ok(Lines::new(self.alloc)),
+            Err(fault) => Err(fault),
+        }
     }
 }

@@ -77,6 +77,8 @@ pub fn filled<D: Disk>(
     ensures quiet { IfOk result (λ s. (D.faults s.disk ≡ D.faults journal.disk) × (D.own_faults s.disk ≡ D.own_faults journal.disk)) }
     ensures err { IfErr result (λ e. Moved 4 D.faults D.own_faults D.calls D.setting D.limit journal.disk e.1 × IsCaused (D.setting journal.disk) (D.calls e.1) (D.faults journal.disk) (D.faults e.1) (D.own_faults journal.disk) (D.own_faults e.1) e.0) }
 {
-    let store = first_put::<D, StoreRecord, Part, Held>(alloc, journal, node, rec)?;
-    Ok(VolStore { alloc, store })
+    match first_put::<D, StoreRecord, Part, Held>(alloc, journal, node, rec) {
+        Ok(store) => Ok(VolStore { alloc, store }),
+        Err(refused) => Err(refused),
+    }
 }

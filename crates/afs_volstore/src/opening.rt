@@ -52,7 +52,9 @@ impl<D: Disk> VolStore<D> {
         ensures rests { IfOk result (λ r. (bytes : List ℕ) → D.seen disk ≡ Some bytes → Rests bytes → D.calls r.0.disk ≡ D.calls disk + 2) }
         ensures limit { MatchResult result (λ r. D.limit r.0.disk ≡ D.limit disk) (λ e. D.limit e.1 ≡ D.limit disk) }
     {
-        let (store, lines) = Store::<D, StoreRecord, Part, Held>::attach(alloc, disk, node, told)?;
-        Ok((VolStore { alloc, store }, lines))
+        match Store::<D, StoreRecord, Part, Held>::attach(alloc, disk, node, told) {
+            Ok((store, lines)) => Ok((VolStore { alloc, store }, lines)),
+            Err(refused) => Err(refused),
+        }
     }
 }

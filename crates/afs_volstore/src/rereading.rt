@@ -20,7 +20,9 @@ impl<D: Disk> VolStore<Fuse<D>> {
         ensures attached { MatchResult result (IsAttached D.seen D.may_leave D.calls D.setting D.limit self.node self.disk.disk) (IsRefused D.seen D.faults D.own_faults D.calls D.setting D.limit self.disk.disk) }
     {
         let VolStore { alloc, store } = self;
-        let store = store.attach_again()?;
-        Ok(VolStore { alloc, store })
+        match store.attach_again() {
+            Ok(store) => Ok(VolStore { alloc, store }),
+            Err(refused) => Err(refused),
+        }
     }
 }
