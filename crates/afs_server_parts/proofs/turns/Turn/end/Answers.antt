@@ -4,7 +4,7 @@ use Rattle.afs_model.specs.Messages.{messages_spelled}
 use Rattle.afs_rows.specs.Callbacks as row
 use Rattle.afs_rows.specs.Callbacks.{pumped, Started}
 use Rattle.afs_server_parts.specs.Turning.{IsBreakToNode}
-use Rattle.afs_server_parts.proofs.ending.Turn.end.Goals as goal
+use Rattle.afs_server_parts.proofs.turns.Turn.end.Goals as goal
 
 pub returns : goal.returns
 returns c t is =
