@@ -44,10 +44,13 @@ pub fid_goes : (home : Option ℕ) (f : Fid) (count : ℕ) (g : Fid) (behind res
 fid_goes home f count g behind rest id way e =
     sym (ap (λ (h : Option ℕ). fid_at h f (behind ++ rest)) e ∙ (ap (λ (ns : List (List ℕ)). walk_to true ns (record { fid = f; rest = behind ++ rest })) (sym (none_taken count)) ∙ way.walked id e rest))
 
+pub front_within : (home : Option ℕ) (p : Path) (front : List (List ℕ)) (last : List ℕ) (count : ℕ) (f : Fid) (behind : List Shown) → IsUnderway home (Some (operands.Path p)) count f behind → p.names ≡ front ++ last ∷ [] → count ≤ length front
+front_within home p front last count f behind way split = omega (arith, way.inside, ap length split, length-append front (last ∷ []))
+
 pub front_goes : (home : Option ℕ) (p : Path) (front : List (List ℕ)) (last : List ℕ) (count : ℕ) (f : Fid) (behind rest : List Shown) (id : ℕ) → IsUnderway home (Some (operands.Path p)) count f behind → p.names ≡ front ++ last ∷ [] → home ≡ Some id
     → walk_to true (drop count front) (record { fid = f; rest = rest }) ≡ walk_to true front (at_root id (behind ++ rest))
 front_goes home p front last count f behind rest id way split e =
-    let within : count ≤ length front = omega (arith, way.inside, ap length split, length-append front (last ∷ [])) in
+    let within = front_within home p front last count f behind way split in
     let same : take count p.names ≡ take count front = ap (take count) split ∙ take-append-le count front (last ∷ []) within in
     let taken : walk_to true (take count front) (at_root id (behind ++ rest)) ≡ Ok (record { fid = f; rest = rest }) = ap (λ (ns : List (List ℕ)). walk_to true ns (at_root id (behind ++ rest))) (sym same) ∙ way.walked id e rest in
     sym (ap (λ (ns : List (List ℕ)). walk_to true ns (at_root id (behind ++ rest))) (sym (take-append-drop count front)) ∙ (in_two (take count front) (drop count front) (at_root id (behind ++ rest)) ∙ ap (then_on (walk_to true (drop count front))) taken))

@@ -1,6 +1,6 @@
 //! What an act has read, and what it needs.
 
-ghost use Rattle.std.specs.Prelude.{◌≡◌, IfOk, IfSome, OnErr, OnOk};
+ghost use Rattle.std.specs.Prelude.{◌≡◌, ◌<◌, ◌+◌, ◌^◌, IfOk, IfSome, OnErr, OnOk};
 ghost use Rattle.afs_rows.specs.Going.{began, reads_of, with_read};
 ghost use Rattle.afs_acts.specs.Ways.{first_operand, names_of, Steps};
 
@@ -8,8 +8,8 @@ use crate::behind::Behind;
 use crate::copies::copy_read;
 use crate::places::homes_of;
 use crate::reads::most_reads;
-use crate::ways::{name_behind, start};
 use crate::walks::goes_on;
+use crate::ways::{name_behind, start};
 use afs_history::acts::{Act, SharedAct};
 use afs_num::calls::{Fids, FsCall};
 use afs_num::histories::ReadBody;
@@ -153,7 +153,8 @@ impl Way {
 /// Where a walk goes on by a read: one name along, to a directory. There is none where another read is ahead of it, or where the last
 /// name is next.
 fn step(act: &Act, way: &Way, ahead: &[Shown], fid: &Fid, body: &ReadBody) -> Option<Fid>
-    ensures { IfSome result (Steps (names_of (first_operand act.now)) way.now.names way.now.fid ahead.now (record { fid = fid.now; body = body.now })) }
+    ensures steps { IfSome result (Steps (names_of (first_operand act.now)) way.now.names way.now.fid ahead.now (record { fid = fid.now; body = body.now })) }
+    ensures few { IfSome result (λ next. way.now.names + 1 < 2 ^ 64) }
 {
     if !ahead.is_empty() {
         return None;

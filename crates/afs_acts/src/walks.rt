@@ -314,22 +314,6 @@ pub fn parent<'a, 'b>(
     in_directory(last, at)
 }
 
-/// The directory of the last name of the path that an act names first.
-fn first_directory<'a>(
-    home: Option<u32>,
-    path: &Path,
-    front: &[Octets],
-    last: &Octets,
-    way: &Way,
-    rest: &'a [Shown],
-) -> Result<At<'a>, Need>
-    requires way { IsUnderway home (Some (operands.Path path.now)) way.now.names way.now.fid way.now.behind }
-    requires split { path.now.names ≡ front.now ++ last.now ∷ [] }
-    ensures { (id : ℕ) → home ≡ Some id → came result ≡ walk_to true front.now (at_root id (way.now.behind ++ rest.entry.now)) }
-{
-    walk(true, names_ahead(front, way), ahead(way, rest))
-}
-
 /// The last name of the path that an act names first, in its directory, which is read too: the root has none.
 pub fn first_parent<'a, 'b>(
     home: Option<u32>,
@@ -346,6 +330,6 @@ pub fn first_parent<'a, 'b>(
     if home.is_none() {
         return Err(Need::Answer(NO_ENTRY));
     }
-    let at = first_directory(home, path, front, last, way, rest)?;
+    let at = walk(true, names_ahead(front, way), ahead(way, rest))?;
     in_directory(last, at)
 }

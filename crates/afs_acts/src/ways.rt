@@ -1,6 +1,6 @@
 //! Where an act walks first.
 
-ghost use Rattle.std.specs.Prelude.{◌≡◌, ◌≤◌, ◌+◌, ℕ, Some, length, IfSome};
+ghost use Rattle.std.specs.Prelude.{◌≡◌, ◌<◌, ◌≤◌, ◌+◌, ◌^◌, ℕ, Some, length, IfSome};
 ghost use Rattle.std.specs.List.{slice_get};
 ghost use Rattle.std.specs.Option.{option_copied};
 ghost use Rattle.afs_rows.specs.Going.{root_of};
@@ -59,6 +59,7 @@ fn first_path(act: &Act) -> Option<&Path>
 pub fn name_behind(act: &Act, count: usize) -> Option<&Octets>
     ensures named { IfSome result (λ name. slice_get (names_of (first_operand act.now)) count ≡ Some name.now) }
     ensures inside { IfSome result (λ name. count + 2 ≤ length (names_of (first_operand act.now))) }
+    ensures few { IfSome result (λ name. count + 1 < 2 ^ 64) }
 {
     let names = first_path(act)?.names.as_slice();
     if names.len().saturating_sub(count) < 2 {

@@ -1,5 +1,5 @@
 // The whole records of bytes that a crash may have left.
-ghost use Rattle.std.specs.Prelude.{◌≡◌, ◌≤◌, ◌<◌, ◌+◌, ◌*◌, ◌^◌, IfOk, IfSome, IfNone, IsTrue, length, map, None};
+ghost use Rattle.std.specs.Prelude.{◌≡◌, ◌≤◌, ◌<◌, ◌+◌, ◌-◌, ◌*◌, ◌^◌, IfOk, IfSome, IfNone, IsTrue, drop, length, map, take, None};
 ghost use Rattle.afs_journal.specs.Found.{piece_of};
 ghost use Rattle.afs_journal.specs.Records.{number_at, is_whole, record_at, whole_records, StartsWith, EndsAt};
 
@@ -46,6 +46,17 @@ fn first(number: u64, bytes: &[u8]) -> Option<(&[u8], &[u8])>
     Some(behind.split_at(size))
 }
 
+/// Where a record lies among bytes that end with these behind it.
+fn piece(bytes: &[u8], body: &[u8], behind: &[u8]) -> Piece
+    ensures { piece_of bytes.now result ≡ take (length body.now) (drop (length bytes.now - length behind.now - length body.now) bytes.now) }
+{
+    let end = bytes.len().saturating_sub(behind.len());
+    Piece {
+        start: end.saturating_sub(body.len()),
+        len: body.len(),
+    }
+}
+
 /// Where the whole records of these bytes lie, and the place of the gate behind the last of them.
 pub(crate) fn scan(alloc: Global, bytes: &[u8]) -> Result<(Vec<Piece>, u64), AllocError>
     requires { 0 < length bytes.now }
@@ -58,13 +69,7 @@ pub(crate) fn scan(alloc: Global, bytes: &[u8]) -> Result<(Vec<Piece>, u64), All
     let mut number = 1;
     let mut rest = bytes;
     while let Some((body, behind)) = first(number, rest) {
-        found.push(Piece {
-            start: bytes
-                .len()
-                .saturating_sub(behind.len())
-                .saturating_sub(body.len()),
-            len: body.len(),
-        })?;
+        found.push(piece(bytes, body, behind))?;
         number += 1;
         rest = behind;
     }

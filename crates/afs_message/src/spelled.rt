@@ -1,8 +1,8 @@
 //! Messages in their spelling.
 
 ghost use Rattle.std.specs.Prelude.{◌≡◌, ◌∷◌, ◌++◌, [], Some, IfOk, OnErr, OnOk};
-ghost use Rattle.afs_model.specs.Messages.{messages_spelled, parcels_read, HasSpelling};
-ghost use Rattle.afs_message.specs.Spelled.{reply_in, IsMessage, IsSpelling, Spells};
+ghost use Rattle.afs_model.specs.Messages.{messages_spelled, parcels_read, received, HasSpelling};
+ghost use Rattle.afs_message.specs.Spelled.{message_read, reply_in, IsMessage, IsSpelling, Spells};
 
 use crate::messages::encode_message;
 use afs_num::messages::Message;
@@ -29,6 +29,18 @@ impl Model for SpelledMessage {
     ghost view = { λ m. message_read m.head (received m.bytes) };
 
     ghost invariant = { λ m. record { is : IsMessage m.head m.bytes; sound : HasSpelling (message_read m.head (received m.bytes)) } };
+}
+
+/// The header of the message that these bytes spell.
+fn head_in(bytes: &[u8]) -> Head
+    requires { IsSpelling bytes.now }
+    ensures is { IsMessage result bytes.now }
+    ensures sound { HasSpelling (message_read result (received bytes.now)) }
+{
+    match read_head(bytes) {
+        Ok(head) => head,
+        Err(_) => unreachable!(),
+    }
 }
 
 impl SpelledMessage {
@@ -58,10 +70,8 @@ impl SpelledMessage {
         ensures value { Spells result bytes }
         ensures read { reply_in (Some bytes) ≡ Some result }
     {
-        match read_head(bytes.as_slice()) {
-            Ok(head) => SpelledMessage { head, bytes },
-            Err(_) => unreachable!(),
-        }
+        let head = head_in(bytes.as_slice());
+        SpelledMessage { head, bytes }
     }
 
     pub fn head(&self) -> &Head

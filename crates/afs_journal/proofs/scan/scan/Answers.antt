@@ -1,5 +1,5 @@
-use Rattle.std.proofs.Common.{◌≡◌, ◌<◌, ◌≤◌, ◌-◌, ◌*◌, ℕ, suc, List, ◌++◌, [], ◌∷◌, length, map, None, arith, refl, sym, ◌∙◌, ap, subst, length-append, length-map}
-use Rattle.std.proofs.lemmas.List.{map-append}
+use Rattle.std.proofs.Common.{◌≡◌, ◌<◌, ◌≤◌, ◌-◌, ◌*◌, ℕ, suc, List, ◌++◌, [], ◌∷◌, length, map, None, arith, refl, sym, ◌∙◌, ap, subst, length-append}
+use Rattle.std.proofs.lemmas.List.{length-map, map-append}
 use Rattle.afs_journal.specs.Found.{piece_of}
 use Rattle.afs_journal.specs.Records.{blocks, record_at, whole_records, Fit, StartsWith, EndsAt}
 use Rattle.afs_journal.proofs.Crash.{ends_whole, ends_counts}
@@ -11,9 +11,9 @@ loop-body-preserved c =
     let so_far = c.loop-body.invariant in
     let bodies = map (piece_of c.args.bytes.now) c.loop-body.found.items in
     let first : StartsWith (suc (length bodies)) c.in-Some.body.now c.in-Some.behind.now c.loop-body.rest.now = subst (λ (n : ℕ). StartsWith n c.in-Some.body.now c.in-Some.behind.now c.loop-body.rest.now) so_far.counted c.in-Some.ensures.some in
-    let lies = piece_found c.args.bytes.now bodies (suc (length bodies)) c.in-Some.body.now c.in-Some.behind.now c.loop-body.rest.now so_far.split first in
+    let lies = c.piece.ensures ∙ piece_found c.args.bytes.now bodies (suc (length bodies)) c.in-Some.body.now c.in-Some.behind.now c.loop-body.rest.now so_far.split first in
     let pushed : map (piece_of c.args.bytes.now) c.push.new.self.items ≡ bodies ++ c.in-Some.body.now ∷ [] =
-        ap (map (piece_of c.args.bytes.now)) c.in_ok-push.ensures.items ∙ (map-append (piece_of c.args.bytes.now) c.loop-body.found.items _ ∙ ap (λ (b : List ℕ). bodies ++ b ∷ []) lies) in
+        ap (map (piece_of c.args.bytes.now)) c.in_ok-push.ensures.items ∙ (map-append (piece_of c.args.bytes.now) c.loop-body.found.items (c.piece.result ∷ []) ∙ ap (λ (b : List ℕ). bodies ++ b ∷ []) lies) in
     record {
       split = one_found c.args.bytes.now bodies c.in-Some.body.now c.loop-body.rest.now c.in-Some.behind.now so_far.split first ∙ ap (λ (l : List (List ℕ)). blocks 1 l ++ c.in-Some.behind.now) (sym pushed);
       more = first.more;
