@@ -1,17 +1,26 @@
 -- What was written of a text.
-use Rattle.std.specs.Prelude.{◌≡◌, ℕ, List, [], ◌++◌, Option, Some, None, Result, Ok, Err, IsOk, IsErr, OnOk}
-use Rattle.std.proofs.Common.{subst, sym, append-nil, inl, inr}
+use Rattle.std.specs.Prelude.{◌≡◌, ℕ, List, [], ◌++◌, Option, Some, None, Result, Ok, Err, IsOk, IsErr, OnOk, ◌≤◌, ◌<◌, ◌⊎◌, ◌+◌, ◌-◌, true, false}
+use Rattle.std.proofs.Common.{subst, sym, append-nil, inl, inr, arith}
 use Rattle.std.specs.Io.KnownBytes.{Appends}
 use Rattle.afs_disk.specs.declared.bank.LendFault.{LendFault}
 use Rattle.afs_disk.specs.declared.bank.LendFault.TheVariants as lending
 use Rattle.afs_outside.specs.declared.outside.Failed.{Failed}
 use Rattle.afs_outside.specs.Outside.{AppendsFront, Puts}
-use Rattle.afs_command.specs.Spans.{span, Span}
-use Rattle.afs_top.specs.Outside.{WritesText}
-use Rattle.afs_top.specs.Parts.{lend_status, TellsLeft}
+use Rattle.afs_command.specs.Spans.{span, Span, RoseBy}
+use Rattle.afs_telling.specs.Outside.{WritesText}
+use Rattle.afs_telling.specs.Parts.{lend_status, TellsLeft}
 use Rattle.afs_command.specs.declared.statuses.Status.{Status}
 use Rattle.afs_command.specs.declared.statuses.Status.TheVariants as statuses
-use Rattle.afs_top.proofs.Counts.{rose_outside}
+use Rattle.std.proofs.lemmas.Bool.Decides.{leb_tells}
+use Rattle.std.proofs.Math.Dec.{leb}
+use Rattle.afs_disk.specs.Fuses.{last_count}
+use Rattle.afs_outside.specs.Outside as outside
+
+pub rose_outside : (before after : ℕ) → outside.Rose before after → RoseBy 1 (span before after)
+rose_outside before after rose = either (leb_tells (before + 1) last_count) where
+  either : ((leb (before + 1) last_count ≡ true) × (before + 1 ≤ last_count)) ⊎ ((leb (before + 1) last_count ≡ false) × (last_count < before + 1)) → RoseBy 1 (span before after)
+  either (inl few) = inl (omega (arith, rose, few.1))
+  either (inr many) = inr (omega (arith, rose, many.1))
 
 -- what was put of a text was written, or a beginning of it
 written_by : {T : Type 0} (x : List ℕ) (a b passed : Option (List ℕ)) (f g : ℕ) (r : Result T Failed) → OnOk r (passed ≡ b) → Puts x a b f g r → WritesText (span a b) passed (span f g) x
