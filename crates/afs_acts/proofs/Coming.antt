@@ -1,5 +1,5 @@
 -- A walk that has come so far goes on from there.
-use Rattle.std.proofs.Common.{◌≡◌, ◌≤◌, ◌<◌, ℕ, zero, suc, ◌+◌, ◌-◌, Bool, true, false, not, List, [], ◌∷◌, ◌++◌, length, take, drop, Option, Some, None, Result, Ok, Err, refl, ap, sym, ◌∙◌, append_assoc, length-append, take-append-drop, arith}
+use Rattle.std.proofs.Common.{◌≡◌, ◌≤◌, ◌<◌, ℕ, zero, suc, ◌+◌, ◌-◌, Bool, true, false, not, List, [], ◌∷◌, ◌++◌, length, take, drop, Option, Some, None, IsSome, Result, Ok, Err, refl, ap, sym, ◌∙◌, append_assoc, length-append, take-append-drop, arith}
 use Rattle.std.proofs.lemmas.List.{take_more, take-append-le}
 use Rattle.std.proofs.lemmas.Option.{get_or_from_slice_get}
 use Rattle.afs_history.specs.declared.acts.Operand.{Operand}
@@ -9,8 +9,8 @@ use Rattle.afs_num.specs.Fids.{same_fid}
 use Rattle.afs_num.specs.declared.types.Fid.{Fid}
 use Rattle.afs_num.specs.declared.histories.Body.{Body}
 use Rattle.afs_num.specs.declared.histories.ReadBody.TheVariants as seen
-use Rattle.afs_rows.specs.Going.{Need, Shown, Taken, taken_body, first_body, looked_up}
-use Rattle.afs_acts.specs.Walks.{At, then_on, body_by, entry_by, reached, along, walk_to, at_root, path_at, fid_at}
+use Rattle.afs_rows.specs.Going.{Need, Shown, Taken, Parted, parted, taken_body, first_body, looked_up}
+use Rattle.afs_acts.specs.Walks.{At, then_on, body_by, entry_by, reached, along, walk_to, at_root, path_at, fid_at, within, parent_by, parent_at}
 use Rattle.afs_acts.specs.Ways.{names_of, start_of, IsUnderway, Steps}
 
 then_twice : {A B C : Type 0} (f : A → Result B Need) (g : B → Result C Need) (h : A → Result C Need) (r : Result A Need) → ((x : A) → h x ≡ then_on g (f x)) → then_on h r ≡ then_on g (then_on f r)
@@ -35,14 +35,18 @@ pub path_goes : (home : Option ℕ) (p : Path) (count : ℕ) (f : Fid) (behind r
 path_goes home p count f behind rest id way e =
     sym (ap (λ (h : Option ℕ). path_at h p.names (behind ++ rest)) e ∙ (to_object count p.names (at_root id (behind ++ rest)) way.inside ∙ ap (then_on (walk_to false (drop count p.names))) (way.walked id e rest)))
 
-none_taken : (count : ℕ) → take count ([] {A = List ℕ}) ≡ []
+abbrev nothing : List (List ℕ)
+nothing = []
+
+none_taken : (count : ℕ) → take count nothing ≡ nothing
 none_taken zero = refl
 none_taken (suc count) = refl
 
-pub fid_goes : (home : Option ℕ) (f : Fid) (count : ℕ) (g : Fid) (behind rest : List Shown) (id : ℕ) → IsUnderway home (Some (operands.Fid f)) count g behind → home ≡ Some id
-    → Ok (record { fid = g; rest = rest }) ≡ fid_at home f (behind ++ rest)
-fid_goes home f count g behind rest id way e =
-    sym (ap (λ (h : Option ℕ). fid_at h f (behind ++ rest)) e ∙ (ap (λ (ns : List (List ℕ)). walk_to true ns (record { fid = f; rest = behind ++ rest })) (sym (none_taken count)) ∙ way.walked id e rest))
+pub fid_goes : (home : Option ℕ) (f : Fid) (count : ℕ) (g : Fid) (behind rest : List Shown) (id : ℕ) (at : At) → IsUnderway home (Some (operands.Fid f)) count g behind → home ≡ Some id → at ≡ record { fid = g; rest = rest }
+    → Ok at ≡ fid_at home f (behind ++ rest)
+fid_goes home f count g behind rest id at way e is =
+    ap (λ (a : At). Ok a) is
+    ∙ sym (ap (λ (h : Option ℕ). fid_at h f (behind ++ rest)) e ∙ (ap (λ (ns : List (List ℕ)). walk_to true ns (record { fid = f; rest = behind ++ rest })) (sym (none_taken count)) ∙ way.walked id e rest))
 
 pub front_within : (home : Option ℕ) (p : Path) (front : List (List ℕ)) (last : List ℕ) (count : ℕ) (f : Fid) (behind : List Shown) → IsUnderway home (Some (operands.Path p)) count f behind → p.names ≡ front ++ last ∷ [] → count ≤ length front
 front_within home p front last count f behind way split = omega (arith, way.inside, ap length split, length-append front (last ∷ []))
@@ -54,6 +58,13 @@ front_goes home p front last count f behind rest id way split e =
     let same : take count p.names ≡ take count front = ap (take count) split ∙ take-append-le count front (last ∷ []) within in
     let taken : walk_to true (take count front) (at_root id (behind ++ rest)) ≡ Ok (record { fid = f; rest = rest }) = ap (λ (ns : List (List ℕ)). walk_to true ns (at_root id (behind ++ rest))) (sym same) ∙ way.walked id e rest in
     sym (ap (λ (ns : List (List ℕ)). walk_to true ns (at_root id (behind ++ rest))) (sym (take-append-drop count front)) ∙ (in_two (take count front) (drop count front) (at_root id (behind ++ rest)) ∙ ap (then_on (walk_to true (drop count front))) taken))
+
+-- the last name in its directory
+pub parent_goes : (home : Option ℕ) (p : Path) (front : List (List ℕ)) (last : List ℕ) (count : ℕ) (f : Fid) (behind rest : List Shown) (r : Result At Need) → IsUnderway home (Some (operands.Path p)) count f behind
+    → p.names ≡ front ++ last ∷ [] → Some (record { front = front; last = last }) ≡ parted p.names → IsSome home → r ≡ walk_to true (drop count front) (record { fid = f; rest = rest }) → then_on (within last) r ≡ parent_at home p.names (behind ++ rest)
+parent_goes None p front last count f behind rest r way split parts known is = absurd cc
+parent_goes (Some id) p front last count f behind rest r way split parts known is =
+    ap (then_on (within last)) (is ∙ front_goes (Some id) p front last count f behind rest id way split refl) ∙ ap (parent_by (Some id) (behind ++ rest)) parts
 
 -- what is read of the directory takes the walk on
 pub entry_goes : (d : Fid) (name : List ℕ) (f : Fid) (body : Body) (next : Fid) → same_fid f d ≡ true → entry_by true d.volume (looked_up name body) ≡ Ok next → (rest : List Shown)

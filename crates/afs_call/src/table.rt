@@ -98,7 +98,7 @@ impl<R: Drop> CallTable<R> {
         requires { admitted self.old.boot self.old.seats head.now ≡ runs }
         ensures boot { self.new.boot ≡ self.old.boot }
         ensures seats { OnOk result (self.new.seats ≡ call_seated (record { caller = head.now.from; epoch = head.now.epoch; number = head.now.number; reply = Some reply }) self.old.seats) }
-        ensures err { OnErr result (self.new.seats ≡ self.old.seats) }
+        ensures err { OnErr result (self.new ≡ self.old) }
     {
         self.reserve(1)?;
         self.answer(key_of(head), reply);

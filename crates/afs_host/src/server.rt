@@ -40,7 +40,7 @@ impl<D: Disk> Running<FileServer, VolStore<Fuse<D>>> {
     pub fn waits_on(&self, callee: Node) -> bool
         ensures { result ≡ waits_for self.now callee }
     {
-        self.memory.waits_on(self.store.node(), callee).is_some()
+        self.memory.waits_on(&self.store, callee).is_some()
     }
 
     /// Its unanswered call to this node has waited too long.

@@ -496,7 +496,7 @@ serving_key (Admin j) k past is = tt
 serving_key Loc k past is = tt
 
 good_by_call : (me : Node) (boot : ℕ) (past : List Entry) (t : Started) (o : Owed) (x : Option BackCall) → IsServing me → IsBy me past → AreGoodSent past t.sent → AreGoodSent past (starts_by me boot t o x).sent
-good_by_call me boot past t o None is by h = let m : Message = break_message me boot o.client (t.backs.known o.client) (started_call t.backs o) in good_more past t.sent (m ∷ []) h (record { sender = by; half = λ z. refl; reply = call_good past m.head [] (breaks_call (started_call t.backs o).breaks); gift = break_gift (started_call t.backs o).breaks m.head (lines_of past); key = serving_key me (called_key m.head) past is }, tt)
+good_by_call me boot past t o None is by h = let m : Message = break_message me boot o.client (t.backs.known o.client) (started_call t.backs o) in good_more past t.sent (m ∷ []) h (record { sender = by; half = λ z. refl; reply = call_good past m.head [] (breaks_call (started_call t.backs o).content); gift = break_gift (started_call t.backs o).content m.head (lines_of past); key = serving_key me (called_key m.head) past is }, tt)
 good_by_call me boot past t o (Some c) is by h = h
 
 calls_good : (me : Node) (boot : ℕ) (past : List Entry) (os : List Owed) (t : Started) → IsServing me → IsBy me past → AreGoodSent past t.sent → AreGoodSent past (starts me boot os t).sent

@@ -108,13 +108,13 @@ impl FileServer {
         Ok((server, outs))
     }
 
-    /// The key of the unanswered call of this server, which is that node, to the other. It takes no memory.
-    pub fn waits_on(&self, server: Node, callee: Node) -> Option<Key>
-        ensures { result ≡ waits_by server self.now callee }
+    /// The key of the server's unanswered call to this node. It takes no memory.
+    pub fn waits_on<D: Disk>(&self, store: &VolStore<D>, callee: Node) -> Option<Key>
+        ensures { result ≡ waits_by store.now.node self.now callee }
     {
         let call = self.callbacks().call_to(callee)?;
         Some(Key {
-            node: server,
+            node: store.node(),
             epoch: self.callers.boot(),
             number: call.number,
         })

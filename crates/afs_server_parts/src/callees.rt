@@ -179,6 +179,7 @@ pub fn set_call<C: Copies>(
     node: Node,
     call: Option<BackCall<C>>,
 ) -> Mem<()>
+    ensures items { OnOk result (callees.new.items ≡ put_last node_called same_node (record { node = node; known = known_to callees.old.items node; call = call }) callees.old.items) }
     ensures err { OnErr result (callees.new.items ≡ callees.old.items) }
     ensures calls { OnOk result (call_to callees.new.items ≡ put_at node call (call_to callees.old.items)) }
     ensures known { OnOk result (known_to callees.new.items ≡ known_to callees.old.items) }
@@ -235,6 +236,7 @@ pub fn set_known<C: Copies>(
     node: Node,
     known: u32,
 ) -> Mem<()>
+    ensures items { OnOk result (callees.new.items ≡ put_last node_called same_node (record { node = node; known = known; call = call_to callees.old.items node }) callees.old.items) }
     ensures err { OnErr result (callees.new.items ≡ callees.old.items) }
     ensures calls { OnOk result (call_to callees.new.items ≡ call_to callees.old.items) }
     ensures known { OnOk result (known_to callees.new.items ≡ put_at node known (known_to callees.old.items)) }

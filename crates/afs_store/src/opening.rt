@@ -70,7 +70,9 @@ impl<D: Disk, R: Drop, T: Drop, S: Fold<R, T>> Store<D, R, T, S> {
     {
         let journal = take_up(alloc, disk)?;
         let wanted = !is_told(&journal, told);
-        let (store, lines) = made(alloc, journal, node, wanted)?;
-        Ok((store, lines))
+        match made(alloc, journal, node, wanted) {
+            Ok((store, lines)) => Ok((store, lines)),
+            Err(refused) => Err(refused),
+        }
     }
 }

@@ -10,7 +10,7 @@ pub returns-clause-value : goal.returns-clause-value
 returns-clause-value c =
     let g = c.going.inside in
     c.in_ok-need.ensures.value
-    ∙ (ap (λ (act : Act). needed_by g.homes act (g.way.behind ++ c.as_slice.result.now)) c.get.ensures
+    ∙ (ap (λ (act : Act). needed_by g.homes act (g.way.behind ++ c.as_slice.result.now)) c.get-act.ensures
     ∙ (ap (λ (rs : List Shown). needed_by g.homes g.act (g.way.behind ++ rs)) c.as_slice.ensures ∙ (sym (needs_are g.homes g.act (g.way.behind ++ g.rest)) ∙ ap next c.going.view_is)))
 
 pub returns-clause-fits : goal.returns-clause-fits

@@ -6,8 +6,8 @@ use Rattle.afs_message.specs.Spelled.{message_in, reply_in}
 use Rattle.afs_message.proofs.Read.{no_message}
 use Rattle.afs_server_parts.proofs.callers.restore.Goals as goal
 
-pub returns-then-branch-clause-seats : goal.returns-then-branch-clause-seats
-returns-then-branch-clause-seats c =
+pub returns-in_ok-reply-clause-seats : goal.returns-in_ok-reply-clause-seats
+returns-in_ok-reply-clause-seats c =
     let key = c.args.key in
     c.answer.ensures.seats
     ∙ ap (λ (o : Option Message). call_seated (record { caller = key.node; epoch = key.epoch; number = key.number; reply = o }) c.args.callers.now.seats)

@@ -8,7 +8,7 @@ use Rattle.afs_store.proofs.Folding.{none_is_taken}
 use Rattle.afs_store.proofs.beginning.put_first.Goals as goal
 
 pub unreachable-requires : goal.unreachable-requires
-unreachable-requires g c = none_is_taken (g.S.Fold.fold.done c.args.rec.now (g.S.Fold.fold.held c.args.state.now)) c.requires.taken (c.ready-ready.ensures.bad (search rules) (g.S.Fold.fold.held c.args.state.now))
+unreachable-requires g c = none_is_taken (g.S.Fold.fold.done c.args.rec.now (g.S.Fold.fold.held c.args.state.now)) c.requires.taken (c.ready.ensures.bad (search rules) (g.S.Fold.fold.held c.args.state.now))
 
 pub append-requires-clause-room : goal.append-requires-clause-room
 append-requires-clause-room g c = subst (λ (b : List ℕ). HasPlaceOn g.D.Disk.limit g.D.Disk.space (length b) c.place.new.journal) (sym c.bytes.ensures) c.in_ok-place.ensures.room

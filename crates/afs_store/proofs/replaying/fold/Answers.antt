@@ -1,4 +1,5 @@
-use Rattle.std.proofs.Common.{◌≡◌, ◌≤◌, ◌+◌, ◌∙◌, [], ℕ, List, Some, length, length-take-le, take, ap, arith, sym, subst, nat_eq, rules}
+use Rattle.std.proofs.Common.{◌≡◌, ◌≤◌, ◌+◌, ◌++◌, ◌∙◌, [], ℕ, List, Some, length, length-take-le, take, ap, arith, sym, subst, nat_eq, rules}
+use Rattle.std.proofs.lemmas.List.{append-nil}
 use Rattle.std.specs.Option.{option_map}
 use Rattle.afs_num.specs.declared.faults.StoreFault.{StoreFault}
 use Rattle.afs_num.specs.declared.faults.StoreFault.TheVariants as faults
@@ -8,6 +9,14 @@ use Rattle.afs_store.proofs.replaying.fold.Goals as goal
 
 counted : (records : List (List ℕ)) (count : ℕ) → length records ≡ count + 1 → count ≡ length (take count records)
 counted records count many = sym (length-take-le count records (omega (arith, many)))
+
+-- a record before the last is bad
+pub returns-in_err-state-clause-bad : goal.returns-in_err-state-clause-bad
+returns-in_err-state-clause-bad g c =
+    let rs = c.args.records.now in
+    if_err c.from_residual.result (λ (e : StoreFault). (n : ℕ) → e ≡ faults.BadRecord n → (capacity : ℕ) (more : List (List ℕ)) → g.S.Fold.fold.first_bad capacity (rs ++ more) ≡ Some n) _
+    (λ e bad n is capacity. ap (g.S.Fold.fold.first_bad capacity) (sym (append-nil rs)) ∙ bad n is capacity [])
+    (search rules)
 
 pub returns-in_err-lines-clause-bad : goal.returns-in_err-lines-clause-bad
 returns-in_err-lines-clause-bad g c =

@@ -6,5 +6,8 @@ use Rattle.afs_callbacks.proofs.callbacks.Callbacks.plan_saved.Goals as goal
 
 pub returns : goal.returns
 returns c =
-    let kept = subst (Spells c.in_ok-reply.reply) (sym c.in_ok-kept.ensures) c.bytes.ensures in
-    subst (λ (m : Message). IsRepliedAfter c.args.stand c.args.self.now c.args.now m c.args.breaks.now [] c.in_ok-ended.ended c.in_ok-kept.kept) c.in_ok-reply.ensures (record { answer = c.in_ok-ended.ensures; kept = kept })
+    let s = c.args.stand in
+    let m = c.args.self.now in
+    let replied : IsRepliedAfter s m c.args.now c.in_ok-reply.reply c.args.breaks.now [] c.in_ok-ended.ended c.in_ok-kept.kept =
+    record { answer = c.in_ok-ended.ensures; kept = subst (Spells c.in_ok-reply.reply) (sym c.in_ok-kept.ensures) c.bytes.ensures } in
+    subst (λ (x : Message). IsRepliedAfter s m c.args.now x c.args.breaks.now [] c.in_ok-ended.ended c.in_ok-kept.kept) c.in_ok-reply.ensures replied
