@@ -118,9 +118,7 @@ impl<D: Disk> VolStore<D> {
         ensures setting { (D.limit self.new.disk ≡ D.limit self.old.disk) × (D.setting self.new.disk ≡ D.setting self.old.disk) }
     {
         starts_are_kept();
-        match self.store.boot() {
-            Ok(()) => Ok(Lines::new(self.alloc)),
-            Err(fault) => Err(fault),
-        }
+        self.store.boot()?;
+        Ok(Lines::new(self.alloc))
     }
 }

@@ -4,7 +4,7 @@ use Rattle.afs_memory.proofs.Held.{fits_caller}
 use Rattle.afs_memory.specs.Redos.{body_of, record_of}
 use Rattle.afs_memory.specs.States.{parts_of}
 use Rattle.afs_store.proofs.Folding.{mapped_some}
-use Rattle.afs_volstore.proofs.held.«HeldFold+StoreRecord+Part».redo.Goals as goal
+use Rattle.afs_volstore.proofs.held.HeldFoldStoreRecordPart.redo.Goals as goal
 
 pub redo-requires-clause-caller : goal.redo-requires-clause-caller
 redo-requires-clause-caller c = fits_caller (record_of c.args.ready.head c.args.ready.redo) c.requires.ready.fits
