@@ -17,7 +17,6 @@ use Rattle.afs_memory.specs.States.{placed}
 use Rattle.afs_store.proofs.Folding.{folded_is}
 use Rattle.afs_volstore.specs.VolumeFold.{volume_fold}
 use Rattle.afs_volstore.specs.VolumeLaws.{volume_sound}
-
 pub use Rattle.afs_store.proofs.Begun.{nothing_there}
 
 first_by : (o : Option (Table Stored)) (r : StoreRecord) → (o >>= λ t. Some (record_of_volumes t)) ≡ Some r → is_first r.body ≡ true

@@ -15,7 +15,6 @@ use Rattle.afs_volstore.specs.Stands.{Stands}
 use Rattle.afs_records.specs.Durable.{Durable, effect_of, first_folded, folded, mark_of, most_volumes, nothing_on}
 use Rattle.afs_volstore.specs.Laying.{HaveShortNames}
 use Rattle.afs_memory.specs.Telling.{in_words}
-
 pub use Rattle.afs_store.specs.Opening.{same_mark, IsAttachFault, IsFoldFault, Moved}
 
 -- ---- the last record

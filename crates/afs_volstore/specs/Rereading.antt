@@ -7,7 +7,6 @@ use Rattle.afs_records.specs.Durable.{first_bad, Durable}
 use Rattle.afs_store.specs.Rereading as taken
 use Rattle.afs_volstore.specs.Stands.{Stands}
 use Rattle.afs_volstore.specs.Stores.{Store}
-
 pub use Rattle.afs_store.specs.Rereading.{disk_after, IsTakenUp}
 
 -- A store over it: at rest with the records that it told, of which this is made; a journal at rest is synced and read, and nothing more.

@@ -6,7 +6,6 @@ use Rattle.afs_records.specs.Durable.{Durable, folded, has_room}
 use Rattle.afs_records.specs.Records.{record_bytes}
 use Rattle.afs_store.specs.Stores.{Keeps, StoreOf}
 use Rattle.afs_volstore.specs.Stands.{Stands}
-
 pub use Rattle.afs_store.specs.Stores.{IsCaused, IsCounted, IsEarly, SameBut, Served}
 
 -- A store of a server's records: what it keeps is the durable part of the server.

@@ -19,10 +19,9 @@ use afs_num::faults::StoreFault;
 use afs_num::records::{RecordBody, RecordHead, StoreRecord};
 use afs_num::sequences::Octets;
 use afs_num::types::Node;
+pub use afs_store::beginning::begin;
 use afs_store::beginning::filled as first_put;
 use std::alloc::Global;
-
-pub use afs_store::beginning::begin;
 
 /// The head of a record that raises no stamp and keeps no reply.
 #[tactic(auto, unfolding(afs_records::specs::Records::head_form))]
