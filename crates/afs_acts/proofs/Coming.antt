@@ -78,7 +78,7 @@ pub steps_on : (home : Option ℕ) (o : Option Operand) (count : ℕ) (f : Fid) 
 steps_on home o count f behind ahead shown next way step =
     let names = names_of o in
     let taken : take (count + 1) names ≡ take count names ++ step.name ∷ [] =
-        take_more names count step.name (omega (arith, step.inside)) ∙ ap (λ (n : List ℕ). take count names ++ n ∷ []) (get_or_from_slice_get names count step.name step.name step.named) in
+    take_more names count step.name (omega (arith, step.inside)) ∙ ap (λ (n : List ℕ). take count names ++ n ∷ []) (get_or_from_slice_get names count step.name step.name step.named) in
     record {
       inside = omega (arith, step.inside);
       walked = λ id e rest.
