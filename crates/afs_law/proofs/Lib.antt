@@ -130,3 +130,4 @@ pub mod Worked
 pub mod KeptRuns
 pub mod Wrong
 pub mod Database
+pub mod DatabaseRuns
