@@ -119,7 +119,7 @@ not_itself head m z = below_not head.epoch head.number head.epoch head.number z 
 over_it : (head : Head) (m : Message) (seats : List Seat) (n : Node) (e k : ℕ) → IsAfter (call_seat head.from seats) head.epoch head.number → head.from ≡ n → IsAfter (Some (seat_for head m)) e k → IsAfter (call_seat n seats) e k
 over_it head m seats n e k after same later =
     subst (λ (y : Node). IsAfter (call_seat y seats) e k) same
-        (after_of (call_seat head.from seats) e k (above_up (call_seat head.from seats) head.epoch head.number e k (above_of (call_seat head.from seats) head.epoch head.number after) (below_up_to head.epoch head.number e k later)))
+    (after_of (call_seat head.from seats) e k (above_up (call_seat head.from seats) head.epoch head.number e k (above_of (call_seat head.from seats) head.epoch head.number after) (below_up_to head.epoch head.number e k later)))
 
 seat_rises : (head : Head) (m : Message) (seats : List Seat) → IsAfter (call_seat head.from seats) head.epoch head.number → Rises seats (call_seated (seat_for head m) seats)
 seat_rises head m seats after n e k =
