@@ -29,7 +29,7 @@ loop-r-preserved c =
     let less = front_less (stage_of step p) (stage_of next q) left rest front in
     let many = i.many in
     let within = i.within in
-    let now = c.left_len.ensures in
+    let now = c.left_len-left.ensures in
     record {
       may = c.in-Ok.ensures.step;
       many = now;
@@ -66,7 +66,7 @@ returns-in-Err-Cut-clause-read c =
     let stays : StaysThere p q (Err stops.Cut) = subst (λ (e : Stop). StaysThere p q (Err e)) c.in-Err-Cut.field-0-is c.in-Err-Cut.ensures.stays in
     let not : step ≡ steps.End → ⊥ = search rules in (
       subst (λ (z : Parts). Reaches from before bytes step z c.loop-r.left) (sym stays) (reaches from step before p bytes c.loop-r.r.left c.loop-r.left i.many i.within i.place i.may i.same i.reading),
-      waits_here step p (bytes_read from before bytes) c.loop-r.r.left _ c.take_step.new.r.left _ not stop i.reading c.left_len-in-Err-Cut.ensures,
+      waits_here step p (bytes_read from before bytes) c.loop-r.r.left _ c.take_step.new.r.left _ not stop i.reading c.left_len.ensures,
     )
 
 pub returns-in-Err-Bad-clause-read : goal.returns-in-Err-Bad-clause-read
