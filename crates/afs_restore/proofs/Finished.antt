@@ -10,6 +10,8 @@ use Rattle.afs_dumps.proofs.Streams.{dump_spelled}
 use Rattle.afs_restore.specs.Parts.{dump_in}
 use Rattle.afs_restore.specs.ReadOn.{bytes_read, IsFed, IsFedSoFar, Waits}
 use Rattle.afs_restore.specs.Steps.{stage_of}
+use Rattle.afs_restore.specs.declared.faults.DumpFault.{DumpFault}
+use Rattle.afs_restore.specs.declared.faults.DumpFault.TheVariants.{Bad}
 use Rattle.afs_restore.specs.declared.parts.Parts.{Parts}
 use Rattle.afs_restore.specs.declared.steps.Step.{Step}
 use Rattle.afs_restore.specs.declared.steps.Step.TheVariants as steps
@@ -80,3 +82,6 @@ waits_seen step p pending bytes id count short s o none not seen h =
     let so_far : IsFedSoFar step p pending count short = subst (λ (z : Option ℕ). IsFed step p pending count short z) none h in
     subst (λ (t : List ℕ). finished id s t ≡ Err (count - short)) seen
     (waits_finished step (bytes_read step p pending) pending id short s not so_far.waits ∙ ap (λ (n : ℕ). Err (n - short)) (sym so_far.many))
+
+pub same_fault : {T : Type 0} (f : DumpFault) (offset : ℕ) (r : Result T DumpFault) → r ≡ Err f → r ≡ Err (Bad offset) → f ≡ Bad offset
+same_fault {T} f offset r a b = let z : Err f ≡ Err (Bad offset) = sym a ∙ b in cc
