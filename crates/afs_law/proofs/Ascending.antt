@@ -34,9 +34,11 @@ use Rattle.afs_num.specs.declared.types.Node.{Node}
 use Rattle.afs_num.specs.declared.types.Node.TheVariants.{Client, Server}
 use Rattle.afs_records.specs.Durable.{Stored}
 use Rattle.afs_rows.specs.ClientRow.{begin_row, client_row, timeout_row}
-use Rattle.afs_rows.specs.Runs.{Cell, Entry, Fall, Host, Moved, RunsTo, at_rest, begun_by_disk, blow_line, first_volumes, in_boot, server_stays, start, unarmed}
-use Rattle.afs_rows.specs.ServerRow.{Begun, Change, key_of, made, versioned}
-use Rattle.afs_rows.specs.States.{volume_in}
+use Rattle.afs_law.proofs.Steps.{blow_line, server_stays}
+use Rattle.afs_rows.specs.Steps.{Begun}
+use Rattle.afs_rows.specs.Runs.{Cell, Entry, Fall, Moved, RunsTo, at_rest, begun_by_disk, first_volumes, in_boot, start, unarmed, ServerHost}
+use Rattle.afs_rows.specs.ServerRow.{Change, key_of, made, versioned}
+use Rattle.afs_rows.specs.States.{volume_in, ServerState}
 use Rattle.std.proofs.Common.{suc, ◌≡◌, ℕ, ◌≤◌, inl, inr, Bool, true, length, List, [], ◌∷◌, Option, Some, refl, sym, ap, subst, ◌∙◌}
 
 -- ---- lines that tell no version
@@ -118,7 +120,7 @@ ascend_moves s = record {
   timed = λ c past i n b armed h up at. works_ascend s c past i _ _ h (times_works (IsCalled c.sent) (Server i) (c.hosts i).state c.clock n b);
   woken = λ c past i armed h up. works_ascend s c past i _ _ h (wakes_works (IsCalled c.sent) (Server i) (c.hosts i).state c.clock);
   started = λ c past i after fall h down.
-      let f : Begun = begun_by_disk (Server i) (c.hosts i).state after fall in
+      let f : Begun ServerState = begun_by_disk (Server i) (c.hosts i).state after fall in
       works_ascend s c past i _ _ h (starts_works (IsCalled c.sent) (Server i) (c.hosts i).state c.clock c.count f (fall_ascend s c past i after fall (risen_lines (Server i) c.clock c.count f) h down (risen_from (Server i) c.clock c.count f)));
   early = λ c past i fall h down. blank_ascend (lines.Fault (Server i) ∷ []) (lines_of past) refl h.1;
   midway = λ c past i after fall h down. stays_ascend s c past i after fall in_boot (lines.Fault (Server i)) h down (own_from i);
@@ -144,15 +146,15 @@ kept_in s c past i v V a at told =
 kept_behind : (s : Script) (c : Cell) (past : List Entry) (i : ℕ) (v : Version) (fall : Fall) → HeldAscend s c past → (c.hosts i).down ≡ Some fall → is_at v.fid.volume (Server i) s.volumes → HasVersion v.fid v.index v.body (lines_of past)
     → IsKept v (begun_by_disk (Server i) (c.hosts i).state true fall).state.lasting.volumes (lines_of (told_by_restart i (c.hosts i) fall ∷ past))
 kept_behind s c past i v fall h down at told =
-    let f : Begun = begun_by_disk (Server i) (c.hosts i).state true fall in
+    let f : Begun ServerState = begun_by_disk (Server i) (c.hosts i).state true fall in
     let m : Moved = server_stays c i f (lines.Fault (Server i)) in_boot in
     let V : VolumesIn s m.cell (m.entry ∷ past) = (volumes_moves s).midway c past i true fall h.0 down in
     let a : Ascend (lines_of (m.entry ∷ past)) = (ascend_moves s).midway c past i true fall h down in
-    let x : Host = record { state = f.state; down = Some in_boot; armed = unarmed } in
+    let x : ServerHost = record { state = f.state; down = Some in_boot; armed = unarmed } in
     let k : IsKept v (m.cell.hosts i).state.lasting.volumes (lines_of (m.entry ∷ past)) = kept_in s m.cell (m.entry ∷ past) i v V a at (has_onto v.fid v.index v.body m.entry.lines (lines_of past) told) in
     let l : lines_of (m.entry ∷ past) ≡ lines.Fault (Server i) ∷ onto (lines_of past) (f.before []) =
     ap (onto (lines_of past)) ((disk_front (Server i) (c.hosts i).state true fall).before (lines.Fault (Server i) ∷ [])) ∙ onto_last (lines_of past) (f.before []) (lines.Fault (Server i)) in
-    let here : (m.cell.hosts i).state.lasting.volumes ≡ f.state.lasting.volumes = at_put i i (λ (y : Host). y.state.lasting.volumes ≡ f.state.lasting.volumes) x c.hosts (λ same. refl) (λ other. absurd (other refl)) in
+    let here : (m.cell.hosts i).state.lasting.volumes ≡ f.state.lasting.volumes = at_put i i (λ (y : ServerHost). y.state.lasting.volumes ≡ f.state.lasting.volumes) x c.hosts (λ same. refl) (λ other. absurd (other refl)) in
     record { last = k.last; is_last = sym (ap (last_version v.fid) l) ∙ k.is_last; since = k.since; same = k.same; volume = k.volume; at = ap (volume_in v.fid.volume) (sym here) ∙ k.at; held = k.held }
 
 ascend_at : (s : Script) (h : List Entry) (end : Cell) → RunsTo h s end → HeldAscend s end (past_of (set_up s ∷ []) h)

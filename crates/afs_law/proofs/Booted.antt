@@ -38,7 +38,8 @@ use Rattle.afs_num.specs.declared.types.Node.TheVariants.{Client, Server}
 use Rattle.afs_rows.specs.Callbacks.{put}
 use Rattle.afs_rows.specs.ClientRow.{awaits, begin_row, boot_of, boot_or_first, client_row, counts, hears, ignores, is_awaited, reborn, timeout_row, with_boot}
 use Rattle.afs_rows.specs.Going.{ClientState, Going}
-use Rattle.afs_rows.specs.Runs.{Cell, Entry, Input, Moved, at_rest, begun_by_disk, blow_line, in_boot, in_step, message_at, moved, server_falls, server_moves, server_rises, server_set, server_stays, start, ticked, voided}
+use Rattle.afs_law.proofs.Steps.{blow_line, server_falls, server_moves, server_rises, server_set, server_stays}
+use Rattle.afs_rows.specs.Runs.{Cell, Entry, Input, Moved, at_rest, begun_by_disk, in_boot, in_step, message_at, moved, start, ticked, voided}
 use Rattle.afs_rows.specs.ServerSteps.{back_timeout_row, server_row, wake_row}
 use Rattle.afs_rows.specs.States.{KnownBoot}
 use Rattle.afs_rows.specs.Steps.{Step}

@@ -18,8 +18,10 @@ use Rattle.afs_num.specs.declared.types.Head.{Head}
 use Rattle.afs_num.specs.declared.types.Node.{Node}
 use Rattle.afs_num.specs.declared.types.Node.TheVariants.{Server, Client, Loc, Admin}
 use Rattle.afs_rows.specs.Callbacks.{Turn, expired, held_under, is_back_awaited, is_ready, is_seat_of, key_answered, new_owes, owe_line, put, quit_line, renews_by, repeats_by, risen_turn, settle_line, settles_by, still_owed, turn_for, turned_by, turned_in}
-use Rattle.afs_rows.specs.Runs.{Entry, Fall, Host, at_rest, begun_by_disk, blow_line, in_boot, in_step}
-use Rattle.afs_rows.specs.ServerRow.{Begun, Decision, begun_after, decides, does, drops, granted, granted_in, key_of, made, promise_ticks, refuses, repeats, saves, shows, tells_boot, versioned}
+use Rattle.afs_law.proofs.Steps.{blow_line}
+use Rattle.afs_rows.specs.Steps.{Begun}
+use Rattle.afs_rows.specs.Runs.{Entry, Fall, at_rest, begun_by_disk, in_boot, in_step, ServerHost}
+use Rattle.afs_rows.specs.ServerRow.{Decision, begun_after, decides, does, drops, granted, granted_in, key_of, made, promise_ticks, refuses, repeats, saves, shows, tells_boot, versioned}
 use Rattle.afs_rows.specs.ServerSteps.{back_timeout_row, server_row, start_row, wake_row}
 use Rattle.afs_rows.specs.States.{BackCall, Backs, Held, ServerState}
 use Rattle.afs_model.specs.Calls.{call_seat}
@@ -100,12 +102,12 @@ abbrev pub HaveRisen : List Entry → Type 0
 HaveRisen [] = ⊤
 HaveRisen (e ∷ past) = AreRising (lines_of past) e.lines × HaveRisen past
 
-pub record Boots (hosts : ℕ → Host) (past : List Entry) : Type 0 where
+pub record Boots (hosts : ℕ → ServerHost) (past : List Entry) : Type 0 where
   pub now : (j : ℕ) → server_boot (Server j) (lines_of past) ≡ up_boot (hosts j).down (hosts j).state.lasting.boot
   pub last : (j : ℕ) → last_boot (Server j) (lines_of past) ≤ (hosts j).state.lasting.boot
   pub risen : HaveRisen past
 
-pub still_boots : (hosts : ℕ → Host) (e : Entry) (past : List Entry) → all_lines is_standing e.lines ≡ true → Boots hosts past → Boots hosts (e ∷ past)
+pub still_boots : (hosts : ℕ → ServerHost) (e : Entry) (past : List Entry) → all_lines is_standing e.lines ≡ true → Boots hosts past → Boots hosts (e ∷ past)
 still_boots hosts e past h B = record {
   now = λ j. (all_same j e.lines (lines_of past) h).boot ∙ B.now j;
   last = λ j. subst (λ (n : ℕ). n ≤ (hosts j).state.lasting.boot) (sym (all_same j e.lines (lines_of past) h).last) (B.last j);
@@ -113,18 +115,18 @@ still_boots hosts e past h B = record {
 }
 
 -- one server's step
-host_boots : (hosts : ℕ → Host) (i : ℕ) (h : Host) (e : Entry) (past : List Entry) → server_boot (Server i) (lines_of (e ∷ past)) ≡ up_boot h.down h.state.lasting.boot → last_boot (Server i) (lines_of (e ∷ past)) ≤ h.state.lasting.boot
+host_boots : (hosts : ℕ → ServerHost) (i : ℕ) (h : ServerHost) (e : Entry) (past : List Entry) → server_boot (Server i) (lines_of (e ∷ past)) ≡ up_boot h.down h.state.lasting.boot → last_boot (Server i) (lines_of (e ∷ past)) ≤ h.state.lasting.boot
     → ((j : ℕ) → (i ≡ j → ⊥) → Same j (lines_of (e ∷ past)) (lines_of past)) → AreRising (lines_of past) e.lines → Boots hosts past → Boots (put i h hosts) (e ∷ past)
 host_boots hosts i h e past now last others rise B = record {
-  now = λ j. at_put i j (λ (x : Host). server_boot (Server j) (lines_of (e ∷ past)) ≡ up_boot x.down x.state.lasting.boot) h hosts
+  now = λ j. at_put i j (λ (x : ServerHost). server_boot (Server j) (lines_of (e ∷ past)) ≡ up_boot x.down x.state.lasting.boot) h hosts
       (λ same. subst (λ (k : ℕ). server_boot (Server k) (lines_of (e ∷ past)) ≡ up_boot h.down h.state.lasting.boot) same now) (λ ne. (others j ne).boot ∙ B.now j);
-  last = λ j. at_put i j (λ (x : Host). last_boot (Server j) (lines_of (e ∷ past)) ≤ x.state.lasting.boot) h hosts
+  last = λ j. at_put i j (λ (x : ServerHost). last_boot (Server j) (lines_of (e ∷ past)) ≤ x.state.lasting.boot) h hosts
       (λ same. subst (λ (k : ℕ). last_boot (Server k) (lines_of (e ∷ past)) ≤ h.state.lasting.boot) same last) (λ ne. subst (λ (n : ℕ). n ≤ (hosts j).state.lasting.boot) (sym (others j ne).last) (B.last j));
   risen = (rise, B.risen);
 }
 
 -- one that leaves it up or down
-pub step_boots : (hosts : ℕ → Host) (i : ℕ) (h : Host) (e : Entry) (past : List Entry) → all_lines is_standing e.lines ≡ true → h.down ≡ (hosts i).down → h.state.lasting.boot ≡ (hosts i).state.lasting.boot → Boots hosts past → Boots (put i h hosts) (e ∷ past)
+pub step_boots : (hosts : ℕ → ServerHost) (i : ℕ) (h : ServerHost) (e : Entry) (past : List Entry) → all_lines is_standing e.lines ≡ true → h.down ≡ (hosts i).down → h.state.lasting.boot ≡ (hosts i).state.lasting.boot → Boots hosts past → Boots (put i h hosts) (e ∷ past)
 step_boots hosts i h e past stand down boot B = host_boots hosts i h e past
     ((all_same i e.lines (lines_of past) stand).boot ∙ (B.now i ∙ rw (down, boot) refl))
     (subst (λ (n : ℕ). n ≤ h.state.lasting.boot) (sym (all_same i e.lines (lines_of past) stand).last) (subst (λ (n : ℕ). last_boot (Server i) (lines_of past) ≤ n) (sym boot) (B.last i)))
@@ -159,7 +161,7 @@ stop_rises i l o (inl e) = subst (λ (k : Line). AreRising o (k ∷ [])) (sym e)
 stop_rises i l o (inr e) = subst (λ (k : Line). AreRising o (k ∷ [])) (sym e) (tt, tt)
 
 -- behind lines that stop nothing it stops; it is in the same boot then, or in a later one that it doesn't tell
-pub stop_boots : (hosts : ℕ → Host) (i : ℕ) (h : Host) (e : Entry) (past : List Entry) (front : List Line) (l : Line) → e.lines ≡ front ++ l ∷ [] → all_lines is_standing front ≡ true → IsStop i l → up_boot h.down h.state.lasting.boot ≡ None → (hosts i).state.lasting.boot ≤ h.state.lasting.boot
+pub stop_boots : (hosts : ℕ → ServerHost) (i : ℕ) (h : ServerHost) (e : Entry) (past : List Entry) (front : List Line) (l : Line) → e.lines ≡ front ++ l ∷ [] → all_lines is_standing front ≡ true → IsStop i l → up_boot h.down h.state.lasting.boot ≡ None → (hosts i).state.lasting.boot ≤ h.state.lasting.boot
     → Boots hosts past → Boots (put i h hosts) (e ∷ past)
 stop_boots hosts i h e past front l are stand stops down grows B =
     let at : lines_of (e ∷ past) ≡ l ∷ onto (lines_of past) front = ap (onto (lines_of past)) are ∙ onto_both (lines_of past) front (l ∷ []) in
@@ -173,7 +175,7 @@ stop_boots hosts i h e past front l are stand stops down grows B =
     (subst (AreRising (lines_of past)) (sym are) (rise_both front (l ∷ []) (lines_of past) (all_rise front (lines_of past) stand) (stop_rises i l (onto (lines_of past) front) stops))) B
 
 -- one that was down stays so, without a stop
-pub down_boots : (hosts : ℕ → Host) (i : ℕ) (h : Host) (e : Entry) (past : List Entry) → all_lines is_standing e.lines ≡ true → up_boot (hosts i).down (hosts i).state.lasting.boot ≡ None → up_boot h.down h.state.lasting.boot ≡ None → (hosts i).state.lasting.boot ≤ h.state.lasting.boot → Boots hosts past → Boots (put i h hosts) (e ∷ past)
+pub down_boots : (hosts : ℕ → ServerHost) (i : ℕ) (h : ServerHost) (e : Entry) (past : List Entry) → all_lines is_standing e.lines ≡ true → up_boot (hosts i).down (hosts i).state.lasting.boot ≡ None → up_boot h.down h.state.lasting.boot ≡ None → (hosts i).state.lasting.boot ≤ h.state.lasting.boot → Boots hosts past → Boots (put i h hosts) (e ∷ past)
 down_boots hosts i h e past stand was down grows B =
     let at : last_boot (Server i) (lines_of past) ≤ (hosts i).state.lasting.boot = B.last i in
     let more : (hosts i).state.lasting.boot ≤ h.state.lasting.boot = grows in
@@ -184,7 +186,7 @@ down_boots hosts i h e past stand was down grows B =
 
 -- ---- a server begins again
 
-pub rise_boots : (hosts : ℕ → Host) (i : ℕ) (h : Host) (e : Entry) (past : List Entry) (front notes : List Line) → e.lines ≡ front ++ lines.Restart (Server i) h.state.lasting.boot ∷ notes → all_lines is_standing front ≡ true → all_lines is_standing notes ≡ true
+pub rise_boots : (hosts : ℕ → ServerHost) (i : ℕ) (h : ServerHost) (e : Entry) (past : List Entry) (front notes : List Line) → e.lines ≡ front ++ lines.Restart (Server i) h.state.lasting.boot ∷ notes → all_lines is_standing front ≡ true → all_lines is_standing notes ≡ true
     → up_boot (hosts i).down (hosts i).state.lasting.boot ≡ None → h.down ≡ None → (hosts i).state.lasting.boot < h.state.lasting.boot → Boots hosts past → Boots (put i h hosts) (e ∷ past)
 rise_boots hosts i h e past front notes are stand note was up grows B =
     let b : ℕ = h.state.lasting.boot in
@@ -314,7 +316,7 @@ wakes_standing me x clock = all_standing (wake_row me x clock).lines (wakes_runn
 -- ---- what a restart begins with
 
 -- lines of a finished step stand before its own
-pub record HasFront (f : Begun) : Type 0 where
+pub record HasFront (f : Begun ServerState) : Type 0 where
   pub before : (ls : List Line) → f.before ls ≡ f.before [] ++ ls
   pub standing : all_lines is_standing (f.before []) ≡ true
 
@@ -333,7 +335,7 @@ disk_front me x true (in_step m clock hit) = after_front me x clock (decides me 
 disk_front me x false in_boot = record { before = λ ls. refl; standing = refl }
 disk_front me x true in_boot = record { before = λ ls. refl; standing = refl }
 
-pub started_lines : (i clock count : ℕ) (f : Begun) → (start_row (Server i) clock count f).lines ≡ f.before (lines.Restart (Server i) (f.state.lasting.boot + 1) ∷ (risen_turn (Server i) clock count).lines)
+pub started_lines : (i clock count : ℕ) (f : Begun ServerState) → (start_row (Server i) clock count f).lines ≡ f.before (lines.Restart (Server i) (f.state.lasting.boot + 1) ∷ (risen_turn (Server i) clock count).lines)
 unfolding start_row
 started_lines i clock count f = refl
 

@@ -34,8 +34,10 @@ use Rattle.afs_num.specs.declared.types.Key.{Key}
 use Rattle.afs_num.specs.declared.types.Node.{Node}
 use Rattle.afs_num.specs.declared.types.Node.TheVariants.{Server}
 use Rattle.afs_records.specs.Durable.{Stored}
-use Rattle.afs_rows.specs.Runs.{Cell, Entry, Fall, Input, Leads, Moved, begun_by_disk, blow_line, message_at, moved, start}
-use Rattle.afs_rows.specs.ServerRow.{Begun, key_of, made, versioned}
+use Rattle.afs_law.proofs.Steps.{blow_line}
+use Rattle.afs_rows.specs.Steps.{Begun}
+use Rattle.afs_rows.specs.Runs.{Cell, Entry, Fall, Input, Leads, Moved, begun_by_disk, message_at, moved, start}
+use Rattle.afs_rows.specs.ServerRow.{key_of, made, versioned}
 use Rattle.afs_rows.specs.States.{ServerState}
 use Rattle.std.proofs.Common.{◌≡◌, ℕ, ◌⊎◌, inl, inr, Bool, true, length, List, [], ◌∷◌, ◌++◌, Some, None, refl, sym, ap, subst, ◌∙◌}
 
@@ -259,7 +261,7 @@ ideal_moves s = record {
   timed = λ c past i n b armed h up at. works_ideal s c past i _ _ h.0 (times_works (IsPlaced c past i) (Server i) (c.hosts i).state c.clock n b);
   woken = λ c past i armed h up. works_ideal s c past i _ _ h.0 (wakes_works (IsPlaced c past i) (Server i) (c.hosts i).state c.clock);
   started = λ c past i after fall h down.
-      let f : Begun = begun_by_disk (Server i) (c.hosts i).state after fall in
+      let f : Begun ServerState = begun_by_disk (Server i) (c.hosts i).state after fall in
       let ls : List Line = risen_lines (Server i) c.clock c.count f in
       works_ideal s c past i _ _ h.0 (starts_works (IsPlaced c past i) (Server i) (c.hosts i).state c.clock c.count f
       (disk_works (IsPlaced c past i) (Server i) (c.hosts i).state after fall ls (cut_by (λ m. IsPlaced c past i m [] ls) (c.hosts i).down fall down (cut_placed s c past i ls h (inl refl))) (risen_from (Server i) c.clock c.count f)));

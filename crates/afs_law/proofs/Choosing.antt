@@ -25,8 +25,9 @@ use Rattle.afs_num.specs.declared.types.Node.{Node}
 use Rattle.afs_num.specs.declared.types.Node.TheVariants.{Client}
 use Rattle.afs_records.specs.Durable.{Stored, has_room}
 use Rattle.afs_rows.specs.Callbacks.{Turn, expired, held_under, is_back_awaited, is_ready, is_seat_of, key_answered, new_owes, owe_line, quit_line, renews_by, repeats_by, risen_turn, settle_line, settles_by, still_owed, turn_for, turned_by, turned_in}
+use Rattle.afs_rows.specs.Steps.{Begun}
 use Rattle.afs_rows.specs.Runs.{Fall, at_rest, begun_by_disk, in_boot, in_step}
-use Rattle.afs_rows.specs.ServerRow.{Begun, Change, Decision, Sight, admits, begun_after, decided, decides, does, drops, granted, granted_in, hears, in_volume, is_client, is_unflagged, key_of, made, not_served, promise_ticks, record_of, refuses, repeats, runs_received, saves, serves_call, several, shows, sights, stored_by, tells_boot, versioned, whole, with_volume}
+use Rattle.afs_rows.specs.ServerRow.{Change, Decision, Sight, admits, begun_after, decided, decides, does, drops, granted, granted_in, hears, in_volume, is_client, is_unflagged, key_of, made, not_served, promise_ticks, record_of, refuses, repeats, runs_received, saves, serves_call, several, shows, sights, stored_by, tells_boot, versioned, whole, with_volume}
 use Rattle.afs_rows.specs.ServerSteps.{back_timeout_row, server_row, start_row, wake_row}
 use Rattle.afs_rows.specs.States.{BackCall, Backs, Held, ServerState, durable_of, volume_in}
 use Rattle.std.proofs.Common.{◌≡◌, ℕ, ◌+◌, ◌⊎◌, inl, inr, Bool, true, false, cond, List, [], ◌∷◌, ◌++◌, map, length, filter, Option, Some, None, refl, sym, subst, ◌∙◌}
@@ -309,12 +310,12 @@ started_works P me x b ls (inl h) = inl (started_still me x.lasting.volumes b ls
 started_works P me x b ls (inr h) = inr (started_saves P me x b ls h)
 
 -- the lines of a start
-abbrev pub risen_lines : Node → ℕ → ℕ → Begun → List Line
+abbrev pub risen_lines : Node → ℕ → ℕ → Begun ServerState → List Line
 risen_lines me clock count f = lines.Restart me (f.state.lasting.boot + 1) ∷ (risen_turn me clock count).lines
 
-pub risen_from : (me : Node) (clock count : ℕ) (f : Begun) → AreFrom me (risen_lines me clock count f)
+pub risen_from : (me : Node) (clock count : ℕ) (f : Begun ServerState) → AreFrom me (risen_lines me clock count f)
 risen_from me clock count f = one_from me _ (owes_from me (risen_turn me clock count).backs.lists.owed)
 
-pub starts_works : (P : Message → List Line → List Line → Type 0) (me : Node) (x : ServerState) (clock count : ℕ) (f : Begun) → Works P me x f.state.lasting.volumes (f.before (risen_lines me clock count f)) → Works P me x (start_row me clock count f).state.lasting.volumes (start_row me clock count f).lines
+pub starts_works : (P : Message → List Line → List Line → Type 0) (me : Node) (x : ServerState) (clock count : ℕ) (f : Begun ServerState) → Works P me x f.state.lasting.volumes (f.before (risen_lines me clock count f)) → Works P me x (start_row me clock count f).state.lasting.volumes (start_row me clock count f).lines
 unfolding start_row
 starts_works P me x clock count f w = started_works P me x f.state.lasting.volumes (f.before (risen_lines me clock count f)) w

@@ -22,7 +22,8 @@ use Rattle.afs_history.specs.declared.lines.Line.TheVariants as lines
 use Rattle.afs_rows.specs.Callbacks.{put}
 use Rattle.afs_rows.specs.ClientRow.{begin_row, call_of, client_row, gives_up, timeout_row, tries_again}
 use Rattle.afs_rows.specs.Going.{ClientState, Going}
-use Rattle.afs_rows.specs.Runs.{Cell, Entry, at_rest, begun_by_disk, blow_line, in_boot, in_step, server_falls, server_moves, server_rises, server_set, server_stays, start, ticked, voided}
+use Rattle.afs_law.proofs.Steps.{blow_line, server_falls, server_moves, server_rises, server_set, server_stays}
+use Rattle.afs_rows.specs.Runs.{Cell, Entry, at_rest, begun_by_disk, in_boot, in_step, start, ticked, voided}
 use Rattle.afs_rows.specs.ServerSteps.{back_timeout_row, server_row, wake_row}
 use Rattle.afs_rows.specs.Steps.{Step}
 use Rattle.std.proofs.Common.{suc, ◌≡◌, ◌≤◌, ◌+◌, ℕ, ◌⊎◌, inl, inr, Bool, true, false, cond, List, [], ◌∷◌, Some, None, refl, sym, subst, ◌∙◌, nat_lt, arith}

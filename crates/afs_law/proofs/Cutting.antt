@@ -19,7 +19,8 @@ use Rattle.afs_num.specs.declared.messages.Message.{Message}
 use Rattle.afs_num.specs.declared.types.Node.{Node}
 use Rattle.afs_num.specs.declared.types.Node.TheVariants.{Client, Server}
 use Rattle.afs_rows.specs.Callbacks.{put}
-use Rattle.afs_rows.specs.Runs.{Blow, Cell, Entry, Fall, Host, blow_line, in_step, message_at, server_falls}
+use Rattle.afs_law.proofs.Steps.{blow_line, server_falls}
+use Rattle.afs_rows.specs.Runs.{Blow, Cell, Entry, Fall, in_step, message_at, ServerHost}
 use Rattle.afs_rows.specs.States.{ServerState}
 use Rattle.std.proofs.Common.{◌≡◌, ℕ, inl, inr, Bool, true, false, List, [], ◌∷◌, ◌++◌, Option, Some, None, refl, sym, ap, subst, ◌∙◌}
 
@@ -36,7 +37,7 @@ pub record CutOf (i : ℕ) (x : ServerState) (m : Message) (past : List Entry) :
   pub first : (j : ℕ) → m.head.from ≡ Client j → admitted x.lasting.boot x.seats m.head ≡ pairs.runs → IsToCome (Server i) (called_key m.head) x.lasting.boot older
   pub latest : admitted x.lasting.boot x.seats m.head ≡ pairs.runs → IsLatest (Server i) (called_key m.head) (lines_of older)
 
-abbrev pub CutsAt : (ℕ → Host) → List Entry → Type 0
+abbrev pub CutsAt : (ℕ → ServerHost) → List Entry → Type 0
 CutsAt hosts past = (i : ℕ) (m : Message) (clock : ℕ) (hit : Blow) → (hosts i).down ≡ Some (in_step m clock hit) → CutOf i (hosts i).state m past
 
 abbrev pub CutsIn : Cell → List Entry → Type 0
@@ -59,16 +60,16 @@ cut_later : (i : ℕ) (x : ServerState) (m : Message) (e : Entry) (past : List E
 cut_later i x m e past w h = record { newer = e ∷ h.newer; at = h.at; older = h.older; split = ap (λ (es : List Entry). e ∷ es) h.split; actor = h.actor; given = h.given; stopped = h.stopped; since = (w, h.since); up = h.up; first = h.first; latest = h.latest }
 
 -- of no server
-other_cuts : (hosts : ℕ → Host) (past : List Entry) (e : Entry) → ((i : ℕ) → e.actor ≡ actors.Node (Server i) → ⊥) → CutsAt hosts past → CutsAt hosts (e ∷ past)
+other_cuts : (hosts : ℕ → ServerHost) (past : List Entry) (e : Entry) → ((i : ℕ) → e.actor ≡ actors.Node (Server i) → ⊥) → CutsAt hosts past → CutsAt hosts (e ∷ past)
 other_cuts hosts past e away C i m clock hit d = cut_later i (hosts i).state m e past (λ a. absurd (away i a)) (C i m clock hit d)
 
 server_same : (i j : ℕ) → actors.Node (Server i) ≡ actors.Node (Server j) → i ≡ j
 server_same i j e = cc
 
 -- of one server
-host_cuts : (hosts : ℕ → Host) (i : ℕ) (h : Host) (past : List Entry) (e : Entry) → e.actor ≡ actors.Node (Server i) → CutsAt hosts past → ((m : Message) (clock : ℕ) (hit : Blow) → h.down ≡ Some (in_step m clock hit) → CutOf i h.state m (e ∷ past)) → CutsAt (put i h hosts) (e ∷ past)
+host_cuts : (hosts : ℕ → ServerHost) (i : ℕ) (h : ServerHost) (past : List Entry) (e : Entry) → e.actor ≡ actors.Node (Server i) → CutsAt hosts past → ((m : Message) (clock : ℕ) (hit : Blow) → h.down ≡ Some (in_step m clock hit) → CutOf i h.state m (e ∷ past)) → CutsAt (put i h hosts) (e ∷ past)
 host_cuts hosts i h past e actor C own j m clock hit =
-    at_put i j (λ (x : Host). x.down ≡ Some (in_step m clock hit) → CutOf j x.state m (e ∷ past)) h hosts
+    at_put i j (λ (x : ServerHost). x.down ≡ Some (in_step m clock hit) → CutOf j x.state m (e ∷ past)) h hosts
     (λ same d. subst (λ (k : ℕ). CutOf k h.state m (e ∷ past)) same (own m clock hit d))
     (λ other d. cut_later j (hosts j).state m e past (λ a. absurd (other (server_same i j (sym actor ∙ a)))) (C j m clock hit d))
 

@@ -26,7 +26,8 @@ use Rattle.afs_num.specs.declared.types.Node.TheVariants.{Client, Server}
 use Rattle.afs_rows.specs.Callbacks.{expired, owe_line, quit_line, quits, retries, risen_turn, still_owed}
 use Rattle.afs_rows.specs.ClientRow.{Look, Walked, begin_row, begins_by, call_of, client_row, dead_code, dropped, gift_of, given_up_in, gives_by, gives_up, goes_by, in_order, looked, most_reads, timeout_row, tries_again, trusted_in, untrusted_in, walked}
 use Rattle.afs_rows.specs.Going.{ClientState, Going, Need, answers, began, gives_back, next}
-use Rattle.afs_rows.specs.Runs.{Cell, Entry, Fall, Moved, RunsTo, at_rest, begun_by_disk, blow_line, client_falls, client_moves, client_rises, in_boot, message_at, server_falls, server_moves, server_rises, server_set, server_stays, start, ticked, voided}
+use Rattle.afs_law.proofs.Steps.{blow_line, server_falls, server_moves, server_rises, server_set, server_stays}
+use Rattle.afs_rows.specs.Runs.{Cell, Entry, Fall, Moved, RunsTo, at_rest, begun_by_disk, client_falls, client_moves, client_rises, in_boot, message_at, start, ticked, voided}
 use Rattle.afs_rows.specs.ServerSteps.{back_timeout_row, server_row, start_row, wake_row}
 use Rattle.afs_rows.specs.States.{BackCall, Backs, CacheEntry, Gift, ServerState}
 use Rattle.std.proofs.Common.{suc, ◌≡◌, ℕ, ◌+◌, Bool, true, false, cond, List, [], ◌∷◌, map, Option, Some, None, refl, sym, ap, subst, ◌∙◌, nat_lt}

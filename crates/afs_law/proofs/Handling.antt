@@ -49,7 +49,8 @@ use Rattle.afs_num.specs.declared.histories.ReadBody.TheVariants as seen
 use Rattle.afs_num.specs.declared.histories.ReadSource.TheVariants.{Fetched}
 use Rattle.afs_rows.specs.ClientRow.{dropped, given, is_older, status_told, look_at, looked, put_entries, put_entry, read_lines, status_look, with_statuses, Walked, admits_call, awaits, begin_row, begins_by, behind_batch, breaks, call_of, calls_again, client_row, counts, done, drop_line, gift_of, gives_by, gives_up, goes_by, hears, ignores, in_order, is_awaited, is_below, is_busy_code, is_spent, is_trusted, most_busy, most_reads, refused_with, refuses, runs_carried, takes, takes_bulk, takes_bytes, takes_data, takes_entries, takes_entry, takes_given, takes_list, takes_plain, takes_rights, takes_set, takes_shown, takes_status, takes_stored, timeout_row, tries_again, trusted_in, untrusted_in, walked, walks_on, whole, entry_told, entries_told, body_told, find_cached, reborn}
 use Rattle.afs_rows.specs.Going.{ClientState, Going, Need, answers, began, gives_back, next, with_read}
-use Rattle.afs_rows.specs.Runs.{Armed, Cell, Entry, Fall, Moved, RunsTo, at_rest, begun_by_disk, blow_line, client_falls, client_moves, client_rises, in_boot, in_step, message_at, server_falls, server_moves, server_rises, server_set, server_stays, start, ticked, voided}
+use Rattle.afs_law.proofs.Steps.{blow_line, server_falls, server_moves, server_rises, server_set, server_stays}
+use Rattle.afs_rows.specs.Runs.{Armed, Cell, Entry, Fall, Moved, RunsTo, at_rest, begun_by_disk, client_falls, client_moves, client_rises, in_boot, in_step, message_at, start, ticked, voided}
 use Rattle.afs_rows.specs.ServerRow.{not_served, replied, seat_for}
 use Rattle.afs_rows.specs.ServerSteps.{back_timeout_row, server_row, wake_row}
 use Rattle.afs_rows.specs.States.{CacheEntry, Gift, Seat}

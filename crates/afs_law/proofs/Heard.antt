@@ -24,7 +24,8 @@ use Rattle.afs_num.specs.declared.types.Head.{Head}
 use Rattle.afs_num.specs.declared.types.Key.{Key}
 use Rattle.afs_num.specs.declared.types.Node.{Node}
 use Rattle.afs_num.specs.declared.types.Node.TheVariants.{Admin, Client, Loc, Server}
-use Rattle.afs_rows.specs.Runs.{Blow, Armed, Cell, Entry, Fall, Host, Moved, at_rest, begun_by_disk, client_moves, in_boot, in_step, moved, server_falls, server_moves, server_set, server_stays, start, ticked, unarmed, voided}
+use Rattle.afs_law.proofs.Steps.{server_falls, server_moves, server_set, server_stays}
+use Rattle.afs_rows.specs.Runs.{Blow, Armed, Cell, Entry, Fall, Moved, at_rest, begun_by_disk, client_moves, in_boot, in_step, moved, start, ticked, unarmed, voided, ServerHost}
 use Rattle.afs_rows.specs.Callbacks.{put}
 use Rattle.afs_history.specs.declared.lines.Line.{Line}
 use Rattle.afs_rows.specs.Going.{ClientState}
@@ -86,7 +87,7 @@ plain_reply Q m q = carried_plain m.carried (OfClient m.head.to (Q m)) (node_pla
 abbrev pub HasHeard : ServerState → Message → Type 0
 HasHeard x r = r.head.boot ≡ x.lasting.boot → Above (call_seat r.head.to x.seats) r.head.epoch r.head.number → ⊥
 
-abbrev pub IsHeardBy : (ℕ → Host) → Message → Type 0
+abbrev pub IsHeardBy : (ℕ → ServerHost) → Message → Type 0
 IsHeardBy hosts r = (i : ℕ) → r.head.from ≡ Server i → HasHeard (hosts i).state r
 
 abbrev pub HeardIn : Cell → List Entry → Type 0
@@ -135,11 +136,11 @@ found_later me x true in_boot w = risen_later x (begun_by_disk me x true in_boot
 -- ---- a step
 
 -- the host is up behind it, or heard what it heard
-abbrev IsNext : Host → Host → Type 0
+abbrev IsNext : ServerHost → ServerHost → Type 0
 IsNext x y = (y.down ≡ None) ⊎ IsLater x.state y.state
 
 -- each server that sends is up behind it
-abbrev AreUp : (ℕ → Host) → Message → Type 0
+abbrev AreUp : (ℕ → ServerHost) → Message → Type 0
 AreUp hosts m = (i : ℕ) → m.head.from ≡ Server i → (hosts i).down ≡ None
 
 step_heard : (c d : Cell) (past : List Entry) (e : Entry) (ms : List Message) → HearsIn c past → HeardIn c past → d.sent ≡ c.sent ++ ms → ((i : ℕ) → IsNext (c.hosts i) (d.hosts i)) → Each (AreUp d.hosts) ms → HearsIn d (e ∷ past) → HeardIn d (e ∷ past)
@@ -169,12 +170,12 @@ hears_of s c past h = h.0.0.0.0.hears
 
 -- no host moves
 still_heard : (s : Script) (c d : Cell) (past : List Entry) (e : Entry) (ms : List Message) → GivenHeard s c past → d.hosts ≡ c.hosts → d.sent ≡ c.sent ++ ms → Each (AreUp d.hosts) ms → HearsIn d (e ∷ past) → HeardIn d (e ∷ past)
-still_heard s c d past e ms h same is new = step_heard c d past e ms (hears_of s c past h.0) h.1 is (λ i. inr (subst (λ (hs : ℕ → Host). IsLater (c.hosts i).state (hs i).state) (sym same) (same_later (c.hosts i).state))) new
+still_heard s c d past e ms h same is new = step_heard c d past e ms (hears_of s c past h.0) h.1 is (λ i. inr (subst (λ (hs : ℕ → ServerHost). IsLater (c.hosts i).state (hs i).state) (sym same) (same_later (c.hosts i).state))) new
 
 none_sent : (c : Cell) → c.sent ≡ c.sent ++ []
 none_sent c = sym (append-nil c.sent)
 
-of_client_not : (n : ℕ) (hosts : ℕ → Host) (m : Message) → IsSentBy (Client n) m → AreUp hosts m
+of_client_not : (n : ℕ) (hosts : ℕ → ServerHost) (m : Message) → IsSentBy (Client n) m → AreUp hosts m
 of_client_not n hosts m by i from = let no_ : Client n ≡ Server i = sym by.from ∙ from in absurd cc
 
 client_heard : (s : Script) (c : Cell) (past : List Entry) (n : ℕ) (st : Step ClientState) → GivenHeard s c past → Each (IsSentBy (Client n)) st.sent → Then s c past (client_moves c n st)
@@ -184,18 +185,18 @@ client_heard s c past n st h by = still_heard s c (client_moves c n st).cell pas
 server_number : (i k : ℕ) → Server i ≡ Server k → i ≡ k
 server_number i k e = cc
 
-of_server_up : (c : Cell) (i : ℕ) (x : Host) (m : Message) → x.down ≡ None → IsSentBy (Server i) m → AreUp (put i x c.hosts) m
-of_server_up c i x m up by k from = at_put i k (λ (y : Host). y.down ≡ None) x c.hosts (λ same. up) (λ other. absurd (other (server_number i k (sym by.from ∙ from))))
+of_server_up : (c : Cell) (i : ℕ) (x : ServerHost) (m : Message) → x.down ≡ None → IsSentBy (Server i) m → AreUp (put i x c.hosts) m
+of_server_up c i x m up by k from = at_put i k (λ (y : ServerHost). y.down ≡ None) x c.hosts (λ same. up) (λ other. absurd (other (server_number i k (sym by.from ∙ from))))
 
-host_heard : (s : Script) (c d : Cell) (past : List Entry) (i : ℕ) (x : Host) (e : Entry) (ms : List Message) → GivenHeard s c past → d.hosts ≡ put i x c.hosts → d.sent ≡ c.sent ++ ms → IsNext (c.hosts i) x → Each (AreUp (put i x c.hosts)) ms → HearsIn d (e ∷ past) → HeardIn d (e ∷ past)
+host_heard : (s : Script) (c d : Cell) (past : List Entry) (i : ℕ) (x : ServerHost) (e : Entry) (ms : List Message) → GivenHeard s c past → d.hosts ≡ put i x c.hosts → d.sent ≡ c.sent ++ ms → IsNext (c.hosts i) x → Each (AreUp (put i x c.hosts)) ms → HearsIn d (e ∷ past) → HeardIn d (e ∷ past)
 host_heard s c d past i x e ms h hosts is next new =
     step_heard c d past e ms (hears_of s c past h.0) h.1 is
-    (λ k. subst (λ (hs : ℕ → Host). IsNext (c.hosts k) (hs k)) (sym hosts) (at_put i k (λ (y : Host). IsNext (c.hosts k) y) x c.hosts (λ same. subst (λ (m : ℕ). IsNext (c.hosts m) x) same next) (λ other. inr (same_later (c.hosts k).state))))
-    (subst (λ (hs : ℕ → Host). Each (AreUp hs) ms) (sym hosts) new)
+    (λ k. subst (λ (hs : ℕ → ServerHost). IsNext (c.hosts k) (hs k)) (sym hosts) (at_put i k (λ (y : ServerHost). IsNext (c.hosts k) y) x c.hosts (λ same. subst (λ (m : ℕ). IsNext (c.hosts m) x) same next) (λ other. inr (same_later (c.hosts k).state))))
+    (subst (λ (hs : ℕ → ServerHost). Each (AreUp hs) ms) (sym hosts) new)
 
 serves_heard : (s : Script) (c : Cell) (past : List Entry) (i : ℕ) (armed : Armed) (st : Step ServerState) → GivenHeard s c past → Each (IsSentBy (Server i)) st.sent → Then s c past (server_moves c i armed st)
 serves_heard s c past i armed st h by =
-    let x : Host = record { state = st.state; down = None; armed = armed } in
+    let x : ServerHost = record { state = st.state; down = None; armed = armed } in
     host_heard s c (server_moves c i armed st).cell past i x (server_moves c i armed st).entry st.sent h refl refl (inl refl) (each_map (IsSentBy (Server i)) (AreUp (put i x c.hosts)) (λ m. of_server_up c i x m refl) st.sent by)
 
 falls_heard : (s : Script) (c : Cell) (past : List Entry) (i : ℕ) (ls : List Line) (fall : Fall) → GivenHeard s c past → Then s c past (server_falls c i ls fall)

@@ -33,11 +33,14 @@ use Rattle.afs_num.specs.declared.types.Node.TheVariants.{Admin, Client, Loc, Se
 use Rattle.afs_rows.specs.Callbacks.{risen_turn, expired, put, replies_of, turned_in}
 use Rattle.afs_rows.specs.ClientRow.{boot_of, client_row}
 use Rattle.afs_rows.specs.Going.{ClientState, Going}
-use Rattle.afs_rows.specs.Runs.{is_away, Armed, Blow, Cell, Entry, Fall, Host, Input, Leads, Luck, Moved, Outcome, RunsTo, at_rest, back_timed, begins, begun_by, begun_by_disk, blow_line, client_moves, client_starts, client_stops, comes_up, calls_at, fails_early, fails_midway, given_at, given_to, gives, has_host, in_boot, in_step, is_full, message_at, moved, nothing, server_armed, server_ends, server_falls, server_given, server_moves, server_restarted, server_served, server_stopped, server_timed, server_waits, server_wakes, sets_fail, sets_stop, settled, start, starts_again, stops, struck, ticks, unarmed, voided, waited_by, waits, wakes}
-use Rattle.afs_rows.specs.ServerRow.{Begun, Decision, admits, begun_after, decides, does, drops, hears, is_client, not_served, refuses, repeats, reply_head, saves, seat_for, serves_call, shows, tells_boot, whole}
+use Rattle.afs_law.proofs.Steps.{blow_line, calls_at, server_falls, server_moves, falls_is, sets_is, stays_is}
+use Rattle.afs_rows.specs.Hosts.{sets}
+use Rattle.afs_rows.specs.ServerHosts.{can_start}
+use Rattle.afs_rows.specs.Runs.{is_away, Armed, Blow, Cell, Entry, Fall, Input, Leads, Luck, Moved, Outcome, RunsTo, at_rest, back_timed, begins, begun_by, begun_by_disk, client_moves, client_starts, client_stops, comes_up, fails_early, fails_midway, given_at, given_to, gives, has_host, in_boot, in_step, is_full, message_at, moved, nothing, server_armed, server_ends, server_given, server_restarted, server_served, server_stopped, server_timed, server_waits, server_wakes, sets_fail, sets_stop, settled, start, starts_again, stops, struck, ticks, unarmed, voided, waited_by, waits, wakes, ServerHost}
+use Rattle.afs_rows.specs.ServerRow.{Decision, admits, begun_after, decides, does, drops, hears, is_client, not_served, refuses, repeats, reply_head, saves, seat_for, serves_call, shows, tells_boot, whole}
 use Rattle.afs_rows.specs.ServerSteps.{back_timeout_row, server_row, start_row, wake_row}
 use Rattle.afs_rows.specs.States.{BackCall, Seat, ServerState}
-use Rattle.afs_rows.specs.Steps.{Step}
+use Rattle.afs_rows.specs.Steps.{Step, Begun}
 use Rattle.std.proofs.Common.{zero, suc, ◌≡◌, ℕ, ◌+◌, ◌≤◌, ◌<◌, inl, inr, arith, eq-eqb, Bool, true, false, cond, List, [], ◌∷◌, ◌++◌, Option, Some, None, refl, sym, ap, subst, ◌∙◌}
 use Rattle.std.specs.Prelude.{⊤}
 use Rattle.afs_law.proofs.KeysOnce.{EachChange, HasRun, StandsIn, admitted_latest, first_stands, moved_keeps, server_number}
@@ -48,22 +51,22 @@ pub no_server : (n i : ℕ) → Client n ≡ Server i → ⊥
 no_server n i e = absurd cc
 
 -- that server has begun this boot
-abbrev pub IsHad : (ℕ → Host) → Node → ℕ → Type 0
+abbrev pub IsHad : (ℕ → ServerHost) → Node → ℕ → Type 0
 IsHad hosts q b = (i : ℕ) → q ≡ Server i → b ≤ (hosts i).state.lasting.boot
 
-abbrev pub IsNoted : (ℕ → Host) → Head → Type 0
+abbrev pub IsNoted : (ℕ → ServerHost) → Head → Type 0
 IsNoted hosts h = IsHad hosts h.from h.boot
 
 -- a server's reply is that of the entry which ran the call
 abbrev pub IsRan : List Entry → Head → Type 0
 IsRan past h = (i : ℕ) → h.from ≡ Server i → Ran h past
 
-had_over : (hosts : ℕ → Host) (i : ℕ) (h : Host) → (hosts i).state.lasting.boot ≤ h.state.lasting.boot → (q : Node) (b : ℕ) → IsHad hosts q b → IsHad (put i h hosts) q b
-had_over hosts i h g q b w j e = at_put i j (λ (x : Host). b ≤ x.state.lasting.boot) h hosts
+had_over : (hosts : ℕ → ServerHost) (i : ℕ) (h : ServerHost) → (hosts i).state.lasting.boot ≤ h.state.lasting.boot → (q : Node) (b : ℕ) → IsHad hosts q b → IsHad (put i h hosts) q b
+had_over hosts i h g q b w j e = at_put i j (λ (x : ServerHost). b ≤ x.state.lasting.boot) h hosts
     (λ same. let was : b ≤ (hosts i).state.lasting.boot = w i (e ∙ ap Server (sym same)) in let more : (hosts i).state.lasting.boot ≤ h.state.lasting.boot = g in omega arith) (λ other. w j e)
 
-own_had : (hosts : ℕ → Host) (i : ℕ) (h : Host) (b : ℕ) → b ≤ h.state.lasting.boot → (q : Node) → q ≡ Server i → IsHad (put i h hosts) q b
-own_had hosts i h b l q e j f = at_put i j (λ (x : Host). b ≤ x.state.lasting.boot) h hosts (λ same. l) (λ other. absurd (other (server_number i j (sym e ∙ f))))
+own_had : (hosts : ℕ → ServerHost) (i : ℕ) (h : ServerHost) (b : ℕ) → b ≤ h.state.lasting.boot → (q : Node) → q ≡ Server i → IsHad (put i h hosts) q b
+own_had hosts i h b l q e j f = at_put i j (λ (x : ServerHost). b ≤ x.state.lasting.boot) h hosts (λ same. l) (λ other. absurd (other (server_number i j (sym e ∙ f))))
 
 abbrev pub ran_later : (e : Entry) (past : List Entry) (h : Head) → Ran h past → Ran h (e ∷ past)
 ran_later e past h r = record { newer = e ∷ r.newer; at = r.at; older = r.older; split = ap (λ (x : List Entry). e ∷ x) r.split; message = r.message; given = r.given; is_call = r.is_call; key = r.key; opcode = r.opcode; boot = r.boot; up = r.up; callee = r.callee; node = r.node; first = r.first; latest = r.latest }
@@ -119,7 +122,7 @@ cut_to K M w x (Some fall) h = cut_by K M w x.lasting.boot x.seats fall h
 abbrev pub AreUnheardAt : ℕ → Option Fall → List Seat → ℕ → List Entry → Type 0
 AreUnheardAt i down seats boot past = (j : ℕ) (k : Key) (b : ℕ) → k.node ≡ Client j → MayRun down boot (call_seat k.node seats) k b → IsUnheard (Server i) k b past
 
-pub record Hears (clients : ℕ → ClientState) (hosts : ℕ → Host) (sent : List Message) (past : List Entry) : Type 0 where
+pub record Hears (clients : ℕ → ClientState) (hosts : ℕ → ServerHost) (sent : List Message) (past : List Entry) : Type 0 where
   pub told : sent_of past ≡ sent
   pub boots : Boots hosts past
   pub calls : Each (IfCall (λ h user call. IsHad hosts h.to h.boot)) sent
@@ -169,12 +172,12 @@ none_more (m ∷ ms) = ap (λ (x : List Message). m ∷ x) (none_more ms)
 
 -- ---- a step of a server
 
-host_hears : (clients : ℕ → ClientState) (hosts : ℕ → Host) (sent more : List Message) (past : List Entry) (e : Entry) (i : ℕ) (h : Host) → Hears clients hosts sent past → (hosts i).state.lasting.boot ≤ h.state.lasting.boot → sent_of (e ∷ past) ≡ more
+host_hears : (clients : ℕ → ClientState) (hosts : ℕ → ServerHost) (sent more : List Message) (past : List Entry) (e : Entry) (i : ℕ) (h : ServerHost) → Hears clients hosts sent past → (hosts i).state.lasting.boot ≤ h.state.lasting.boot → sent_of (e ∷ past) ≡ more
     → ((P : Message → Type 0) → Each P sent → Each P e.sent → Each P more) → Each (IsAnswer (IsRan (e ∷ past)) (IsNoted (put i h hosts))) e.sent → IsSound (IsRan (e ∷ past)) (IsNoted (put i h hosts)) (memory_of h.state)
     → Each (IsAnswer (IsRan (e ∷ past)) (IsNoted (put i h hosts))) (replies_of h.state.backs.held) → HasCutAt (IsRan (e ∷ past)) h.state h.down → GivenTo (Server i) (given_message e.lines (sent_of past)) → AreUnheardAt i h.down h.state.seats h.state.lasting.boot (e ∷ past)
     → Boots (put i h hosts) (e ∷ past) → Hears clients (put i h hosts) more (e ∷ past)
 host_hears clients hosts sent more past e i h H grows told over new sound held cut given heard boots =
-    let then : ℕ → Host = put i h hosts in
+    let then : ℕ → ServerHost = put i h hosts in
     let w : (x : Head) → IsRan past x → IsRan (e ∷ past) x = ran_over e past in
     let u : (x : Head) → IsNoted hosts x → IsNoted then x = λ x. had_over hosts i h grows x.from x.boot in
     record {
@@ -191,28 +194,28 @@ host_hears clients hosts sent more past e i h H grows told over new sound held c
           (each_map (IsAnswer (IsRan (e ∷ past)) (IsNoted then)) (IfReply (λ r. IsRan (e ∷ past) r.head)) (λ m a. a.1.0) e.sent new);
       known = λ j q. had_over hosts i h grows q (boot_of q (clients j).boots) (H.known j q);
       replies = λ j. replies_to (IsRan past) (IsRan (e ∷ past)) (IsNoted hosts) (IsNoted then) w u (clients j).seats (H.replies j);
-      first = λ j. at_put i j (λ (x : Host). 1 ≤ x.state.lasting.boot) h hosts (λ same. let was : 1 ≤ (hosts i).state.lasting.boot = H.first i in let g : (hosts i).state.lasting.boot ≤ h.state.lasting.boot = grows in omega arith) (λ other. H.first j);
-      unheard = λ j. at_put i j (λ (x : Host). AreUnheardAt j x.down x.state.seats x.state.lasting.boot (e ∷ past)) h hosts
+      first = λ j. at_put i j (λ (x : ServerHost). 1 ≤ x.state.lasting.boot) h hosts (λ same. let was : 1 ≤ (hosts i).state.lasting.boot = H.first i in let g : (hosts i).state.lasting.boot ≤ h.state.lasting.boot = grows in omega arith) (λ other. H.first j);
+      unheard = λ j. at_put i j (λ (x : ServerHost). AreUnheardAt j x.down x.state.seats x.state.lasting.boot (e ∷ past)) h hosts
           (λ same. subst (λ (q : ℕ). AreUnheardAt q h.down h.state.seats h.state.lasting.boot (e ∷ past)) same heard)
           (λ other. unheard_on j (hosts j).down (hosts j).state.seats (hosts j).state.lasting.boot e past (λ k b. not_under (Server i) (Server j) k b (given_message e.lines (sent_of past)) given (λ z. other (server_number i j z))) (H.unheard j));
-      sound = λ j. at_put i j (λ (x : Host). IsSound (IsRan (e ∷ past)) (IsNoted then) (memory_of x.state)) h hosts (λ same. sound)
+      sound = λ j. at_put i j (λ (x : ServerHost). IsSound (IsRan (e ∷ past)) (IsNoted then) (memory_of x.state)) h hosts (λ same. sound)
           (λ other. sound_to (IsRan past) (IsRan (e ∷ past)) (IsNoted hosts) (IsNoted then) w u (memory_of (hosts j).state) (H.sound j));
-      held = λ j. at_put i j (λ (x : Host). Each (IsAnswer (IsRan (e ∷ past)) (IsNoted then)) (replies_of x.state.backs.held)) h hosts (λ same. held)
+      held = λ j. at_put i j (λ (x : ServerHost). Each (IsAnswer (IsRan (e ∷ past)) (IsNoted then)) (replies_of x.state.backs.held)) h hosts (λ same. held)
           (λ other. each_map _ _ (answer_over (IsRan past) (IsRan (e ∷ past)) (IsNoted hosts) (IsNoted then) w u) (replies_of (hosts j).state.backs.held) (H.held j));
-      falls = λ j. at_put i j (λ (x : Host). HasCutAt (IsRan (e ∷ past)) x.state x.down) h hosts (λ same. cut) (λ other. cut_to (IsRan past) (IsRan (e ∷ past)) w (hosts j).state (hosts j).down (H.falls j));
+      falls = λ j. at_put i j (λ (x : ServerHost). HasCutAt (IsRan (e ∷ past)) x.state x.down) h hosts (λ same. cut) (λ other. cut_to (IsRan past) (IsRan (e ∷ past)) w (hosts j).state (hosts j).down (H.falls j));
     }
 
 -- what a server keeps, by what is told after the step
-sound_on : (c : Cell) (past : List Entry) (e : Entry) (i : ℕ) (h : Host) → HearsIn c past → (c.hosts i).state.lasting.boot ≤ h.state.lasting.boot → IsSound (IsRan (e ∷ past)) (IsNoted (put i h c.hosts)) (memory_of (c.hosts i).state)
+sound_on : (c : Cell) (past : List Entry) (e : Entry) (i : ℕ) (h : ServerHost) → HearsIn c past → (c.hosts i).state.lasting.boot ≤ h.state.lasting.boot → IsSound (IsRan (e ∷ past)) (IsNoted (put i h c.hosts)) (memory_of (c.hosts i).state)
 sound_on c past e i h H grows = sound_to (IsRan past) (IsRan (e ∷ past)) (IsNoted c.hosts) (IsNoted (put i h c.hosts)) (ran_over e past) (λ x. had_over c.hosts i h grows x.from x.boot) (memory_of (c.hosts i).state) (H.sound i)
 
-held_on : (c : Cell) (past : List Entry) (e : Entry) (i : ℕ) (h : Host) → HearsIn c past → (c.hosts i).state.lasting.boot ≤ h.state.lasting.boot → Each (IsAnswer (IsRan (e ∷ past)) (IsNoted (put i h c.hosts))) (replies_of (c.hosts i).state.backs.held)
+held_on : (c : Cell) (past : List Entry) (e : Entry) (i : ℕ) (h : ServerHost) → HearsIn c past → (c.hosts i).state.lasting.boot ≤ h.state.lasting.boot → Each (IsAnswer (IsRan (e ∷ past)) (IsNoted (put i h c.hosts))) (replies_of (c.hosts i).state.backs.held)
 held_on c past e i h H grows = each_map _ _ (answer_over (IsRan past) (IsRan (e ∷ past)) (IsNoted c.hosts) (IsNoted (put i h c.hosts)) (ran_over e past) (λ x. had_over c.hosts i h grows x.from x.boot)) (replies_of (c.hosts i).state.backs.held) (H.held i)
 
 abbrev of_server : ℕ → List Line → List Message → Entry
 of_server i ls sent = record { actor = actors.Node (Server i); lines = ls; sent = sent; volumes = [] }
 
-abbrev up_host : Armed → ServerState → Host
+abbrev up_host : Armed → ServerState → ServerHost
 up_host armed x = record { state = x; down = None; armed = armed }
 
 -- one that is done
@@ -228,7 +231,7 @@ falls_hears : (c : Cell) (past : List Entry) (i : ℕ) (d : Option Fall) (armed 
     → AreUnheardAt i d (c.hosts i).state.seats (c.hosts i).state.lasting.boot (of_server i ls [] ∷ past) → Boots (put i (record (c.hosts i) { down = d; armed = armed }) c.hosts) (of_server i ls [] ∷ past)
     → Hears c.clients (put i (record (c.hosts i) { down = d; armed = armed }) c.hosts) c.sent (of_server i ls [] ∷ past)
 falls_hears c past i d armed ls H cut given heard boots =
-    let h : Host = record (c.hosts i) { down = d; armed = armed } in
+    let h : ServerHost = record (c.hosts i) { down = d; armed = armed } in
     let same : (c.hosts i).state.lasting.boot ≤ (c.hosts i).state.lasting.boot = omega arith in
     host_hears c.clients c.hosts c.sent c.sent past (of_server i ls []) i h H same (none_more (sent_of past) ∙ H.told) (λ P a b. a) tt (sound_on c past (of_server i ls []) i h H same) (held_on c past (of_server i ls []) i h H same) cut given heard boots
 
@@ -324,7 +327,7 @@ pub woken_state : (i : ℕ) (x : ServerState) (clock : ℕ) → ((wake_row (Serv
 unfolding wake_row
 woken_state i x clock = (refl, refl)
 
-pub started_boot : (i clock count : ℕ) (f : Begun) → (start_row (Server i) clock count f).state.lasting.boot ≡ f.state.lasting.boot + 1
+pub started_boot : (i clock count : ℕ) (f : Begun ServerState) → (start_row (Server i) clock count f).state.lasting.boot ≡ f.state.lasting.boot + 1
 unfolding start_row
 started_boot i clock count f = refl
 
@@ -400,7 +403,7 @@ serves_hears c past i place armed m H S up to at =
     let x : ServerState = (c.hosts i).state in
     let s : Step ServerState = server_row (Server i) x c.clock place (Whole m) in
     let e : Entry = of_server i s.lines s.sent in
-    let h : Host = up_host armed s.state in
+    let h : ServerHost = up_host armed s.state in
     let w : IfCall (λ y user call. IsHad c.hosts y.to y.boot) m = each_at (IfCall (λ y user call. IsHad c.hosts y.to y.boot)) c.sent place m at H.calls in
     let told : message_at (sent_of past) place ≡ Some m = ap (λ (ms : List Message). message_at ms place) H.told ∙ at in
     let given : given_message s.lines (sent_of past) ≡ Some m = served_given i x c.clock place m (sent_of past) ∙ told in
@@ -427,7 +430,7 @@ cut_hears c past i place m b H S up to at =
     ))
     (stop_boots c.hosts i (record (c.hosts i) { down = Some (in_step m c.clock b); armed = unarmed }) (of_server i ls []) past (lines.Given place ∷ []) (blow_line i b.stops) refl refl (blow_stops i b.stops) refl (le_refl _) H.boots)
 
-still_hears : (clients : ℕ → ClientState) (hosts : ℕ → Host) (sent : List Message) (past : List Entry) (e : Entry) → Hears clients hosts sent past → e.sent ≡ [] → given_message e.lines (sent_of past) ≡ None → all_lines is_standing e.lines ≡ true → Hears clients hosts sent (e ∷ past)
+still_hears : (clients : ℕ → ClientState) (hosts : ℕ → ServerHost) (sent : List Message) (past : List Entry) (e : Entry) → Hears clients hosts sent past → e.sent ≡ [] → given_message e.lines (sent_of past) ≡ None → all_lines is_standing e.lines ≡ true → Hears clients hosts sent (e ∷ past)
 still_hears clients hosts sent past e H none given stand =
     let w : (x : Head) → IsRan past x → IsRan (e ∷ past) x = ran_over e past in
     record {
@@ -454,7 +457,7 @@ either_hears past false m k a b = b
 
 served_hears : (c : Cell) (past : List Entry) (i place : ℕ) (m : Message) (b : Option Blow) → HearsIn c past → StandsIn c (lines_of past) → (c.hosts i).down ≡ None → m.head.to ≡ Server i → message_at c.sent place ≡ Some m → After past (server_served c i place m b)
 served_hears c past i place m None H S up to at = serves_hears c past i place _ m H S up to at
-served_hears c past i place m (Some b) H S up to at = cut_hears c past i place m b H S up to at
+served_hears c past i place m (Some b) H S up to at = falls_is (After past) c i (lines.Given place ∷ blow_line i b.stops ∷ []) (in_step m c.clock b) (cut_hears c past i place m b H S up to at)
 
 received_hears : (c : Cell) (past : List Entry) (i place : ℕ) (luck : Luck) (m : Message) (d : Option Fall) → HearsIn c past → StandsIn c (lines_of past) → (c.hosts i).down ≡ d → m.head.to ≡ Server i → message_at c.sent place ≡ Some m → After past (server_given c i place luck m d)
 received_hears c past i place luck m None H S up to at = served_hears c past i place m (struck (c.hosts i).armed luck (calls_at c i m)) H S up to at
@@ -470,20 +473,21 @@ down_heard c past i e fall seats boot H none more j k b is later =
 stopped_hears : (c : Cell) (past : List Entry) (i : ℕ) (d : Option Fall) → HearsIn c past → After past (server_stopped c i d)
 stopped_hears c past i None H =
     let same : (c.hosts i).state.lasting.boot ≤ (c.hosts i).state.lasting.boot = omega arith in
-    falls_hears c past i (Some at_rest) unarmed (lines.Crash (Server i) ∷ []) H tt tt (down_heard c past i (of_server i (lines.Crash (Server i) ∷ []) []) at_rest (c.hosts i).state.seats (c.hosts i).state.lasting.boot H refl same)
-    (stop_boots c.hosts i (record (c.hosts i) { down = Some at_rest; armed = unarmed }) (of_server i (lines.Crash (Server i) ∷ []) []) past [] (lines.Crash (Server i)) refl refl (inl refl) refl same H.boots)
+    falls_is (After past) c i (lines.Crash (Server i) ∷ []) at_rest
+    (falls_hears c past i (Some at_rest) unarmed (lines.Crash (Server i) ∷ []) H tt tt (down_heard c past i (of_server i (lines.Crash (Server i) ∷ []) []) at_rest (c.hosts i).state.seats (c.hosts i).state.lasting.boot H refl same)
+    (stop_boots c.hosts i (record (c.hosts i) { down = Some at_rest; armed = unarmed }) (of_server i (lines.Crash (Server i) ∷ []) []) past [] (lines.Crash (Server i)) refl refl (inl refl) refl same H.boots))
 stopped_hears c past i (Some fall) H = void_hears c past H
 
 -- what a restart begins with, by what is told after it
-abbrev BeginsBy : Cell → List Entry → ℕ → Begun → Type 0
-BeginsBy c past i f = (e : Entry) (h : Host) → (c.hosts i).state.lasting.boot ≤ h.state.lasting.boot → Begins (IsRan (e ∷ past)) (IsNoted (put i h c.hosts)) (Server i) (c.hosts i).state f
+abbrev BeginsBy : Cell → List Entry → ℕ → Begun ServerState → Type 0
+BeginsBy c past i f = (e : Entry) (h : ServerHost) → (c.hosts i).state.lasting.boot ≤ h.state.lasting.boot → Begins (IsRan (e ∷ past)) (IsNoted (put i h c.hosts)) (Server i) (c.hosts i).state f
 
 -- it stays down
-stays_hears : (c : Cell) (past : List Entry) (i : ℕ) (f : Begun) (l : Line) (fall : Fall) → HearsIn c past → (c.hosts i).state.lasting.boot ≤ f.state.lasting.boot → BeginsBy c past i f → ((sent : List Message) → given_message (l ∷ []) sent ≡ None) → ((K : Head → Type 0) → IsCutBy K f.state.lasting.boot f.state.seats fall)
+stays_hears : (c : Cell) (past : List Entry) (i : ℕ) (f : Begun ServerState) (l : Line) (fall : Fall) → HearsIn c past → (c.hosts i).state.lasting.boot ≤ f.state.lasting.boot → BeginsBy c past i f → ((sent : List Message) → given_message (l ∷ []) sent ≡ None) → ((K : Head → Type 0) → IsCutBy K f.state.lasting.boot f.state.seats fall)
     → all_lines is_unchanging (l ∷ []) ≡ true → Boots (put i (record { state = f.state; down = Some fall; armed = unarmed }) c.hosts) (of_server i (f.before (l ∷ [])) [] ∷ past) → Hears c.clients (put i (record { state = f.state; down = Some fall; armed = unarmed }) c.hosts) c.sent (of_server i (f.before (l ∷ [])) [] ∷ past)
 stays_hears c past i f l fall H more b none cut plain boots =
     let e : Entry = of_server i (f.before (l ∷ [])) [] in
-    let h : Host = record { state = f.state; down = Some fall; armed = unarmed } in
+    let h : ServerHost = record { state = f.state; down = Some fall; armed = unarmed } in
     let q : Begins (IsRan (e ∷ past)) (IsNoted (put i h c.hosts)) (Server i) (c.hosts i).state f = b e h more in
     let given : given_message e.lines (sent_of past) ≡ None = q.ungiven (l ∷ []) (sent_of past) (none (sent_of past)) in
     host_hears c.clients c.hosts c.sent c.sent past e i h H more (none_more (sent_of past) ∙ H.told) (λ P x y. x) tt (q.hosts (l ∷ []) plain).sound q.held (cut (IsRan (e ∷ past))) (none_given (Server i) (given_message e.lines (sent_of past)) given)
@@ -494,11 +498,11 @@ may_next boot begun now o k b l e (inl z) = let a : boot ≤ begun = l in let q 
 may_next boot begun now o k b l e (inr z) = let a : boot ≤ begun = l in let q : now ≡ begun + 1 = e in let y : b ≡ now = z.0 in omega arith
 
 -- it comes up
-rises_hears : (c : Cell) (past : List Entry) (i : ℕ) (f : Begun) → HearsIn c past → up_boot (c.hosts i).down (c.hosts i).state.lasting.boot ≡ None → HasFront f → (c.hosts i).state.lasting.boot ≤ f.state.lasting.boot → BeginsBy c past i f → After past (server_moves c i unarmed (start_row (Server i) c.clock c.count f))
+rises_hears : (c : Cell) (past : List Entry) (i : ℕ) (f : Begun ServerState) → HearsIn c past → up_boot (c.hosts i).down (c.hosts i).state.lasting.boot ≡ None → HasFront f → (c.hosts i).state.lasting.boot ≤ f.state.lasting.boot → BeginsBy c past i f → After past (server_moves c i unarmed (start_row (Server i) c.clock c.count f))
 rises_hears c past i f H was front more b =
     let s : Step ServerState = start_row (Server i) c.clock c.count f in
     let e : Entry = of_server i s.lines s.sent in
-    let h : Host = up_host unarmed s.state in
+    let h : ServerHost = up_host unarmed s.state in
     let next : s.state.lasting.boot ≡ f.state.lasting.boot + 1 = started_boot i c.clock c.count f in
     let m : (c.hosts i).state.lasting.boot ≤ f.state.lasting.boot = more in
     let grows : (c.hosts i).state.lasting.boot ≤ s.state.lasting.boot = omega arith in
@@ -512,38 +516,44 @@ rises_hears c past i f H was front more b =
     (started_lines i c.clock c.count f ∙ (front.before _ ∙ ap (λ (n : ℕ). f.before [] ++ lines.Restart (Server i) n ∷ (risen_turn (Server i) c.clock c.count).lines) (sym next)))
     front.standing (notes_standing i c.clock c.count) was refl (omega arith) H.boots)
 
-full_standing : (f : Begun) (i : ℕ) → HasFront f → all_lines is_standing (f.before (lines.Full (Server i) ∷ [])) ≡ true
+full_standing : (f : Begun ServerState) (i : ℕ) → HasFront f → all_lines is_standing (f.before (lines.Full (Server i) ∷ [])) ≡ true
 full_standing f i front = subst (λ (ls : List Line). all_lines is_standing ls ≡ true) (sym (front.before _)) (standing_both (f.before []) (lines.Full (Server i) ∷ []) front.standing refl)
 
-ends_hears : (c : Cell) (past : List Entry) (i : ℕ) (f : Begun) (fall : Fall) (out : Outcome) → HearsIn c past → IsCutBy (IsRan past) (c.hosts i).state.lasting.boot (c.hosts i).state.seats fall → up_boot (c.hosts i).down (c.hosts i).state.lasting.boot ≡ None → HasFront f → (c.hosts i).state.lasting.boot ≤ f.state.lasting.boot → BeginsBy c past i f → After past (server_ends c i f fall out)
+ends_hears : (c : Cell) (past : List Entry) (i : ℕ) (f : Begun ServerState) (fall : Fall) (out : Outcome) → HearsIn c past → IsCutBy (IsRan past) (c.hosts i).state.lasting.boot (c.hosts i).state.seats fall → up_boot (c.hosts i).down (c.hosts i).state.lasting.boot ≡ None → HasFront f → (c.hosts i).state.lasting.boot ≤ f.state.lasting.boot → BeginsBy c past i f → After past (server_ends c i f fall out)
 ends_hears c past i f fall comes_up H cut was front more b = rises_hears c past i f H was front more b
 ends_hears c past i f fall fails_early H cut was front more b =
     let e : Entry = of_server i (lines.Fault (Server i) ∷ []) [] in
     let same : (c.hosts i).state.lasting.boot ≤ (c.hosts i).state.lasting.boot = omega arith in
-    falls_hears c past i (Some fall) unarmed (lines.Fault (Server i) ∷ []) H (cut_by (IsRan past) (IsRan (e ∷ past)) (ran_over e past) (c.hosts i).state.lasting.boot (c.hosts i).state.seats fall cut) tt
+    falls_is (After past) c i (lines.Fault (Server i) ∷ []) fall
+    (falls_hears c past i (Some fall) unarmed (lines.Fault (Server i) ∷ []) H (cut_by (IsRan past) (IsRan (e ∷ past)) (ran_over e past) (c.hosts i).state.lasting.boot (c.hosts i).state.seats fall cut) tt
     (down_heard c past i e fall (c.hosts i).state.seats (c.hosts i).state.lasting.boot H refl same)
-    (stop_boots c.hosts i (record (c.hosts i) { down = Some fall; armed = unarmed }) e past [] (lines.Fault (Server i)) refl refl (inr refl) refl same H.boots)
-ends_hears c past i f fall fails_midway H cut was front more b = stays_hears c past i f (lines.Fault (Server i)) in_boot H more b (λ sent. refl) (λ K. tt) refl
-    (stop_boots c.hosts i (record { state = f.state; down = Some in_boot; armed = unarmed }) (of_server i (f.before (lines.Fault (Server i) ∷ [])) []) past (f.before []) (lines.Fault (Server i)) (front.before _) front.standing (inr refl) refl more H.boots)
-ends_hears c past i f fall is_full H cut was front more b = stays_hears c past i f (lines.Full (Server i)) at_rest H more b (λ sent. refl) (λ K. tt) refl
-    (down_boots c.hosts i (record { state = f.state; down = Some at_rest; armed = unarmed }) (of_server i (f.before (lines.Full (Server i) ∷ [])) []) past (full_standing f i front) was refl more H.boots)
+    (stop_boots c.hosts i (record (c.hosts i) { down = Some fall; armed = unarmed }) e past [] (lines.Fault (Server i)) refl refl (inr refl) refl same H.boots))
+ends_hears c past i f fall fails_midway H cut was front more b =
+    stays_is (After past) c i f (lines.Fault (Server i)) in_boot
+    (stays_hears c past i f (lines.Fault (Server i)) in_boot H more b (λ sent. refl) (λ K. tt) refl
+    (stop_boots c.hosts i (record { state = f.state; down = Some in_boot; armed = unarmed }) (of_server i (f.before (lines.Fault (Server i) ∷ [])) []) past (f.before []) (lines.Fault (Server i)) (front.before _) front.standing (inr refl) refl more H.boots))
+ends_hears c past i f fall is_full H cut was front more b =
+    stays_is (After past) c i f (lines.Full (Server i)) at_rest
+    (stays_hears c past i f (lines.Full (Server i)) at_rest H more b (λ sent. refl) (λ K. tt) refl
+    (down_boots c.hosts i (record { state = f.state; down = Some at_rest; armed = unarmed }) (of_server i (f.before (lines.Full (Server i) ∷ [])) []) past (full_standing f i front) was refl more H.boots))
 
 restarted_hears : (c : Cell) (past : List Entry) (i : ℕ) (after : Bool) (out : Outcome) (d : Option Fall) → HearsIn c past → (c.hosts i).down ≡ d → HasCutAt (IsRan past) (c.hosts i).state d → After past (server_restarted c i after out d)
 restarted_hears c past i after out None H down cut = void_hears c past H
 restarted_hears c past i after out (Some fall) H down cut =
     let x : ServerState = (c.hosts i).state in
-    let f : Begun = begun_by_disk (Server i) x after fall in
-    ends_hears c past i f fall (settled f.state out) H cut (ap (λ (d : Option Fall). up_boot d x.lasting.boot) down) (disk_front (Server i) x after fall) (disk_boot (Server i) x after fall)
+    let f : Begun ServerState = begun_by_disk (Server i) x after fall in
+    ends_hears c past i f fall (settled (can_start f.state) out) H cut (ap (λ (d : Option Fall). up_boot d x.lasting.boot) down) (disk_front (Server i) x after fall) (disk_boot (Server i) x after fall)
     (λ e h more. disk_begins (IsRan (e ∷ past)) (IsNoted (put i h c.hosts)) (Server i) x after fall (sound_on c past e i h H more) (held_on c past e i h H more) (cut_by (IsRan past) (IsRan (e ∷ past)) (ran_over e past) x.lasting.boot x.seats fall cut)
     (λ y to. own_had c.hosts i h x.lasting.boot more y.to to))
 
 -- its disk is set
-set_hears : (c : Cell) (past : List Entry) (i : ℕ) (l : Line) (armed : Armed) (d : Option Fall) → ((sent : List Message) → given_message (l ∷ []) sent ≡ None) → all_lines is_standing (l ∷ []) ≡ true → HearsIn c past → After past (server_armed c i l armed d)
+set_hears : (c : Cell) (past : List Entry) (i : ℕ) (l : Line) (armed : Armed) (d : Option Fall) → ((sent : List Message) → given_message (l ∷ []) sent ≡ None) → all_lines is_standing (l ∷ []) ≡ true → HearsIn c past → After past (server_armed c i (sets (c.hosts i) l armed) d)
 set_hears c past i l armed None none stand H =
     let e : Entry = of_server i (l ∷ []) [] in
-    falls_hears c past i (c.hosts i).down armed (l ∷ []) H (cut_to (IsRan past) (IsRan (e ∷ past)) (ran_over e past) (c.hosts i).state (c.hosts i).down (H.falls i)) (none_given (Server i) (given_message (l ∷ []) (sent_of past)) (none (sent_of past)))
+    sets_is (After past) c i l armed
+    (falls_hears c past i (c.hosts i).down armed (l ∷ []) H (cut_to (IsRan past) (IsRan (e ∷ past)) (ran_over e past) (c.hosts i).state (c.hosts i).down (H.falls i)) (none_given (Server i) (given_message (l ∷ []) (sent_of past)) (none (sent_of past)))
     (unheard_on i (c.hosts i).down (c.hosts i).state.seats (c.hosts i).state.lasting.boot e past (λ k b. none_under (Server i) k b (given_message (l ∷ []) (sent_of past)) (none (sent_of past))) (H.unheard i))
-    (step_boots c.hosts i (record (c.hosts i) { armed = armed }) e past stand refl refl H.boots)
+    (step_boots c.hosts i (record (c.hosts i) { armed = armed }) e past stand refl refl H.boots))
 set_hears c past i l armed (Some fall) none stand H = void_hears c past H
 
 -- a step on no message, which leaves its seats and its boot number
@@ -551,7 +561,7 @@ quiet_hears : (c : Cell) (past : List Entry) (i : ℕ) (armed : Armed) (s : Step
     → ((K L : Head → Type 0) → IsSound K L (memory_of (c.hosts i).state) → Each (IsAnswer K L) (replies_of (c.hosts i).state.backs.held) → HostStep K L None (Server i) (c.hosts i).state s) → all_lines is_standing s.lines ≡ true → After past (server_moves c i armed s)
 quiet_hears c past i armed s H up same step stand =
     let e : Entry = of_server i s.lines s.sent in
-    let h : Host = up_host armed s.state in
+    let h : ServerHost = up_host armed s.state in
     let boot : s.state.lasting.boot ≡ (c.hosts i).state.lasting.boot = same.1 in
     let grows : (c.hosts i).state.lasting.boot ≤ s.state.lasting.boot = omega arith in
     let q : HostStep (IsRan (e ∷ past)) (IsNoted (put i h c.hosts)) None (Server i) (c.hosts i).state s = step (IsRan (e ∷ past)) (IsNoted (put i h c.hosts)) (sound_on c past e i h H grows) (held_on c past e i h H grows) in
@@ -579,7 +589,7 @@ woken_hears c past i (Some fall) H up = void_hears c past H
 abbrev pub of_client_step : ℕ → Step ClientState → Entry
 of_client_step n s = record { actor = actors.Node (Client n); lines = s.lines; sent = s.sent; volumes = [] }
 
-last_had : (hosts : ℕ → Host) (n : ℕ) (y : ClientState) (h : Head) → IsHad hosts y.callee (boot_of y.callee y.boots) → IsLastOf n (caller_at y) h → IsHad hosts h.to h.boot
+last_had : (hosts : ℕ → ServerHost) (n : ℕ) (y : ClientState) (h : Head) → IsHad hosts y.callee (boot_of y.callee y.boots) → IsLastOf n (caller_at y) h → IsHad hosts h.to h.boot
 last_had hosts n y h w l i q = subst (λ (b : ℕ). b ≤ (hosts i).state.lasting.boot) (sym l.boot) (w i (sym l.to ∙ q))
 
 client_hears : (c : Cell) (past : List Entry) (n : ℕ) (D : Option ℕ) (s : Step ClientState) → HearsIn c past → Tame (IsRan (of_client_step n s ∷ past)) (IsNoted c.hosts) (IsHad c.hosts) D n (caller_at (c.clients n)) s → GivenTo (Client n) (placed D (sent_of past)) → After past (client_moves c n s)

@@ -29,11 +29,12 @@ use Rattle.afs_num.specs.declared.types.Node.{Node}
 use Rattle.afs_num.specs.declared.types.Node.TheVariants.{Admin, Client, Loc, Server}
 use Rattle.afs_rows.specs.Callbacks.{Started, owe_line, put, risen_turn, starts, starts_by}
 use Rattle.afs_rows.specs.ClientRow.{begin_row, client_row, timeout_row}
-use Rattle.afs_rows.specs.Runs.{Armed, Cell, Entry, Fall, Host, Moved, RunsTo, at_rest, begun_by_disk, blow_line, client_falls, client_moves, client_rises, in_boot, in_step, server_falls, server_moves, server_rises, server_set, server_stays, start, ticked, unarmed, voided}
-use Rattle.afs_rows.specs.ServerRow.{Begun, Decision, begun_after, decides, drops, made, refuses, repeats, saves, shows, tells_boot, versioned}
+use Rattle.afs_law.proofs.Steps.{blow_line, server_falls, server_moves, server_set, server_stays}
+use Rattle.afs_rows.specs.Runs.{Armed, Cell, Entry, Fall, Moved, RunsTo, at_rest, begun_by_disk, client_falls, client_moves, client_rises, in_boot, in_step, start, ticked, unarmed, voided, ServerHost}
+use Rattle.afs_rows.specs.ServerRow.{Decision, begun_after, decides, drops, made, refuses, repeats, saves, shows, tells_boot, versioned}
 use Rattle.afs_rows.specs.ServerSteps.{back_timeout_row, server_row, start_row, wake_row}
 use Rattle.afs_rows.specs.States.{BackCall, ServerState}
-use Rattle.afs_rows.specs.Steps.{Step}
+use Rattle.afs_rows.specs.Steps.{Step, Begun}
 use Rattle.std.proofs.Common.{suc, ◌+◌, ◌≤◌, ◌≡◌, ◌⊎◌, inl, inr, ℕ, Bool, true, false, cond, List, [], ◌∷◌, ◌++◌, map, Option, Some, None, refl, sym, ap, subst, ◌∙◌, arith}
 use Rattle.std.proofs.Math.Nat.{le_of_eq, le_refl, le_trans}
 use Rattle.std.specs.Prelude.{⊤, ◌&&◌, not}
@@ -143,7 +144,7 @@ starts_calls : (me : Node) (boot : ℕ) (os : List OwedBreak) (t : Started) → 
 starts_calls me boot [] t h = h
 starts_calls me boot (o ∷ os) t h = starts_calls me boot os (starts_by me boot t o (t.backs.calls o.client)) (start_calls me boot t o (t.backs.calls o.client) h)
 
-pub start_sends : (i clock count : ℕ) (f : Begun) → AreCalls (start_row (Server i) clock count f).sent
+pub start_sends : (i clock count : ℕ) (f : Begun ServerState) → AreCalls (start_row (Server i) clock count f).sent
 unfolding start_row
 start_sends i clock count f = starts_calls (Server i) (f.state.lasting.boot + 1) (risen_turn (Server i) clock count).backs.lists.owed _ tt
 
@@ -165,7 +166,7 @@ behind_disk most me x true in_boot ls sent h = h
 
 -- ---- what holds after every entry
 
-abbrev WrittenBy : (ℕ → Host) → List Line → Type 0
+abbrev WrittenBy : (ℕ → ServerHost) → List Line → Type 0
 WrittenBy hosts ls = (i : ℕ) → reached (hosts i).state.lasting.boot (hosts i).down ≤ last_written (Server i) ls
 
 abbrev WrittenIn : Cell → List Entry → Type 0
@@ -198,16 +199,16 @@ none_lived actors.Nobody past ls sent other = tt
 besides_hosts : (s : Script) (c : Cell) (past : List Entry) (m : Moved) → Written s c past → EachLine (IsInPlace s) m.entry.actor past [] m.entry.lines → ((i : ℕ) → m.entry.actor ≡ actors.Node (Server i) → ⊥) → m.cell.hosts ≡ c.hosts → Hosts past m
 besides_hosts s c past m h p other same = record {
   good = none_lived m.entry.actor past m.entry.lines m.entry.sent other;
-  written = subst (λ (hosts : ℕ → Host). WrittenBy hosts (lines_of (m.entry ∷ past))) (sym same)
+  written = subst (λ (hosts : ℕ → ServerHost). WrittenBy hosts (lines_of (m.entry ∷ past))) (sym same)
       (λ i. subst (λ (n : ℕ). reached (c.hosts i).state.lasting.boot (c.hosts i).down ≤ n) (sym (others_written s m.entry.actor i past [] m.entry.lines (lines_of past) (other i) p)) (h.1 i));
 }
 
 one_server : (i j : ℕ) → actors.Node (Server i) ≡ actors.Node (Server j) → i ≡ j
 one_server i j e = cc
 
-own_written : (s : Script) (c : Cell) (past : List Entry) (i : ℕ) (x : Host) (ls : List Line) → Written s c past → EachLine (IsInPlace s) (actors.Node (Server i)) past [] ls → reached x.state.lasting.boot x.down ≤ last_written (Server i) (onto (lines_of past) ls) → WrittenBy (put i x c.hosts) (onto (lines_of past) ls)
+own_written : (s : Script) (c : Cell) (past : List Entry) (i : ℕ) (x : ServerHost) (ls : List Line) → Written s c past → EachLine (IsInPlace s) (actors.Node (Server i)) past [] ls → reached x.state.lasting.boot x.down ≤ last_written (Server i) (onto (lines_of past) ls) → WrittenBy (put i x c.hosts) (onto (lines_of past) ls)
 own_written s c past i x ls h p own j =
-    at_put i j (λ (y : Host). reached y.state.lasting.boot y.down ≤ last_written (Server j) (onto (lines_of past) ls)) x c.hosts (λ same. subst (λ (k : ℕ). reached x.state.lasting.boot x.down ≤ last_written (Server k) (onto (lines_of past) ls)) same own)
+    at_put i j (λ (y : ServerHost). reached y.state.lasting.boot y.down ≤ last_written (Server j) (onto (lines_of past) ls)) x c.hosts (λ same. subst (λ (k : ℕ). reached x.state.lasting.boot x.down ≤ last_written (Server k) (onto (lines_of past) ls)) same own)
     (λ other. subst (λ (n : ℕ). reached (c.hosts j).state.lasting.boot (c.hosts j).down ≤ n) (sym (others_written s (actors.Node (Server i)) j past [] ls (lines_of past) (λ e. other (one_server i j e)) p)) (h.1 j))
 
 up_now : (c : Cell) (past : List Entry) (i : ℕ) → WrittenIn c past → (c.hosts i).down ≡ None → (c.hosts i).state.lasting.boot ≤ last_written (Server i) (lines_of past)
@@ -227,7 +228,7 @@ as_down : (s : Script) (c : Cell) (past : List Entry) (i : ℕ) (fall : Fall) (l
 as_down s c past i fall ls sent h down = subst (λ (o : Option ℕ). IsHostLived o (last_written (Server i) (lines_of past) + 1) ls sent) (sym (is_none c s past i fall h down))
 
 -- a step of one that goes on
-goes_hosts : (s : Script) (c : Cell) (past : List Entry) (i : ℕ) (x : Host) (ls : List Line) (sent : List Message) → Written s c past → EachLine (IsInPlace s) (actors.Node (Server i)) past [] ls → (c.hosts i).down ≡ None → x.down ≡ None → x.state.lasting.boot ≡ (c.hosts i).state.lasting.boot → all_lines is_running ls ≡ true
+goes_hosts : (s : Script) (c : Cell) (past : List Entry) (i : ℕ) (x : ServerHost) (ls : List Line) (sent : List Message) → Written s c past → EachLine (IsInPlace s) (actors.Node (Server i)) past [] ls → (c.hosts i).down ≡ None → x.down ≡ None → x.state.lasting.boot ≡ (c.hosts i).state.lasting.boot → all_lines is_running ls ≡ true
     → IsServerLived (actors.Node (Server i)) past ls sent × WrittenBy (put i x c.hosts) (onto (lines_of past) ls)
 goes_hosts s c past i x ls sent h p up down boot run = (
   as_up s c past i ls sent h up (inl (goes_on ls run)),
@@ -252,25 +253,25 @@ falls_hosts : (s : Script) (c : Cell) (past : List Entry) (i : ℕ) (ls : List L
 falls_hosts s c past i ls fall h p good reach more = record { good = good; written = own_written s c past i (record (c.hosts i) { down = Some fall; armed = unarmed }) ls h p (le_trans reach more) }
 
 -- one that stays down
-abbrev found_at : Cell → ℕ → Bool → Fall → Begun
+abbrev found_at : Cell → ℕ → Bool → Fall → Begun ServerState
 found_at c i after fall = begun_by_disk (Server i) (c.hosts i).state after fall
 
 stays_hosts : (s : Script) (c : Cell) (past : List Entry) (i : ℕ) (after : Bool) (was : Fall) (l : Line) (fall : Fall) → Written s c past → EachLine (IsInPlace s) (actors.Node (Server i)) past [] ((found_at c i after was).before (l ∷ [])) → (c.hosts i).down ≡ Some was → IsStart (last_written (Server i) (lines_of past) + 1) (l ∷ []) []
     → reached (found_at c i after was).state.lasting.boot (Some fall) ≤ last_written (Server i) (onto (lines_of past) ((found_at c i after was).before (l ∷ []))) → Hosts past (server_stays c i (found_at c i after was) l fall)
 stays_hosts s c past i after was l fall h p down good reach =
-    let f : Begun = found_at c i after was in
+    let f : Begun ServerState = found_at c i after was in
     record {
       good = as_down s c past i was (f.before (l ∷ [])) [] h down (behind_disk (last_written (Server i) (lines_of past) + 1) (Server i) (c.hosts i).state after was (l ∷ []) [] good);
       written = own_written s c past i (record { state = f.state; down = Some fall; armed = unarmed }) (f.before (l ∷ [])) h p reach;
     }
 
 -- behind what is found
-behind_front : (f : Begun) (past : List Entry) (ls : List Line) → HasFront f → onto (lines_of past) (f.before ls) ≡ onto (onto (lines_of past) (f.before [])) ls
+behind_front : (f : Begun ServerState) (past : List Entry) (ls : List Line) → HasFront f → onto (lines_of past) (f.before ls) ≡ onto (onto (lines_of past) (f.before [])) ls
 behind_front f past ls front = ap (onto (lines_of past)) (front.before ls) ∙ onto_both (lines_of past) (f.before []) ls
 
 midway_least : (s : Script) (c : Cell) (past : List Entry) (i : ℕ) (after : Bool) (was : Fall) → Written s c past → (c.hosts i).down ≡ Some was → (found_at c i after was).state.lasting.boot + 1 ≤ last_written (Server i) (onto (lines_of past) ((found_at c i after was).before (lines.Fault (Server i) ∷ [])))
 midway_least s c past i after was h down =
-    let f : Begun = found_at c i after was in
+    let f : Begun ServerState = found_at c i after was in
     let front : HasFront f = disk_front (Server i) (c.hosts i).state after was in
     let o : List Line = onto (lines_of past) (f.before []) in
     let none : server_boot (Server i) o ≡ None = (all_same i (f.before []) (lines_of past) front.standing).boot ∙ is_none c s past i was h down in
@@ -282,7 +283,7 @@ midway_least s c past i after was h down =
 
 full_least : (s : Script) (c : Cell) (past : List Entry) (i : ℕ) (after : Bool) (was : Fall) → Written s c past → (c.hosts i).down ≡ Some was → (found_at c i after was).state.lasting.boot ≤ last_written (Server i) (onto (lines_of past) ((found_at c i after was).before (lines.Full (Server i) ∷ [])))
 full_least s c past i after was h down =
-    let f : Begun = found_at c i after was in
+    let f : Begun ServerState = found_at c i after was in
     let front : HasFront f = disk_front (Server i) (c.hosts i).state after was in
     subst (λ (n : ℕ). f.state.lasting.boot ≤ n) (sym (ap (last_written (Server i)) (behind_front f past (lines.Full (Server i) ∷ []) front) ∙ standing_written i (f.before []) (lines_of past) front.standing))
     (le_trans (found (Server i) (c.hosts i).state after was) (down_now c past i was h.1 down))
@@ -290,7 +291,7 @@ full_least s c past i after was h down =
 -- one that comes up
 started_good : (s : Script) (c : Cell) (past : List Entry) (i : ℕ) (after : Bool) (was : Fall) → Written s c past → (c.hosts i).down ≡ Some was → IsServerLived (actors.Node (Server i)) past (start_row (Server i) c.clock c.count (found_at c i after was)).lines (start_row (Server i) c.clock c.count (found_at c i after was)).sent
 started_good s c past i after was h down =
-    let f : Begun = found_at c i after was in
+    let f : Begun ServerState = found_at c i after was in
     let most : ℕ = last_written (Server i) (lines_of past) + 1 in
     let sent : List Message = (start_row (Server i) c.clock c.count f).sent in
     let low : f.state.lasting.boot ≤ last_written (Server i) (lines_of past) = le_trans (found (Server i) (c.hosts i).state after was) (down_now c past i was h.1 down) in
@@ -298,7 +299,7 @@ started_good s c past i after was h down =
     (as_down s c past i was _ sent h down (behind_disk most (Server i) (c.hosts i).state after was (lines.Restart (Server i) (f.state.lasting.boot + 1) ∷ (risen_turn (Server i) c.clock c.count).lines) sent
     (omega arith, (all_owes (Server i) (risen_turn (Server i) c.clock c.count).backs.lists.owed, start_sends i c.clock c.count f))))
 
-started_written : (i clock count : ℕ) (f : Begun) (past : List Entry) → HasFront f → (start_row (Server i) clock count f).state.lasting.boot ≡ last_written (Server i) (onto (lines_of past) (start_row (Server i) clock count f).lines)
+started_written : (i clock count : ℕ) (f : Begun ServerState) (past : List Entry) → HasFront f → (start_row (Server i) clock count f).state.lasting.boot ≡ last_written (Server i) (onto (lines_of past) (start_row (Server i) clock count f).lines)
 started_written i clock count f past front =
     let o : List Line = onto (lines_of past) (f.before []) in
     let l : Line = lines.Restart (Server i) (f.state.lasting.boot + 1) in

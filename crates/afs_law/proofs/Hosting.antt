@@ -12,10 +12,10 @@ use Rattle.afs_ideal.specs.Operations.{Caller, Found, Result, refused, reads, ch
 use Rattle.afs_ideal.specs.Tables.{get}
 use Rattle.afs_records.specs.Durable.{Stored, has_room}
 use Rattle.afs_rows.specs.Callbacks.{Started, Turn, expired, held_under, is_back_awaited, is_ready, is_seat_of, key_answered, new_owes, no_turn, owe_line, pumped, quit_line, renews_by, repeats_by, replies_of, risen_turn, settle_line, settles_by, starts, starts_by, still_owed, timed, turn_for, turned_by, turned_in}
-use Rattle.afs_rows.specs.ServerRow.{Begun, Change, Decision, admits, begun_after, begun_before, change_reply_to, carried_by, decided, decides, does, drops, granted, hears, in_volume, key_of, made, not_served, promise_ticks, refuses, repeats, revived, saves, seat_for, seat_placed, serves_call, several, shows, sights, tells_boot, record_of, versioned, whole, with_volume, is_client, Sight, no_room, replied, refusal, read_reply_to, granted_in, reply_head, boot_told}
+use Rattle.afs_rows.specs.ServerRow.{Change, Decision, admits, begun_after, change_reply_to, carried_by, decided, decides, does, drops, granted, hears, in_volume, key_of, made, not_served, promise_ticks, refuses, repeats, revived, saves, seat_for, seat_placed, serves_call, several, shows, sights, tells_boot, record_of, versioned, whole, with_volume, is_client, Sight, no_room, replied, refusal, read_reply_to, granted_in, reply_head, boot_told}
 use Rattle.afs_rows.specs.ServerSteps.{back_timeout_row, server_row, start_row, wake_row}
 use Rattle.afs_rows.specs.States.{BackCall, Backs, Held, Seat, ServerState, durable_of}
-use Rattle.afs_rows.specs.Steps.{Step}
+use Rattle.afs_rows.specs.Steps.{Step, Begun, begun_before}
 use Rattle.afs_rows.specs.Runs.{Fall, at_rest, begun_by_disk, in_boot, in_step, message_at}
 use Rattle.afs_model.specs.Calls as pairs
 use Rattle.afs_model.specs.Calls.{Admitted, admitted, call_seat, call_seated, paired}
@@ -403,7 +403,7 @@ wakes_step K L i x clock s h =
 -- ---- a restart
 
 -- what it begins with, before further lines
-pub record Begins (K : Head → Type 0) (L : Head → Type 0) (me : Node) (x : ServerState) (f : Begun) : Type 0 where
+pub record Begins (K : Head → Type 0) (L : Head → Type 0) (me : Node) (x : ServerState) (f : Begun ServerState) : Type 0 where
   pub hosts : (ls : List Line) → all_lines is_unchanging ls ≡ true → Hosts K L me (memory_of x) (memory_of f.state) (f.before ls)
   pub held : Each (IsAnswer K L) (replies_of f.state.backs.held)
   pub ungiven : (ls : List Line) (sent : List Message) → given_message ls sent ≡ None → given_message (f.before ls) sent ≡ None
@@ -446,7 +446,7 @@ disk_begins K L me x true (in_step m clock hit) s h c told = after_begins K L me
 disk_begins K L me x false in_boot s h c told = before_begins K L me x s h
 disk_begins K L me x true in_boot s h c told = revives_begins K L me x s h
 
-pub starts_step : (K : Head → Type 0) (L : Head → Type 0) (i : ℕ) (x : ServerState) (clock count : ℕ) (f : Begun) → Begins K L (Server i) x f → HostStep K L None (Server i) x (start_row (Server i) clock count f)
+pub starts_step : (K : Head → Type 0) (L : Head → Type 0) (i : ℕ) (x : ServerState) (clock count : ℕ) (f : Begun ServerState) → Begins K L (Server i) x f → HostStep K L None (Server i) x (start_row (Server i) clock count f)
 unfolding start_row
 starts_step K L i x clock count f b =
     let t : Turn = risen_turn (Server i) clock count in

@@ -41,12 +41,13 @@ use Rattle.afs_num.specs.declared.types.Node.{Node}
 use Rattle.afs_num.specs.declared.types.Node.TheVariants.{Client, Server}
 use Rattle.afs_records.specs.Durable.{Stored}
 use Rattle.afs_rows.specs.Callbacks.{put}
-use Rattle.afs_rows.specs.Runs.{Blow, Armed, Cell, Entry, Fall, Host, RunsTo, at_rest, begun_by_disk, blow_line, counts_later, first_host, first_volumes, in_boot, in_step, message_at, placed_at, server_moves, server_stays, start, unarmed, unless_there, volumes_at}
+use Rattle.afs_law.proofs.Steps.{blow_line, server_moves, server_stays}
+use Rattle.afs_rows.specs.Runs.{Blow, Armed, Cell, Entry, Fall, RunsTo, at_rest, begun_by_disk, counts_later, first_host, first_volumes, in_boot, in_step, message_at, placed_at, start, unarmed, unless_there, volumes_at, ServerHost}
 use Rattle.afs_rows.specs.Going.{ClientState}
-use Rattle.afs_rows.specs.ServerRow.{Begun, Change, key_of, stored_by, versioned}
+use Rattle.afs_rows.specs.ServerRow.{Change, key_of, stored_by, versioned}
 use Rattle.afs_rows.specs.ServerSteps.{back_timeout_row, server_row, start_row, wake_row}
 use Rattle.afs_rows.specs.States.{ServerState, volume_in}
-use Rattle.afs_rows.specs.Steps.{Step}
+use Rattle.afs_rows.specs.Steps.{Step, Begun}
 use Rattle.std.proofs.Common.{◌≡◌, ℕ, ◌⊎◌, inl, inr, Bool, true, false, cond, eqb, eqb-true, eq-eqb, nat_eq, length, List, [], ◌∷◌, ◌++◌, Option, Some, None, refl, sym, ap, subst, ◌∙◌}
 use Rattle.std.specs.Option.{option_map}
 use Rattle.std.specs.Prelude.{is_some}
@@ -113,7 +114,7 @@ blank_after id e past none blank = plain_after id e past None none (ap change_ke
 abbrev pub IsSent : List Message → Message → Type 0
 IsSent sent m = (place : ℕ) × (message_at sent place ≡ Some m)
 
-pub record Volumes (s : Script) (hosts : ℕ → Host) (sent : List Message) (past : List Entry) : Type 0 where
+pub record Volumes (s : Script) (hosts : ℕ → ServerHost) (sent : List Message) (past : List Entry) : Type 0 where
   pub ideal : (i id : ℕ) → is_at id (Server i) s.volumes → volume_in id (hosts i).state.lasting.volumes ≡ volume_after id past
   pub sound : (id : ℕ) → SoundIn id (volume_after id past) (lines_of past)
   pub fine : (i : ℕ) → AreFine (hosts i).state.lasting.volumes
@@ -136,7 +137,7 @@ sent_over : (sent more : List Message) → Grows sent more → (m : Message) →
 sent_over sent more g m x = (x.0, g x.0 m x.1)
 
 -- a step that leaves all hosts
-still_volumes : (s : Script) (hosts : ℕ → Host) (sent more : List Message) (past : List Entry) (e : Entry) → Volumes s hosts sent past → Grows sent more → e.volumes ≡ [] → AreBlank e.lines → Volumes s hosts more (e ∷ past)
+still_volumes : (s : Script) (hosts : ℕ → ServerHost) (sent more : List Message) (past : List Entry) (e : Entry) → Volumes s hosts sent past → Grows sent more → e.volumes ≡ [] → AreBlank e.lines → Volumes s hosts more (e ∷ past)
 still_volumes s hosts sent more past e V g none blank = record {
   ideal = λ i id at. V.ideal i id at ∙ sym (blank_after id e past none blank);
   sound = λ id. sound_on id past e (blank_after id e past none blank) blank (V.sound id);
@@ -158,17 +159,17 @@ abbrev pub CutIs : (Message → Type 0) → Option Fall → Type 0
 CutIs P d = (m : Message) (clock : ℕ) (hit : Blow) → d ≡ Some (in_step m clock hit) → P m
 
 -- one host's step that changes nothing
-quiet_volumes : (s : Script) (hosts : ℕ → Host) (sent more : List Message) (past : List Entry) (e : Entry) (i : ℕ) (h : Host) → Volumes s hosts sent past → Grows sent more → e.volumes ≡ [] → AreBlank e.lines → AreLeft (hosts i).state.lasting.volumes h.state.lasting.volumes → CutIs (IsSent more) h.down
+quiet_volumes : (s : Script) (hosts : ℕ → ServerHost) (sent more : List Message) (past : List Entry) (e : Entry) (i : ℕ) (h : ServerHost) → Volumes s hosts sent past → Grows sent more → e.volumes ≡ [] → AreBlank e.lines → AreLeft (hosts i).state.lasting.volumes h.state.lasting.volumes → CutIs (IsSent more) h.down
     → Volumes s (put i h hosts) more (e ∷ past)
 quiet_volumes s hosts sent more past e i h V g none blank left cut =
     let U : Volumes s hosts more (e ∷ past) = still_volumes s hosts sent more past e V g none blank in
     let same : (id : ℕ) → volume_in id h.state.lasting.volumes ≡ volume_in id (hosts i).state.lasting.volumes = left_same (hosts i).state.lasting.volumes h.state.lasting.volumes (V.fine i) left in
     record {
-      ideal = λ j id at. at_put i j (λ (x : Host). volume_in id x.state.lasting.volumes ≡ volume_after id (e ∷ past)) h hosts (λ q. same id ∙ U.ideal i id (subst (λ (k : ℕ). is_at id (Server k) s.volumes) (sym q) at)) (λ other. U.ideal j id at);
+      ideal = λ j id at. at_put i j (λ (x : ServerHost). volume_in id x.state.lasting.volumes ≡ volume_after id (e ∷ past)) h hosts (λ q. same id ∙ U.ideal i id (subst (λ (k : ℕ). is_at id (Server k) s.volumes) (sym q) at)) (λ other. U.ideal j id at);
       sound = U.sound;
-      fine = λ j. at_put i j (λ (x : Host). AreFine x.state.lasting.volumes) h hosts (λ q. left_fine (hosts i).state.lasting.volumes h.state.lasting.volumes (V.fine i) left) (λ other. U.fine j);
-      home = λ j id v. at_put i j (λ (x : Host). volume_in id x.state.lasting.volumes ≡ Some v → is_at id (Server j) s.volumes) h hosts (λ q f. subst (λ (k : ℕ). is_at id (Server k) s.volumes) q (V.home i id v (sym (same id) ∙ f))) (λ other. V.home j id v);
-      cut = λ j m clock hit. at_put i j (λ (x : Host). x.down ≡ Some (in_step m clock hit) → IsSent more m) h hosts (λ q. cut m clock hit) (λ other. U.cut j m clock hit);
+      fine = λ j. at_put i j (λ (x : ServerHost). AreFine x.state.lasting.volumes) h hosts (λ q. left_fine (hosts i).state.lasting.volumes h.state.lasting.volumes (V.fine i) left) (λ other. U.fine j);
+      home = λ j id v. at_put i j (λ (x : ServerHost). volume_in id x.state.lasting.volumes ≡ Some v → is_at id (Server j) s.volumes) h hosts (λ q f. subst (λ (k : ℕ). is_at id (Server k) s.volumes) q (V.home i id v (sym (same id) ∙ f))) (λ other. V.home j id v);
+      cut = λ j m clock hit. at_put i j (λ (x : ServerHost). x.down ≡ Some (in_step m clock hit) → IsSent more m) h hosts (λ q. cut m clock hit) (λ other. U.cut j m clock hit);
       none = U.none;
     }
 
@@ -264,7 +265,7 @@ pub record Saved (past : List Entry) (user : List ℕ) (call : FsCall) (id : ℕ
   pub at : volume_after id past ≡ Some v
   pub one : call_under k (sent_of past) ≡ Some (user, call)
 
-pub saved_at : (s : Script) (hosts : ℕ → Host) (sent : List Message) (past : List Entry) (i : ℕ) (b : Table Stored) (ls : List Line) → Volumes s hosts sent past → sent_of past ≡ sent → (S : Saves (IsCalled sent) (Server i) (hosts i).state b ls)
+pub saved_at : (s : Script) (hosts : ℕ → ServerHost) (sent : List Message) (past : List Entry) (i : ℕ) (b : Table Stored) (ls : List Line) → Volumes s hosts sent past → sent_of past ≡ sent → (S : Saves (IsCalled sent) (Server i) (hosts i).state b ls)
     → Saved past S.chosen.user S.chosen.call S.change.id S.change.before.volume (key_of S.head)
 saved_at s hosts sent past i b ls V told S =
     let c : Change = S.change in
@@ -274,7 +275,7 @@ saved_at s hosts sent past i b ls V told S =
       one = ap (call_under (key_of S.head)) told ∙ (ap (λ (h : Head). call_under (key_of h) sent) S.chosen.head' ∙ of_this (IsOne sent) S.chosen.client S.message.head S.message.carried S.chosen.user S.chosen.call S.chosen.from S.chosen.carries S.given);
     }
 
-saves_volumes : (s : Script) (hosts : ℕ → Host) (sent more : List Message) (past : List Entry) (e : Entry) (i : ℕ) (h : Host) → Volumes s hosts sent past → sent_of past ≡ sent → Grows sent more → e.volumes ≡ [] → Saves (IsCalled sent) (Server i) (hosts i).state h.state.lasting.volumes e.lines → CutIs (IsSent more) h.down
+saves_volumes : (s : Script) (hosts : ℕ → ServerHost) (sent more : List Message) (past : List Entry) (e : Entry) (i : ℕ) (h : ServerHost) → Volumes s hosts sent past → sent_of past ≡ sent → Grows sent more → e.volumes ≡ [] → Saves (IsCalled sent) (Server i) (hosts i).state h.state.lasting.volumes e.lines → CutIs (IsSent more) h.down
     → Volumes s (put i h hosts) more (e ∷ past)
 saves_volumes s hosts sent more past e i h V told g none S cut =
     let c : Change = S.change in
@@ -290,19 +291,19 @@ saves_volumes s hosts sent more past e i h V told g none S cut =
     let fine : AreFine z = fine_after c.id (the_user S.chosen.user) S.chosen.call v c.edits c.shown a (stored_by S.clock c) refl (V.fine i) S.chosen.of_volume found S.chosen.result in
     let now : (id : ℕ) → volume_in id b ≡ cond (eqb c.id id) (Some N) (volume_in id a) = λ id. left_same z b fine S.left id ∙ volume_put c.id id (stored_by S.clock c) N a refl in
     record {
-      ideal = λ j id at. at_put i j (λ (x : Host). volume_in id x.state.lasting.volumes ≡ volume_after id (e ∷ past)) h hosts
+      ideal = λ j id at. at_put i j (λ (x : ServerHost). volume_in id x.state.lasting.volumes ≡ volume_after id (e ∷ past)) h hosts
           (λ same. now id ∙ (ap (λ (o : Option Volume). cond (eqb c.id id) (Some N) o) (V.ideal i id (subst (λ (k : ℕ). is_at id (Server k) s.volumes) (sym same) at)) ∙ sym (q.after id)))
           (λ other. V.ideal j id at ∙ sym (q.after id ∙ other_after (eqb c.id id) N (volume_after id past) (not_here (eqb c.id id) c.id id refl (λ is. other (server_number i j (one_place id (Server i) (Server j) s.volumes (subst (λ (n : ℕ). is_at n (Server i) s.volumes) is home) at))))));
       sound = λ id. q.sound id (V.sound id);
-      fine = λ j. at_put i j (λ (x : Host). AreFine x.state.lasting.volumes) h hosts (λ same. left_fine z b fine S.left) (λ other. V.fine j);
-      home = λ j id u. at_put i j (λ (x : Host). volume_in id x.state.lasting.volumes ≡ Some u → is_at id (Server j) s.volumes) h hosts
+      fine = λ j. at_put i j (λ (x : ServerHost). AreFine x.state.lasting.volumes) h hosts (λ same. left_fine z b fine S.left) (λ other. V.fine j);
+      home = λ j id u. at_put i j (λ (x : ServerHost). volume_in id x.state.lasting.volumes ≡ Some u → is_at id (Server j) s.volumes) h hosts
           (λ same f. subst (λ (k : ℕ). is_at id (Server k) s.volumes) same (found_either (eqb c.id id) c.id id N u (volume_in id a) (is_at id (Server i) s.volumes) refl (λ is. subst (λ (n : ℕ). is_at n (Server i) s.volumes) is home) (V.home i id u) (sym (now id) ∙ f)))
           (λ other. V.home j id u);
-      cut = λ j m clock hit. at_put i j (λ (x : Host). x.down ≡ Some (in_step m clock hit) → IsSent more m) h hosts (λ same. cut m clock hit) (λ other p. sent_over sent more g m (V.cut j m clock hit p));
+      cut = λ j m clock hit. at_put i j (λ (x : ServerHost). x.down ≡ Some (in_step m clock hit) → IsSent more m) h hosts (λ same. cut m clock hit) (λ other p. sent_over sent more g m (V.cut j m clock hit p));
       none = λ id away. q.after id ∙ (other_after (eqb c.id id) N (volume_after id past) (not_here (eqb c.id id) c.id id refl (λ is. away i (subst (λ (n : ℕ). is_at n (Server i) s.volumes) is home))) ∙ V.none id away);
     }
 
-works_volumes : (s : Script) (hosts : ℕ → Host) (sent more : List Message) (past : List Entry) (e : Entry) (i : ℕ) (h : Host) → Volumes s hosts sent past → sent_of past ≡ sent → Grows sent more → e.volumes ≡ [] → Works (IsCalled sent) (Server i) (hosts i).state h.state.lasting.volumes e.lines → CutIs (IsSent more) h.down
+works_volumes : (s : Script) (hosts : ℕ → ServerHost) (sent more : List Message) (past : List Entry) (e : Entry) (i : ℕ) (h : ServerHost) → Volumes s hosts sent past → sent_of past ≡ sent → Grows sent more → e.volumes ≡ [] → Works (IsCalled sent) (Server i) (hosts i).state h.state.lasting.volumes e.lines → CutIs (IsSent more) h.down
     → Volumes s (put i h hosts) more (e ∷ past)
 works_volumes s hosts sent more past e i h V told g none (inl w) cut = quiet_volumes s hosts sent more past e i h V g none (blank_by (is_from (Server i)) (from_blank (Server i)) e.lines w.lines) w.left cut
 works_volumes s hosts sent more past e i h V told g none (inr w) cut = saves_volumes s hosts sent more past e i h V told g none w cut
@@ -343,7 +344,7 @@ cut_call s c past i h m clock hit e = let q : IsSent c.sent m = h.1.cut i m cloc
 stays_volumes : (s : Script) (c : Cell) (past : List Entry) (i : ℕ) (after : Bool) (fall now : Fall) (l : Line) → Held s c past → (c.hosts i).down ≡ Some fall → is_from (Server i) l ≡ true → CutIs (IsSent c.sent) (Some now)
     → Behind (VolumesIn s) c past (server_stays c i (begun_by_disk (Server i) (c.hosts i).state after fall) l now)
 stays_volumes s c past i after fall now l h down from cut =
-    let f : Begun = begun_by_disk (Server i) (c.hosts i).state after fall in
+    let f : Begun ServerState = begun_by_disk (Server i) (c.hosts i).state after fall in
     works_volumes s c.hosts c.sent c.sent past (server_stays c i f l now).entry i (record { state = f.state; down = Some now; armed = unarmed }) h.1 h.0.0.hears.told (same_grows c.sent) refl (disk_works (IsCalled c.sent) (Server i) (c.hosts i).state after fall (l ∷ []) (cut_by (IfCall (IsOne c.sent)) (c.hosts i).down fall down (cut_call s c past i h)) (rw from refl)) cut
 
 pub blow_blank : (i place : ℕ) (t : Bool) → AreBlank (lines.Given place ∷ blow_line i t ∷ [])

@@ -34,7 +34,8 @@ use Rattle.afs_num.specs.declared.types.Node.{Node}
 use Rattle.afs_num.specs.declared.types.Node.TheVariants.{Client, Server}
 use Rattle.afs_rows.specs.ClientRow.{admits_call, awaits, breaks, call_of, client_row, counts, hears, is_awaited, opcode_of, runs_carried, timeout_row, whole}
 use Rattle.afs_rows.specs.Going.{ClientState, Going}
-use Rattle.afs_rows.specs.Runs.{Cell, Entry, Moved, begun_by_disk, message_at, server_moves, server_rises}
+use Rattle.afs_law.proofs.Steps.{server_moves, server_rises}
+use Rattle.afs_rows.specs.Runs.{Cell, Entry, Moved, begun_by_disk, message_at}
 use Rattle.afs_rows.specs.ServerRow.{key_of}
 use Rattle.afs_rows.specs.ServerSteps.{back_timeout_row, server_row, wake_row}
 use Rattle.afs_rows.specs.Steps.{Step}

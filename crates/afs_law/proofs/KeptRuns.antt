@@ -28,7 +28,7 @@ use Rattle.afs_records.specs.Durable.{Stored}
 use Rattle.afs_records.specs.Records.{head_form, record_bytes, volume_form}
 use Rattle.afs_rows.specs.ClientRow.{begin_row, client_row}
 use Rattle.afs_rows.specs.Going.{began}
-use Rattle.afs_rows.specs.Runs.{Cell, Entry, Fall, Host, Input, Leads, RunsTo, at_rest, begins, first_host, gives, in_step, locations, moved, sets_stop, start, steady}
+use Rattle.afs_rows.specs.Runs.{Cell, Entry, Fall, Input, Leads, RunsTo, at_rest, begins, first_host, gives, in_step, locations, moved, sets_stop, start, steady, ServerHost}
 use Rattle.afs_rows.specs.ServerSteps.{back_timeout_row, server_row, start_row, wake_row}
 use Rattle.afs_rows.specs.States.{volume_in}
 use Rattle.afs_xdr.specs.Words.{counted_at, opaque, opaque_at, pad, word, word_at}
@@ -96,7 +96,7 @@ history = run (start (script 1)) inputs
 abbrev past : List Entry
 past = past_of (set_up (script 1) ∷ []) history
 
-abbrev last_host : Host
+abbrev last_host : ServerHost
 last_host = (end_of (start (script 1)) inputs).hosts 1
 
 abbrev last_fall : Fall
@@ -126,7 +126,7 @@ close_is_kept =
     (of_cell 1) the_run (run_both (start (script 1)) answered (gives 2 steady) stopped) refl refl tt refl
 
 -- a disk that lost the first close, in what it keeps or in what a restart finds; one that has a step which nobody asked for
-abbrev emptied : Host
+abbrev emptied : ServerHost
 emptied = record last_host { state = (first_host (script 1) 1).state }
 
 abbrev index_in : Option Seen → ℕ
@@ -160,7 +160,7 @@ sets_mode = begins 1 (acts.SetMode (operands.Fid file) 384) ∷ gives 1 steady �
 abbrev mode_past : List Entry
 mode_past = past_of (set_up (script 1) ∷ []) (run (start (script 1)) sets_mode)
 
-abbrev mode_host : Host
+abbrev mode_host : ServerHost
 mode_host = (end_of (start (script 1)) sets_mode).hosts 1
 
 keeps_mode : file_in (volume_in home mode_host.state.lasting.volumes) ≡ Some (record { index = 2; mode = 384; bytes = codes "abc" })
@@ -174,7 +174,7 @@ abbrev old_mode : Option Stored → Table Stored → Table Stored
 old_mode None volumes = volumes
 old_mode (Some x) volumes = set home (record x { volume = record x.volume { vnodes = map (λ (p : ℕ × Vnode). (p.0, record p.1 { mode = 420 })) x.volume.vnodes } }) volumes
 
-abbrev without_mode : Host
+abbrev without_mode : ServerHost
 without_mode = record mode_host { state = record mode_host.state { lasting = record mode_host.state.lasting { volumes = old_mode (get home mode_host.state.lasting.volumes) mode_host.state.lasting.volumes } } }
 
 abbrev mode_in : Option Seen → ℕ

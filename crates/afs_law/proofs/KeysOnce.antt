@@ -12,10 +12,13 @@ use Rattle.afs_law.specs.Once.{AreOnce, ChangesOnce, past_of}
 use Rattle.afs_law.specs.Past.{IsLatest, IsUpTo, HasCode, IsCall, answered_key, called_key, lines_of, onto, same_key}
 use Rattle.afs_rows.specs.Callbacks.{put, replies_of}
 use Rattle.afs_rows.specs.Going.{ClientState, Going}
-use Rattle.afs_rows.specs.Runs.{is_away, Armed, Blow, Cell, Entry, Fall, Host, Input, Leads, Luck, Moved, Outcome, RunsTo, at_rest, back_timed, begins, begun_by, begun_by_disk, blow_line, client_moves, client_starts, client_stops, comes_up, calls_at, fails_early, fails_midway, given_at, given_to, gives, has_host, in_boot, in_step, is_full, message_at, moved, nothing, server_armed, server_ends, server_given, server_moves, server_restarted, server_served, server_stopped, server_timed, server_waits, server_wakes, sets_fail, sets_stop, settled, start, starts_again, stops, struck, ticks, unarmed, voided, waited_by, waits, wakes}
-use Rattle.afs_rows.specs.ServerRow.{Begun, key_of}
+use Rattle.afs_law.proofs.Steps.{blow_line, calls_at, server_moves, falls_is, sets_is, stays_is}
+use Rattle.afs_rows.specs.Hosts.{sets}
+use Rattle.afs_rows.specs.ServerHosts.{can_start}
+use Rattle.afs_rows.specs.Runs.{is_away, Armed, Blow, Cell, Entry, Fall, Input, Leads, Luck, Moved, Outcome, RunsTo, at_rest, back_timed, begins, begun_by, begun_by_disk, client_moves, client_starts, client_stops, comes_up, fails_early, fails_midway, given_at, given_to, gives, has_host, in_boot, in_step, is_full, message_at, moved, nothing, server_armed, server_ends, server_given, server_restarted, server_served, server_stopped, server_timed, server_waits, server_wakes, sets_fail, sets_stop, settled, start, starts_again, stops, struck, ticks, unarmed, voided, waited_by, waits, wakes, ServerHost}
+use Rattle.afs_rows.specs.ServerRow.{key_of}
 use Rattle.afs_rows.specs.States.{Seat, BackCall, ServerState}
-use Rattle.afs_rows.specs.Steps.{Step}
+use Rattle.afs_rows.specs.Steps.{Step, Begun}
 use Rattle.afs_model.specs.Calls as pairs
 use Rattle.afs_model.specs.Calls.{admitted, call_seat, pair_below}
 use Rattle.std.proofs.Common.{zero, suc, ◌≡◌, ℕ, inl, inr, Bool, true, false, cond, nat_eq, List, [], ◌∷◌, ◌++◌, Option, Some, None, refl, sym, ap, subst, ◌∙◌}
@@ -112,7 +115,7 @@ pub record IsKnown (callees : Key → Node) (clients : ℕ → ClientState) (to 
   pub behind : UpTo k.epoch k.number (clients client).epoch (clients client).last
 
 -- it changed something at this server, which keeps it
-pub record HasRun (callees : Key → Node) (clients : ℕ → ClientState) (hosts : ℕ → Host) (q : Node) (k : Key) : Type 0 where
+pub record HasRun (callees : Key → Node) (clients : ℕ → ClientState) (hosts : ℕ → ServerHost) (q : Node) (k : Key) : Type 0 where
   pub server : ℕ
   pub is : q ≡ Server server
   pub known : IsKnown callees clients q k
@@ -156,7 +159,7 @@ any_boot q b = ⊤
 pub run_key : (K : Node → Key → Type 0) (me : Node) (k : Key) → IsRunBy (by_key K) me k → K me k
 run_key K me k r = subst (λ (n : Node). K n k) r.1.0 (subst (K r.0.from) r.1.1.0 r.1.1.1)
 
-pub record Stands (clients : ℕ → ClientState) (hosts : ℕ → Host) (sent : List Message) (o : List Line) : Type 0 where
+pub record Stands (clients : ℕ → ClientState) (hosts : ℕ → ServerHost) (sent : List Message) (o : List Line) : Type 0 where
   pub callees : Key → Node
   pub own : (j : ℕ) → callees (last_of j (clients j)) ≡ (clients j).callee
   pub calls : Each (IfCall (λ h user call. IsKnown callees clients h.to (key_of h))) sent
@@ -178,23 +181,23 @@ Keeps o m = StandsIn m.cell (onto o m.entry.lines)
 -- ---- a step of a server
 
 -- what ran at a server is still kept where this one's keys grew
-grown_run : (callees : Key → Node) (clients : ℕ → ClientState) (hosts : ℕ → Host) (i : ℕ) (h : Host) → ((n : Node) (e k : ℕ) → Above (call_seat n h.state.lasting.kept) e k → Above (call_seat n (hosts i).state.lasting.kept) e k) → (q : Node) (k : Key) → HasRun callees clients hosts q k
+grown_run : (callees : Key → Node) (clients : ℕ → ClientState) (hosts : ℕ → ServerHost) (i : ℕ) (h : ServerHost) → ((n : Node) (e k : ℕ) → Above (call_seat n h.state.lasting.kept) e k → Above (call_seat n (hosts i).state.lasting.kept) e k) → (q : Node) (k : Key) → HasRun callees clients hosts q k
     → HasRun callees clients (put i h hosts) q k
 grown_run callees clients hosts i h grows q k r = record {
   server = r.server;
   is = r.is;
   known = r.known;
-  ran = at_put i r.server (λ (x : Host). Above (call_seat k.node x.state.lasting.kept) k.epoch k.number → ⊥) h hosts
+  ran = at_put i r.server (λ (x : ServerHost). Above (call_seat k.node x.state.lasting.kept) k.epoch k.number → ⊥) h hosts
       (λ same a. r.ran (subst (λ (j : ℕ). Above (call_seat k.node (hosts j).state.lasting.kept) k.epoch k.number) same (grows k.node k.epoch k.number a))) (λ other. r.ran);
 }
 
 -- a key that is to run at its callee, above all that is kept of its caller, ran nowhere
-pub not_run : (callees : Key → Node) (clients : ℕ → ClientState) (hosts : ℕ → Host) (i : ℕ) (k : Key) → IsKnown callees clients (Server i) k → Above (call_seat k.node (hosts i).state.lasting.kept) k.epoch k.number → (q : Node) (l : Key) → HasRun callees clients hosts q l → k ≡ l → ⊥
+pub not_run : (callees : Key → Node) (clients : ℕ → ClientState) (hosts : ℕ → ServerHost) (i : ℕ) (k : Key) → IsKnown callees clients (Server i) k → Above (call_seat k.node (hosts i).state.lasting.kept) k.epoch k.number → (q : Node) (l : Key) → HasRun callees clients hosts q l → k ≡ l → ⊥
 not_run callees clients hosts i k known above q l r same =
     let here : i ≡ r.server = server_number i r.server (known.called ∙ (ap callees same ∙ (sym r.known.called ∙ r.is))) in
     r.ran (subst (λ (j : ℕ). Above (call_seat l.node (hosts j).state.lasting.kept) l.epoch l.number) here (subst (λ (x : Key). Above (call_seat x.node (hosts i).state.lasting.kept) x.epoch x.number) same above))
 
-host_keeps : (clients : ℕ → ClientState) (hosts : ℕ → Host) (sent more : List Message) (o ls : List Line) (i : ℕ) (h : Host) → (S : Stands clients hosts sent o) → Hosts (by_key (IsKnown S.callees clients)) any_told (Server i) (memory_of (hosts i).state) (memory_of h.state) ls
+host_keeps : (clients : ℕ → ClientState) (hosts : ℕ → ServerHost) (sent more : List Message) (o ls : List Line) (i : ℕ) (h : ServerHost) → (S : Stands clients hosts sent o) → Hosts (by_key (IsKnown S.callees clients)) any_told (Server i) (memory_of (hosts i).state) (memory_of h.state) ls
     → Each (IsAnswer (by_key (IsKnown S.callees clients)) any_told) (replies_of h.state.backs.held) → HasCut (IsKnown S.callees clients) h.down → Each (IfCall (λ x user call. IsKnown S.callees clients x.to (key_of x))) more → Each (IfReply (λ r. IsKnown S.callees clients r.head.from (answered_key r.head))) more → Stands clients (put i h hosts) more (onto o ls)
 host_keeps clients hosts sent more o ls i h S H held cut calls answers = record {
   callees = S.callees;
@@ -202,19 +205,19 @@ host_keeps clients hosts sent more o ls i h S H held cut calls answers = record 
   calls = calls;
   answers = answers;
   replies = S.replies;
-  sound = λ j. at_put i j (λ (x : Host). IsSound (by_key (IsKnown S.callees clients)) any_told (memory_of x.state)) h hosts (λ same. H.sound) (λ other. S.sound j);
-  held = λ j. at_put i j (λ (x : Host). Each (IsAnswer (by_key (IsKnown S.callees clients)) any_told) (replies_of x.state.backs.held)) h hosts (λ same. held) (λ other. S.held j);
-  falls = λ j. at_put i j (λ (x : Host). HasCut (IsKnown S.callees clients) x.down) h hosts (λ same. cut) (λ other. S.falls j);
+  sound = λ j. at_put i j (λ (x : ServerHost). IsSound (by_key (IsKnown S.callees clients)) any_told (memory_of x.state)) h hosts (λ same. H.sound) (λ other. S.sound j);
+  held = λ j. at_put i j (λ (x : ServerHost). Each (IsAnswer (by_key (IsKnown S.callees clients)) any_told) (replies_of x.state.backs.held)) h hosts (λ same. held) (λ other. S.held j);
+  falls = λ j. at_put i j (λ (x : ServerHost). HasCut (IsKnown S.callees clients) x.down) h hosts (λ same. cut) (λ other. S.falls j);
   ran = one_each (HasRun S.callees clients (put i h hosts)) (Server i) H.changed ls o H.one
       (λ k e. record {
         server = i;
         is = refl;
         known = run_key (IsKnown S.callees clients) (Server i) k (H.known k e);
-        ran = at_put i i (λ (x : Host). Above (call_seat k.node x.state.lasting.kept) k.epoch k.number → ⊥) h hosts (λ same. H.ran k e) (λ other. absurd (other refl));
+        ran = at_put i i (λ (x : ServerHost). Above (call_seat k.node x.state.lasting.kept) k.epoch k.number → ⊥) h hosts (λ same. H.ran k e) (λ other. absurd (other refl));
       })
       (each_change (HasRun S.callees clients hosts) (HasRun S.callees clients (put i h hosts)) (grown_run S.callees clients hosts i h H.grows) o S.ran);
   once = one_once (Server i) H.changed ls o H.one (λ k e. new_key (HasRun S.callees clients hosts) k o (not_run S.callees clients hosts i k (run_key (IsKnown S.callees clients) (Server i) k (H.known k e)) (H.new k e)) S.ran) S.once;
-  stored = λ j n seat. at_put i j (λ (x : Host). call_seat n x.state.lasting.kept ≡ Some seat → HasChangeBy (Server j) (seat_key n seat) (onto o ls) × HasReply n seat) h hosts
+  stored = λ j n seat. at_put i j (λ (x : ServerHost). call_seat n x.state.lasting.kept ≡ Some seat → HasChangeBy (Server j) (seat_key n seat) (onto o ls) × HasReply n seat) h hosts
       (λ same e. elim (H.stored n seat e) [
         | inl old ↦ let was = S.stored i n seat old in (subst (λ (q : ℕ). HasChangeBy (Server q) (seat_key n seat) (onto o ls)) same (by_onto (Server i) (seat_key n seat) ls o was.0), was.1)
         | inr new ↦ (subst (λ (q : ℕ). HasChangeBy (Server q) (seat_key n seat) (onto o ls)) same (one_by (Server i) (seat_key n seat) H.changed ls o H.one new.0), new.1)
@@ -254,36 +257,39 @@ blow_none i false = refl
 served_keeps : (c : Cell) (o : List Line) (i place : ℕ) (m : Message) (b : Option Blow) → (S : StandsIn c o) → IfCall (λ h user call. IsKnown S.callees c.clients h.to (key_of h)) m → Keeps o (server_served c i place m b)
 served_keeps c o i place m None S h =
     moves_keeps c o i _ _ _ S (serves_step (by_key (IsKnown S.callees c.clients)) any_told i (c.hosts i).state c.clock place m (S.sound i) (S.held i) (decides_due (by_key (IsKnown S.callees c.clients)) any_told (Server i) (c.hosts i).state c.clock m (S.sound i).seats (any_call (by_key (IsKnown S.callees c.clients)) (c.hosts i).state.lasting.boot (c.hosts i).state.seats m.head m.carried h) (λ to. tt)))
-served_keeps c o i place m (Some b) S h = falls_keeps c o i (Some (in_step m c.clock b)) unarmed (lines.Given place ∷ blow_line i b.stops ∷ []) S (blow_none i b.stops) h
+served_keeps c o i place m (Some b) S h =
+    falls_is (Keeps o) c i (lines.Given place ∷ blow_line i b.stops ∷ []) (in_step m c.clock b) (falls_keeps c o i (Some (in_step m c.clock b)) unarmed (lines.Given place ∷ blow_line i b.stops ∷ []) S (blow_none i b.stops) h)
 
 received_keeps : (c : Cell) (o : List Line) (i place : ℕ) (luck : Luck) (m : Message) (d : Option Fall) → (S : StandsIn c o) → IfCall (λ h user call. IsKnown S.callees c.clients h.to (key_of h)) m → Keeps o (server_given c i place luck m d)
 received_keeps c o i place luck m None S h = served_keeps c o i place m (struck (c.hosts i).armed luck (calls_at c i m)) S h
 received_keeps c o i place luck m (Some fall) S h = nothing_keeps c o S
 
 stopped_keeps : (c : Cell) (o : List Line) (i : ℕ) (d : Option Fall) → StandsIn c o → Keeps o (server_stopped c i d)
-stopped_keeps c o i None S = falls_keeps c o i (Some at_rest) unarmed (lines.Crash (Server i) ∷ []) S refl tt
+stopped_keeps c o i None S = falls_is (Keeps o) c i (lines.Crash (Server i) ∷ []) at_rest (falls_keeps c o i (Some at_rest) unarmed (lines.Crash (Server i) ∷ []) S refl tt)
 stopped_keeps c o i (Some fall) S = nothing_keeps c o S
 
-ends_keeps : (c : Cell) (o : List Line) (i : ℕ) (f : Begun) (fall : Fall) (out : Outcome) → (S : StandsIn c o) → IsCutOf (IsKnown S.callees c.clients) fall → Begins (by_key (IsKnown S.callees c.clients)) any_told (Server i) (c.hosts i).state f → Keeps o (server_ends c i f fall out)
+ends_keeps : (c : Cell) (o : List Line) (i : ℕ) (f : Begun ServerState) (fall : Fall) (out : Outcome) → (S : StandsIn c o) → IsCutOf (IsKnown S.callees c.clients) fall → Begins (by_key (IsKnown S.callees c.clients)) any_told (Server i) (c.hosts i).state f → Keeps o (server_ends c i f fall out)
 ends_keeps c o i f fall comes_up S cut b = moves_keeps c o i _ unarmed _ S (starts_step (by_key (IsKnown S.callees c.clients)) any_told i (c.hosts i).state c.clock c.count f b)
-ends_keeps c o i f fall fails_early S cut b = falls_keeps c o i (Some fall) unarmed (lines.Fault (Server i) ∷ []) S refl cut
+ends_keeps c o i f fall fails_early S cut b = falls_is (Keeps o) c i (lines.Fault (Server i) ∷ []) fall (falls_keeps c o i (Some fall) unarmed (lines.Fault (Server i) ∷ []) S refl cut)
 ends_keeps c o i f fall fails_midway S cut b =
-    host_keeps c.clients c.hosts c.sent c.sent o (f.before (lines.Fault (Server i) ∷ [])) i (record { state = f.state; down = Some in_boot; armed = unarmed }) S (b.hosts (lines.Fault (Server i) ∷ []) refl) b.held tt S.calls S.answers
+    stays_is (Keeps o) c i f (lines.Fault (Server i)) in_boot
+    (host_keeps c.clients c.hosts c.sent c.sent o (f.before (lines.Fault (Server i) ∷ [])) i (record { state = f.state; down = Some in_boot; armed = unarmed }) S (b.hosts (lines.Fault (Server i) ∷ []) refl) b.held tt S.calls S.answers)
 ends_keeps c o i f fall is_full S cut b =
-    host_keeps c.clients c.hosts c.sent c.sent o (f.before (lines.Full (Server i) ∷ [])) i (record { state = f.state; down = Some at_rest; armed = unarmed }) S (b.hosts (lines.Full (Server i) ∷ []) refl) b.held tt S.calls S.answers
+    stays_is (Keeps o) c i f (lines.Full (Server i)) at_rest
+    (host_keeps c.clients c.hosts c.sent c.sent o (f.before (lines.Full (Server i) ∷ [])) i (record { state = f.state; down = Some at_rest; armed = unarmed }) S (b.hosts (lines.Full (Server i) ∷ []) refl) b.held tt S.calls S.answers)
 
 restarted_keeps : (c : Cell) (o : List Line) (i : ℕ) (after : Bool) (out : Outcome) (d : Option Fall) → (S : StandsIn c o) → HasCut (IsKnown S.callees c.clients) d → Keeps o (server_restarted c i after out d)
 restarted_keeps c o i after out None S cut = nothing_keeps c o S
 restarted_keeps c o i after out (Some fall) S cut =
-    let f : Begun = begun_by_disk (Server i) (c.hosts i).state after fall in
-    ends_keeps c o i f fall (settled f.state out) S cut (disk_begins (by_key (IsKnown S.callees c.clients)) any_told (Server i) (c.hosts i).state after fall (S.sound i) (S.held i) (cut_by (IsKnown S.callees c.clients) (c.hosts i).state fall cut) (λ h to. tt))
+    let f : Begun ServerState = begun_by_disk (Server i) (c.hosts i).state after fall in
+    ends_keeps c o i f fall (settled (can_start f.state) out) S cut (disk_begins (by_key (IsKnown S.callees c.clients)) any_told (Server i) (c.hosts i).state after fall (S.sound i) (S.held i) (cut_by (IsKnown S.callees c.clients) (c.hosts i).state fall cut) (λ h to. tt))
 
-stop_keeps : (c : Cell) (o : List Line) (i calls pick : ℕ) (armed : Armed) (d : Option Fall) → (c.hosts i).down ≡ d → StandsIn c o → Keeps o (server_armed c i (lines.Stop (Server i) calls pick) armed d)
-stop_keeps c o i calls pick armed None e S = falls_keeps c o i (c.hosts i).down armed (lines.Stop (Server i) calls pick ∷ []) S refl (S.falls i)
+stop_keeps : (c : Cell) (o : List Line) (i calls pick : ℕ) (armed : Armed) (d : Option Fall) → (c.hosts i).down ≡ d → StandsIn c o → Keeps o (server_armed c i (sets (c.hosts i) (lines.Stop (Server i) calls pick) armed) d)
+stop_keeps c o i calls pick armed None e S = sets_is (Keeps o) c i (lines.Stop (Server i) calls pick) armed (falls_keeps c o i (c.hosts i).down armed (lines.Stop (Server i) calls pick ∷ []) S refl (S.falls i))
 stop_keeps c o i calls pick armed (Some fall) e S = nothing_keeps c o S
 
-fail_keeps : (c : Cell) (o : List Line) (i call : ℕ) (armed : Armed) (d : Option Fall) → StandsIn c o → Keeps o (server_armed c i (lines.Fail (Server i) call) armed d)
-fail_keeps c o i call armed None S = falls_keeps c o i (c.hosts i).down armed (lines.Fail (Server i) call ∷ []) S refl (S.falls i)
+fail_keeps : (c : Cell) (o : List Line) (i call : ℕ) (armed : Armed) (d : Option Fall) → StandsIn c o → Keeps o (server_armed c i (sets (c.hosts i) (lines.Fail (Server i) call) armed) d)
+fail_keeps c o i call armed None S = sets_is (Keeps o) c i (lines.Fail (Server i) call) armed (falls_keeps c o i (c.hosts i).down armed (lines.Fail (Server i) call ∷ []) S refl (S.falls i))
 fail_keeps c o i call armed (Some fall) S = nothing_keeps c o S
 
 back_keeps : (c : Cell) (o : List Line) (i : ℕ) (n : Node) (b : Option BackCall) → StandsIn c o → Keeps o (back_timed c i n b)
@@ -355,7 +361,7 @@ cut_over K L w (Some at_rest) h = tt
 cut_over K L w (Some in_boot) h = tt
 cut_over K L w (Some (in_step m clock hit)) h = if_call (λ x user call. K x.to (key_of x)) (λ x user call. L x.to (key_of x)) (λ x user call. w x.to (key_of x)) m h
 
-run_later : (callees more : Key → Node) (clients then : ℕ → ClientState) (hosts : ℕ → Host) → ((q : Node) (k : Key) → IsKnown callees clients q k → IsKnown more then q k) → (q : Node) (k : Key) → HasRun callees clients hosts q k → HasRun more then hosts q k
+run_later : (callees more : Key → Node) (clients then : ℕ → ClientState) (hosts : ℕ → ServerHost) → ((q : Node) (k : Key) → IsKnown callees clients q k → IsKnown more then q k) → (q : Node) (k : Key) → HasRun callees clients hosts q k → HasRun more then hosts q k
 run_later callees more clients then hosts w q k r = record { server = r.server; is = r.is; known = w q k r.known; ran = r.ran }
 
 pub replies_over : (K L : Head → Type 0) → ((h : Head) → K h → L h) → (seats : List Seat) → AreReplies K any_told seats → AreReplies L any_told seats
@@ -506,7 +512,7 @@ durable_changes s h end r i =
 -- ---- a call that a server would run
 
 -- it changed nothing yet for that node under a key as late as this one, which is above all that it keeps of it
-pub latest_by : (clients : ℕ → ClientState) (hosts : ℕ → Host) (sent : List Message) (o : List Line) (i : ℕ) (k : Key) → Stands clients hosts sent o → Above (call_seat k.node (hosts i).state.lasting.kept) k.epoch k.number → IsLatest (Server i) k o
+pub latest_by : (clients : ℕ → ClientState) (hosts : ℕ → ServerHost) (sent : List Message) (o : List Line) (i : ℕ) (k : Key) → Stands clients hosts sent o → Above (call_seat k.node (hosts i).state.lasting.kept) k.epoch k.number → IsLatest (Server i) k o
 latest_by clients hosts sent o i k S above l y node =
     let r : HasRun S.callees clients hosts (Server i) l = of_change (HasRun S.callees clients hosts) (Server i) l o y S.ran in
     later_by (call_seat k.node (hosts i).state.lasting.kept) k l above

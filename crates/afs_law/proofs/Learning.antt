@@ -26,7 +26,8 @@ use Rattle.afs_num.specs.declared.types.Node.TheVariants.{Admin, Client, Loc, Se
 use Rattle.afs_rows.specs.Callbacks.{put, replies_of}
 use Rattle.afs_rows.specs.ClientRow.{begin_row, boot_of, client_row, reborn, timeout_row}
 use Rattle.afs_rows.specs.Going.{ClientState, Going}
-use Rattle.afs_rows.specs.Runs.{Blow, Armed, Cell, Entry, Fall, Host, at_rest, begun_by_disk, blow_line, in_boot, in_step, message_at, server_moves, start, ticked, unarmed, voided}
+use Rattle.afs_law.proofs.Steps.{blow_line, server_moves}
+use Rattle.afs_rows.specs.Runs.{Blow, Armed, Cell, Entry, Fall, at_rest, begun_by_disk, in_boot, in_step, message_at, start, ticked, unarmed, voided, ServerHost}
 use Rattle.afs_rows.specs.ServerRow.{boot_told, decides}
 use Rattle.afs_rows.specs.ServerSteps.{back_timeout_row, server_row, start_row, wake_row}
 use Rattle.afs_rows.specs.States.{BackCall, Seat, ServerState}
@@ -119,7 +120,7 @@ last_begun past n x h head user call l = subst (λ (q : Node). IsBootOf q head.b
 abbrev pub HasStood : ℕ → ServerState → Option Fall → List Entry → Type 0
 HasStood i x d past = (m : Message) (clock : ℕ) (hit : Blow) → d ≡ Some (in_step m clock hit) → HasBoot (Server i) x.lasting.boot (lines_of past)
 
-pub record Learnt (clients : ℕ → ClientState) (hosts : ℕ → Host) (sent : List Message) (past : List Entry) : Type 0 where
+pub record Learnt (clients : ℕ → ClientState) (hosts : ℕ → ServerHost) (sent : List Message) (past : List Entry) : Type 0 where
   pub calls : Each (IfCall (IsToBegun past)) sent
   pub notices : AreNoted past sent
   pub known : (j : ℕ) → IsKnown past (clients j)
@@ -193,20 +194,20 @@ given_learns c e past n place m h at to =
 
 -- ---- a step of a server
 
-host_learnt : (c : Cell) (e : Entry) (past : List Entry) (i : ℕ) (x : Host) (ms : List Message) → LearntIn c past → Each (IsAnswer any_told (Tells (e ∷ past))) ms → IsSound any_told (Tells (e ∷ past)) (memory_of x.state) → Each (IsAnswer any_told (Tells (e ∷ past))) (replies_of x.state.backs.held) → HasStood i x.state x.down (e ∷ past)
+host_learnt : (c : Cell) (e : Entry) (past : List Entry) (i : ℕ) (x : ServerHost) (ms : List Message) → LearntIn c past → Each (IsAnswer any_told (Tells (e ∷ past))) ms → IsSound any_told (Tells (e ∷ past)) (memory_of x.state) → Each (IsAnswer any_told (Tells (e ∷ past))) (replies_of x.state.backs.held) → HasStood i x.state x.down (e ∷ past)
     → Learnt c.clients (put i x c.hosts) (c.sent ++ ms) (e ∷ past)
 host_learnt c e past i x ms h new sound held stood = record {
   calls = each_more (IfCall (IsToBegun (e ∷ past))) c.sent ms (calls_onto e past c.sent h.calls) (each_map (IsAnswer any_told (Tells (e ∷ past))) (IfCall (IsToBegun (e ∷ past))) (λ m a. uncalled_any (IsToBegun (e ∷ past)) m a.0) ms new);
   notices = each_more (λ m. OfNotice (Tells (e ∷ past) m.head) m.carried) c.sent ms (noted_onto e past c.sent h.notices) (each_map (IsAnswer any_told (Tells (e ∷ past))) (λ m. OfNotice (Tells (e ∷ past) m.head) m.carried) (λ m a. a.1.1) ms new);
   known = λ j q. of_onto e past q (boot_of q (c.clients j).boots) (h.known j q);
   replies = λ j. replies_onto e past (c.clients j).seats (h.replies j);
-  sound = λ j. at_put i j (λ (y : Host). IsSound any_told (Tells (e ∷ past)) (memory_of y.state)) x c.hosts (λ same. sound) (λ other. sound_onto e past (c.hosts j).state (h.sound j));
-  held = λ j. at_put i j (λ (y : Host). Each (IsAnswer any_told (Tells (e ∷ past))) (replies_of y.state.backs.held)) x c.hosts (λ same. held) (λ other. held_onto e past (replies_of (c.hosts j).state.backs.held) (h.held j));
-  stood = λ j. at_put i j (λ (y : Host). HasStood j y.state y.down (e ∷ past)) x c.hosts (λ same. subst (λ (k : ℕ). HasStood k x.state x.down (e ∷ past)) same stood) (λ other. stood_onto e past j (c.hosts j).state (c.hosts j).down (h.stood j));
+  sound = λ j. at_put i j (λ (y : ServerHost). IsSound any_told (Tells (e ∷ past)) (memory_of y.state)) x c.hosts (λ same. sound) (λ other. sound_onto e past (c.hosts j).state (h.sound j));
+  held = λ j. at_put i j (λ (y : ServerHost). Each (IsAnswer any_told (Tells (e ∷ past))) (replies_of y.state.backs.held)) x c.hosts (λ same. held) (λ other. held_onto e past (replies_of (c.hosts j).state.backs.held) (h.held j));
+  stood = λ j. at_put i j (λ (y : ServerHost). HasStood j y.state y.down (e ∷ past)) x c.hosts (λ same. subst (λ (k : ℕ). HasStood k x.state x.down (e ∷ past)) same stood) (λ other. stood_onto e past j (c.hosts j).state (c.hosts j).down (h.stood j));
 }
 
 -- one that sends nothing
-quiet_learnt : (c : Cell) (e : Entry) (past : List Entry) (i : ℕ) (x : Host) → LearntIn c past → IsSound any_told (Tells (e ∷ past)) (memory_of x.state) → Each (IsAnswer any_told (Tells (e ∷ past))) (replies_of x.state.backs.held) → HasStood i x.state x.down (e ∷ past) → Learnt c.clients (put i x c.hosts) c.sent (e ∷ past)
+quiet_learnt : (c : Cell) (e : Entry) (past : List Entry) (i : ℕ) (x : ServerHost) → LearntIn c past → IsSound any_told (Tells (e ∷ past)) (memory_of x.state) → Each (IsAnswer any_told (Tells (e ∷ past))) (replies_of x.state.backs.held) → HasStood i x.state x.down (e ∷ past) → Learnt c.clients (put i x c.hosts) c.sent (e ∷ past)
 quiet_learnt c e past i x h sound held stood = subst (λ (ms : List Message). Learnt c.clients (put i x c.hosts) ms (e ∷ past)) (none_more c.sent) (host_learnt c e past i x [] h tt sound held stood)
 
 -- in which it stays as it is

@@ -6,6 +6,7 @@ pub mod Owing
 pub mod Backing
 pub mod Turning
 pub mod Words
+pub mod Steps
 pub mod Booting
 pub mod Rising
 pub mod Loading
@@ -129,3 +130,4 @@ pub mod Ends
 pub mod Worked
 pub mod KeptRuns
 pub mod Wrong
+pub mod Database

@@ -47,10 +47,12 @@ use Rattle.afs_num.specs.declared.types.Node.TheVariants.{Admin, Client, Loc, Se
 use Rattle.afs_rows.specs.Callbacks.{put}
 use Rattle.afs_rows.specs.ClientRow.{Look, Walked, admits_call, answers_step, awaits, find_cached, is_below, put_entries, put_entry, takes_stored, begin_row, begins_by, behind_batch, body_told, breaks, call_of, calls_again, client_row, counts, dead_code, drop_line, dropped, dropped_after, entries_told, entry_told, gift_of, given, given_up_in, gives_by, gives_up, goes_by, hears, ignores, in_order, is_awaited, is_busy_code, is_older, is_spent, is_trusted, look_at, looked, most_busy, most_reads, read_lines, reborn, refuses, runs_carried, status_look, status_told, takes, takes_bulk, takes_bytes, takes_data, takes_entries, takes_entry, takes_given, takes_list, takes_plain, takes_rights, takes_set, takes_shown, takes_status, timeout_row, tries_again, trusted_in, untrusted_in, walked, walks_on, whole, with_statuses}
 use Rattle.afs_rows.specs.Going.{ClientState, Going, Need, answers, began, gives_back, next, with_read}
-use Rattle.afs_rows.specs.Runs.{Armed, Blow, Cell, Entry, Fall, Input, Luck, Moved, Outcome, RunsTo, back_timed, begins, begun_by, begun_by_disk, client_falls, client_moves, client_rises, client_starts, client_stops, comes_up, calls_at, fails_early, fails_midway, given_at, given_to, gives, has_client, has_host, is_full, message_at, moved, nothing, server_armed, server_ends, server_given, server_restarted, server_served, server_stopped, server_timed, server_waits, server_wakes, sets_fail, sets_stop, settled, start, starts_again, stops, struck, ticked, ticks, voided, waited_by, waits, wakes}
-use Rattle.afs_rows.specs.ServerRow.{Begun}
-use Rattle.afs_rows.specs.States.{BackCall, CacheEntry, Gift}
-use Rattle.afs_rows.specs.Steps.{Step}
+use Rattle.afs_law.proofs.Steps.{calls_at}
+use Rattle.afs_rows.specs.Hosts.{sets}
+use Rattle.afs_rows.specs.ServerHosts.{can_start}
+use Rattle.afs_rows.specs.Runs.{Armed, Blow, Cell, Entry, Fall, Input, Luck, Moved, Outcome, RunsTo, back_timed, begins, begun_by, begun_by_disk, client_falls, client_moves, client_rises, client_starts, client_stops, comes_up, fails_early, fails_midway, given_at, given_to, gives, has_client, has_host, is_full, message_at, moved, nothing, server_armed, server_ends, server_given, server_restarted, server_served, server_stopped, server_timed, server_waits, server_wakes, sets_fail, sets_stop, settled, start, starts_again, stops, struck, ticked, ticks, voided, waited_by, waits, wakes}
+use Rattle.afs_rows.specs.States.{BackCall, CacheEntry, Gift, ServerState}
+use Rattle.afs_rows.specs.Steps.{Step, Begun}
 use Rattle.std.proofs.Common.{zero, suc, ◌+◌, ◌≡◌, ◌⊎◌, inl, inr, ℕ, Bool, true, false, cond, List, [], ◌∷◌, ◌++◌, map, Option, Some, None, refl, sym, ap, subst, ◌∙◌, filter, not}
 use Rattle.std.specs.List.{list_any}
 use Rattle.std.specs.Prelude.{⊤, ◌||◌, ◌&&◌, nat_lt}
@@ -369,7 +371,7 @@ stopped_besides : (c : Cell) (i : ℕ) (d : Option Fall) → Besides c (server_s
 stopped_besides c i None = record { other = λ j e. absurd cc; away = refl; clients = refl }
 stopped_besides c i (Some fall) = void_besides c
 
-ends_besides : (c : Cell) (i : ℕ) (f : Begun) (fall : Fall) (out : Outcome) → Besides c (server_ends c i f fall out)
+ends_besides : (c : Cell) (i : ℕ) (f : Begun ServerState) (fall : Fall) (out : Outcome) → Besides c (server_ends c i f fall out)
 ends_besides c i f fall comes_up = record { other = λ j e. absurd cc; away = refl; clients = refl }
 ends_besides c i f fall fails_early = record { other = λ j e. absurd cc; away = refl; clients = refl }
 ends_besides c i f fall fails_midway = record { other = λ j e. absurd cc; away = refl; clients = refl }
@@ -377,9 +379,9 @@ ends_besides c i f fall is_full = record { other = λ j e. absurd cc; away = ref
 
 restarted_besides : (c : Cell) (i : ℕ) (after : Bool) (out : Outcome) (d : Option Fall) → Besides c (server_restarted c i after out d)
 restarted_besides c i after out None = void_besides c
-restarted_besides c i after out (Some fall) = ends_besides c i (begun_by_disk (Server i) (c.hosts i).state after fall) fall (settled (begun_by_disk (Server i) (c.hosts i).state after fall).state out)
+restarted_besides c i after out (Some fall) = ends_besides c i (begun_by_disk (Server i) (c.hosts i).state after fall) fall (settled (can_start (begun_by_disk (Server i) (c.hosts i).state after fall).state) out)
 
-armed_besides : (c : Cell) (i : ℕ) (l : Line) (armed : Armed) (d : Option Fall) → Besides c (server_armed c i l armed d)
+armed_besides : (c : Cell) (i : ℕ) (l : Line) (armed : Armed) (d : Option Fall) → Besides c (server_armed c i (sets (c.hosts i) l armed) d)
 armed_besides c i l armed None = record { other = λ j e. absurd cc; away = refl; clients = refl }
 armed_besides c i l armed (Some fall) = void_besides c
 

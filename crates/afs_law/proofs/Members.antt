@@ -15,9 +15,12 @@ use Rattle.afs_num.specs.declared.types.Node.{Node}
 use Rattle.afs_num.specs.declared.types.Node.TheVariants.{Admin, Client, Loc, Server}
 use Rattle.afs_rows.specs.Callbacks.{put}
 use Rattle.afs_rows.specs.Going.{Going}
-use Rattle.afs_rows.specs.Runs.{Armed, Blow, Cell, Entry, Fall, Input, Leads, Luck, Moved, Outcome, RunsTo, back_timed, begins, begun_by, begun_by_disk, client_starts, client_stops, comes_up, calls_at, fails_early, fails_midway, given_at, given_to, gives, has_client, has_host, is_away, is_full, message_at, moved, nothing, server_armed, server_ends, server_given, server_restarted, server_served, server_stopped, server_timed, server_waits, server_wakes, sets_fail, sets_stop, settled, start, starts_again, stops, struck, ticks, voided, waited_by, waits, wakes}
-use Rattle.afs_rows.specs.ServerRow.{Begun}
-use Rattle.afs_rows.specs.States.{BackCall}
+use Rattle.afs_law.proofs.Steps.{calls_at}
+use Rattle.afs_rows.specs.Steps.{Begun}
+use Rattle.afs_rows.specs.Hosts.{sets}
+use Rattle.afs_rows.specs.ServerHosts.{can_start}
+use Rattle.afs_rows.specs.Runs.{Armed, Blow, Cell, Entry, Fall, Input, Leads, Luck, Moved, Outcome, RunsTo, back_timed, begins, begun_by, begun_by_disk, client_starts, client_stops, comes_up, fails_early, fails_midway, given_at, given_to, gives, has_client, has_host, is_away, is_full, message_at, moved, nothing, server_armed, server_ends, server_given, server_restarted, server_served, server_stopped, server_timed, server_waits, server_wakes, sets_fail, sets_stop, settled, start, starts_again, stops, struck, ticks, voided, waited_by, waits, wakes}
+use Rattle.afs_rows.specs.States.{BackCall, ServerState}
 use Rattle.std.proofs.Common.{zero, suc, ◌≡◌, ℕ, ◌<◌, ◌≤◌, arith, ltb-true, Bool, true, false, cond, List, [], ◌∷◌, Option, Some, None, refl, sym, subst, ◌∙◌}
 use Rattle.std.specs.Prelude.{not, ◌||◌}
 
@@ -107,7 +110,7 @@ stopped_stays : (s : Script) (c : Cell) (i : ℕ) (d : Option Fall) → HasNodes
 stopped_stays s c i None H is = record { of = is; nodes = kept s c _ refl refl refl H }
 stopped_stays s c i (Some fall) H is = void_stays s c H
 
-ends_stays : (s : Script) (c : Cell) (i : ℕ) (f : Begun) (fall : Fall) (out : Outcome) → HasNodes s c → (1 ≤ i) × (i ≤ s.servers) → Stays s (server_ends c i f fall out)
+ends_stays : (s : Script) (c : Cell) (i : ℕ) (f : Begun ServerState) (fall : Fall) (out : Outcome) → HasNodes s c → (1 ≤ i) × (i ≤ s.servers) → Stays s (server_ends c i f fall out)
 ends_stays s c i f fall comes_up H is = record { of = is; nodes = kept s c _ refl refl refl H }
 ends_stays s c i f fall fails_early H is = record { of = is; nodes = kept s c _ refl refl refl H }
 ends_stays s c i f fall fails_midway H is = record { of = is; nodes = kept s c _ refl refl refl H }
@@ -115,9 +118,9 @@ ends_stays s c i f fall is_full H is = record { of = is; nodes = kept s c _ refl
 
 restarted_stays : (s : Script) (c : Cell) (i : ℕ) (after : Bool) (out : Outcome) (d : Option Fall) → HasNodes s c → (1 ≤ i) × (i ≤ s.servers) → Stays s (server_restarted c i after out d)
 restarted_stays s c i after out None H is = void_stays s c H
-restarted_stays s c i after out (Some fall) H is = ends_stays s c i (begun_by_disk (Server i) (c.hosts i).state after fall) fall (settled (begun_by_disk (Server i) (c.hosts i).state after fall).state out) H is
+restarted_stays s c i after out (Some fall) H is = ends_stays s c i (begun_by_disk (Server i) (c.hosts i).state after fall) fall (settled (can_start (begun_by_disk (Server i) (c.hosts i).state after fall).state) out) H is
 
-armed_stays : (s : Script) (c : Cell) (i : ℕ) (l : Line) (armed : Armed) (d : Option Fall) → HasNodes s c → (1 ≤ i) × (i ≤ s.servers) → Stays s (server_armed c i l armed d)
+armed_stays : (s : Script) (c : Cell) (i : ℕ) (l : Line) (armed : Armed) (d : Option Fall) → HasNodes s c → (1 ≤ i) × (i ≤ s.servers) → Stays s (server_armed c i (sets (c.hosts i) l armed) d)
 armed_stays s c i l armed None H is = record { of = is; nodes = kept s c _ refl refl refl H }
 armed_stays s c i l armed (Some fall) H is = void_stays s c H
 

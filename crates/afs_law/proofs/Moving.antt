@@ -8,7 +8,10 @@ use Rattle.afs_num.specs.declared.types.Node.{Node}
 use Rattle.afs_num.specs.declared.types.Node.TheVariants.{Admin, Client, Loc, Server}
 use Rattle.afs_rows.specs.ClientRow.{begin_row, client_row, timeout_row}
 use Rattle.afs_rows.specs.Going.{Going}
-use Rattle.afs_rows.specs.Runs.{Armed, Blow, Cell, Entry, Fall, Input, Leads, Luck, Moved, Outcome, at_rest, back_timed, begins, begun_by, begun_by_disk, blow_line, client_falls, client_moves, client_rises, client_starts, client_stops, comes_up, calls_at, fails_early, fails_midway, given_at, given_to, gives, has_host, in_boot, in_step, is_away, is_full, message_at, moved, nothing, server_armed, server_ends, server_falls, server_given, server_moves, server_restarted, server_rises, server_served, server_set, server_stays, server_stopped, server_timed, server_waits, server_wakes, sets_fail, sets_stop, settled, starts_again, stops, struck, ticked, ticks, voided, waited_by, waits, wakes}
+use Rattle.afs_law.proofs.Steps.{blow_line, calls_at, server_falls, server_moves, server_rises, server_set, server_stays, falls_is, sets_is, stays_is}
+use Rattle.afs_rows.specs.Hosts.{sets}
+use Rattle.afs_rows.specs.ServerHosts.{can_start}
+use Rattle.afs_rows.specs.Runs.{Armed, Blow, Cell, Entry, Fall, Input, Leads, Luck, Moved, Outcome, at_rest, back_timed, begins, begun_by, begun_by_disk, client_falls, client_moves, client_rises, client_starts, client_stops, comes_up, fails_early, fails_midway, given_at, given_to, gives, has_host, in_boot, in_step, is_away, is_full, message_at, moved, nothing, server_armed, server_ends, server_given, server_restarted, server_served, server_stopped, server_timed, server_waits, server_wakes, sets_fail, sets_stop, settled, starts_again, stops, struck, ticked, ticks, voided, waited_by, waits, wakes}
 use Rattle.afs_rows.specs.ServerSteps.{back_timeout_row, server_row, wake_row}
 use Rattle.afs_rows.specs.States.{BackCall}
 use Rattle.std.proofs.Common.{zero, suc, ◌≡◌, ℕ, Bool, true, false, cond, List, [], ◌∷◌, Option, Some, None, refl, sym, subst}
@@ -47,7 +50,7 @@ either Q M c past false m k a b = b
 
 served_by : (Q : Cell → List Entry → Type 0) (M : Cell → List Entry → Moved → Type 0) (E : EachMove Q M) (c : Cell) (past : List Entry) (i place : ℕ) (m : Message) (b : Option Blow) → Q c past → (c.hosts i).down ≡ None → message_at c.sent place ≡ Some m → m.head.to ≡ Server i → M c past (server_served c i place m b)
 served_by Q M E c past i place m None h up at to = E.served c past i place m _ h up at to
-served_by Q M E c past i place m (Some b) h up at to = E.cut c past i place m b h up at to
+served_by Q M E c past i place m (Some b) h up at to = falls_is (M c past) c i (lines.Given place ∷ blow_line i b.stops ∷ []) (in_step m c.clock b) (E.cut c past i place m b h up at to)
 
 received_by : (Q : Cell → List Entry → Type 0) (M : Cell → List Entry → Moved → Type 0) (E : EachMove Q M) (c : Cell) (past : List Entry) (i place : ℕ) (luck : Luck) (m : Message) (d : Option Fall) → Q c past → (c.hosts i).down ≡ d → message_at c.sent place ≡ Some m → m.head.to ≡ Server i → M c past (server_given c i place luck m d)
 received_by Q M E c past i place luck m None h up at to = served_by Q M E c past i place m (struck (c.hosts i).armed luck (calls_at c i m)) h up at to
@@ -72,25 +75,25 @@ waited_by' Q M E c past n None h e = E.void c past h
 waited_by' Q M E c past n (Some act) h e = E.waited c past n act h e
 
 stopped_by : (Q : Cell → List Entry → Type 0) (M : Cell → List Entry → Moved → Type 0) (E : EachMove Q M) (c : Cell) (past : List Entry) (i : ℕ) (d : Option Fall) → Q c past → (c.hosts i).down ≡ d → M c past (server_stopped c i d)
-stopped_by Q M E c past i None h e = E.stopped c past i h e
+stopped_by Q M E c past i None h e = falls_is (M c past) c i (lines.Crash (Server i) ∷ []) at_rest (E.stopped c past i h e)
 stopped_by Q M E c past i (Some fall) h e = E.void c past h
 
 ends_by : (Q : Cell → List Entry → Type 0) (M : Cell → List Entry → Moved → Type 0) (E : EachMove Q M) (c : Cell) (past : List Entry) (i : ℕ) (after : Bool) (fall : Fall) (out : Outcome) → Q c past → (c.hosts i).down ≡ Some fall → M c past (server_ends c i (begun_by_disk (Server i) (c.hosts i).state after fall) fall out)
 ends_by Q M E c past i after fall comes_up h e = E.started c past i after fall h e
-ends_by Q M E c past i after fall fails_early h e = E.early c past i fall h e
-ends_by Q M E c past i after fall fails_midway h e = E.midway c past i after fall h e
-ends_by Q M E c past i after fall is_full h e = E.full c past i after fall h e
+ends_by Q M E c past i after fall fails_early h e = falls_is (M c past) c i (lines.Fault (Server i) ∷ []) fall (E.early c past i fall h e)
+ends_by Q M E c past i after fall fails_midway h e = stays_is (M c past) c i (begun_by_disk (Server i) (c.hosts i).state after fall) (lines.Fault (Server i)) in_boot (E.midway c past i after fall h e)
+ends_by Q M E c past i after fall is_full h e = stays_is (M c past) c i (begun_by_disk (Server i) (c.hosts i).state after fall) (lines.Full (Server i)) at_rest (E.full c past i after fall h e)
 
 restarted_by : (Q : Cell → List Entry → Type 0) (M : Cell → List Entry → Moved → Type 0) (E : EachMove Q M) (c : Cell) (past : List Entry) (i : ℕ) (after : Bool) (out : Outcome) (d : Option Fall) → Q c past → (c.hosts i).down ≡ d → M c past (server_restarted c i after out d)
 restarted_by Q M E c past i after out None h e = E.void c past h
-restarted_by Q M E c past i after out (Some fall) h e = ends_by Q M E c past i after fall (settled (begun_by_disk (Server i) (c.hosts i).state after fall).state out) h e
+restarted_by Q M E c past i after out (Some fall) h e = ends_by Q M E c past i after fall (settled (can_start (begun_by_disk (Server i) (c.hosts i).state after fall).state) out) h e
 
-stop_by : (Q : Cell → List Entry → Type 0) (M : Cell → List Entry → Moved → Type 0) (E : EachMove Q M) (c : Cell) (past : List Entry) (i calls pick : ℕ) (armed : Armed) (d : Option Fall) → Q c past → (c.hosts i).down ≡ d → M c past (server_armed c i (lines.Stop (Server i) calls pick) armed d)
-stop_by Q M E c past i calls pick armed None h e = E.stop_set c past i calls pick armed h e
+stop_by : (Q : Cell → List Entry → Type 0) (M : Cell → List Entry → Moved → Type 0) (E : EachMove Q M) (c : Cell) (past : List Entry) (i calls pick : ℕ) (armed : Armed) (d : Option Fall) → Q c past → (c.hosts i).down ≡ d → M c past (server_armed c i (sets (c.hosts i) (lines.Stop (Server i) calls pick) armed) d)
+stop_by Q M E c past i calls pick armed None h e = sets_is (M c past) c i (lines.Stop (Server i) calls pick) armed (E.stop_set c past i calls pick armed h e)
 stop_by Q M E c past i calls pick armed (Some fall) h e = E.void c past h
 
-fail_by : (Q : Cell → List Entry → Type 0) (M : Cell → List Entry → Moved → Type 0) (E : EachMove Q M) (c : Cell) (past : List Entry) (i call : ℕ) (armed : Armed) (d : Option Fall) → Q c past → (c.hosts i).down ≡ d → M c past (server_armed c i (lines.Fail (Server i) call) armed d)
-fail_by Q M E c past i call armed None h e = E.fail_set c past i call armed h e
+fail_by : (Q : Cell → List Entry → Type 0) (M : Cell → List Entry → Moved → Type 0) (E : EachMove Q M) (c : Cell) (past : List Entry) (i call : ℕ) (armed : Armed) (d : Option Fall) → Q c past → (c.hosts i).down ≡ d → M c past (server_armed c i (sets (c.hosts i) (lines.Fail (Server i) call) armed) d)
+fail_by Q M E c past i call armed None h e = sets_is (M c past) c i (lines.Fail (Server i) call) armed (E.fail_set c past i call armed h e)
 fail_by Q M E c past i call armed (Some fall) h e = E.void c past h
 
 back_by : (Q : Cell → List Entry → Type 0) (M : Cell → List Entry → Moved → Type 0) (E : EachMove Q M) (c : Cell) (past : List Entry) (i : ℕ) (n : Node) (b : Option BackCall) → Q c past → (c.hosts i).down ≡ None → (c.hosts i).state.backs.calls n ≡ b → M c past (back_timed c i n b)

@@ -44,7 +44,8 @@ use Rattle.afs_num.specs.declared.types.Node.TheVariants.{Admin, Client, Loc, Se
 use Rattle.afs_rows.specs.Callbacks.{put}
 use Rattle.afs_rows.specs.ClientRow.{call_by, call_message, call_of}
 use Rattle.afs_rows.specs.Going.{ClientState, Going, began, next, read_on}
-use Rattle.afs_rows.specs.Runs.{Armed, Cell, Entry, Fall, at_rest, in_boot, in_step, RunsTo, begun_by_disk, blow_line, locations, server_moves, start, unarmed, user_at}
+use Rattle.afs_law.proofs.Steps.{blow_line, server_moves}
+use Rattle.afs_rows.specs.Runs.{Armed, Cell, Entry, Fall, at_rest, in_boot, in_step, RunsTo, begun_by_disk, locations, start, unarmed, user_at}
 use Rattle.afs_rows.specs.ServerRow.{key_of, made, versioned}
 use Rattle.afs_rows.specs.ServerSteps.{back_timeout_row, server_row, start_row, wake_row}
 use Rattle.afs_rows.specs.States.{Gift, ServerState}

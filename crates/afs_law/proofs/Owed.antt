@@ -59,11 +59,12 @@ use Rattle.afs_records.specs.Durable.{Stored}
 use Rattle.afs_rows.specs.Callbacks.{Turn, expired, is_back_awaited, is_seat_of, key_answered, no_turn, owe_line, pumped, put, quits, replies_of, retries, settles, settles_by, still_owed, turn_for, turned_by, held_under, if_to, quit_line, renews, renews_by, settle_line}
 use Rattle.afs_rows.specs.ClientRow.{begin_row, client_row, reborn, timeout_row}
 use Rattle.afs_rows.specs.Going.{ClientState}
-use Rattle.afs_rows.specs.Runs.{Armed, Cell, Entry, Fall, Host, Moved, at_rest, begun_by_disk, blow_line, client_moves, in_boot, in_step, message_at, server_moves, start, unarmed, first_client, first_host, server_falls, server_set, server_stays}
-use Rattle.afs_rows.specs.ServerRow.{Begun, Change, Decision, begun_after, decides, does, drops, granted, granted_in, hears, key_of, made, promise_ticks, refuses, repeats, saves, shows, tells_boot, versioned}
+use Rattle.afs_law.proofs.Steps.{blow_line, server_falls, server_moves, server_set, server_stays}
+use Rattle.afs_rows.specs.Runs.{Armed, Cell, Entry, Fall, Moved, at_rest, begun_by_disk, client_moves, in_boot, in_step, message_at, start, unarmed, first_client, first_host, ServerHost}
+use Rattle.afs_rows.specs.ServerRow.{Change, Decision, begun_after, decides, does, drops, granted, granted_in, hears, key_of, made, promise_ticks, refuses, repeats, saves, shows, tells_boot, versioned}
 use Rattle.afs_rows.specs.ServerSteps.{back_timeout_row, server_row, start_row, wake_row}
 use Rattle.afs_rows.specs.States.{BackCall, Backs, Gift, Held, Seat, ServerState}
-use Rattle.afs_rows.specs.Steps.{Step}
+use Rattle.afs_rows.specs.Steps.{Step, Begun}
 use Rattle.afs_law.proofs.Calling.{IsAnswer}
 use Rattle.afs_law.proofs.Words.{IsOne, up_boot}
 use Rattle.afs_law.proofs.Firm.{IsSentBy}
@@ -84,7 +85,7 @@ abbrev pub FairCall : Message → Type 0
 FairCall m = OfCall IsFair m.head m.carried
 
 -- what is known of a server's promises, breaks and replies that wait
-abbrev pub BackedAt : ℕ → Host → (ℕ → ClientState) → ℕ → List Message → List Entry → Type 0
+abbrev pub BackedAt : ℕ → ServerHost → (ℕ → ClientState) → ℕ → List Message → List Entry → Type 0
 BackedAt i h clients clock sent past = BackedIn (Server i) h.down h.state.backs h.state.lasting.boot h.state.seats (λ j. call_seat (Server i) (clients j).seats) clock sent past
 
 pub record Backed (s : Script) (c : Cell) (past : List Entry) : Type 0 where
@@ -195,7 +196,7 @@ client_backed s c past n st B a t =
       count = B.count;
       fair = each_more FairCall c.sent st.sent B.fair (each_zip (λ m. m.head.from ≡ Client n) IsFile FairCall (λ m. fair_of n m.head m.carried) st.sent (each_map (IsSentBy (Client n)) (λ m. m.head.from ≡ Client n) (λ m k. k.from) st.sent a.from) file);
       all = λ i.
-          let h : Host = c.hosts i in
+          let h : ServerHost = c.hosts i in
           let b : Backs = h.state.backs in
           let boot : ℕ = h.state.lasting.boot in
           let cs : ℕ → Option Seat = λ j. call_seat (Server i) (c.clients j).seats in
@@ -209,7 +210,7 @@ client_backed s c past n st B a t =
 -- where it answers no call
 speaks_all : (s : Script) (c : Cell) (past : List Entry) (n : ℕ) (st : Step ClientState) → Backed s c past → Acts n (who_at (c.clients n)) (c.clients n).gifts st → Speaks (c.clients n).seats st → TellsAll c past n st
 speaks_all s c past n st B a h i =
-    let x : Host = c.hosts i in
+    let x : ServerHost = c.hosts i in
     speaks_tells (Server i) x.down x.state.backs x.state.lasting.boot (of_client n st ∷ past) n (c.clients n).seats st h
     (old_seated (Server i) x.down x.state.backs x.state.lasting.boot x.state.seats (λ j. call_seat (Server i) (c.clients j).seats) c.clock c.sent (of_client n st) past n (of_plain n i st.lines a.of) (B.all i))
 
@@ -259,14 +260,14 @@ held_keys s c past callees i j seats clock (h ∷ hs) ls ne w k key sent = (
 )
 
 -- its own facts, and those of the others
-host_all : (s : Script) (c : Cell) (past : List Entry) (i : ℕ) (h : Host) (ls : List Line) (ms : List Message) → (B : Breaks s c past) → Works (KnownIn c B.held.0.0.0.keys.callees) (Server i) (c.hosts i).state h.state.lasting.volumes ls → Each (IsMessage (Server i)) ms
+host_all : (s : Script) (c : Cell) (past : List Entry) (i : ℕ) (h : ServerHost) (ls : List Line) (ms : List Message) → (B : Breaks s c past) → Works (KnownIn c B.held.0.0.0.keys.callees) (Server i) (c.hosts i).state h.state.lasting.volumes ls → Each (IsMessage (Server i)) ms
     → BackedAt i h c.clients c.clock (c.sent ++ ms) (of_server (Server i) ls ms ∷ past) → (j : ℕ) → BackedAt j (put i h c.hosts j) c.clients c.clock (c.sent ++ ms) (of_server (Server i) ls ms ∷ past)
 host_all s c past i h ls ms B w own mine j =
     let callees : Key → Node = B.held.0.0.0.keys.callees in
     let e : Entry = of_server (Server i) ls ms in
-    at_put i j (λ (x : Host). BackedAt j x c.clients c.clock (c.sent ++ ms) (e ∷ past)) h c.hosts (λ same. subst (λ (k : ℕ). BackedAt k h c.clients c.clock (c.sent ++ ms) (e ∷ past)) same mine)
+    at_put i j (λ (x : ServerHost). BackedAt j x c.clients c.clock (c.sent ++ ms) (e ∷ past)) h c.hosts (λ same. subst (λ (k : ℕ). BackedAt k h c.clients c.clock (c.sent ++ ms) (e ∷ past)) same mine)
     (λ other.
-    let x : Host = c.hosts j in
+    let x : ServerHost = c.hosts j in
     let old : BackedAt j x c.clients c.clock c.sent past = B.backed.all j in
     apart_backed (Server j) (Server i) x.down x.state.backs x.state.lasting.boot x.state.seats (λ k. call_seat (Server j) (c.clients k).seats) c.clock c.sent ms e past (λ q. other (server_number i j q)) (works_lines (KnownIn c callees) (Server i) (c.hosts i).state h.state.lasting.volumes ls (is_apart (Server j)) (other_calm i j other) w)
     (node_apart (Server i) (Server j) (λ q. other (server_number i j q)))
@@ -289,7 +290,7 @@ moves_backed s c past i armed st B w h = record {
 }
 
 -- one that stops it, or leaves it down
-falls_backed : (s : Script) (c : Cell) (past : List Entry) (i : ℕ) (h : Host) (ls : List Line) → (B : Breaks s c past) → Works (KnownIn c B.held.0.0.0.keys.callees) (Server i) (c.hosts i).state h.state.lasting.volumes ls → BackedAt i h c.clients c.clock (c.sent ++ []) (of_server (Server i) ls [] ∷ past)
+falls_backed : (s : Script) (c : Cell) (past : List Entry) (i : ℕ) (h : ServerHost) (ls : List Line) → (B : Breaks s c past) → Works (KnownIn c B.held.0.0.0.keys.callees) (Server i) (c.hosts i).state h.state.lasting.volumes ls → BackedAt i h c.clients c.clock (c.sent ++ []) (of_server (Server i) ls [] ∷ past)
     → Backed s (record c { hosts = put i h c.hosts }) (of_server (Server i) ls [] ∷ past)
 falls_backed s c past i h ls B w mine = record {
   count = B.backed.count;
@@ -442,7 +443,7 @@ woken_step s c past i B up =
 down_seats : (me : Node) (fall : Fall) (b : Backs) (boot : ℕ) (seats now : List Seat) (cs : ℕ → Option Seat) (clock : ℕ) (sent : List Message) (past : List Entry) → BackedIn me (Some fall) b boot seats cs clock sent past → BackedIn me (Some fall) b boot now cs clock sent past
 down_seats me fall b boot seats now cs clock sent past h = record { granted = h.granted; promised = h.promised; numbered = h.numbered; rising = h.rising; clients = h.clients; accounted = h.accounted; owing = h.owing; waiting = λ x. absurd cc; outs = h.outs; calls = h.calls; dones = h.dones; seated = h.seated }
 
-abbrev FoundAt : Node → Begun → Fall → (ℕ → Option Seat) → ℕ → List Message → List Entry → Type 0
+abbrev FoundAt : Node → Begun ServerState → Fall → (ℕ → Option Seat) → ℕ → List Message → List Entry → Type 0
 FoundAt me f fall cs clock sent past = BackedIn me (Some fall) f.state.backs f.state.lasting.boot f.state.seats cs clock sent past
 
 after_found : (me : Node) (x : ServerState) (time : ℕ) (d : Decision) (fall : Fall) (cs : ℕ → Option Seat) (clock : ℕ) (sent : List Message) (past : List Entry) → BackedIn me (Some fall) x.backs x.lasting.boot x.seats cs clock sent past → FoundAt me (begun_after me x time d) fall cs clock sent past
@@ -514,7 +515,7 @@ unfolding start_row
 started_step s c past i after fall B down =
     let x : ServerState = (c.hosts i).state in
     let cs : ℕ → Option Seat = λ j. call_seat (Server i) (c.clients j).seats in
-    let f : Begun = begun_by_disk (Server i) x after fall in
+    let f : Begun ServerState = begun_by_disk (Server i) x after fall in
     let boot : ℕ = f.state.lasting.boot + 1 in
     let l : Line = lines.Restart (Server i) boot in
     let front : List Line = f.before [] in
@@ -741,7 +742,7 @@ started_rules : (s : Script) (c : Cell) (past : List Entry) (i : ℕ) (after : B
 unfolding start_row
 started_rules s c past i after fall B down =
     let me : Node = Server i in
-    let f : Begun = begun_by_disk me (c.hosts i).state after fall in
+    let f : Begun ServerState = begun_by_disk me (c.hosts i).state after fall in
     let l : Line = lines.Restart me (f.state.lasting.boot + 1) in
     let zero : last_number me (lines_of past) ≡ 0 = down_number me (c.hosts i).down fall (c.hosts i).state.backs.lists.last_owed (lines_of past) down (B.backed.all i).numbered in
     let few : c.count ≤ s.clients = le_of_eq B.backed.count in
@@ -762,7 +763,7 @@ pub record Steps (s : Script) (c : Cell) (past : List Entry) (m : Moved) : Type 
   pub replies : EachSent GoodReply (m.entry ∷ past) m.entry.sent
 
 -- a step that leaves a server as it is
-plain_at : (i : ℕ) (h : Host) (clients : ℕ → ClientState) (clock then : ℕ) (sent : List Message) (e : Entry) (past : List Entry) → Plain (Server i) e.lines → clock ≤ then → BackedAt i h clients clock sent past → BackedAt i h clients then (sent ++ []) (e ∷ past)
+plain_at : (i : ℕ) (h : ServerHost) (clients : ℕ → ClientState) (clock then : ℕ) (sent : List Message) (e : Entry) (past : List Entry) → Plain (Server i) e.lines → clock ≤ then → BackedAt i h clients clock sent past → BackedAt i h clients then (sent ++ []) (e ∷ past)
 plain_at i h clients clock then sent e past p le B =
     let cs : ℕ → Option Seat = λ j. call_seat (Server i) (clients j).seats in
     backed_plain (Server i) h.down h.state.backs h.state.lasting.boot h.state.seats cs cs clock then sent [] e past p le B tt tt
@@ -807,7 +808,7 @@ blow_stopped i place false o = inl refl
 -- a step that stops it
 falls_steps : (s : Script) (c : Cell) (past : List Entry) (i : ℕ) (ls : List Line) (fall : Fall) → (B : Breaks s c past) → all_lines (is_from (Server i)) ls ≡ true → all_lines is_free ls ≡ true → all_lines is_oweless ls ≡ true → all_lines is_still ls ≡ true → ((o : List Line) → HasStopped (Server i) (onto o ls)) → Steps s c past (server_falls c i ls fall)
 falls_steps s c past i ls fall B from free oweless still stop =
-    let h : Host = c.hosts i in
+    let h : ServerHost = c.hosts i in
     let e : Entry = of_server (Server i) ls [] in
     let cs : ℕ → Option Seat = λ j. call_seat (Server i) (c.clients j).seats in
     let k : Backed s (record c { hosts = put i (record h { down = Some fall; armed = unarmed }) c.hosts }) (e ∷ past) = falls_backed s c past i (record h { down = Some fall; armed = unarmed }) ls B (inl (record { left = λ id w. refl; lines = from }))
@@ -817,7 +818,7 @@ falls_steps s c past i ls fall B from free oweless still stop =
 -- one that sets its disk
 set_steps : (s : Script) (c : Cell) (past : List Entry) (i : ℕ) (l : Line) (armed : Armed) → (B : Breaks s c past) → is_from (Server i) l ≡ true → is_free l ≡ true → Plain (Server i) (l ∷ []) → Steps s c past (server_set c i l armed)
 set_steps s c past i l armed B from free p =
-    let h : Host = c.hosts i in
+    let h : ServerHost = c.hosts i in
     let e : Entry = of_server (Server i) (l ∷ []) [] in
     let k : Backed s (record c { hosts = put i (record h { armed = armed }) c.hosts }) (e ∷ past) = falls_backed s c past i (record h { armed = armed }) (l ∷ []) B (inl (record { left = λ id w. refl; lines = rw from refl })) (plain_at i h c.clients c.clock c.clock c.sent e past p (le_refl _) (B.backed.all i)) in
     record { backed = k; rules = (free_rule s (actors.Node (Server i)) l past [] [] free, tt); replies = tt }
@@ -827,11 +828,11 @@ stays_steps : (s : Script) (c : Cell) (past : List Entry) (i : ℕ) (after : Boo
 stays_steps s c past i after fall now l B down from free oweless still =
     let x : ServerState = (c.hosts i).state in
     let cs : ℕ → Option Seat = λ j. call_seat (Server i) (c.clients j).seats in
-    let f : Begun = begun_by_disk (Server i) x after fall in
+    let f : Begun ServerState = begun_by_disk (Server i) x after fall in
     let ls : List Line = f.before (l ∷ []) in
     let e : Entry = of_server (Server i) ls [] in
     let found : FoundAt (Server i) f fall cs c.clock c.sent past = disk_found (Server i) x after fall cs c.clock c.sent past (subst (λ (d : Option Fall). BackedIn (Server i) d x.backs x.lasting.boot x.seats cs c.clock c.sent past) down (B.backed.all i)) in
-    let h : Host = record { state = f.state; down = Some now; armed = unarmed } in
+    let h : ServerHost = record { state = f.state; down = Some now; armed = unarmed } in
     let k : Backed s (record c { hosts = put i h c.hosts }) (e ∷ past) = falls_backed s c past i h ls B (disk_works (KnownIn c B.held.0.0.0.keys.callees) (Server i) x after fall (l ∷ []) (cut_at s c past i fall (l ∷ []) B down) (rw from refl))
     (backed_fall (Server i) (Some fall) now f.state.backs f.state.lasting.boot f.state.seats f.state.seats cs c.clock c.sent e past (disk_lines is_oweless (λ n key z. refl) (λ v. refl) (Server i) x after fall (l ∷ []) (rw oweless refl)) (disk_lines is_still (λ n key z. refl) (λ v. refl) (Server i) x after fall (l ∷ []) (rw still refl)) (λ z. absurd (no_fall fall z)) found) in
     record { backed = k; rules = stays_rules s c past i after fall l B down free; replies = tt }
@@ -848,7 +849,7 @@ break_moves s = record {
   told = λ c past n place m B at to.
       let a : Acts n (who_at (c.clients n)) (c.clients n).gifts (client_row (Client n) (c.clients n) c.clock place (Whole m)) = given_acts (by_key (IsKnown B.held.0.0.0.keys.callees c.clients)) any_told n (c.clients n) c.clock place m (B.held.0.0.0.keys.replies n) (B.held.0.0.1.seats n) in
       client_steps s c past n (client_row (Client n) (c.clients n) c.clock place (Whole m)) B a (λ i.
-      let x : Host = c.hosts i in
+      let x : ServerHost = c.hosts i in
       told_leaves i x.down x.state.backs x.state.lasting.boot x.state.seats (λ j. call_seat (Server i) (c.clients j).seats) c.clock c.sent past n (c.clients n) place m (B.backed.all i) refl (B.held.0.0.1.seats n) (each_at (IfBack (BackIn (Server i) x.down x.state.backs.calls x.state.backs.last_call x.state.lasting.boot)) c.sent place m at (B.backed.all i).calls) (of_plain n i _ a.of));
   waited = λ c past n act B r. speaks_steps s c past n (timeout_row (Client n) (c.clients n) act) B (waits_acts n (c.clients n) act r) (waits_speaks (Client n) (c.clients n) act);
   fallen = λ c past n B. let k = client_steps s c past n (record { state = reborn (c.clients n); lines = lines.Crash (Client n) ∷ []; sent = [] }) B (falls_acts n (c.clients n)) (falls_all c past n) in record { backed = record { count = k.backed.count; fair = k.backed.fair; all = k.backed.all }; rules = k.rules; replies = k.replies };
@@ -861,7 +862,7 @@ break_moves s = record {
   timed = λ c past i n k armed B up at. server_steps s c past i armed (back_timeout_row (Server i) (c.hosts i).state c.clock n k) B (times_works (KnownIn c B.held.0.0.0.keys.callees) (Server i) (c.hosts i).state c.clock n k) (timed_step s c past i n k B up at) (timed_rules s c past i n k B up at);
   woken = λ c past i armed B up. server_steps s c past i armed (wake_row (Server i) (c.hosts i).state c.clock) B (wakes_works (KnownIn c B.held.0.0.0.keys.callees) (Server i) (c.hosts i).state c.clock) (woken_step s c past i B up) (woken_rules s c past i);
   started = λ c past i after fall B down.
-      let f : Begun = begun_by_disk (Server i) (c.hosts i).state after fall in
+      let f : Begun ServerState = begun_by_disk (Server i) (c.hosts i).state after fall in
       let ls : List Line = risen_lines (Server i) c.clock c.count f in
       server_steps s c past i unarmed (start_row (Server i) c.clock c.count f) B
       (starts_works (KnownIn c B.held.0.0.0.keys.callees) (Server i) (c.hosts i).state c.clock c.count f (disk_works (KnownIn c B.held.0.0.0.keys.callees) (Server i) (c.hosts i).state after fall ls (cut_at s c past i fall ls B down) (risen_from (Server i) c.clock c.count f))) (started_step s c past i after fall B down) (started_rules s c past i after fall B down);

@@ -31,7 +31,8 @@ use Rattle.afs_num.specs.declared.types.Head.{Head}
 use Rattle.afs_num.specs.declared.types.Node.{Node}
 use Rattle.afs_num.specs.declared.types.Node.TheVariants.{Client, Server}
 use Rattle.afs_rows.specs.Callbacks.{Turn, expired, held_under, is_back_awaited, is_ready, is_seat_of, key_answered, new_owes, owe_line, quit_line, renews_by, repeats_by, risen_turn, settle_line, settles_by, still_owed, turn_for, turned_by, turned_in}
-use Rattle.afs_rows.specs.Runs.{Cell, Entry, Fall, Moved, at_rest, begun_by_disk, blow_line, in_boot, in_step, start}
+use Rattle.afs_law.proofs.Steps.{blow_line}
+use Rattle.afs_rows.specs.Runs.{Cell, Entry, Fall, Moved, at_rest, begun_by_disk, in_boot, in_step, start}
 use Rattle.afs_rows.specs.ServerRow.{Decision, begun_after, decides, does, drops, granted, granted_in, key_of, made, promise_ticks, refuses, repeats, saves, shows, tells_boot, versioned}
 use Rattle.afs_rows.specs.ServerSteps.{back_timeout_row, server_row, start_row, wake_row}
 use Rattle.afs_rows.specs.States.{BackCall, Backs, Held, ServerState}

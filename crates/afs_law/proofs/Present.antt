@@ -35,11 +35,12 @@ use Rattle.afs_num.specs.declared.types.Node.{Node}
 use Rattle.afs_num.specs.declared.types.Node.TheVariants.{Admin, Client, Loc, Server}
 use Rattle.afs_rows.specs.Callbacks.{Started, put, replies_of, risen_turn, starts, starts_by}
 use Rattle.afs_rows.specs.ClientRow.{begin_row, client_row, timeout_row}
-use Rattle.afs_rows.specs.Runs.{Armed, Cell, Entry, Fall, Host, Moved, RunsTo, at_rest, begun_by_disk, blow_line, client_falls, client_moves, client_rises, in_boot, in_step, message_at, moved, server_falls, server_moves, server_rises, server_set, server_stays, start, ticked, unarmed, voided}
-use Rattle.afs_rows.specs.ServerRow.{Begun, reply_head}
+use Rattle.afs_law.proofs.Steps.{blow_line, server_falls, server_moves, server_rises, server_set, server_stays}
+use Rattle.afs_rows.specs.Runs.{Armed, Cell, Entry, Fall, Moved, RunsTo, at_rest, begun_by_disk, client_falls, client_moves, client_rises, in_boot, in_step, message_at, moved, start, ticked, unarmed, voided, ServerHost}
+use Rattle.afs_rows.specs.ServerRow.{reply_head}
 use Rattle.afs_rows.specs.ServerSteps.{back_timeout_row, server_row, start_row, wake_row}
 use Rattle.afs_rows.specs.States.{BackCall, Held, Seat, ServerState}
-use Rattle.afs_rows.specs.Steps.{Step}
+use Rattle.afs_rows.specs.Steps.{Step, Begun}
 use Rattle.std.proofs.Common.{suc, ◌+◌, ◌≡◌, ◌⊎◌, inl, inr, ℕ, Bool, true, false, cond, List, [], ◌∷◌, ◌++◌, Option, Some, None, refl, sym, ap, subst, ◌∙◌, eq-eqb, nat_eq}
 use Rattle.std.specs.Prelude.{⊤}
 
@@ -67,7 +68,7 @@ current_onto i x o ls h = record {
   held = each_map (IsAnswer (IsNow i o x.lasting.boot) (OfBoot x.lasting.boot)) (IsAnswer (IsNow i (onto o ls) x.lasting.boot) (OfBoot x.lasting.boot)) (answer_over (IsNow i o x.lasting.boot) (IsNow i (onto o ls) x.lasting.boot) (OfBoot x.lasting.boot) (OfBoot x.lasting.boot) (now_onto i o ls x.lasting.boot) (λ y z. z)) (replies_of x.backs.held) h.held;
 }
 
-abbrev CurrentBy : (ℕ → Host) → List Line → Type 0
+abbrev CurrentBy : (ℕ → ServerHost) → List Line → Type 0
 CurrentBy hosts ls = (i : ℕ) → (hosts i).down ≡ None → Current i (hosts i).state ls
 
 abbrev CurrentIn : Cell → List Entry → Type 0
@@ -163,34 +164,34 @@ PresentStep c past m = KnownSits m.cell (m.entry ∷ past) → Presents past m
 besides_present : (c : Cell) (past : List Entry) (m : Moved) → KnownCurrent c past → ((i : ℕ) → m.entry.actor ≡ actors.Node (Server i) → ⊥) → m.cell.hosts ≡ c.hosts → Presents past m
 besides_present c past m h other same = record {
   sent = λ i is. absurd (other i is);
-  current = subst (λ (hosts : ℕ → Host). CurrentBy hosts (lines_of (m.entry ∷ past))) (sym same) (λ i up. current_onto i (c.hosts i).state (lines_of past) m.entry.lines (h.1 i up));
+  current = subst (λ (hosts : ℕ → ServerHost). CurrentBy hosts (lines_of (m.entry ∷ past))) (sym same) (λ i up. current_onto i (c.hosts i).state (lines_of past) m.entry.lines (h.1 i up));
 }
 
-own_current : (c : Cell) (past : List Entry) (i : ℕ) (x : Host) (ls : List Line) → KnownCurrent c past → (x.down ≡ None → Current i x.state (onto (lines_of past) ls)) → CurrentBy (put i x c.hosts) (onto (lines_of past) ls)
+own_current : (c : Cell) (past : List Entry) (i : ℕ) (x : ServerHost) (ls : List Line) → KnownCurrent c past → (x.down ≡ None → Current i x.state (onto (lines_of past) ls)) → CurrentBy (put i x c.hosts) (onto (lines_of past) ls)
 own_current c past i x ls h own j =
-    at_put i j (λ (y : Host). y.down ≡ None → Current j y.state (onto (lines_of past) ls)) x c.hosts (λ same. subst (λ (k : ℕ). x.down ≡ None → Current k x.state (onto (lines_of past) ls)) same own)
+    at_put i j (λ (y : ServerHost). y.down ≡ None → Current j y.state (onto (lines_of past) ls)) x c.hosts (λ same. subst (λ (k : ℕ). x.down ≡ None → Current k x.state (onto (lines_of past) ls)) same own)
     (λ other up. current_onto j (c.hosts j).state (lines_of past) ls (h.1 j up))
 
-pub put_same : (i : ℕ) (x : Host) (h : ℕ → Host) → put i x h i ≡ x
+pub put_same : (i : ℕ) (x : ServerHost) (h : ℕ → ServerHost) → put i x h i ≡ x
 put_same i x h = ap (λ (t : Bool). cond t x (h i)) (eq-eqb i i refl)
 
 pub one_server : (i j : ℕ) → actors.Node (Server i) ≡ actors.Node (Server j) → i ≡ j
 one_server i j e = cc
 
 -- one that is silent
-quiet_present : (c : Cell) (past : List Entry) (i : ℕ) (x : Host) (m : Moved) → KnownCurrent c past → m.entry.sent ≡ [] → m.cell.hosts ≡ put i x c.hosts → (x.down ≡ None → Current i x.state (lines_of past)) → Presents past m
+quiet_present : (c : Cell) (past : List Entry) (i : ℕ) (x : ServerHost) (m : Moved) → KnownCurrent c past → m.entry.sent ≡ [] → m.cell.hosts ≡ put i x c.hosts → (x.down ≡ None → Current i x.state (lines_of past)) → Presents past m
 quiet_present c past i x m h none hosts own = record {
   sent = λ k is. subst (EachSent (IsOfNow k) (m.entry ∷ past)) (sym none) tt;
-  current = subst (λ (y : ℕ → Host). CurrentBy y (lines_of (m.entry ∷ past))) (sym hosts) (own_current c past i x m.entry.lines h (λ up. current_onto i x.state (lines_of past) m.entry.lines (own up)));
+  current = subst (λ (y : ℕ → ServerHost). CurrentBy y (lines_of (m.entry ∷ past))) (sym hosts) (own_current c past i x m.entry.lines h (λ up. current_onto i x.state (lines_of past) m.entry.lines (own up)));
 }
 
 -- one that is up, and stays in its boot
 up_present : (c : Cell) (past : List Entry) (i : ℕ) (D : Option ℕ) (armed : Armed) (st : Step ServerState) → KnownCurrent c past → st.state.lasting.boot ≡ (c.hosts i).state.lasting.boot → HostStep (IsNow i (onto (lines_of past) st.lines) (c.hosts i).state.lasting.boot) (OfBoot (c.hosts i).state.lasting.boot) D (Server i) (c.hosts i).state st
     → KnownSits (server_moves c i armed st).cell ((server_moves c i armed st).entry ∷ past) → Presents past (server_moves c i armed st)
 up_present c past i D armed st h boot q K =
-    let x : Host = record { state = st.state; down = None; armed = armed } in
+    let x : ServerHost = record { state = st.state; down = None; armed = armed } in
     let ls : List Line = onto (lines_of past) st.lines in
-    let up : server_boot (Server i) ls ≡ Some st.state.lasting.boot = K.0.hears.boots.now i ∙ ap (λ (y : Host). up_boot y.down y.state.lasting.boot) (put_same i x c.hosts) in
+    let up : server_boot (Server i) ls ≡ Some st.state.lasting.boot = K.0.hears.boots.now i ∙ ap (λ (y : ServerHost). up_boot y.down y.state.lasting.boot) (put_same i x c.hosts) in
     record {
       sent = λ k is. subst (λ (n : ℕ). EachSent (IsOfNow n) ((server_moves c i armed st).entry ∷ past) st.sent) (one_server i k is) (each_now i (c.hosts i).state.lasting.boot ((server_moves c i armed st).entry ∷ past) st.sent (up ∙ ap Some boot) q.sent);
       current = own_current c past i x st.lines h (λ none. record {
@@ -222,22 +223,22 @@ starts_held : (me : Node) (boot : ℕ) (os : List OwedBreak) (t : Started) → (
 starts_held me boot [] t = refl
 starts_held me boot (o ∷ os) t = starts_held me boot os (starts_by me boot t o (t.backs.calls o.client)) ∙ start_held me boot t o (t.backs.calls o.client)
 
-pub started_held : (i clock count : ℕ) (f : Begun) → (start_row (Server i) clock count f).state.backs.held ≡ []
+pub started_held : (i clock count : ℕ) (f : Begun ServerState) → (start_row (Server i) clock count f).state.backs.held ≡ []
 unfolding start_row
 started_held i clock count f = starts_held (Server i) (f.state.lasting.boot + 1) (risen_turn (Server i) clock count).backs.lists.owed _
 
-pub started_seats : (i clock count : ℕ) (f : Begun) → (start_row (Server i) clock count f).state.seats ≡ (start_row (Server i) clock count f).state.lasting.kept
+pub started_seats : (i clock count : ℕ) (f : Begun ServerState) → (start_row (Server i) clock count f).state.seats ≡ (start_row (Server i) clock count f).state.lasting.kept
 unfolding start_row
 started_seats i clock count f = refl
 
-started_present : (c : Cell) (past : List Entry) (i : ℕ) (f : Begun) → KnownCurrent c past → KnownSits (server_rises c i f).cell ((server_rises c i f).entry ∷ past) → Presents past (server_rises c i f)
+started_present : (c : Cell) (past : List Entry) (i : ℕ) (f : Begun ServerState) → KnownCurrent c past → KnownSits (server_rises c i f).cell ((server_rises c i f).entry ∷ past) → Presents past (server_rises c i f)
 started_present c past i f h K =
     let st : Step ServerState = start_row (Server i) c.clock c.count f in
-    let x : Host = record { state = st.state; down = None; armed = unarmed } in
+    let x : ServerHost = record { state = st.state; down = None; armed = unarmed } in
     let ls : List Line = onto (lines_of past) st.lines in
     let m : Moved = server_rises c i f in
     let kept : AreReplies (IsNow i ls st.state.lasting.boot) (OfBoot st.state.lasting.boot) st.state.lasting.kept =
-    subst (λ (y : Host). AreReplies (IsNow i ls st.state.lasting.boot) (OfBoot st.state.lasting.boot) y.state.lasting.kept) (put_same i x c.hosts) (kept_now m.cell (m.entry ∷ past) i st.state.lasting.boot K) in
+    subst (λ (y : ServerHost). AreReplies (IsNow i ls st.state.lasting.boot) (OfBoot st.state.lasting.boot) y.state.lasting.kept) (put_same i x c.hosts) (kept_now m.cell (m.entry ∷ past) i st.state.lasting.boot K) in
     record {
       sent = λ k is. subst (λ (n : ℕ). EachSent (IsOfNow n) (m.entry ∷ past) st.sent) (one_server i k is) (calls_now i (m.entry ∷ past) st.sent (start_sends i c.clock c.count f));
       current = own_current c past i x st.lines h (λ none. record {
@@ -271,8 +272,8 @@ present_moves = record {
       up_present c past i None armed st h (woken_state i (c.hosts i).state c.clock).1 (wakes_step (IsNow i (onto (lines_of past) st.lines) (c.hosts i).state.lasting.boot) (OfBoot (c.hosts i).state.lasting.boot) i (c.hosts i).state c.clock (sound_now c past i st.lines h.0 (h.1 i up)) (held_now c past i st.lines (h.1 i up))) K);
   started = λ c past i after fall h down K. started_present c past i (begun_by_disk (Server i) (c.hosts i).state after fall) h K;
   early = λ c past i fall h down K. quiet_present c past i (record (c.hosts i) { down = Some fall; armed = unarmed }) (server_falls c i (lines.Fault (Server i) ∷ []) fall) h refl refl (no_fall fall _);
-  midway = λ c past i after fall h down K. (let f : Begun = begun_by_disk (Server i) (c.hosts i).state after fall in quiet_present c past i (record { state = f.state; down = Some in_boot; armed = unarmed }) (server_stays c i f (lines.Fault (Server i)) in_boot) h refl refl (no_fall in_boot _));
-  full = λ c past i after fall h down K. (let f : Begun = begun_by_disk (Server i) (c.hosts i).state after fall in quiet_present c past i (record { state = f.state; down = Some at_rest; armed = unarmed }) (server_stays c i f (lines.Full (Server i)) at_rest) h refl refl (no_fall at_rest _));
+  midway = λ c past i after fall h down K. (let f : Begun ServerState = begun_by_disk (Server i) (c.hosts i).state after fall in quiet_present c past i (record { state = f.state; down = Some in_boot; armed = unarmed }) (server_stays c i f (lines.Fault (Server i)) in_boot) h refl refl (no_fall in_boot _));
+  full = λ c past i after fall h down K. (let f : Begun ServerState = begun_by_disk (Server i) (c.hosts i).state after fall in quiet_present c past i (record { state = f.state; down = Some at_rest; armed = unarmed }) (server_stays c i f (lines.Full (Server i)) at_rest) h refl refl (no_fall at_rest _));
 }
 
 current_kept : IsKept KnownCurrent

@@ -25,8 +25,11 @@ use Rattle.afs_num.specs.declared.types.Key.{Key}
 use Rattle.afs_num.specs.declared.types.Node.TheVariants.{Server}
 use Rattle.afs_records.specs.Durable.{Stored}
 use Rattle.afs_rows.specs.ClientRow.{server_at}
-use Rattle.afs_rows.specs.Runs.{Cell, Entry, Fall, Input, Moved, at_rest, begun_by_disk, in_boot, locations, server_stays, moved, start}
-use Rattle.afs_rows.specs.ServerRow.{Begun, Change, key_of, made, versioned}
+use Rattle.afs_law.proofs.Steps.{server_stays}
+use Rattle.afs_rows.specs.Steps.{Begun}
+use Rattle.afs_rows.specs.States.{ServerState}
+use Rattle.afs_rows.specs.Runs.{Cell, Entry, Fall, Input, Moved, at_rest, begun_by_disk, in_boot, locations, moved, start}
+use Rattle.afs_rows.specs.ServerRow.{Change, key_of, made, versioned}
 use Rattle.std.proofs.Common.{◌≡◌, ℕ, ◌⊎◌, inl, inr, Bool, true, cond, eq-eqb, length, List, [], ◌∷◌, ◌++◌, Option, Some, None, refl, sym, ap, subst, ◌∙◌}
 use Rattle.std.specs.Prelude.{⊤}
 
@@ -138,7 +141,7 @@ told_moves s = record {
   timed = λ c past i n b armed h up at. works_saved s c past i _ _ h.0 refl refl (times_works (IsPlaced c past i) (Server i) (c.hosts i).state c.clock n b);
   woken = λ c past i armed h up. works_saved s c past i _ _ h.0 refl refl (wakes_works (IsPlaced c past i) (Server i) (c.hosts i).state c.clock);
   started = λ c past i after fall h down.
-      let f : Begun = begun_by_disk (Server i) (c.hosts i).state after fall in
+      let f : Begun ServerState = begun_by_disk (Server i) (c.hosts i).state after fall in
       let ls : List Line = risen_lines (Server i) c.clock c.count f in
       works_saved s c past i _ _ h.0 refl refl (starts_works (IsPlaced c past i) (Server i) (c.hosts i).state c.clock c.count f
       (disk_works (IsPlaced c past i) (Server i) (c.hosts i).state after fall ls (cut_by (λ m. IsPlaced c past i m [] ls) (c.hosts i).down fall down (cut_placed s c past i ls h (inl refl))) (risen_from (Server i) c.clock c.count f)));

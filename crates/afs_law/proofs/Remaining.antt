@@ -14,9 +14,10 @@ use Rattle.afs_law.specs.Laws.{IsNoOthers, Survives, told_by_restart}
 use Rattle.afs_num.specs.declared.types.Key.{Key}
 use Rattle.afs_num.specs.declared.types.Node.{Node}
 use Rattle.afs_num.specs.declared.types.Node.TheVariants.{Server}
-use Rattle.afs_rows.specs.Runs.{Cell, Entry, Fall, Host, Moved, RunsTo, begun_by_disk, in_boot, server_stays, unarmed}
-use Rattle.afs_rows.specs.ServerRow.{Begun}
-use Rattle.afs_rows.specs.States.{volume_in}
+use Rattle.afs_law.proofs.Steps.{server_stays}
+use Rattle.afs_rows.specs.Steps.{Begun}
+use Rattle.afs_rows.specs.Runs.{Cell, Entry, Fall, Moved, RunsTo, begun_by_disk, in_boot, unarmed, ServerHost}
+use Rattle.afs_rows.specs.States.{volume_in, ServerState}
 use Rattle.std.proofs.Common.{◌≡◌, ℕ, true, List, [], ◌∷◌, ◌++◌, Option, Some, refl, ap, ◌∙◌}
 
 -- a fault changes nothing
@@ -39,12 +40,12 @@ alone s i id ls h q at = h q (accepts s id q ls at)
 found_ideal : (s : Script) (c : Cell) (past : List Entry) (i : ℕ) (fall : Fall) (id : ℕ) → Held s c past → (c.hosts i).down ≡ Some fall → IsAlone s i id
     → volume_in id (begun_by_disk (Server i) (c.hosts i).state true fall).state.lasting.volumes ≡ volume_after id (told_by_restart i (c.hosts i) fall ∷ past)
 found_ideal s c past i fall id h down only =
-    let f : Begun = begun_by_disk (Server i) (c.hosts i).state true fall in
+    let f : Begun ServerState = begun_by_disk (Server i) (c.hosts i).state true fall in
     let m : Moved = server_stays c i f (lines.Fault (Server i)) in_boot in
     let V : VolumesIn s m.cell (m.entry ∷ past) = (volumes_moves s).midway c past i true fall h down in
-    let x : Host = record { state = f.state; down = Some in_boot; armed = unarmed } in
+    let x : ServerHost = record { state = f.state; down = Some in_boot; armed = unarmed } in
     let keys : change_key m.entry.lines ≡ change_key (f.before []) = ap change_key ((disk_front (Server i) (c.hosts i).state true fall).before (lines.Fault (Server i) ∷ [])) ∙ fault_key (f.before []) (Server i) in
-    at_put i i (λ (y : Host). volume_in id f.state.lasting.volumes ≡ volume_in id y.state.lasting.volumes) x c.hosts (λ same. refl) (λ other. absurd (other refl))
+    at_put i i (λ (y : ServerHost). volume_in id f.state.lasting.volumes ≡ volume_in id y.state.lasting.volumes) x c.hosts (λ same. refl) (λ other. absurd (other refl))
     ∙ (only_held s m.cell (m.entry ∷ past) i id V only ∙ ap (λ (k : Option Key). changed_under id k (sent_of past) (volume_after id past)) keys)
 
 pub run_falls : FallsAreKept

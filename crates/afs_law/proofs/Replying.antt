@@ -15,10 +15,10 @@ use Rattle.afs_num.specs.declared.types.Node.{Node}
 use Rattle.afs_num.specs.declared.types.Node.TheVariants.{Server}
 use Rattle.afs_rows.specs.Callbacks.{Started, Turn, expired, held_under, is_back_awaited, is_ready, is_seat_of, key_answered, no_turn, pumped, renews_by, repeats_by, replies_of, risen_turn, settles_by, starts, starts_by, timed, turn_for, turned_by, turned_in}
 use Rattle.afs_rows.specs.Runs.{Fall, at_rest, begun_by_disk, in_boot, in_step}
-use Rattle.afs_rows.specs.ServerRow.{Begun, Decision, begun_after, boot_told, change_reply_to, decides, does, drops, promise_ticks, read_reply_to, refusal, refuses, repeats, revived, saves, seat_for, seat_placed, shows, tells_boot}
+use Rattle.afs_rows.specs.ServerRow.{Decision, begun_after, boot_told, change_reply_to, decides, does, drops, promise_ticks, read_reply_to, refusal, refuses, repeats, revived, saves, seat_for, seat_placed, shows, tells_boot}
 use Rattle.afs_rows.specs.ServerSteps.{back_timeout_row, server_row, start_row, wake_row}
 use Rattle.afs_rows.specs.States.{BackCall, Backs, Held, Seat, ServerState}
-use Rattle.afs_rows.specs.Steps.{Step}
+use Rattle.afs_rows.specs.Steps.{Step, Begun}
 use Rattle.std.proofs.Common.{◌≡◌, ℕ, ◌+◌, Bool, true, false, cond, List, [], ◌∷◌, ◌++◌, Option, Some, None, refl, sym, subst}
 use Rattle.std.specs.Prelude.{⊤, ◌&&◌, not, nat_lt}
 
@@ -199,7 +199,7 @@ disk_replies T me x true (in_step m clock hit) h k = after_replies T me x clock 
 disk_replies T me x false in_boot h k = h
 disk_replies T me x true in_boot h k = record { seats = h.kept; kept = h.kept; held = h.held }
 
-pub starts_replies : (T : Message → Type 0) → Spares T → (i clock count : ℕ) (f : Begun) → Replies T f.state → Replied T (start_row (Server i) clock count f)
+pub starts_replies : (T : Message → Type 0) → Spares T → (i clock count : ℕ) (f : Begun ServerState) → Replies T f.state → Replied T (start_row (Server i) clock count f)
 unfolding start_row
 starts_replies T U i clock count f h =
     let t : Turn = risen_turn (Server i) clock count in

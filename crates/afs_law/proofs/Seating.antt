@@ -28,8 +28,9 @@ use Rattle.afs_num.specs.declared.types.Head.{Head}
 use Rattle.afs_num.specs.declared.types.Node.{Node}
 use Rattle.afs_num.specs.declared.types.Node.TheVariants.{Client, Server}
 use Rattle.afs_rows.specs.Callbacks.{put}
-use Rattle.afs_rows.specs.Runs.{Cell, Entry, Fall, Host, RunsTo, at_rest, begun_by_disk, in_boot, in_step, start}
-use Rattle.afs_rows.specs.ServerRow.{Begun, Change, Decision, admits, begun_after, carried_by, decides, does, drops, hears, is_client, not_served, promise_ticks, refuses, repeats, replied, reply_head, runs_received, saves, seat_for, seat_placed, serves_call, shows, tells_boot, whole}
+use Rattle.afs_rows.specs.Steps.{Begun}
+use Rattle.afs_rows.specs.Runs.{Cell, Entry, Fall, RunsTo, at_rest, begun_by_disk, in_boot, in_step, start, ServerHost}
+use Rattle.afs_rows.specs.ServerRow.{Change, Decision, admits, begun_after, carried_by, decides, does, drops, hears, is_client, not_served, promise_ticks, refuses, repeats, replied, reply_head, runs_received, saves, seat_for, seat_placed, serves_call, shows, tells_boot, whole}
 use Rattle.afs_rows.specs.ServerSteps.{back_timeout_row, server_row, start_row, wake_row}
 use Rattle.afs_rows.specs.States.{BackCall, Seat, ServerState}
 use Rattle.std.proofs.Common.{◌≡◌, ℕ, ◌+◌, Bool, true, false, cond, List, [], ◌∷◌, Option, Some, None, refl, sym, ap, subst, nat_eq, ◌∙◌}
@@ -189,7 +190,7 @@ disk_sits me x true (in_step m clock hit) h = after_sits me x clock (decides me 
 disk_sits me x false in_boot h = h
 disk_sits me x true in_boot h = record { seats = h.kept; kept = h.kept }
 
-started_sits : (i clock count : ℕ) (f : Begun) → Sits (Server i) f.state → Sits (Server i) (start_row (Server i) clock count f).state
+started_sits : (i clock count : ℕ) (f : Begun ServerState) → Sits (Server i) f.state → Sits (Server i) (start_row (Server i) clock count f).state
 unfolding start_row
 started_sits i clock count f h = record { seats = h.kept; kept = h.kept }
 
@@ -198,8 +199,8 @@ started_sits i clock count f h = record { seats = h.kept; kept = h.kept }
 abbrev pub SitsIn : Cell → List Entry → Type 0
 SitsIn c past = (i : ℕ) → Sits (Server i) (c.hosts i).state
 
-host_sits : (hosts : ℕ → Host) (i : ℕ) (h : Host) → ((j : ℕ) → Sits (Server j) (hosts j).state) → Sits (Server i) h.state → (j : ℕ) → Sits (Server j) (put i h hosts j).state
-host_sits hosts i h w own j = at_put i j (λ (x : Host). Sits (Server j) x.state) h hosts (λ same. subst (λ (k : ℕ). Sits (Server k) h.state) same own) (λ other. w j)
+host_sits : (hosts : ℕ → ServerHost) (i : ℕ) (h : ServerHost) → ((j : ℕ) → Sits (Server j) (hosts j).state) → Sits (Server i) h.state → (j : ℕ) → Sits (Server j) (put i h hosts j).state
+host_sits hosts i h w own j = at_put i j (λ (x : ServerHost). Sits (Server j) x.state) h hosts (λ same. subst (λ (k : ℕ). Sits (Server k) h.state) same own) (λ other. w j)
 
 pub sits_moves : EachMove SitsIn (Behind SitsIn)
 sits_moves = record {

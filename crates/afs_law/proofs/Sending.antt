@@ -34,11 +34,12 @@ use Rattle.afs_num.specs.declared.types.Node.{Node}
 use Rattle.afs_num.specs.declared.types.Node.TheVariants.{Client, Server}
 use Rattle.afs_rows.specs.Callbacks.{Started, Turn, break_message, breaks_call, call_for, expired, held_under, is_back_awaited, is_ready, is_seat_of, key_answered, no_turn, pumped, put, renews_by, repeats_by, replies_of, risen_turn, settles_by, started_call, starts, starts_by, timed, turn_for, turned_by, turned_in}
 use Rattle.afs_rows.specs.Going.{ClientState, Going}
-use Rattle.afs_rows.specs.Runs.{Armed, Cell, Entry, Fall, Host, Moved, at_rest, begun_by_disk, in_boot, in_step, server_moves, start, unarmed}
-use Rattle.afs_rows.specs.ServerRow.{Begun, Change, Decision, change_reply_to, promise_ticks, admits, begun_after, decides, does, drops, hears, is_client, not_served, refuses, repeats, reply_head, revived, runs_received, saves, serves_call, shows, tells_boot, whole}
+use Rattle.afs_law.proofs.Steps.{server_moves}
+use Rattle.afs_rows.specs.Runs.{Armed, Cell, Entry, Fall, Moved, at_rest, begun_by_disk, in_boot, in_step, start, unarmed, ServerHost}
+use Rattle.afs_rows.specs.ServerRow.{Change, Decision, change_reply_to, promise_ticks, admits, begun_after, decides, does, drops, hears, is_client, not_served, refuses, repeats, reply_head, revived, runs_received, saves, serves_call, shows, tells_boot, whole}
 use Rattle.afs_rows.specs.ServerSteps.{back_timeout_row, server_row, start_row, wake_row}
 use Rattle.afs_rows.specs.States.{BackCall, Backs, Held, ServerState}
-use Rattle.afs_rows.specs.Steps.{Step}
+use Rattle.afs_rows.specs.Steps.{Step, Begun}
 use Rattle.std.proofs.Common.{◌≡◌, ℕ, ◌+◌, Bool, true, false, cond, List, [], ◌∷◌, ◌++◌, Option, Some, None, refl, sym, subst, not}
 use Rattle.std.specs.Prelude.{⊤, ◌&&◌, nat_lt}
 
@@ -101,7 +102,7 @@ breaks_gift head [] ls = tt
 breaks_gift head (o ∷ os) ls = break_gift head o.what (o ∷ os) ls
 
 break_sent : (me : Node) (boot : ℕ) (n : Node) (known : ℕ) (c : BackCall) → IsSentBy me (break_message me boot n known c)
-break_sent me boot n known c = record { from = refl; half = λ z. refl; firm = tt; gift = λ z ls. breaks_gift (break_message me boot n known c).head c.breaks ls }
+break_sent me boot n known c = record { from = refl; half = λ z. refl; firm = tt; gift = λ z ls. breaks_gift (break_message me boot n known c).head c.content ls }
 
 change_sent : (me : Node) (x : ServerState) (clock : ℕ) (head : Head) (c : Change) → head.to ≡ me → IsSentBy me (change_reply_to x.lasting.boot head clock c)
 change_sent me x clock head c to = record { from = to; half = code_half (change_reply_to x.lasting.boot head clock c) (change_code (clock + promise_ticks) _); firm = change_firm x.lasting.boot head (clock + promise_ticks) _; gift = λ z ls. code_gift (reply_head x.lasting.boot head) _ ls (change_code (clock + promise_ticks) _) }
@@ -179,7 +180,7 @@ pub wakes_posts : (me : Node) (x : ServerState) (clock : ℕ) → Each (IsSentBy
 unfolding wake_row
 wakes_posts me x clock h = pumped_posts me x.lasting.boot (no_turn (expired clock x.backs)) (none_posts me (expired clock x.backs) h)
 
-pub rises_posts : (me : Node) (clock count : ℕ) (f : Begun) → PostsAll me (start_row me clock count f).sent (start_row me clock count f).state.backs
+pub rises_posts : (me : Node) (clock count : ℕ) (f : Begun ServerState) → PostsAll me (start_row me clock count f).sent (start_row me clock count f).state.backs
 unfolding start_row
 rises_posts me clock count f = pumped_posts me (revived f.state).lasting.boot (risen_turn me clock count) (record { sent = tt; outs = tt; held = tt })
 
@@ -201,7 +202,7 @@ disk_backs me x true in_boot = refl
 
 -- ---- every step
 
-abbrev pub HoldsOwn : (ℕ → Host) → Type 0
+abbrev pub HoldsOwn : (ℕ → ServerHost) → Type 0
 HoldsOwn hosts = (i : ℕ) → Each (IsSentBy (Server i)) (replies_of (hosts i).state.backs.held)
 
 abbrev pub HoldsIn : Cell → List Entry → Type 0
@@ -210,8 +211,8 @@ HoldsIn c past = HoldsOwn c.hosts
 abbrev pub SitsHolds : Cell → List Entry → Type 0
 SitsHolds c past = SitsIn c past × HoldsIn c past
 
-put_holds : (hosts : ℕ → Host) (i : ℕ) (h : Host) → HoldsOwn hosts → Each (IsSentBy (Server i)) (replies_of h.state.backs.held) → HoldsOwn (put i h hosts)
-put_holds hosts i h w own j = at_put i j (λ (x : Host). Each (IsSentBy (Server j)) (replies_of x.state.backs.held)) h hosts (λ same. subst (λ (k : ℕ). Each (IsSentBy (Server k)) (replies_of h.state.backs.held)) same own) (λ other. w j)
+put_holds : (hosts : ℕ → ServerHost) (i : ℕ) (h : ServerHost) → HoldsOwn hosts → Each (IsSentBy (Server i)) (replies_of h.state.backs.held) → HoldsOwn (put i h hosts)
+put_holds hosts i h w own j = at_put i j (λ (x : ServerHost). Each (IsSentBy (Server j)) (replies_of x.state.backs.held)) h hosts (λ same. subst (λ (k : ℕ). Each (IsSentBy (Server k)) (replies_of h.state.backs.held)) same own) (λ other. w j)
 
 stays_holds : (c : Cell) (i : ℕ) (after : Bool) (fall : Fall) (d : Option Fall) → HoldsOwn c.hosts → HoldsOwn (put i (record { state = (begun_by_disk (Server i) (c.hosts i).state after fall).state; down = d; armed = unarmed }) c.hosts)
 stays_holds c i after fall d h = put_holds c.hosts i _ h (subst (λ (b : Backs). Each (IsSentBy (Server i)) (replies_of b.held)) (sym (disk_backs (Server i) (c.hosts i).state after fall)) (h i))

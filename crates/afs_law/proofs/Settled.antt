@@ -56,7 +56,8 @@ use Rattle.afs_rows.specs.ClientRow.{admits_call, awaits, begin_row, breaks, cal
 use Rattle.afs_rows.specs.Going.{ClientState, Going}
 use Rattle.afs_history.specs.declared.acts.Act.{Act}
 use Rattle.afs_num.specs.declared.histories.Actor.TheVariants as actors
-use Rattle.afs_rows.specs.Runs.{Cell, Entry, at_rest, begun_by_disk, blow_line, client_moves, in_boot, in_step, locations, message_at, server_falls, server_moves, server_rises, server_set, server_stays, start, ticked, voided}
+use Rattle.afs_law.proofs.Steps.{blow_line, server_falls, server_moves, server_rises, server_set, server_stays}
+use Rattle.afs_rows.specs.Runs.{Cell, Entry, at_rest, begun_by_disk, client_moves, in_boot, in_step, locations, message_at, start, ticked, voided}
 use Rattle.afs_rows.specs.ServerRow.{key_of}
 use Rattle.afs_rows.specs.ServerSteps.{back_timeout_row, server_row, start_row, wake_row}
 use Rattle.afs_rows.specs.States.{CacheEntry}

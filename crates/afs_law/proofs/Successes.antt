@@ -38,11 +38,12 @@ use Rattle.afs_num.specs.declared.types.Node.TheVariants.{Client, Server}
 use Rattle.afs_records.specs.Durable.{time_in}
 use Rattle.afs_rows.specs.Callbacks.{put, replies_of}
 use Rattle.afs_rows.specs.ClientRow.{begin_row, client_row, timeout_row}
-use Rattle.afs_rows.specs.Runs.{Armed, Cell, Entry, Fall, Host, Moved, RunsTo, at_rest, begun_by_disk, blow_line, client_falls, client_moves, client_rises, in_boot, in_step, message_at, moved, server_falls, server_moves, server_rises, server_set, server_stays, start, ticked, unarmed, voided}
-use Rattle.afs_rows.specs.ServerRow.{Begun, Change, Decision, begun_after, carried_by, change_reply_to, decides, does, drops, promise_ticks, refuses, repeats, result, saves, seat_for, shows, stored_by, tells_boot}
+use Rattle.afs_law.proofs.Steps.{blow_line, server_falls, server_moves, server_rises, server_set, server_stays}
+use Rattle.afs_rows.specs.Runs.{Armed, Cell, Entry, Fall, Moved, RunsTo, at_rest, begun_by_disk, client_falls, client_moves, client_rises, in_boot, in_step, message_at, moved, start, ticked, unarmed, voided, ServerHost}
+use Rattle.afs_rows.specs.ServerRow.{Change, Decision, begun_after, carried_by, change_reply_to, decides, does, drops, promise_ticks, refuses, repeats, result, saves, seat_for, shows, stored_by, tells_boot}
 use Rattle.afs_rows.specs.ServerSteps.{back_timeout_row, server_row, start_row, wake_row}
 use Rattle.afs_rows.specs.States.{BackCall, Held, Seat, ServerState}
-use Rattle.afs_rows.specs.Steps.{Step}
+use Rattle.afs_rows.specs.Steps.{Step, Begun}
 use Rattle.std.proofs.Common.{suc, ◌+◌, ◌≡◌, ◌⊎◌, ◌∙◌, inl, inr, ℕ, Bool, true, false, List, [], ◌∷◌, Option, Some, None, pos, refl, sym, ap, subst, nat_eq}
 use Rattle.std.specs.Prelude.{⊤}
 
@@ -98,7 +99,7 @@ disk_kept me x true (in_step m clock hit) h = after_kept me x clock (decides me 
 disk_kept me x false in_boot h = h
 disk_kept me x true in_boot h = h
 
-starts_kept : (i clock count : ℕ) (f : Begun) → AreTold IsDone f.state.lasting.kept → AreTold IsDone (start_row (Server i) clock count f).state.lasting.kept
+starts_kept : (i clock count : ℕ) (f : Begun ServerState) → AreTold IsDone f.state.lasting.kept → AreTold IsDone (start_row (Server i) clock count f).state.lasting.kept
 unfolding start_row
 starts_kept i clock count f h = h
 
@@ -130,7 +131,7 @@ calls_now boot (m ∷ ms) h = ((λ is. absurd (call_none m.carried h.0 is)), cal
 
 -- ---- what holds after every entry
 
-record Coded (x : Host) : Type 0 where
+record Coded (x : ServerHost) : Type 0 where
   kept : AreTold IsDone x.state.lasting.kept
   replies : x.down ≡ None → Replies (IsNow x.state.lasting.boot) x.state
 
@@ -140,7 +141,7 @@ CodedIn c past = (i : ℕ) → Coded (c.hosts i)
 abbrev Facts : Script → Cell → List Entry → Type 0
 Facts s c past = KnownAsked s c past × CodedIn c past
 
-abbrev SendsNow : Host → List Message → Type 0
+abbrev SendsNow : ServerHost → List Message → Type 0
 SendsNow x ms = (ms ≡ []) ⊎ ((x.down ≡ None) × Each (IsNow x.state.lasting.boot) ms)
 
 record Codes (m : Moved) : Type 0 where
@@ -151,17 +152,17 @@ abbrev CodedStep : Cell → List Entry → Moved → Type 0
 CodedStep c past m = Codes m
 
 besides_coded : (c : Cell) (past : List Entry) (m : Moved) → CodedIn c past → ((i : ℕ) → m.entry.actor ≡ actors.Node (Server i) → ⊥) → m.cell.hosts ≡ c.hosts → Codes m
-besides_coded c past m h other same = record { coded = λ i. subst (λ (hosts : ℕ → Host). Coded (hosts i)) (sym same) (h i); sent = λ i is. absurd (other i is) }
+besides_coded c past m h other same = record { coded = λ i. subst (λ (hosts : ℕ → ServerHost). Coded (hosts i)) (sym same) (h i); sent = λ i is. absurd (other i is) }
 
-own_coded : (c : Cell) (past : List Entry) (i : ℕ) (x : Host) (m : Moved) → CodedIn c past → m.entry.actor ≡ actors.Node (Server i) → m.cell.hosts ≡ put i x c.hosts → Coded x → SendsNow x m.entry.sent → Codes m
+own_coded : (c : Cell) (past : List Entry) (i : ℕ) (x : ServerHost) (m : Moved) → CodedIn c past → m.entry.actor ≡ actors.Node (Server i) → m.cell.hosts ≡ put i x c.hosts → Coded x → SendsNow x m.entry.sent → Codes m
 own_coded c past i x m h actor hosts own sends = record {
-  coded = λ j. subst (λ (y : ℕ → Host). Coded (y j)) (sym hosts) (at_put i j (λ (y : Host). Coded y) x c.hosts (λ same. own) (λ other. h j));
-  sent = λ j is. subst (λ (y : ℕ → Host). SendsNow (y j) m.entry.sent) (sym hosts) (subst (λ (k : ℕ). SendsNow (put i x c.hosts k) m.entry.sent) (one_server i j (sym actor ∙ is)) (subst (λ (y : Host). SendsNow y m.entry.sent) (sym (put_same i x c.hosts)) sends));
+  coded = λ j. subst (λ (y : ℕ → ServerHost). Coded (y j)) (sym hosts) (at_put i j (λ (y : ServerHost). Coded y) x c.hosts (λ same. own) (λ other. h j));
+  sent = λ j is. subst (λ (y : ℕ → ServerHost). SendsNow (y j) m.entry.sent) (sym hosts) (subst (λ (k : ℕ). SendsNow (put i x c.hosts k) m.entry.sent) (one_server i j (sym actor ∙ is)) (subst (λ (y : ServerHost). SendsNow y m.entry.sent) (sym (put_same i x c.hosts)) sends));
 }
 
 up_coded : (c : Cell) (past : List Entry) (i : ℕ) (armed : Armed) (st : Step ServerState) → CodedIn c past → st.state.lasting.boot ≡ (c.hosts i).state.lasting.boot → AreTold IsDone st.state.lasting.kept → Replied (IsNow (c.hosts i).state.lasting.boot) st → Codes (server_moves c i armed st)
 up_coded c past i armed st h boot kept r =
-    let x : Host = record { state = st.state; down = None; armed = armed } in
+    let x : ServerHost = record { state = st.state; down = None; armed = armed } in
     own_coded c past i x (server_moves c i armed st) h refl refl (record { kept = kept; replies = λ up. subst (λ (b : ℕ). Replies (IsNow b) st.state) (sym boot) r.replies }) (inr (refl, subst (λ (b : ℕ). Each (IsNow b) st.sent) (sym boot) r.sent))
 
 served_coded : (s : Script) (c : Cell) (past : List Entry) (i place : ℕ) (m : Message) (armed : Armed) → Facts s c past → (c.hosts i).down ≡ None → message_at c.sent place ≡ Some m → Codes (server_moves c i armed (server_row (Server i) (c.hosts i).state c.clock place (Whole m)))
@@ -174,10 +175,10 @@ served_coded s c past i place m armed h up at =
 
 started_coded : (s : Script) (c : Cell) (past : List Entry) (i : ℕ) (after : Bool) (fall : Fall) → Facts s c past → Codes (server_rises c i (begun_by_disk (Server i) (c.hosts i).state after fall))
 started_coded s c past i after fall h =
-    let f : Begun = begun_by_disk (Server i) (c.hosts i).state after fall in
+    let f : Begun ServerState = begun_by_disk (Server i) (c.hosts i).state after fall in
     let st : Step ServerState = start_row (Server i) c.clock c.count f in
     let boot : ℕ = st.state.lasting.boot in
-    let x : Host = record { state = st.state; down = None; armed = unarmed } in
+    let x : ServerHost = record { state = st.state; down = None; armed = unarmed } in
     let kept : AreTold IsDone st.state.lasting.kept = starts_kept i c.clock c.count f (disk_kept (Server i) (c.hosts i).state after fall (h.1 i).kept) in
     own_coded c past i x (server_rises c i f) h.1 refl refl (record {
       kept = kept;
@@ -218,9 +219,9 @@ coded_moves s = record {
       up_coded c past i armed (wake_row (Server i) x c.clock) h.1 (woken_state i x c.clock).1 (wakes_kept i x c.clock (h.1 i).kept) (wakes_replies (IsNow x.lasting.boot) (spares_now x.lasting.boot) i x c.clock ((h.1 i).replies up)));
   started = λ c past i after fall h down. started_coded s c past i after fall h;
   early = λ c past i fall h down. down_coded c past i (c.hosts i).state fall unarmed (server_falls c i (lines.Fault (Server i) ∷ []) fall) h.1 refl refl refl (h.1 i).kept;
-  midway = λ c past i after fall h down. (let f : Begun = begun_by_disk (Server i) (c.hosts i).state after fall in
+  midway = λ c past i after fall h down. (let f : Begun ServerState = begun_by_disk (Server i) (c.hosts i).state after fall in
       down_coded c past i f.state in_boot unarmed (server_stays c i f (lines.Fault (Server i)) in_boot) h.1 refl refl refl (disk_kept (Server i) (c.hosts i).state after fall (h.1 i).kept));
-  full = λ c past i after fall h down. (let f : Begun = begun_by_disk (Server i) (c.hosts i).state after fall in
+  full = λ c past i after fall h down. (let f : Begun ServerState = begun_by_disk (Server i) (c.hosts i).state after fall in
       down_coded c past i f.state at_rest unarmed (server_stays c i f (lines.Full (Server i)) at_rest) h.1 refl refl refl (disk_kept (Server i) (c.hosts i).state after fall (h.1 i).kept));
 }
 

@@ -49,12 +49,13 @@ use Rattle.afs_num.specs.declared.types.Node.{Node}
 use Rattle.afs_num.specs.declared.types.Node.TheVariants.{Client, Server}
 use Rattle.afs_rows.specs.Callbacks.{expired, put, replies_of, turn_for, turned_by}
 use Rattle.afs_rows.specs.ClientRow.{begin_row, client_row, reborn, timeout_row}
-use Rattle.afs_rows.specs.Runs.{Blow, Armed, Cell, Entry, Fall, Host, at_rest, begun_by_disk, blow_line, client_moves, in_boot, in_step, message_at, server_falls, server_moves, server_rises, server_stays, start, unarmed}
-use Rattle.afs_rows.specs.ServerRow.{Begun, Change, Decision, Reading, admits, begun_after, carried_by, change_reply_to, decides, does, drops, granted, granted_in, hears, is_client, key_of, made, not_served, promise_ticks, promised_in, read_reply_to, refusal, refuses, repeats, reply_head, result, saves, serves_call, shows, stored_by, tells_boot, versioned, whole}
+use Rattle.afs_law.proofs.Steps.{blow_line, server_falls, server_moves, server_rises, server_stays}
+use Rattle.afs_rows.specs.Runs.{Blow, Armed, Cell, Entry, Fall, at_rest, begun_by_disk, client_moves, in_boot, in_step, message_at, start, unarmed, ServerHost}
+use Rattle.afs_rows.specs.ServerRow.{Change, Decision, Reading, admits, begun_after, carried_by, change_reply_to, decides, does, drops, granted, granted_in, hears, is_client, key_of, made, not_served, promise_ticks, promised_in, read_reply_to, refusal, refuses, repeats, reply_head, result, saves, serves_call, shows, stored_by, tells_boot, versioned, whole}
 use Rattle.afs_rows.specs.ServerSteps.{back_timeout_row, server_row, start_row, wake_row}
 use Rattle.afs_rows.specs.Going.{ClientState}
 use Rattle.afs_rows.specs.States.{Seat, ServerState}
-use Rattle.afs_rows.specs.Steps.{Step}
+use Rattle.afs_rows.specs.Steps.{Step, Begun}
 use Rattle.afs_records.specs.Durable.{time_in}
 use Rattle.std.proofs.Common.{◌≡◌, ℕ, ◌+◌, ℤ, pos, ◌⊎◌, inl, inr, Bool, true, false, cond, nat_eq, length, List, [], ◌∷◌, ◌++◌, Option, Some, None, refl, sym, ap, subst, ◌∙◌}
 use Rattle.std.specs.Prelude.{⊤}
@@ -510,7 +511,7 @@ cut_leaves i x clock m e past rest d h ideal ls y = tt
 
 -- ---- what holds after every entry
 
-pub record Told (hosts : ℕ → Host) (sent : List Message) (past : List Entry) : Type 0 where
+pub record Told (hosts : ℕ → ServerHost) (sent : List Message) (past : List Entry) : Type 0 where
   pub sends : Each (IsTold past) sent
   pub hosts' : (i : ℕ) → Replies (IsTold past) (hosts i).state
   pub cuts : (i : ℕ) (m : Message) (clock : ℕ) (hit : Blow) → (hosts i).down ≡ Some (in_step m clock hit) → CutHeld i (hosts i).state m past
@@ -518,14 +519,14 @@ pub record Told (hosts : ℕ → Host) (sent : List Message) (past : List Entry)
 abbrev pub ToldIn : Cell → List Entry → Type 0
 ToldIn c past = Told c.hosts c.sent past
 
-others_told : (hosts : ℕ → Host) (sent more : List Message) (past : List Entry) (e : Entry) → Told hosts sent past → Each (IsTold (e ∷ past)) more → Told hosts more (e ∷ past)
+others_told : (hosts : ℕ → ServerHost) (sent more : List Message) (past : List Entry) (e : Entry) → Told hosts sent past → Each (IsTold (e ∷ past)) more → Told hosts more (e ∷ past)
 others_told hosts sent more past e h w = record { sends = w; hosts' = λ i. replies_later e past (hosts i).state (h.hosts' i); cuts = λ i m clock hit d. cut_later i (hosts i).state m e past (h.cuts i m clock hit d) }
 
-host_told : (hosts : ℕ → Host) (sent more : List Message) (past : List Entry) (e : Entry) (i : ℕ) (x : Host) → Told hosts sent past → Each (IsTold (e ∷ past)) more → Replies (IsTold (e ∷ past)) x.state → ((m : Message) (clock : ℕ) (hit : Blow) → x.down ≡ Some (in_step m clock hit) → CutHeld i x.state m (e ∷ past)) → Told (put i x hosts) more (e ∷ past)
+host_told : (hosts : ℕ → ServerHost) (sent more : List Message) (past : List Entry) (e : Entry) (i : ℕ) (x : ServerHost) → Told hosts sent past → Each (IsTold (e ∷ past)) more → Replies (IsTold (e ∷ past)) x.state → ((m : Message) (clock : ℕ) (hit : Blow) → x.down ≡ Some (in_step m clock hit) → CutHeld i x.state m (e ∷ past)) → Told (put i x hosts) more (e ∷ past)
 host_told hosts sent more past e i x h w r cut = record {
   sends = w;
-  hosts' = λ j. at_put i j (λ (y : Host). Replies (IsTold (e ∷ past)) y.state) x hosts (λ same. r) (λ other. replies_later e past (hosts j).state (h.hosts' j));
-  cuts = λ j m clock hit. at_put i j (λ (y : Host). y.down ≡ Some (in_step m clock hit) → CutHeld j y.state m (e ∷ past)) x hosts
+  hosts' = λ j. at_put i j (λ (y : ServerHost). Replies (IsTold (e ∷ past)) y.state) x hosts (λ same. r) (λ other. replies_later e past (hosts j).state (h.hosts' j));
+  cuts = λ j m clock hit. at_put i j (λ (y : ServerHost). y.down ≡ Some (in_step m clock hit) → CutHeld j y.state m (e ∷ past)) x hosts
       (λ same d. subst (λ (k : ℕ). CutHeld k x.state m (e ∷ past)) same (cut m clock hit d)) (λ other d. cut_later j (hosts j).state m e past (h.cuts j m clock hit d));
 }
 
@@ -545,7 +546,7 @@ moves_told c past i armed st h r =
     let e : Entry = (server_moves c i armed st).entry in
     host_told c.hosts c.sent (c.sent ++ st.sent) past e i (record { state = st.state; down = None; armed = armed }) h (each_more (IsTold (e ∷ past)) c.sent st.sent (all_later e past c.sent h.sends) r.sent) r.replies (λ m clock hit d. absurd cc)
 
-falls_told : (c : Cell) (past : List Entry) (i : ℕ) (x : Host) (e : Entry) → Told c.hosts c.sent past → x.state ≡ (c.hosts i).state → ((m : Message) (clock : ℕ) (hit : Blow) → x.down ≡ Some (in_step m clock hit) → CutHeld i x.state m (e ∷ past)) → Told (put i x c.hosts) c.sent (e ∷ past)
+falls_told : (c : Cell) (past : List Entry) (i : ℕ) (x : ServerHost) (e : Entry) → Told c.hosts c.sent past → x.state ≡ (c.hosts i).state → ((m : Message) (clock : ℕ) (hit : Blow) → x.down ≡ Some (in_step m clock hit) → CutHeld i x.state m (e ∷ past)) → Told (put i x c.hosts) c.sent (e ∷ past)
 falls_told c past i x e h same cut = host_told c.hosts c.sent c.sent past e i x h (all_later e past c.sent h.sends) (subst (Replies (IsTold (e ∷ past))) (sym same) (replies_later e past (c.hosts i).state (h.hosts' i))) cut
 
 -- ---- every step
@@ -555,7 +556,7 @@ row_lines : (me : Node) (x : ServerState) (clock place : ℕ) (m : Message) → 
 unfolding server_row
 row_lines me x clock place m = refl
 
-rise_lines : (me : Node) (clock count : ℕ) (f : Begun) → (start_row me clock count f).lines ≡ f.before (risen_lines me clock count f)
+rise_lines : (me : Node) (clock count : ℕ) (f : Begun ServerState) → (start_row me clock count f).lines ≡ f.before (risen_lines me clock count f)
 unfolding start_row
 rise_lines me clock count f = refl
 
@@ -587,14 +588,14 @@ disk_told s c past e i after fall rest h down ls = disk_replies (IsTold (e ∷ p
 
 started_told : (s : Script) (c : Cell) (past : List Entry) (i : ℕ) (after : Bool) (fall : Fall) → Telling s c past → (c.hosts i).down ≡ Some fall → Behind ToldIn c past (server_rises c i (begun_by_disk (Server i) (c.hosts i).state after fall))
 started_told s c past i after fall h down =
-    let f : Begun = begun_by_disk (Server i) (c.hosts i).state after fall in
+    let f : Begun ServerState = begun_by_disk (Server i) (c.hosts i).state after fall in
     let st : Step ServerState = start_row (Server i) c.clock c.count f in
     let e : Entry = (server_moves c i unarmed st).entry in
     moves_told c past i unarmed st h.1 (starts_replies (IsTold (e ∷ past)) (spares (e ∷ past)) i c.clock c.count f (disk_told s c past e i after fall (risen_lines (Server i) c.clock c.count f) h down (rise_lines (Server i) c.clock c.count f)))
 
 stays_told : (s : Script) (c : Cell) (past : List Entry) (i : ℕ) (after : Bool) (fall now : Fall) (l : Line) → Telling s c past → (c.hosts i).down ≡ Some fall → ((m : Message) (clock : ℕ) (hit : Blow) → Some now ≡ Some (in_step m clock hit) → ⊥) → Behind ToldIn c past (server_stays c i (begun_by_disk (Server i) (c.hosts i).state after fall) l now)
 stays_told s c past i after fall now l h down none =
-    let f : Begun = begun_by_disk (Server i) (c.hosts i).state after fall in
+    let f : Begun ServerState = begun_by_disk (Server i) (c.hosts i).state after fall in
     let e : Entry = (server_stays c i f l now).entry in
     host_told c.hosts c.sent c.sent past e i (record { state = f.state; down = Some now; armed = unarmed }) h.1 (all_later e past c.sent h.1.sends) (disk_told s c past e i after fall (l ∷ []) h down refl) (λ m clock hit d. absurd (none m clock hit d))
 

@@ -24,8 +24,10 @@ use Rattle.afs_num.specs.declared.types.Node.TheVariants.{Client, Server}
 use Rattle.afs_records.specs.Durable.{Stored}
 use Rattle.afs_num.specs.declared.messages.Received.TheVariants.{Whole}
 use Rattle.afs_rows.specs.ClientRow.{begin_row, client_row, timeout_row}
-use Rattle.afs_rows.specs.Runs.{Cell, Entry, Fall, at_rest, begun_by_disk, blow_line, in_boot, in_step, start}
-use Rattle.afs_rows.specs.ServerRow.{Begun, key_of, made, versioned}
+use Rattle.afs_law.proofs.Steps.{blow_line}
+use Rattle.afs_rows.specs.Steps.{Begun}
+use Rattle.afs_rows.specs.Runs.{Cell, Entry, Fall, at_rest, begun_by_disk, in_boot, in_step, start}
+use Rattle.afs_rows.specs.ServerRow.{key_of, made, versioned}
 use Rattle.afs_rows.specs.States.{ServerState}
 use Rattle.std.proofs.Common.{suc, ◌≡◌, ℕ, ◌+◌, inl, inr, Bool, true, false, List, [], ◌∷◌, length, refl, ap, ◌∙◌}
 use Rattle.std.specs.Prelude.{⊤}
@@ -110,7 +112,7 @@ ticks_moves s = record {
   timed = λ c past i n b armed h up at. works_stand c past i _ _ h.1 (times_works AnyCall (Server i) (c.hosts i).state c.clock n b);
   woken = λ c past i armed h up. works_stand c past i _ _ h.1 (wakes_works AnyCall (Server i) (c.hosts i).state c.clock);
   started = λ c past i after fall h down.
-      let f : Begun = begun_by_disk (Server i) (c.hosts i).state after fall in
+      let f : Begun ServerState = begun_by_disk (Server i) (c.hosts i).state after fall in
       let ls : List Line = risen_lines (Server i) c.clock c.count f in
       works_stand c past i _ _ h.1 (starts_works AnyCall (Server i) (c.hosts i).state c.clock c.count f (disk_works AnyCall (Server i) (c.hosts i).state after fall ls (any_cut ls fall) (risen_from (Server i) c.clock c.count f)));
   early = λ c past i fall h down. h.1;

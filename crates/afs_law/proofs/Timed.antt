@@ -40,7 +40,8 @@ use Rattle.afs_num.specs.declared.types.Node.TheVariants.{Client, Server}
 use Rattle.afs_rows.specs.Callbacks.{expired, owe_line, quit_line, quits, retries, risen_turn, still_owed}
 use Rattle.afs_rows.specs.ClientRow.{call_of, client_row, dead_code, dropped, given_up_in, gives_up, tries_again}
 use Rattle.afs_rows.specs.Going.{ClientState, Going}
-use Rattle.afs_rows.specs.Runs.{Cell, Entry, Fall, Moved, begun_by_disk, blow_line, message_at, start}
+use Rattle.afs_law.proofs.Steps.{blow_line}
+use Rattle.afs_rows.specs.Runs.{Cell, Entry, Fall, Moved, begun_by_disk, message_at, start}
 use Rattle.afs_rows.specs.ServerRow.{key_of, Decision, does, drops, refuses, repeats, saves, shows, tells_boot}
 use Rattle.afs_rows.specs.ServerSteps.{back_timeout_row, server_row, start_row, wake_row}
 use Rattle.afs_rows.specs.States.{BackCall, Backs, CacheEntry, ServerState}

@@ -30,7 +30,8 @@ use Rattle.afs_num.specs.declared.types.Node.TheVariants.{Client, Server}
 use Rattle.afs_rows.specs.Callbacks.{put}
 use Rattle.afs_rows.specs.ClientRow.{Walked, begin_row, begins_by, client_row, dead_code, dropped, gift_of, given_up_in, gives_by, gives_up, goes_by, in_order, most_reads, timeout_line, timeout_row, tries_again, trusted_in, untrusted_in, walked, call_of}
 use Rattle.afs_rows.specs.Going.{ClientState, Going, Need, began, gives_back, answers, next}
-use Rattle.afs_rows.specs.Runs.{Cell, Entry, at_rest, begun_by_disk, blow_line, in_boot, in_step, message_at, server_falls, server_moves, server_rises, server_set, server_stays, start, ticked, voided}
+use Rattle.afs_law.proofs.Steps.{blow_line, server_falls, server_moves, server_rises, server_set, server_stays}
+use Rattle.afs_rows.specs.Runs.{Cell, Entry, at_rest, begun_by_disk, in_boot, in_step, message_at, start, ticked, voided}
 use Rattle.afs_rows.specs.ServerSteps.{back_timeout_row, server_row, wake_row}
 use Rattle.afs_rows.specs.States.{CacheEntry, Gift}
 use Rattle.afs_rows.specs.Steps.{Step}

@@ -48,7 +48,8 @@ use Rattle.afs_num.specs.declared.types.Node.TheVariants.{Client, Server}
 use Rattle.afs_rows.specs.Callbacks.{put}
 use Rattle.afs_rows.specs.ClientRow.{Walked, awaits, begin_row, behind_batch, body_told, call_by, call_of, client_row, counts, dropped, entries_told, entry_told, find_cached, given, gives_by, goes_by, hears, ignores, is_awaited, is_below, is_busy_code, is_older, is_spent, is_trusted, look_at, looked, most_busy, most_reads, opcode_of, put_entries, put_entry, read_lines, reborn, refuses, status_look, status_told, takes, takes_bulk, takes_data, takes_entries, takes_entry, takes_given, takes_list, takes_set, takes_shown, takes_status, timeout_row, walked, walks_on, with_statuses}
 use Rattle.afs_rows.specs.Going.{ClientState, Going, Need, answers, next, with_read}
-use Rattle.afs_rows.specs.Runs.{Cell, Entry, Moved, at_rest, begun_by_disk, blow_line, in_boot, in_step, message_at, moved, server_falls, server_moves, server_rises, server_set, server_stays, start, ticked, voided}
+use Rattle.afs_law.proofs.Steps.{blow_line, server_falls, server_moves, server_rises, server_set, server_stays}
+use Rattle.afs_rows.specs.Runs.{Cell, Entry, Moved, at_rest, begun_by_disk, in_boot, in_step, message_at, moved, start, ticked, voided}
 use Rattle.afs_rows.specs.ServerSteps.{back_timeout_row, server_row, wake_row}
 use Rattle.afs_rows.specs.States.{CacheEntry, Gift}
 use Rattle.afs_rows.specs.Steps.{Step}

@@ -32,8 +32,9 @@ use Rattle.afs_history.specs.declared.lines.Line.{Line}
 use Rattle.afs_law.specs.Once.{past_of, ChangesOnce}
 use Rattle.afs_law.specs.Cells.{IsOfCell}
 use Rattle.afs_law.specs.Past.{IsReply, AreWithin, IsUpTo, CalledSince, HasCode, IsCall, lines_of, onto, running, IsUnheard, called_key, answered_key, Ran}
-use Rattle.afs_rows.specs.Runs.{Fall, begun_by_disk, message_at, Leads, start, Input, Entry, Cell, RunsTo, Host, first_lasting, first_stored, volumes_at}
-use Rattle.afs_rows.specs.ServerRow.{Begun, Change, is_client, lasting_after, lasting_started, record_of, serves, runs, refuses, not_served, whole, is_client, no_room, key_of, made, versioned}
+use Rattle.afs_rows.specs.Steps.{Begun}
+use Rattle.afs_rows.specs.Runs.{Fall, begun_by_disk, message_at, Leads, start, Input, Entry, Cell, RunsTo, first_lasting, first_stored, volumes_at, ServerHost}
+use Rattle.afs_rows.specs.ServerRow.{Change, is_client, lasting_after, lasting_started, record_of, serves, runs, refuses, not_served, whole, is_client, no_room, key_of, made, versioned}
 use Rattle.afs_rows.specs.States.{CacheEntry, Seat, Lasting, durable_of, volume_in, ServerState, BackCall}
 use Rattle.afs_model.specs.FsRows.{call_number}
 use Rattle.afs_num.specs.declared.messages.Carried.TheVariants as carried
@@ -166,10 +167,10 @@ pub record IsKept (v : Version) (volumes : Table Stored) (told : List Line) : Ty
 
 -- What a restart of a server finds, where the record of the interrupted step is on its disk; and the entry that this restart makes,
 -- by what it tells of that step
-abbrev pub found_by_restart : ℕ → Host → Fall → Begun
+abbrev pub found_by_restart : ℕ → ServerHost → Fall → Begun ServerState
 found_by_restart i host fall = begun_by_disk (Server i) host.state true fall
 
-abbrev pub told_by_restart : ℕ → Host → Fall → Entry
+abbrev pub told_by_restart : ℕ → ServerHost → Fall → Entry
 told_by_restart i host fall = record { actor = actors.Node (Server i); lines = (found_by_restart i host fall).before []; sent = []; volumes = [] }
 
 -- no other server accepts stores of the volume
@@ -178,12 +179,12 @@ IsNoOthers s i id ls = (q : Node) → Accepts s id q ls → q ≡ Server i
 
 -- The server keeps of each volume that is no other's just the ideal one: all that the changes which were told have made of it, with each
 -- mode, owner, link count and access list. While the server is down, it is also so of what the step that was interrupted may have left
-pub record Survives (s : Script) (i : ℕ) (host : Host) (past : List Entry) : Type 0 where
+pub record Survives (s : Script) (i : ℕ) (host : ServerHost) (past : List Entry) : Type 0 where
   pub kept : (id : ℕ) → IsNoOthers s i id (lines_of past) → volume_in id host.state.lasting.volumes ≡ volume_after id past
   pub after : (fall : Fall) → host.down ≡ Some fall → (id : ℕ) → IsNoOthers s i id (lines_of past) → volume_in id (found_by_restart i host fall).state.lasting.volumes ≡ volume_after id (told_by_restart i host fall ∷ past)
 
 -- of one version: the server that accepts stores of its volume holds it or a later one, and so does what the interrupted step may have left
-pub record IsHeldStill (s : Script) (v : Version) (hosts : ℕ → Host) (past : List Entry) : Type 0 where
+pub record IsHeldStill (s : Script) (v : Version) (hosts : ℕ → ServerHost) (past : List Entry) : Type 0 where
   pub server : ℕ
   pub home : Accepts s v.fid.volume (Server server) (lines_of past)
   pub kept : IsKept v (hosts server).state.lasting.volumes (lines_of past)
@@ -198,7 +199,7 @@ pub record IsClosed (act : Going) (contents : Written) (key : Key) (ls : List Li
 
 -- One key of the act has a change line; where the act is a close, a version under that gives the file the bytes of the close. All changes
 -- that were told, and so this one, survive: in each volume, and by each version under this key
-pub record AreMadeAndKept (s : Script) (c : Node) (act : Going) (past : List Entry) (own : List Line) (hosts : ℕ → Host) (later : List Entry) : Type 0 where
+pub record AreMadeAndKept (s : Script) (c : Node) (act : Going) (past : List Entry) (own : List Line) (hosts : ℕ → ServerHost) (later : List Entry) : Type 0 where
   pub made : IsMade c past own
   pub closed : (o : Operand) (contents : Written) → act.act ≡ acts.Close o contents → IsClosed act contents made.key (own ++ lines_of past)
   pub survive : (i : ℕ) → Survives s i (hosts i) later
@@ -346,7 +347,7 @@ IsOwedIn [] c what n = ⊥
 IsOwedIn (o ∷ os) c what n = ((o.client ≡ c) × ((o.what ≡ what) × (o.number ≡ n))) ⊎ IsOwedIn os c what n
 
 -- a break is ended, or the server is up and owes it still
-abbrev pub IsAccounted : ℕ → Host → ℕ → Owes
+abbrev pub IsAccounted : ℕ → ServerHost → ℕ → Owes
 IsAccounted i host clock newer at older before after c what n = EndedBy (Server i) clock newer at older before after c what n ⊎ ((host.down ≡ None) × IsOwedIn host.state.backs.lists.owed c what n)
 
 abbrev pub BreaksAreOwed : Type 0
@@ -360,7 +361,7 @@ IsHandled i j head past o = IsGivenUp (Server i) (Client j) head.epoch head.numb
 abbrev pub RepliesFollowDrops : Type 0
 RepliesFollowDrops =
     (s : Script) (history : List Entry) (end : Cell) → RunsTo history s end → (i j place : ℕ) (m : Message) (b : BackCall) → message_at end.sent place ≡ Some m → HasCode m.carried → m.head.to ≡ Server i → m.head.from ≡ Client j
-    → (end.hosts i).down ≡ None → m.head.epoch ≡ (end.hosts i).state.lasting.boot → (end.hosts i).state.backs.calls (Client j) ≡ Some b → m.head.number ≡ b.number → AllByRecursion (IsHandled i j m.head (past_of (set_up s ∷ []) history)) b.breaks
+    → (end.hosts i).down ≡ None → m.head.epoch ≡ (end.hosts i).state.lasting.boot → (end.hosts i).state.backs.calls (Client j) ≡ Some b → m.head.number ≡ b.number → AllByRecursion (IsHandled i j m.head (past_of (set_up s ∷ []) history)) b.content
 
 -- the client waits for the reply to this call
 pub record IsAwaited (c : ClientState) (head : Head) : Type 0 where

@@ -10,3 +10,4 @@ pub mod Laws
 pub mod Parts
 pub mod ServerParts
 pub mod ClientParts
+pub mod Database

@@ -4,6 +4,9 @@ pub mod Scopes
 pub mod ServerRow
 pub mod Callbacks
 pub mod ServerSteps
+pub mod Hosts
+pub mod ServerHosts
+pub mod LocRow
 pub mod Going
 pub mod ClientRow
 pub mod Runs

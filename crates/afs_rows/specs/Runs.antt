@@ -7,11 +7,13 @@ use Rattle.afs_rows.specs.Callbacks.{put, first_backs}
 use Rattle.afs_rows.specs.ClientRow.{begin_row, client_row, timeout_row, new_client, reborn}
 use Rattle.afs_rows.specs.Going.{ClientState, Going}
 use Rattle.afs_history.specs.declared.lines.Line.{Line}
-use Rattle.afs_rows.specs.ServerRow.{Begun, begun_before, begun_after, decides, device_calls, revived, Decision}
-use Rattle.afs_rows.specs.States.{Location, ServerState, BackCall, Lasting, durable_of}
-use Rattle.afs_rows.specs.Steps.{Step}
-use Rattle.std.specs.Prelude.{is_some, ◌≡◌, ℕ, zero, suc, ◌+◌, ◌-◌, List, [], ◌∷◌, ◌++◌, Bool, true, false, cond, not, ◌&&◌, ◌||◌, nat_eq, nat_lt, codes, Option, Some, None, if◌then◌else◌}
-use Rattle.std.specs.Option.{option_map}
+pub use Rattle.afs_rows.specs.Hosts.{at_rest, comes_up, fail_blow, fails_early, fails_midway, gives_out, in_boot, in_step, is_full, leaves_after, lowered, own_blow, settled, sooner, steady, stop_blow, struck, unarmed, within, Armed, Blow, Fall, Luck, MayBegin, MayFind, Outcome}
+pub use Rattle.afs_rows.specs.ServerHosts.{begun_by_disk, ServerHost}
+use Rattle.afs_rows.specs.Hosts.{crashed, ends, restarted, served, served_by, set_to_fail, set_to_stop, HostStep}
+use Rattle.afs_rows.specs.ServerHosts.{server_kind, timed_out, woken}
+use Rattle.afs_rows.specs.States.{Location, ServerState, BackCall, Lasting}
+use Rattle.afs_rows.specs.Steps.{Begun, Step}
+use Rattle.std.specs.Prelude.{is_some, ◌≡◌, ℕ, zero, suc, ◌+◌, List, [], ◌∷◌, ◌++◌, Bool, true, false, cond, not, ◌||◌, nat_eq, nat_lt, codes, Option, Some, None, if◌then◌else◌}
 use Rattle.afs_num.specs.declared.types.Node.{Node}
 use Rattle.afs_num.specs.declared.types.Node.TheVariants.{Loc, Server, Client, Admin}
 use Rattle.afs_num.specs.declared.messages.Message.{Message}
@@ -20,8 +22,7 @@ use Rattle.afs_history.specs.declared.scripts.Script.{Script}
 use Rattle.afs_history.specs.declared.scripts.UserLine.{UserLine}
 use Rattle.afs_history.specs.declared.scripts.VolumeLine.{VolumeLine}
 use Rattle.afs_num.specs.declared.histories.Actor.{Actor}
-use Rattle.afs_rows.specs.ServerSteps.{server_row, back_timeout_row, wake_row, start_row}
-use Rattle.afs_records.specs.Changes.{at_set_up, can_boot, record_of_volumes}
+use Rattle.afs_records.specs.Changes.{at_set_up, record_of_volumes}
 use Rattle.afs_records.specs.Durable.{Stored, place_length}
 use Rattle.afs_records.specs.Entries.{entry_of_line}
 use Rattle.afs_history.specs.declared.lines.Line.TheVariants as lines
@@ -37,88 +38,11 @@ pub record Entry : Type 0 where
   pub sent : List Message
   pub volumes : Table Volume
 
--- ---- the disk of a server, in numbers of its calls
-
--- A device call that isn't made: which one of the step, whether the disk was set to that (it failed by itself, else), whether it
--- was stopped there (it failed, else), and its pick.
-pub record Blow : Type 0 where
-  pub call : ℕ
-  pub is_set : Bool
-  pub stops : Bool
-  pub pick : ℕ
-
--- where the disk is set to stop, after so many calls and with a pick, and at which call it is set to fail
-pub record Armed : Type 0 where
-  pub stop : Option (ℕ × ℕ)
-  pub fail : Option ℕ
-
-abbrev pub unarmed : Armed
-unarmed = record { stop = None; fail = None }
-
--- in a step the disk does as it was set to, or fails by itself at this call
-pub data Luck : Type 0 where
-  steady : Luck
-  gives_out : ℕ → Luck
-
-abbrev pub stop_blow : Option (ℕ × ℕ) → Option Blow
-stop_blow None = None
-stop_blow (Some s) = Some (record { call = s.0 + 1; is_set = true; stops = true; pick = s.1 })
-
-abbrev pub fail_blow : Option ℕ → Option Blow
-fail_blow None = None
-fail_blow (Some k) = Some (record { call = k; is_set = true; stops = false; pick = 0 })
-
-abbrev pub own_blow : Luck → Option Blow
-own_blow steady = None
-own_blow (gives_out k) = Some (record { call = k; is_set = false; stops = false; pick = 0 })
-
--- the earlier of two; of two at one call the first
-abbrev pub sooner : Option Blow → Option Blow → Option Blow
-sooner None b = b
-sooner (Some a) None = Some a
-sooner (Some a) (Some b) = if nat_lt b.call a.call then Some b else Some a
-
--- a step without device calls is never hit
-abbrev pub within : ℕ → Option Blow → Option Blow
-within zero b = None
-within (suc calls) None = None
-within (suc calls) (Some b) = if nat_lt (suc calls) b.call then None else Some b
-
--- what hits a step of so many device calls
-abbrev pub struck : Armed → Luck → ℕ → Option Blow
-struck a luck calls = within calls (sooner (sooner (stop_blow a.stop) (fail_blow a.fail)) (own_blow luck))
-
--- what is left after so many calls were made
-abbrev pub lowered : ℕ → Armed → Armed
-lowered calls a = record { stop = option_map (λ (s : ℕ × ℕ). (s.0 - calls, s.1)) a.stop; fail = option_map (λ (k : ℕ). k - calls) a.fail }
-
--- a server that is down: it stopped between two steps, or in the step of this message, which came at this clock, by this blow, or
--- in a restart, while its boot record was written
-pub data Fall : Type 0 where
-  at_rest : Fall
-  in_step : Message → ℕ → Blow → Fall
-  in_boot : Fall
-
--- how a restart ends: its boot record is on the disk; the disk fails before that is begun, or while it is written; or it
--- doesn't fit
-pub data Outcome : Type 0 where
-  comes_up : Outcome
-  fails_early : Outcome
-  fails_midway : Outcome
-  is_full : Outcome
-
--- a file server of the cell: its state, whether it is down (its state is then that from before the interrupted step), and how its
--- disk is set
-pub record Host : Type 0 where
-  pub state : ServerState
-  pub down : Option Fall
-  pub armed : Armed
-
 -- the servers by their numbers, of which there are so many; as many clients, by theirs, and which of them are down; all messages
 -- ever sent; and the clock
 pub record Cell : Type 0 where
   pub host_count : ℕ
-  pub hosts : ℕ → Host
+  pub hosts : ℕ → ServerHost
   pub count : ℕ
   pub clients : ℕ → ClientState
   pub away : ℕ → Bool
@@ -165,50 +89,25 @@ has_host c (suc i) = nat_lt i c.host_count
 abbrev pub if_host : Cell → ℕ → Moved → Moved
 if_host c i m = cond (has_host c i) m (voided c)
 
-abbrev pub server_moves : Cell → ℕ → Armed → Step ServerState → Moved
-server_moves c i armed s = record {
+-- the cell after this step of its server of this number, and the entry of that
+abbrev pub placed : Cell → ℕ → HostStep ServerState → Moved
+placed c i s = record {
   entry = record { actor = actors.Node (Server i); lines = s.lines; sent = s.sent; volumes = [] };
-  cell = record c { hosts = put i (record { state = s.state; down = None; armed = armed }) c.hosts; sent = c.sent ++ s.sent };
-}
-
--- a step of a server that leaves its state
-abbrev pub server_falls : Cell → ℕ → List Line → Fall → Moved
-server_falls c i ls fall = record {
-  entry = record { actor = actors.Node (Server i); lines = ls; sent = []; volumes = [] };
-  cell = record c { hosts = put i (record (c.hosts i) { down = Some fall; armed = unarmed }) c.hosts };
-}
-
-abbrev pub server_set : Cell → ℕ → Line → Armed → Moved
-server_set c i l armed = record {
-  entry = record { actor = actors.Node (Server i); lines = l ∷ []; sent = []; volumes = [] };
-  cell = record c { hosts = put i (record (c.hosts i) { armed = armed }) c.hosts };
+  cell = record c { hosts = put i s.host c.hosts; sent = c.sent ++ s.sent };
 }
 
 -- the message of a place; the first message sent has place 1
 abbrev pub message_at : List Message → ℕ → Option Message
 message_at ms place = at_place ms place
 
--- the line of a step that its disk ended
-abbrev pub blow_line : ℕ → Bool → Line
-blow_line i true = lines.Crash (Server i)
-blow_line i false = lines.Fault (Server i)
-
-abbrev pub decided_at : Cell → ℕ → Message → Decision
-decided_at c i m = decides (Server i) (c.hosts i).state c.clock (Whole m)
-
--- how many device calls its step makes
-abbrev pub calls_at : Cell → ℕ → Message → ℕ
-calls_at c i m = device_calls (c.hosts i).state c.clock (decided_at c i m)
-
 -- a step is done, or its disk ends it
 abbrev pub server_served : Cell → ℕ → ℕ → Message → Option Blow → Moved
-server_served c i place m None =
-    server_moves c i (lowered (calls_at c i m) (c.hosts i).armed) (server_row (Server i) (c.hosts i).state c.clock place (Whole m))
-server_served c i place m (Some b) = server_falls c i (lines.Given place ∷ blow_line i b.stops ∷ []) (in_step m c.clock b)
+server_served c i place m b = placed c i (served_by (server_kind (Server i)) (c.hosts i) c.clock place m b)
 
+-- a server that is down gets no message
 abbrev pub server_given : Cell → ℕ → ℕ → Luck → Message → Option Fall → Moved
+server_given c i place luck m None = placed c i (served (server_kind (Server i)) (c.hosts i) c.clock place luck m)
 server_given c i place luck m (Some fall) = voided c
-server_given c i place luck m None = server_served c i place m (struck (c.hosts i).armed luck (calls_at c i m))
 
 -- a cell of so many clients has one of this number
 abbrev pub has_client : ℕ → ℕ → Bool
@@ -253,68 +152,27 @@ abbrev pub client_rises : Cell → ℕ → Moved
 client_rises c n = turned n false (client_moves c n (record { state = c.clients n; lines = lines.Restart (Client n) (c.clients n).epoch ∷ []; sent = [] }))
 
 abbrev pub server_stopped : Cell → ℕ → Option Fall → Moved
-server_stopped c i None = server_falls c i (lines.Crash (Server i) ∷ []) at_rest
+server_stopped c i None = placed c i (crashed (server_kind (Server i)) (c.hosts i))
 server_stopped c i (Some fall) = voided c
 
--- the state in which a restart finds the disk: before the interrupted step, or after it
-abbrev pub begun_by_disk : Node → ServerState → Bool → Fall → Begun
-begun_by_disk me s after at_rest = begun_before s
-begun_by_disk me s false (in_step m clock b) = begun_before s
-begun_by_disk me s true (in_step m clock b) = begun_after me s clock (decides me s clock (Whole m))
-begun_by_disk me s false in_boot = begun_before s
-begun_by_disk me s true in_boot = begun_before (revived s)
+-- its restart begins with this, and ends so
+abbrev pub server_ends : Cell → ℕ → Begun ServerState → Fall → Outcome → Moved
+server_ends c i f fall o = placed c i (ends (server_kind (Server i)) (c.hosts i) c.clock c.count f fall o)
 
--- What is left by a blow to which the disk was set. The step's record is whole on the disk only where the last of its four calls, the
--- sync of the opened gate, is the one that wasn't made. And the disk failed at that call, so that what was written stays; or it stopped
--- there, with the pick that leaves what was written.
-abbrev pub leaves_after : Blow → Bool
-leaves_after b = nat_eq b.call 4 && (not b.stops || nat_eq b.pick 1)
-
--- Whether a restart may begin so, before the interrupted step or after it. Of a disk that failed by itself nothing is said.
-abbrev pub MayFind : Fall → Bool → Type 0
-MayFind at_rest after = Unit {0}
-MayFind (in_step m clock b) after = b.is_set ≡ true → after ≡ leaves_after b
-MayFind in_boot after = Unit {0}
-
-abbrev pub MayBegin : Option Fall → Bool → Type 0
-MayBegin None after = Unit {0}
-MayBegin (Some fall) after = MayFind fall after
-
-abbrev pub server_rises : Cell → ℕ → Begun → Moved
-server_rises c i f = server_moves c i unarmed (start_row (Server i) c.clock c.count f)
-
--- the server stays down, in the state that was found
-abbrev pub server_stays : Cell → ℕ → Begun → Line → Fall → Moved
-server_stays c i f l fall = record {
-  entry = record { actor = actors.Node (Server i); lines = f.before (l ∷ []); sent = []; volumes = [] };
-  cell = record c { hosts = put i (record { state = f.state; down = Some fall; armed = unarmed }) c.hosts };
-}
-
-abbrev pub server_ends : Cell → ℕ → Begun → Fall → Outcome → Moved
-server_ends c i f fall comes_up = server_rises c i f
-server_ends c i f fall fails_early = server_falls c i (lines.Fault (Server i) ∷ []) fall
-server_ends c i f fall fails_midway = server_stays c i f (lines.Fault (Server i)) in_boot
-server_ends c i f fall is_full = server_stays c i f (lines.Full (Server i)) at_rest
-
--- a boot record that doesn't fit isn't begun, and none follows the last boot number
-abbrev pub settled : ServerState → Outcome → Outcome
-settled s fails_early = fails_early
-settled s fails_midway = if can_boot (durable_of s.lasting) then fails_midway else is_full
-settled s o = if can_boot (durable_of s.lasting) then comes_up else is_full
-
+-- a server that is up doesn't begin again
 abbrev pub server_restarted : Cell → ℕ → Bool → Outcome → Option Fall → Moved
 server_restarted c i after o None = voided c
-server_restarted c i after o (Some fall) =
-    server_ends c i (begun_by_disk (Server i) (c.hosts i).state after fall) fall (settled (begun_by_disk (Server i) (c.hosts i).state after fall).state o)
+server_restarted c i after o (Some fall) = placed c i (restarted (server_kind (Server i)) (c.hosts i) c.clock c.count after o fall)
 
-abbrev pub server_armed : Cell → ℕ → Line → Armed → Option Fall → Moved
-server_armed c i l armed None = server_set c i l armed
-server_armed c i l armed (Some fall) = voided c
+-- its disk is set
+abbrev pub server_armed : Cell → ℕ → HostStep ServerState → Option Fall → Moved
+server_armed c i s None = placed c i s
+server_armed c i s (Some fall) = voided c
 
 -- the server's call to a node is timed out
 abbrev pub back_timed : Cell → ℕ → Node → Option BackCall → Moved
 back_timed c i n None = voided c
-back_timed c i n (Some b) = server_moves c i (c.hosts i).armed (back_timeout_row (Server i) (c.hosts i).state c.clock n b)
+back_timed c i n (Some b) = placed c i (timed_out (Server i) (c.hosts i) c.clock n b)
 
 abbrev pub server_timed : Cell → ℕ → Node → Option Fall → Moved
 server_timed c i n None = back_timed c i n ((c.hosts i).state.backs.calls n)
@@ -322,7 +180,7 @@ server_timed c i n (Some fall) = voided c
 
 -- time has passed at the server
 abbrev pub server_wakes : Cell → ℕ → Option Fall → Moved
-server_wakes c i None = server_moves c i (c.hosts i).armed (wake_row (Server i) (c.hosts i).state c.clock)
+server_wakes c i None = placed c i (woken (Server i) (c.hosts i) c.clock)
 server_wakes c i (Some fall) = voided c
 
 unfoldable pub moved : Cell → Input → Moved
@@ -335,8 +193,8 @@ moved c (client_stops n) = cond (is_away c n) (voided c) (client_falls c n)
 moved c (client_starts n) = cond (c.away n) (client_rises c n) (voided c)
 moved c (stops i) = if_host c i (server_stopped c i (c.hosts i).down)
 moved c (starts_again i after o) = if_host c i (server_restarted c i after o (c.hosts i).down)
-moved c (sets_stop i calls pick) = if_host c i (server_armed c i (lines.Stop (Server i) calls pick) (record (c.hosts i).armed { stop = Some (calls, pick) }) (c.hosts i).down)
-moved c (sets_fail i call) = if_host c i (server_armed c i (lines.Fail (Server i) call) (record (c.hosts i).armed { fail = Some call }) (c.hosts i).down)
+moved c (sets_stop i calls pick) = if_host c i (server_armed c i (set_to_stop (server_kind (Server i)) (c.hosts i) calls pick) (c.hosts i).down)
+moved c (sets_fail i call) = if_host c i (server_armed c i (set_to_fail (server_kind (Server i)) (c.hosts i) call) (c.hosts i).down)
 moved c (server_waits i n) = if_host c i (server_timed c i n (c.hosts i).down)
 moved c (wakes i) = if_host c i (server_wakes c i (c.hosts i).down)
 moved c nothing = voided c
@@ -415,7 +273,7 @@ user_at s n = user_in n (codes "guest") s.users
 abbrev pub first_client : Script → ℕ → ClientState
 first_client s n = new_client 1 s.cache (user_at s n) (locations s)
 
-abbrev pub first_host : Script → ℕ → Host
+abbrev pub first_host : Script → ℕ → ServerHost
 first_host s i = record { state = first_server s.capacity (volumes_at i s.volumes); down = None; armed = unarmed }
 
 abbrev pub start : Script → Cell

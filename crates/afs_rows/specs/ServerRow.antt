@@ -30,7 +30,7 @@ use Rattle.afs_ideal.specs.Tables.{Table, get, set}
 use Rattle.afs_ideal.specs.Volumes.{fid_of, Volume, Edit, versions_by, edited_all, counted}
 use Rattle.afs_history.specs.declared.lines.Line.{Line}
 use Rattle.afs_rows.specs.States.{Seat, Lasting, durable_of, ServerState}
-use Rattle.afs_rows.specs.Steps.{Step}
+use Rattle.afs_rows.specs.Steps.{begun_before, Begun, Step}
 use Rattle.afs_model.specs.Calls.{Admitted, admitted, call_seated}
 use Rattle.afs_model.specs.Messages.{spelled}
 use Rattle.afs_num.specs.declared.records.StoreRecord.{StoreRecord}
@@ -410,16 +410,8 @@ lasting_started l = record l { boot = l.boot + 1; volumes = filter is_unflagged 
 abbrev pub revived : ServerState → ServerState
 revived s = record s { lasting = lasting_started s.lasting; seats = s.lasting.kept }
 
--- what a restart begins with: the state before the interrupted step, or that after it, at the step's own clock, with the
--- step's effect lines before those of the restart
-pub record Begun : Type 0 where
-  pub state : ServerState
-  pub before : List Line → List Line
-
-abbrev pub begun_before : ServerState → Begun
-begun_before s = record { state = s; before = λ ls. ls }
-
-abbrev pub begun_after : Node → ServerState → ℕ → Decision → Begun
+-- behind an interrupted step whose record is whole: the state after it, and the lines that it would have told
+abbrev pub begun_after : Node → ServerState → ℕ → Decision → Begun ServerState
 begun_after me s clock (saves head c) = record {
   state = saved head clock c s;
   before = λ ls. lines.Change me (key_of head) (length (made c)) ∷ versioned (made c) ls;

@@ -5,9 +5,9 @@ use Rattle.afs_num.specs.declared.messages.Received.{Received}
 use Rattle.afs_rows.specs.Callbacks.{Turn, expired, no_turn, turned_in, timed, pumped, risen_turn}
 use Rattle.afs_history.specs.declared.lines.Line.{Line}
 use Rattle.afs_history.specs.declared.lines.Line.TheVariants as lines
-use Rattle.afs_rows.specs.ServerRow.{Begun, Decision, decides, does, revived}
+use Rattle.afs_rows.specs.ServerRow.{Decision, decides, does, revived}
 use Rattle.afs_rows.specs.States.{BackCall, ServerState}
-use Rattle.afs_rows.specs.Steps.{Step}
+use Rattle.afs_rows.specs.Steps.{Begun, Step}
 
 -- what a server does with its calls and promises comes last in its step; these are all its lines
 abbrev pub stepped : Node → ServerState → List Line → Turn → Step ServerState
@@ -30,6 +30,6 @@ unfoldable pub wake_row : Node → ServerState → ℕ → Step ServerState
 wake_row me s clock = stepped me s [] (no_turn (expired clock s.backs))
 
 -- it begins again, in a cell of so many clients
-unfoldable pub start_row : Node → ℕ → ℕ → Begun → Step ServerState
+unfoldable pub start_row : Node → ℕ → ℕ → Begun ServerState → Step ServerState
 start_row me clock count begun =
     stepped me (revived begun.state) (begun.before (lines.Restart me (begun.state.lasting.boot + 1) ∷ (risen_turn me clock count).lines)) (risen_turn me clock count)

@@ -5,18 +5,21 @@ use Rattle.afs_history.specs.declared.lines.Outs.{Outs}
 use Rattle.afs_server.specs.declared.faults.NodeFault.{NodeFault}
 use Rattle.afs_server.specs.declared.faults.NodeFault.TheVariants as faults
 use Rattle.afs_num.specs.declared.records.StoreRecord.{StoreRecord}
-use Rattle.afs_model.specs.Messages.{parcels_read, messages_spelled}
+use Rattle.afs_model.specs.Messages.{parcels_read, messages_spelled, received_by}
 use Rattle.afs_disk.specs.Disk.{PassesAll, Rose, Setting, Trips}
 use Rattle.afs_records.specs.Durable.{folded}
 use Rattle.afs_volstore.specs.Stores.{Store}
 use Rattle.afs_rows.specs.Callbacks as row
+use Rattle.afs_rows.specs.Callbacks.{turn_for, turned_in}
 use Rattle.afs_num.specs.declared.types.Head.{Head}
 use Rattle.afs_num.specs.declared.messages.Message.{Message}
-use Rattle.afs_rows.specs.ServerRow.{does, keeps, saves, record_of, Decision}
+use Rattle.afs_num.specs.declared.messages.Received.{Received}
+use Rattle.afs_rows.specs.ServerRow.{decides, does, keeps, saves, record_of, Decision}
 use Rattle.afs_rows.specs.ServerSteps.{stepped}
-use Rattle.afs_rows.specs.States.{ServerState}
+use Rattle.afs_rows.specs.States.{Backs, ServerState}
 use Rattle.afs_rows.specs.Steps.{Step}
-use Rattle.afs_server.specs.Seen.{Memory, state_seen, Serves}
+use Rattle.afs_server_parts.specs.declared.turns.Stand.{Stand}
+use Rattle.afs_server.specs.Seen.{backs_seen, Memory, state_seen, Serves}
 
 -- the calls that it serves
 abbrev pub calls_served : List ℕ
@@ -24,6 +27,21 @@ calls_served = 130 ∷ 131 ∷ 132 ∷ 133 ∷ 134 ∷ 135 ∷ 136 ∷ 137 ∷ 1
 
 abbrev pub server_seen : {D : Type 0} → Memory → Store D → ServerState
 server_seen {D} m s = state_seen m s.durable s.drawn
+
+-- who makes a step over this store
+abbrev pub stand_of : {D : Type 0} → Store D → Stand
+stand_of {D} s = record { node = s.node; boot = s.durable.boot; last = s.drawn }
+
+-- what is promised, owed, called and held at this time
+abbrev pub backs_then : {D : Type 0} → Memory → Store D → ℕ → Backs
+backs_then {D} m s clock = row.expired clock (backs_seen m s.drawn)
+
+-- the turn of what is decided, and that of what a message does besides
+abbrev pub turn_then : {D : Type 0} → Memory → Store D → ℕ → Decision → row.Turn
+turn_then {D} m s clock d = turn_for s.node (server_seen m s) clock (backs_then m s clock) d
+
+abbrev pub turned_then : {D : Type 0} → Memory → Store D → ℕ → Decision → Received → row.Turn
+turned_then {D} m s clock d received = turned_in s.node (server_seen m s) clock (backs_then m s clock) d received
 
 -- The step was made: the new state is its, and so is what was given out. Its lines are these and then the node's.
 pub record Makes {D : Type 0} (step : Step ServerState) (before : List Line) (m : Memory) (s : Store D) (outs : Outs) : Type 0 where
@@ -77,6 +95,13 @@ Does {D} {E} clock d turn old new s t result =
 abbrev pub record_decided : ℕ → ℕ → Decision → Option StoreRecord
 record_decided boot clock (saves head c) = Some (record_of boot head clock c)
 record_decided boot clock d = None
+
+-- what is decided at this time on the message of these bytes, and its record, if it makes one
+abbrev pub decided_then : {D : Type 0} → Memory → Store D → ℕ → List ℕ → Decision
+decided_then {D} m s clock bytes = decides s.node (server_seen m s) clock (received_by calls_served bytes)
+
+abbrev pub record_then : {D : Type 0} → Memory → Store D → ℕ → List ℕ → Option StoreRecord
+record_then {D} m s clock bytes = record_decided s.durable.boot clock (decided_then m s clock bytes)
 
 -- what the store keeps after a step that makes this record, or none
 abbrev pub IsDone : {D : Type 0} → Option StoreRecord → Store D → Store D → Type 0

@@ -62,7 +62,7 @@ impl<D: Disk> VolStore<D> {
     {
         let journal = take_up(alloc, disk)?;
         let wanted = !is_told(&journal, told);
-        match fold(alloc, node, journal.records().as_slice(), wanted) {
+        match fold(alloc, node, journal.records(), wanted) {
             Ok((state, lines)) => Ok((VolStore::of(alloc, journal, node, state), lines)),
             Err(fault) => Err((fault, journal.into_disk())),
         }

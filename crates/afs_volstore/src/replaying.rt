@@ -10,9 +10,9 @@ ghost use Rattle.afs_memory.specs.States.{parts_of, placed};
 
 use crate::attaching::take_one;
 use afs_history::lines::Lines;
+use afs_journal::Found;
 use afs_memory::memory::State;
 use afs_num::faults::StoreFault;
-use afs_num::sequences::Octets;
 use afs_num::types::Node;
 use afs_record::faults::Unfit;
 use std::alloc::Global;
@@ -39,7 +39,7 @@ fn take_numbered(
 }
 
 /// The record in a place.
-fn record_in(records: &[Octets], place: usize) -> Option<&Octets>
+fn record_in(records: &Found, place: usize) -> Option<&[u8]>
     ensures { option_copied result ≡ slice_get records.now place }
 {
     records.get(place)
@@ -50,7 +50,7 @@ fn take_in_place(
     alloc: Global,
     server: Node,
     state: &mut State,
-    records: &[Octets],
+    records: &Found,
     place: usize,
 ) -> Result<(), StoreFault>
     requires front { IsFront (take place records.now) (parts_of state.old) }
@@ -63,39 +63,51 @@ fn take_in_place(
         return Ok(());
     };
     let number = place as u64 + 1;
-    take_numbered(alloc, server, state, number, false, bytes.as_slice())?;
+    take_numbered(alloc, server, state, number, false, bytes)?;
     Ok(())
 }
 
-/// What records make that stand before another.
-fn fold_front(alloc: Global, server: Node, records: &[Octets]) -> Result<State, StoreFault>
-    ensures folded { IfOk result (λ s. IsFront records.now (parts_of s)) }
+/// What the first records make, so many, that stand before another.
+fn fold_front(
+    alloc: Global,
+    server: Node,
+    records: &Found,
+    count: usize,
+) -> Result<State, StoreFault>
+    requires { count < 2 ^ 63 }
+    ensures folded { IfOk result (λ s. IsFront (take count records.now) (parts_of s)) }
     ensures bad { IfErr result (λ e. (n : ℕ) → e ≡ faults.BadRecord n → (capacity : ℕ) (more : List (List ℕ)) → first_bad capacity (records.now ++ more) ≡ Some n) }
     ensures refusals { IfErr result (λ e. IsFoldFault e) }
 {
     let mut state = State::new(alloc);
-    for place in 0..records.len() {
+    for place in 0..count {
         take_in_place(alloc, server, &mut state, records, place)?;
     }
     Ok(state)
 }
 
-/// The last record, and those before it.
-fn split_last(records: &[Octets]) -> Option<(&[Octets], &Octets)>
-    ensures some { IfSome result (λ r. records.now ≡ r.0.now ++ r.1.now ∷ []) }
+/// How many records stand before the last, and that one.
+fn last_of(records: &Found) -> Option<(usize, &[u8])>
+    ensures some { IfSome result (λ r. records.now ≡ take r.0 records.now ++ r.1.now ∷ []) }
+    ensures count { IfSome result (λ r. length records.now ≡ r.0 + 1) }
+    ensures few { IfSome result (λ r. r.0 < 2 ^ 63) }
     ensures none { IfNone result (records.now ≡ []) }
 {
-    match records {
-        [] => None,
-        [front @ .., last] => Some((front, last)),
+    if records.is_empty() {
+        return None;
     }
+    let count = records.len() - 1;
+    let Some(last) = records.get(count) else {
+        unreachable!()
+    };
+    Some((count, last))
 }
 
 /// What all records make, and the lines of the last, where they are wanted.
 pub(crate) fn fold(
     alloc: Global,
     server: Node,
-    records: &[Octets],
+    records: &Found,
     wanted: bool,
 ) -> Result<(State, Lines), StoreFault>
     ensures folded { IfOk result (λ r. (capacity : ℕ) → fold_all capacity records.now ≡ Some (placed (1 + places_length records.now) capacity (parts_of r.0))) }
@@ -103,11 +115,11 @@ pub(crate) fn fold(
     ensures bad { IfErr result (λ e. (n : ℕ) → e ≡ faults.BadRecord n → (capacity : ℕ) → first_bad capacity records.now ≡ Some n) }
     ensures refusals { IfErr result (λ e. IsFoldFault e) }
 {
-    let Some((front, last)) = split_last(records) else {
+    let Some((count, last)) = last_of(records) else {
         return Err(StoreFault::BadRecord(1));
     };
-    let mut state = fold_front(alloc, server, front)?;
-    let number = front.len() as u64 + 1;
-    let lines = take_numbered(alloc, server, &mut state, number, wanted, last.as_slice())?;
+    let mut state = fold_front(alloc, server, records, count)?;
+    let number = count as u64 + 1;
+    let lines = take_numbered(alloc, server, &mut state, number, wanted, last)?;
     Ok((state, lines))
 }

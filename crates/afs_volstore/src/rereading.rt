@@ -34,7 +34,7 @@ fn made<D: Disk>(
     if journal.len() == len {
         return Ok(VolStore::of(alloc, journal, node, state));
     }
-    match fold(alloc, node, journal.records().as_slice(), false) {
+    match fold(alloc, node, journal.records(), false) {
         Ok((state, _lines)) => Ok(VolStore::of(alloc, journal, node, state)),
         Err(fault) => Err((fault, journal.into_disk())),
     }

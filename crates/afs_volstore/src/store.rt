@@ -66,12 +66,14 @@ impl<D: Disk> Model for VolStore<D> {
 }
 
 impl<D: Disk> VolStore<D> {
-    /// A store over a journal, with what its records make. It takes no memory.
+    /// A store over a journal, with what its records make. These are let go. It takes no memory.
     pub(crate) fn of(alloc: Global, journal: Journal<D>, node: Node, state: State) -> VolStore<D>
         requires counted { IsCounted journal.count (D.seen journal.disk) }
         requires kept { IsKept (placed (journal.gate + 1) (D.limit journal.disk) (parts_of state)) (D.seen journal.disk) (D.may_leave journal.disk) }
         ensures { result ≡ record { durable = placed (journal.gate + 1) (D.limit journal.disk) (parts_of state); disk = journal.disk; node = node; prepared = None; closed = journal.closed; count = journal.count; drawn = 0 } }
     {
+        let mut journal = journal;
+        journal.forget();
         VolStore {
             alloc,
             journal,

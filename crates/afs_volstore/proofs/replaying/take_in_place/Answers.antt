@@ -16,15 +16,14 @@ returns-in_default-clause-front c =
 pub returns-in_err-take_numbered-clause-bad : goal.returns-in_err-take_numbered-clause-bad
 returns-in_err-take_numbered-clause-bad c =
     if_err c.from_residual.result
-    (λ (e : StoreFault). (n : ℕ) → e ≡ faults.BadRecord n → (n ≡ c.args.place + 1) × IsBadAt (nat_eq (c.args.place + 1) 1) c.as_slice.result.now (parts_of c.args.state.now))
+    (λ (e : StoreFault). (n : ℕ) → e ≡ faults.BadRecord n → (n ≡ c.args.place + 1) × IsBadAt (nat_eq (c.args.place + 1) 1) c.in-Some.bytes.now (parts_of c.args.state.now))
     _
     (λ e bad n is capacity more.
     stops_at c.args.records.now more c.args.place n c.in-Some.bytes.now (parts_of c.args.state.now) (sym c.in-Some.ensures) c.requires.front
-    ((bad n is).0, subst (λ (b : List ℕ). IsBadAt (nat_eq (c.args.place + 1) 1) b (parts_of c.args.state.now)) c.as_slice.ensures (bad n is).1)
-    capacity)
+    (bad n is) capacity)
     (search rules)
 
 pub returns-clause-front : goal.returns-clause-front
 returns-clause-front c =
     goes_on c.args.records.now c.args.place c.in-Some.bytes.now (parts_of c.args.state.now) (parts_of c.take_numbered.new.state) (sym c.in-Some.ensures) c.requires.front
-    (subst (λ (b : List ℕ). TakesOne (nat_eq (c.args.place + 1) 1) b (parts_of c.args.state.now) (parts_of c.take_numbered.new.state)) c.as_slice.ensures c.in_ok-take_numbered.ensures.taken)
+    c.in_ok-take_numbered.ensures.taken

@@ -8,7 +8,7 @@ use Rattle.afs_volstore.proofs.rereading.made.Goals as goal
 pub of-requires-in-Ok-clause-kept : goal.of-requires-in-Ok-clause-kept
 of-requires-in-Ok-clause-kept g c =
     let j = c.args.journal in
-    kept_folded j.gate (g.D.Disk.limit j.disk) (g.D.Disk.size j.disk) (parts_of c.in-Ok.state) j.found c.as_slice.result.now (g.D.Disk.seen j.disk) (g.D.Disk.may_leave j.disk) (record { same = c.as_slice.ensures ∙ c.records.ensures; folds = c.in-Ok.ensures.folded }) c.requires.rests (g.met.D.Disk.measures j.disk)
+    kept_folded j.gate (g.D.Disk.limit j.disk) (g.D.Disk.size j.disk) (parts_of c.in-Ok.state) j.found c.records.result.now (g.D.Disk.seen j.disk) (g.D.Disk.may_leave j.disk) (record { same = c.records.ensures; folds = c.in-Ok.ensures.folded }) c.requires.rests (g.met.D.Disk.measures j.disk)
     c.requires.ends
 
 pub returns-in-Ok : goal.returns-in-Ok
@@ -18,6 +18,6 @@ returns-in-Ok g c =
     (record {
       rest = refl;
       capacity = refl;
-      kept = kept_folded j.gate (g.D.Disk.limit j.disk) (g.D.Disk.size j.disk) (parts_of c.in-Ok.state) j.found c.as_slice.result.now (g.D.Disk.seen j.disk) (g.D.Disk.may_leave j.disk) (record { same = c.as_slice.ensures ∙ c.records.ensures; folds = c.in-Ok.ensures.folded }) c.requires.rests
+      kept = kept_folded j.gate (g.D.Disk.limit j.disk) (g.D.Disk.size j.disk) (parts_of c.in-Ok.state) j.found c.records.result.now (g.D.Disk.seen j.disk) (g.D.Disk.may_leave j.disk) (record { same = c.records.ensures; folds = c.in-Ok.ensures.folded }) c.requires.rests
           (g.met.D.Disk.measures j.disk) c.requires.ends;
     })

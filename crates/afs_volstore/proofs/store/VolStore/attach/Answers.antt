@@ -8,8 +8,8 @@ use Rattle.afs_volstore.proofs.store.VolStore.attach.Goals as goal
 pub of-requires-clause-kept : goal.of-requires-clause-kept
 of-requires-clause-kept g c =
     let j = c.in_ok-journal.journal in
-    kept_taken_up j.gate (g.D.Disk.limit j.disk) (g.D.Disk.size j.disk) (parts_of c.in-Ok.state) j.found c.as_slice.result.now (g.D.Disk.seen c.args.disk) (g.D.Disk.seen j.disk) (g.D.Disk.may_leave j.disk)
-    (record { same = c.as_slice.ensures ∙ c.records.ensures; folds = c.in-Ok.ensures.folded })
+    kept_taken_up j.gate (g.D.Disk.limit j.disk) (g.D.Disk.size j.disk) (parts_of c.in-Ok.state) j.found c.records.result.now (g.D.Disk.seen c.args.disk) (g.D.Disk.seen j.disk) (g.D.Disk.may_leave j.disk)
+    (record { same = c.records.ensures; folds = c.in-Ok.ensures.folded })
     c.in_ok-journal.ensures.found c.in_ok-journal.ensures.at_rest c.in_ok-journal.ensures.told.0 (g.met.D.Disk.measures j.disk) c.in_ok-journal.ensures.counts.1.0
 
 pub returns-in-Err-clause-err : goal.returns-in-Err-clause-err
