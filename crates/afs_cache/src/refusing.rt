@@ -80,10 +80,11 @@ impl CacheManager {
     pub(crate) fn time_out(&mut self) -> Mem<Outs>
         ensures { Answers (times_out self.old.node self.old.state self.old.state.running) self.old self.new result }
     {
+        let tries = self.calls.tries;
         let Some(asked) = self.running() else {
             return self.ignore();
         };
-        match timed_out(self.calls.tries) {
+        match timed_out(tries) {
             Timeout::Again(tries) => {
                 let outs = self.send_again(asked, tries)?;
                 self.count_tries(tries);

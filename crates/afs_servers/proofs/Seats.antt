@@ -32,7 +32,7 @@ module _ {D : Type 0} (seen : D → Option (List ℕ)) (may_leave : D → List �
   served_up : (me : Node) (you : Node) (h : ServerHost) (clock place : ℕ) (m : Message) (r : ServerRunning D) (outs : Outs) (rose : Type 0) → me ≡ you → HasServed (server_kind me) h clock place m (IsStepUp r (lines.Given place ∷ []) outs) rose
       → HasServed (server_kind you) h clock place m (IsSeatStep seen may_leave limit you (Up r) (lines.Given place ∷ []) outs) rose
   served_up me you h clock place m r outs rose own s =
-      subst (λ (k : Node). HasServed k h clock place m (IsSeatStep seen may_leave limit you (Up r) (lines.Given place ∷ []) outs) rose) own
+      subst (λ (k : Node). HasServed (server_kind k) h clock place m (IsSeatStep seen may_leave limit you (Up r) (lines.Given place ∷ []) outs) rose) own
       (record { luck = s.luck; is_luck = s.is_luck; is = step_up you r (lines.Given place ∷ []) outs _ s.is; blame = s.blame })
 
   step_down : (you : Node) (me : Node) (r : Resting D) (front ls : List Line) (outs : Outs) (s : HostStep ServerState) → me ≡ you → outs.lines ≡ ls → outs.parcels ≡ [] → IsStepDown seen may_leave limit me r (front ++ ls) s → IsSeatStep seen may_leave limit you (Down r) front outs s
@@ -45,7 +45,7 @@ module _ {D : Type 0} (seen : D → Option (List ℕ)) (may_leave : D → List �
   served_down : (me : Node) (you : Node) (h : ServerHost) (clock place : ℕ) (m : Message) (r : Resting D) (line : Line) (outs : Outs) (rose : Type 0) → me ≡ you → ClientTells line outs
       → HasServed (server_kind me) h clock place m (IsStepDown seen may_leave limit me r (lines.Given place ∷ line ∷ [])) rose → HasServed (server_kind you) h clock place m (IsSeatStep seen may_leave limit you (Down r) (lines.Given place ∷ []) outs) rose
   served_down me you h clock place m r line outs rose own tells s =
-      subst (λ (k : Node). HasServed k h clock place m (IsSeatStep seen may_leave limit you (Down r) (lines.Given place ∷ []) outs) rose) own
+      subst (λ (k : Node). HasServed (server_kind k) h clock place m (IsSeatStep seen may_leave limit you (Down r) (lines.Given place ∷ []) outs) rose) own
       (record { luck = s.luck; is_luck = s.is_luck; is = step_down you me r (lines.Given place ∷ []) (line ∷ []) outs _ own tells.lines tells.sent s.is; blame = s.blame })
 
   pub heard_up : (you : Node) (clock place : ℕ) (bytes : List ℕ) (seat : ServerSeat D) (was r : ServerRunning D) (outs : Outs) → seat ≡ Up was → IsSeatOf you seat

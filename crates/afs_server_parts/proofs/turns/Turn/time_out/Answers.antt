@@ -1,3 +1,6 @@
+use Rattle.std.proofs.Common.{ap, sym, ◌∙◌}
+use Rattle.afs_model.specs.Calls.{is_sent_again}
+use Rattle.afs_rows.specs.States.{BackCall}
 use Rattle.afs_server_parts.specs.Turning.{backs_with}
 use Rattle.afs_server_parts.proofs.Turning.{timed_first, timed_last}
 use Rattle.afs_server_parts.proofs.turns.Turn.time_out.Goals as goal
@@ -5,9 +8,11 @@ use Rattle.afs_server_parts.proofs.turns.Turn.time_out.Goals as goal
 pub returns-in_ok-retry-in-Again-clause-turn : goal.returns-in_ok-retry-in-Again-clause-turn
 returns-in_ok-retry-in-Again-clause-turn c l q =
     let stand = c.args.self.now.stand in
-    timed_first stand.node stand.boot c.args.node c.args.call.now (backs_with l c.args.self.now.held c.args.self.now.calls) _ c.in-Again.ensures.0 (c.in_ok-retry.ensures.turn l q)
+    let tries = sym (ap (λ (k : BackCall). is_sent_again k.tries) c.call.view_is) in
+    timed_first stand.node stand.boot c.args.node c.args.call.now (backs_with l c.args.self.now.held c.args.self.now.calls) _ (tries ∙ c.in-Again.ensures.0) (c.in_ok-retry-in-Again.ensures.turn l q)
 
 pub returns-in_ok-quit-in-Dead-clause-turn : goal.returns-in_ok-quit-in-Dead-clause-turn
 returns-in_ok-quit-in-Dead-clause-turn c l q =
     let stand = c.args.self.now.stand in
-    timed_last stand.node stand.boot c.args.node c.args.call.now (backs_with l c.args.self.now.held c.args.self.now.calls) _ c.in-Dead.ensures (c.in_ok-quit.ensures.turn l q)
+    let tries = sym (ap (λ (k : BackCall). is_sent_again k.tries) c.call.view_is) in
+    timed_last stand.node stand.boot c.args.node c.args.call.now (backs_with l c.args.self.now.held c.args.self.now.calls) _ (tries ∙ c.in-Dead.ensures) (c.in_ok-quit-in-Dead.ensures.turn l q)
