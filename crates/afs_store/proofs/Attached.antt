@@ -13,7 +13,7 @@ use Rattle.afs_store.specs.Folding.{Folding}
 use Rattle.afs_store.specs.Folds.{places_length, wanted_lines, TellsLast}
 use Rattle.afs_store.specs.Opening.{lines_begun, same_mark, IsAttachFault, IsFoldFault}
 use Rattle.afs_store.specs.Sound.{IsSound}
-use Rattle.afs_store.specs.Stores.{IsCaused, IsCounted, IsKept, StandFor, Stands}
+use Rattle.afs_store.specs.Stores.{IsCaused, IsCounted, IsKept, StandFor}
 use Rattle.afs_store.proofs.Folding.{some_of}
 use Rattle.afs_store.proofs.FoldsOn.{journal_length, some_is}
 

@@ -3,13 +3,12 @@ use Rattle.std.proofs.Common.{◌≡◌, ℕ, ◌+◌, Bool, true, List, [], ◌
 use Rattle.afs_journal.specs.Log.{IsJournal, StandsAsBefore}
 use Rattle.afs_journal.specs.Records.{journal_bytes, whole_records}
 use Rattle.afs_store.specs.Folding.{Folding}
-use Rattle.afs_store.specs.Folds.{all_folded, folded_from, place_length, taken_as}
+use Rattle.afs_store.specs.Folds.{folded_from, place_length, taken_as}
 use Rattle.afs_store.specs.Sound.{IsSound}
-use Rattle.afs_store.specs.Stores.{IsCounted, IsKept, StandFor}
+use Rattle.afs_store.specs.Stores.{IsKept, StandFor}
 use Rattle.afs_shape.specs.Taking.{◌>>=◌}
 use Rattle.afs_store.proofs.Attached.{kept_by}
 use Rattle.afs_store.proofs.Folding.{folded_is, some_of}
-use Rattle.afs_store.proofs.FoldsOn.{some_is}
 
 -- ---- a journal that begins
 

@@ -5,7 +5,7 @@ use Rattle.std.specs.Option.{option_map}
 use Rattle.afs_shape.specs.Taking.{◌>>=◌}
 use Rattle.afs_journal.specs.Records.{whole_records, IsBeforeOrAfter}
 use Rattle.afs_store.specs.Folding.{Folding}
-use Rattle.afs_store.specs.Folds.{all_folded, has_room, place_length, read_taken, taken_as, IsBadAt, TakesOne}
+use Rattle.afs_store.specs.Folds.{all_folded, has_room, place_length, taken_as, IsBadAt, TakesOne}
 use Rattle.afs_store.specs.Sound.{IsSound}
 use Rattle.afs_store.specs.Stores.{LeftAround, StandFor, Stands, StandsAround}
 use Rattle.afs_store.proofs.FoldsOn.{front_step, some_is}

@@ -1,6 +1,6 @@
 //! One record more: made ready, then put on the disk.
 
-ghost use Rattle.std.specs.Prelude.{◌≡◌, ◌≤◌, ◌+◌, ◌++◌, ◌↔◌, ◌⊎◌, ◌∷◌, ◌&&◌, ℕ, List, [], None, Some, true, false, is_some, length, nat_lt, IfErr, IsErrOf, IsOk, IsSome, OnErr, OnOk};
+ghost use Rattle.std.specs.Prelude.{◌≡◌, ◌≤◌, ◌+◌, ◌++◌, ◌↔◌, ◌⊎◌, ◌∷◌, ◌&&◌, ℕ, List, [], None, Some, true, false, length, nat_lt, IfErr, IsErrOf, IsOk, IsSome, OnErr, OnOk};
 ghost use Rattle.afs_num.specs.declared.faults.StoreFault.TheVariants as faults;
 ghost use Rattle.afs_disk.specs.Disk.{LeavesOnly, SameDisk};
 ghost use Rattle.afs_journal.specs.Left.{LeavesByPick, ReachesCall};

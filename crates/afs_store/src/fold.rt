@@ -1,6 +1,6 @@
 //! A state in memory that records change.
 
-ghost use Rattle.std.specs.Prelude.{◌≡◌, Err, None, Some, true, is_some, IfErr, IfOk, OnOk};
+ghost use Rattle.std.specs.Prelude.{◌≡◌, Err, None, Some, true, is_some, IfOk, OnOk};
 ghost use Rattle.afs_store.specs.Folds.{IsBadAt, TakesOne, TellsOne};
 ghost use Rattle.afs_store.specs.Waiting.{KeepsMemory};
 ghost use Rattle.afs_store.specs.declared.fold.Unfit.TheVariants.{Bad};

@@ -1,6 +1,6 @@
 //! A store: a state with its disk.
 
-ghost use Rattle.std.specs.Prelude.{◌≡◌, ◌<◌, ◌+◌, ℕ, None, false};
+ghost use Rattle.std.specs.Prelude.{◌≡◌, ◌<◌, ◌+◌, None, false};
 ghost use Rattle.afs_store.specs.Stores.{IsCounted, IsKept};
 
 use crate::fold::Fold;

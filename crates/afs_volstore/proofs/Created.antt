@@ -1,5 +1,5 @@
 -- A disk at set-up: what its first record makes of it.
-use Rattle.std.proofs.Common.{◌≡◌, ℕ, ◌+◌, ◌≤◌, ◌<◌, Bool, true, false, not, List, [], ◌∷◌, length, Option, Some, None, is_some, nat_lt, if◌then◌else◌, refl, sym, ap, subst, ◌∙◌, arith, inl, inr}
+use Rattle.std.proofs.Common.{◌≡◌, ℕ, ◌+◌, ◌≤◌, Bool, true, false, not, List, [], ◌∷◌, length, Option, Some, None, is_some, nat_lt, if◌then◌else◌, refl, sym, ap, subst, ◌∙◌, arith, inl, inr}
 use Rattle.std.specs.Prelude.{Result, Ok, Err, MatchResult}
 use Rattle.std.proofs.lemmas.Bool.{le-ltb}
 use Rattle.std.specs.Option.{option_map}
@@ -7,7 +7,7 @@ use Rattle.afs_num.specs.declared.records.StoreRecord.{StoreRecord}
 use Rattle.afs_history.specs.declared.scripts.VolumeLine.{VolumeLine}
 use Rattle.afs_shape.specs.Taking.{◌>>=◌}
 use Rattle.afs_ideal.specs.Tables.{Table}
-use Rattle.afs_journal.specs.Records.{whole_records, IsBeforeOrAfter}
+use Rattle.afs_journal.specs.Records.{IsBeforeOrAfter}
 use Rattle.afs_records.specs.Changes.{first_record, record_of_volumes, set_up, volumes_laid}
 use Rattle.afs_records.specs.Durable.{Durable, Stored, body_taken, first_folded, fold_all, fold_from, folded, has_room, is_first, noted, nothing_on, place_length}
 use Rattle.afs_records.specs.Laws.{RecordsAreReadAgain}

@@ -1,16 +1,16 @@
 //! The records of a disk, taken one after the other.
 
-ghost use Rattle.std.specs.Prelude.{◌≡◌, ◌+◌, ◌++◌, ◌<◌, ◌^◌, ℕ, List, Err, None, Some, true, length, IfErr, IfOk, OnOk};
+ghost use Rattle.std.specs.Prelude.{◌≡◌, ◌<◌, Err, None, Some, true, IfOk, OnOk};
 ghost use Rattle.std.specs.Option.{option_map};
 ghost use Rattle.afs_num.specs.declared.faults.StoreFault.TheVariants as faults;
-ghost use Rattle.afs_records.specs.Durable.{body_taken, first_bad, fold_all, is_first, noted};
+ghost use Rattle.afs_records.specs.Durable.{body_taken, is_first, noted};
 ghost use Rattle.afs_records.specs.Records.{record_at, record_bytes, FitsRecord};
 ghost use Rattle.afs_memory.specs.Called.{IsCaller};
 ghost use Rattle.afs_store.specs.Folds.{IsBadAt, TakesNone, TakesOne, TellsOne};
 ghost use Rattle.afs_volstore.specs.VolumeFold.{volume_fold};
 ghost use Rattle.afs_memory.specs.Redoing.{FitsRedo};
-ghost use Rattle.afs_memory.specs.Redos.{body_of, record_of, IsReady};
-ghost use Rattle.afs_memory.specs.States.{parts_of, placed};
+ghost use Rattle.afs_memory.specs.Redos.{body_of, IsReady};
+ghost use Rattle.afs_memory.specs.States.{parts_of};
 ghost use Rattle.afs_record.specs.declared.faults.Unfit.TheVariants.{Bad};
 
 use crate::altering::change_in;

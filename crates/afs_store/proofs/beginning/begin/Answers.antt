@@ -1,4 +1,4 @@
-use Rattle.std.proofs.Common.{◌≡◌, ◌∙◌, [], List, ℕ, Some, IsOk, ap, length, rules, subst, sym, false, true}
+use Rattle.std.proofs.Common.{◌≡◌, ◌∙◌, [], List, ℕ, IsOk, ap, length, rules, subst, sym, false, true}
 use Rattle.afs_disk.specs.Disk.{LeavesJust, LeavesOnly}
 use Rattle.afs_journal.specs.Log.{StandsAsBefore}
 use Rattle.afs_journal.specs.Records.{whole_records}

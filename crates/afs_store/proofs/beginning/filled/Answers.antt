@@ -1,4 +1,4 @@
-use Rattle.std.proofs.Common.{◌≡◌, ◌∙◌, ◌+◌, List, ℕ, Option, Some, true, is_some, ap, length, sym}
+use Rattle.std.proofs.Common.{◌∙◌, ◌+◌, ℕ, Some, true, is_some, ap, length, sym}
 use Rattle.afs_store.specs.Folds.{taken_as}
 use Rattle.afs_store.specs.Stores.{StoreOf}
 use Rattle.afs_store.proofs.Begun.{ends_at, filled_with, kept_first, then_first}

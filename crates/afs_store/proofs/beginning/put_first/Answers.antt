@@ -1,4 +1,4 @@
-use Rattle.std.proofs.Common.{◌≡◌, ◌∙◌, ◌++◌, ◌∷◌, ◌+◌, [], List, ℕ, Some, false, is_some, length, ap, inl, subst, sym, rules}
+use Rattle.std.proofs.Common.{◌∙◌, ◌++◌, ◌∷◌, ◌+◌, [], List, ℕ, is_some, length, ap, inl, subst, sym, rules}
 use Rattle.afs_disk.specs.Disk.{LeavesOnly}
 use Rattle.afs_journal.specs.Log.{IsJournal}
 use Rattle.afs_journal.specs.Records.{whole_records, IsBeforeOrAfter}

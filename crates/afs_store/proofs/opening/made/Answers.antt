@@ -1,4 +1,4 @@
-use Rattle.std.proofs.Common.{◌≡◌, ◌+◌, ◌∙◌, ℕ, List, Some, ap, refl, sym, subst}
+use Rattle.std.proofs.Common.{◌≡◌, ◌+◌, ℕ, List, Some, refl, sym, subst}
 use Rattle.std.specs.Option.{option_map}
 use Rattle.afs_store.specs.Folds.{wanted_lines}
 use Rattle.afs_store.specs.Rereading.{IsMade}

@@ -1,9 +1,9 @@
-use Rattle.std.proofs.Common.{◌≡◌, ◌≤◌, ◌+◌, ◌++◌, ◌∙◌, [], ℕ, List, Some, length, length-take-le, take, ap, arith, sym, subst, nat_eq, rules}
+use Rattle.std.proofs.Common.{◌≡◌, ◌+◌, ◌++◌, ◌∙◌, [], ℕ, List, Some, length, length-take-le, take, ap, arith, sym, subst, nat_eq, rules}
 use Rattle.std.proofs.lemmas.List.{append-nil}
 use Rattle.std.specs.Option.{option_map}
 use Rattle.afs_num.specs.declared.faults.StoreFault.{StoreFault}
 use Rattle.afs_num.specs.declared.faults.StoreFault.TheVariants as faults
-use Rattle.afs_store.specs.Folds.{places_length, wanted_lines, IsBadAt, TakesOne, TellsOne}
+use Rattle.afs_store.specs.Folds.{places_length, wanted_lines, IsBadAt, TakesOne}
 use Rattle.afs_store.proofs.FoldsOn.{all_taken, bad_at, if_err, told_last}
 use Rattle.afs_store.proofs.replaying.fold.Goals as goal
 

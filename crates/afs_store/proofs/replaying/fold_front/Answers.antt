@@ -1,4 +1,4 @@
-use Rattle.std.proofs.Common.{◌≡◌, ℕ, List, subst, take, rules}
+use Rattle.std.proofs.Common.{◌≡◌, ℕ, subst, take, rules}
 use Rattle.afs_store.specs.Folds.{IsFront}
 use Rattle.afs_store.proofs.replaying.fold_front.Goals as goal
 

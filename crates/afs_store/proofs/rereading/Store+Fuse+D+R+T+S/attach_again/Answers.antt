@@ -1,5 +1,5 @@
 use Rattle.std.specs.Prelude.{MatchResult, OnOk}
-use Rattle.std.proofs.Common.{◌≡◌, ◌≤◌, ◌+◌, ℕ, ap, refl, sym, subst, ◌∙◌}
+use Rattle.std.proofs.Common.{◌≡◌, ◌≤◌, ◌+◌, ℕ, ap, sym, subst, ◌∙◌}
 use Rattle.afs_num.specs.declared.types.Node.{Node}
 use Rattle.afs_disk.specs.Fuses.{Fused}
 use Rattle.afs_store.specs.Rereading.{disk_after, IsAttached, IsRefused, IsTakenUp}

@@ -1,4 +1,4 @@
-use Rattle.std.proofs.Common.{◌≡◌, ◌+◌, ◌++◌, ◌∷◌, [], ℕ, List, Some, false, true, is_some, length, refl, sym, ap, subst, ◌∙◌, rules}
+use Rattle.std.proofs.Common.{◌≡◌, ◌+◌, ◌++◌, ◌∷◌, [], ℕ, List, Some, false, length, refl, sym, ap, subst, ◌∙◌, rules}
 use Rattle.afs_disk.specs.Disk.{LeavesOnly}
 use Rattle.afs_journal.specs.Left.{LeavesByPick, ReachesCall}
 use Rattle.afs_journal.specs.Log.{IsJournal}

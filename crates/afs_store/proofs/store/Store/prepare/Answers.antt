@@ -1,4 +1,4 @@
-use Rattle.std.proofs.Common.{◌≡◌, ◌+◌, None, true, false, is_some, sym, ap, ◌∙◌, rules}
+use Rattle.std.proofs.Common.{◌+◌, is_some, sym, ap, ◌∙◌, rules}
 use Rattle.afs_store.specs.Stores.{StoreOf}
 use Rattle.afs_store.proofs.Folding.{is_taken, none_is_taken}
 use Rattle.afs_store.proofs.store.Store.prepare.Goals as goal

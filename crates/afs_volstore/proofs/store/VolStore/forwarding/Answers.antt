@@ -1,4 +1,0 @@
-use Rattle.afs_volstore.proofs.store.VolStore.forwarding.Goals as goal
-
-pub returns : goal.returns
-returns g c = rw (← c.self.view_is, c.state.ensures) c.forwarding.ensures
