@@ -1,6 +1,6 @@
 //! The bank lends the disks of a cell's servers, and takes them back.
 
-ghost use Rattle.std.specs.Prelude.{◌≡◌, ◌≤◌, ◌<◌, ◌+◌, ◌^◌, ◌++◌, ◌∷◌, ◌×◌, ◌⊎◌, [], ℕ, length, option_map, vec_capacity, vec_len, IfErr, IfOk, OnErr, OnOk};
+ghost use Rattle.std.specs.Prelude.{◌≡◌, ◌≤◌, ◌<◌, ◌+◌, ◌^◌, ◌++◌, ◌∷◌, ◌⊎◌, [], ℕ, length, option_map, vec_capacity, vec_len, IfErr, IfOk, OnErr, OnOk};
 ghost use Rattle.afs_disk.specs.Banks.{counted};
 ghost use Rattle.afs_disk.specs.Disk.{Rose};
 ghost use Rattle.afs_lending.specs.Lending.{kept_disks, lends, with_faults, AreLent, AreUnused, GivesBackBut, GoBack, LendsSome, LentTell, OneGoesBack};
