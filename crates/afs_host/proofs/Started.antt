@@ -16,6 +16,7 @@ use Rattle.afs_records.specs.Durable.{first_bad, StandFor}
 use Rattle.afs_volstore.specs.Stands.{Stands}
 use Rattle.afs_rows.specs.Hosts.{at_rest, comes_up, fails_early, fails_midway, in_boot, is_full, settled, Fall, MayFind, Outcome, ends, falls, restarted, HostStep}
 use Rattle.afs_rows.specs.ServerHosts.{begun_by_disk, ServerHost, server_kind}
+use Rattle.afs_rows.specs.States.{ServerState}
 use Rattle.afs_rows.specs.Steps.{Begun}
 use Rattle.afs_volstore.specs.Opening.{lines_begun, IsAttachFault}
 use Rattle.afs_volstore.specs.Stores.{IsCaused, Store}
