@@ -1,5 +1,5 @@
 -- A walk that has come so far goes on from there.
-use Rattle.std.proofs.Common.{◌≡◌, ◌≤◌, ◌<◌, ℕ, zero, suc, ◌+◌, ◌-◌, Bool, true, false, not, List, [], ◌∷◌, ◌++◌, length, take, drop, Option, Some, None, IsSome, Result, Ok, Err, refl, ap, sym, ◌∙◌, append_assoc, length-append, take-append-drop, arith}
+use Rattle.std.proofs.Common.{◌≡◌, ◌≤◌, ℕ, zero, suc, ◌+◌, ◌-◌, Bool, true, false, List, [], ◌∷◌, ◌++◌, length, take, drop, Option, Some, None, IsSome, Result, Ok, Err, refl, ap, sym, ◌∙◌, append_assoc, length-append, take-append-drop, arith}
 use Rattle.std.proofs.lemmas.List.{take_more, take-append-le}
 use Rattle.std.proofs.lemmas.Option.{get_or_from_slice_get}
 use Rattle.afs_history.specs.declared.acts.Operand.{Operand}
@@ -9,7 +9,7 @@ use Rattle.afs_num.specs.Fids.{same_fid}
 use Rattle.afs_num.specs.declared.types.Fid.{Fid}
 use Rattle.afs_num.specs.declared.histories.Body.{Body}
 use Rattle.afs_num.specs.declared.histories.ReadBody.TheVariants as seen
-use Rattle.afs_rows.specs.Going.{Need, Shown, Taken, Parted, parted, taken_body, first_body, looked_up}
+use Rattle.afs_rows.specs.Going.{Need, Shown, Taken, parted, taken_body, first_body, looked_up}
 use Rattle.afs_acts.specs.Walks.{At, then_on, body_by, entry_by, reached, along, walk_to, at_root, path_at, fid_at, within, parent_by, parent_at}
 use Rattle.afs_acts.specs.Ways.{names_of, start_of, IsUnderway, Steps}
 
@@ -78,7 +78,7 @@ pub steps_on : (home : Option ℕ) (o : Option Operand) (count : ℕ) (f : Fid) 
 steps_on home o count f behind ahead shown next way step =
     let names = names_of o in
     let taken : take (count + 1) names ≡ take count names ++ step.name ∷ [] =
-        take_more names count step.name (omega (arith, step.inside)) ∙ ap (λ (n : List ℕ). take count names ++ n ∷ []) (get_or_from_slice_get names count step.name step.name step.named) in
+    take_more names count step.name (omega (arith, step.inside)) ∙ ap (λ (n : List ℕ). take count names ++ n ∷ []) (get_or_from_slice_get names count step.name step.name step.named) in
     record {
       inside = omega (arith, step.inside);
       walked = λ id e rest.

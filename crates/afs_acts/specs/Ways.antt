@@ -8,7 +8,7 @@ use Rattle.afs_history.specs.declared.acts.Operand.TheVariants as operands
 use Rattle.afs_history.specs.declared.acts.Path.{Path}
 use Rattle.afs_num.specs.declared.types.Fid.{Fid}
 use Rattle.afs_rows.specs.Going.{Shown, root_of}
-use Rattle.afs_acts.specs.Walks.{At, along, walk_to}
+use Rattle.afs_acts.specs.Walks.{along, walk_to}
 
 -- what an act names first
 abbrev pub first_operand : Act → Option Operand

@@ -67,12 +67,7 @@ fn kind(file: u32, directory: u32, link: u32, body: &Body) -> Need
     }
 }
 
-fn show(
-    file: u32,
-    directory: u32,
-    link: u32,
-    reached: Result<At<'_>, Need>,
-) -> Need
+fn show(file: u32, directory: u32, link: u32, reached: Result<At<'_>, Need>) -> Need
     ensures { need_of result ≡ shows_by file directory link (came reached.entry) }
 {
     let at = match reached {
@@ -244,11 +239,7 @@ fn make_directory(alloc: Global, reached: Result<Within<'_, '_>, Need>) -> Mem<N
     )
 }
 
-fn symlink(
-    alloc: Global,
-    target: &Written,
-    reached: Result<Within<'_, '_>, Need>,
-) -> Mem<Need>
+fn symlink(alloc: Global, target: &Written, reached: Result<Within<'_, '_>, Need>) -> Mem<Need>
     ensures { IfOk result (λ n. need_of n ≡ asks_in (λ d name. FsCall.Symlink d name (bytes_in target.now) nothing_set) (came_within reached.entry)) }
 {
     let within = reach!(reached);
@@ -313,14 +304,7 @@ fn rename(alloc: Global, old: Within<'_, '_>, new: Within<'_, '_>) -> Mem<Need>
     )
 }
 
-fn mv(
-    alloc: Global,
-    homes: &Homes,
-    from: &Path,
-    to: &Path,
-    way: &Way,
-    rest: &[Shown],
-) -> Mem<Need>
+fn mv(alloc: Global, homes: &Homes, from: &Path, to: &Path, way: &Way, rest: &[Shown]) -> Mem<Need>
     requires { IsUnderway homes.now.first (Some (operands.Path from.now)) way.now.names way.now.fid way.now.behind }
     ensures { IfOk result (λ n. need_of n ≡ needed_by homes.now (Act.Move from.now to.now) (way.now.behind ++ rest.now)) }
 {

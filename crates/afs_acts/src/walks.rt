@@ -238,7 +238,11 @@ pub fn path_object<'a>(
     ensures { came result ≡ path_at home path.now.names (way.now.behind ++ rest.entry.now) }
 {
     match home {
-        Some(_) => walk(false, names_ahead(path.names.as_slice(), way), ahead(way, rest)),
+        Some(_) => walk(
+            false,
+            names_ahead(path.names.as_slice(), way),
+            ahead(way, rest),
+        ),
         None => Err(Need::Answer(NO_ENTRY)),
     }
 }

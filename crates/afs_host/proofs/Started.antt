@@ -52,7 +52,7 @@ pub record TakenUp {D : Type 0} (seen : D → Option (List ℕ)) (may_leave : D 
   pub counted : (bytes : List ℕ) → seen old.disk ≡ Some bytes → s.count ≡ length (whole_records bytes)
   pub capacity : s.durable.capacity ≡ limit old.disk
   pub quiet : faults s.disk.disk ≡ faults old.disk
-  pub boots : (begun : Begun) (records : List (List ℕ)) → IsFound seen begun records front s → BootsFrom seen may_leave faults limit begun records s.node clock count s.disk.disk result
+  pub boots : (begun : Begun ServerState) (records : List (List ℕ)) → IsFound seen begun records front s → BootsFrom seen may_leave faults limit begun records s.node clock count s.disk.disk result
   pub goes_on : GoesOnBooted s old.mark result
   pub same_limit : limit (disk_started result) ≡ limit old.disk
 

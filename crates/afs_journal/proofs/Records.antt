@@ -239,6 +239,6 @@ piece_found bytes bodies number body later rest split starts =
     let front = blocks 1 bodies in
     let start : length bytes - length later - length body ≡ length front + 9 = omega (arith, ap length split, length-append front rest, ap length starts.is, length-one_more number body later) in
     let there : drop (length front + 9) bytes ≡ body ++ later =
-        sym (drop-drop 9 (length front) bytes)
-        ∙ (ap (λ (l : List ℕ). drop 9 (drop (length front) l)) split ∙ (ap (drop 9) (drop_at front rest (length front) refl ∙ starts.is) ∙ behind number body later)) in
+    sym (drop-drop 9 (length front) bytes)
+    ∙ (ap (λ (l : List ℕ). drop 9 (drop (length front) l)) split ∙ (ap (drop 9) (drop_at front rest (length front) refl ∙ starts.is) ∙ behind number body later)) in
     ap (λ (n : ℕ). take (length body) (drop n bytes)) start ∙ (ap (take (length body)) there ∙ take_at body later (length body) refl)

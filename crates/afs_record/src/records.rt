@@ -27,7 +27,9 @@ const IMAGE: usize = 74;
 fn room_for(rec: &StoreRecord) -> usize {
     let mut room = rec.head.reply.len().saturating_add(FRAME);
     if let RecordBody::Change {
-        vnodes, removed, ..
+        vnodes,
+        removed,
+        ..
     } = &rec.body
     {
         room = room.saturating_add(removed.len().saturating_mul(4));

@@ -13,7 +13,7 @@ loop-body-preserved c =
     let first : StartsWith (suc (length bodies)) c.in-Some.body.now c.in-Some.behind.now c.loop-body.rest.now = subst (λ (n : ℕ). StartsWith n c.in-Some.body.now c.in-Some.behind.now c.loop-body.rest.now) so_far.counted c.in-Some.ensures.some in
     let lies = c.piece.ensures ∙ piece_found c.args.bytes.now bodies (suc (length bodies)) c.in-Some.body.now c.in-Some.behind.now c.loop-body.rest.now so_far.split first in
     let pushed : map (piece_of c.args.bytes.now) c.push.new.self.items ≡ bodies ++ c.in-Some.body.now ∷ [] =
-        ap (map (piece_of c.args.bytes.now)) c.in_ok-push.ensures.items ∙ (map-append (piece_of c.args.bytes.now) c.loop-body.found.items (c.piece.result ∷ []) ∙ ap (λ (b : List ℕ). bodies ++ b ∷ []) lies) in
+    ap (map (piece_of c.args.bytes.now)) c.in_ok-push.ensures.items ∙ (map-append (piece_of c.args.bytes.now) c.loop-body.found.items (c.piece.result ∷ []) ∙ ap (λ (b : List ℕ). bodies ++ b ∷ []) lies) in
     record {
       split = one_found c.args.bytes.now bodies c.in-Some.body.now c.loop-body.rest.now c.in-Some.behind.now so_far.split first ∙ ap (λ (l : List (List ℕ)). blocks 1 l ++ c.in-Some.behind.now) (sym pushed);
       more = first.more;
