@@ -5,7 +5,7 @@
 # restored into an older copy of its volume, into a read-only and a read-write volume of another family, and into an empty one.
 # tests/dumps.py makes the volumes and streams and asks the reference, tests/dumps.play is a program that plays them. It is tried
 # and not proved, so it is no crate of the repository, and the script no part of the gate: run it when clones or dumps have changed.
-# All is done in a copy.
+# A thousand volumes take some twenty minutes. All is done in a copy.
 # tests/dumps.sh [FIRST [LAST]]: the seeds, 1 to 1000; AFSCELL_REFERENCE is the folder of the reference.
 set -eu
 
