@@ -31,7 +31,7 @@ pub record IsInOrder (next : ℕ) (entries : Table Listed) : Type 0 where
   pub keyed : AreKeyed entries
   pub drawn : AreDrawn next entries
 
--- the counters never fall, and each draw raises its own
+-- the counters never fall
 pub record Rises (l : LocLasting) (c : LocChange) : Type 0 where
   pub ids : l.next_id ≤ c.next_id
   pub stamps : l.next_stamp ≤ c.next_stamp
