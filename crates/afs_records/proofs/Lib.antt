@@ -8,3 +8,5 @@ pub mod Lengths
 pub mod Fitting
 pub mod Grows
 pub mod Worked
+pub mod LocSpelled
+pub mod LocGrows

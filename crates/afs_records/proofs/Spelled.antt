@@ -21,15 +21,15 @@ use Rattle.afs_records.proofs.Images.{image_sound}
 -- ---- tests
 
 -- which way a test went
-chosen : {A : Type 0} (b : Bool) (x y z : Option A) → cond b x y ≡ z → ((b ≡ true) × (x ≡ z)) ⊎ ((b ≡ false) × (y ≡ z))
+pub chosen : {A : Type 0} (b : Bool) (x y z : Option A) → cond b x y ≡ z → ((b ≡ true) × (x ≡ z)) ⊎ ((b ≡ false) × (y ≡ z))
 chosen true x y z e = inl (refl, e)
 chosen false x y z e = inr (refl, e)
 
-both_true : (x y : Bool) → (x && y) ≡ true → (x ≡ true) × (y ≡ true)
+pub both_true : (x y : Bool) → (x && y) ≡ true → (x ≡ true) × (y ≡ true)
 both_true true y e = (refl, e)
 both_true false y e = absurd cc
 
-none_is_some : {A : Type 0} (x : A) → None ≡ Some x → ⊥
+pub none_is_some : {A : Type 0} (x : A) → None ≡ Some x → ⊥
 none_is_some x e = cc
 
 -- ---- small forms
@@ -180,26 +180,26 @@ volume_sound =
 abbrev Taking : Type 0 → Type 0 → Type 1
 Taking F X = F → List ℕ → X → Type 0
 
-abbrev TakesEnd : {X : Type 0} → Taking X X
+abbrev pub TakesEnd : {X : Type 0} → Taking X X
 TakesEnd {X} y bytes x = (bytes ≡ []) × (y ≡ x)
 
-abbrev TakesField : {A F X : Type 0} → Form A → Taking F X → Taking (A → F) X
+abbrev pub TakesField : {A F X : Type 0} → Form A → Taking F X → Taking (A → F) X
 TakesField {A} {F} {X} form Others maker bytes x = (a : A) × ((rest : List ℕ) × ((bytes ≡ form.spelled a ++ rest) × (form.Fits a × Others (maker a) rest x)))
 
 abbrev IsTaking : {F X : Type 0} → (F → List ℕ → Option X) → Taking F X → Type 0
 IsTaking {F} {X} make Took = (maker : F) (bytes : List ℕ) (x : X) → IsBytes bytes → make maker bytes ≡ Some x → Took maker bytes x
 
-at_end : {X : Type 0} → IsTaking {F = X} {X = X} made_at_end TakesEnd
+pub at_end : {X : Type 0} → IsTaking {F = X} {X = X} made_at_end TakesEnd
 at_end {X} y [] x fits e = (refl, some_is y x e)
 at_end {X} y (b ∷ bytes) x fits e = absurd cc
 
-behind : {A F X : Type 0} (form : Form A) → IsSoundForm form → (make : F → List ℕ → Option X) (Took : Taking F X) → IsTaking make Took → IsTaking (made_behind form make) (TakesField form Took)
+pub behind : {A F X : Type 0} (form : Form A) → IsSoundForm form → (make : F → List ℕ → Option X) (Took : Taking F X) → IsTaking make Took → IsTaking (made_behind form make) (TakesField form Took)
 behind {A} {F} {X} form p make Took others maker bytes x fits e =
     let a = bound (form.at bytes) (λ y. make (maker y.0) y.1) x e in
     let t = p.takes bytes a.0.0 a.0.1 fits a.1.0 in
     (a.0.0, (a.0.1, (t.0.parts, (t.1, others (maker a.0.0) a.0.1 x t.0.rest_fits a.1.1))))
 
-behind_again : {A F X : Type 0} (form : Form A) → IsSoundForm form → (make : F → List ℕ → Option X) (maker : A → F) (a : A) (rest : List ℕ) → form.Fits a → made_behind form make maker (form.spelled a ++ rest) ≡ make (maker a) rest
+pub behind_again : {A F X : Type 0} (form : Form A) → IsSoundForm form → (make : F → List ℕ → Option X) (maker : A → F) (a : A) (rest : List ℕ) → form.Fits a → made_behind form make maker (form.spelled a ++ rest) ≡ make (maker a) rest
 behind_again {A} {F} {X} form p make maker a rest fits = ap (λ (o : Option (A × List ℕ)). o >>= λ y. make (maker y.0) y.1) (p.again a rest fits)
 
 -- the bytes are those of this body, in this row

@@ -5,3 +5,6 @@ pub mod Sound
 pub mod Durable
 pub mod Changes
 pub mod Laws
+pub mod LocRecords
+pub mod LocDurable
+pub mod LocLaws

@@ -1,6 +1,7 @@
 //! Laws about records. Each is the contract of a function that does nothing.
 
 ghost use Rattle.afs_records.specs.Laws.{ChangesAreKept, ChangesAreTold, ChangesFit, LengthHasNoTime, OneMoreStands, PassingVolumesAreSound, ReadRecordsAreSpelled, RecordsAreReadAgain, SoundVolumesPass, StartsAreKept};
+ghost use Rattle.afs_records.specs.LocLaws.{LocRecordsAreReadAgain, LocStartsAreKept, OneMoreLocStands, ReadLocRecordsAreSpelled};
 
 /// A record within its limits is read again from its bytes.
 pub fn records_are_read_again()
@@ -50,4 +51,24 @@ pub fn length_has_no_time()
 /// One more record, that can be taken, stands for what the fold makes of it.
 pub fn one_more_stands()
     ensures { OneMoreStands }
+{}
+
+/// A record of the location database within its limits is read again from its bytes.
+pub fn loc_records_are_read_again()
+    ensures { LocRecordsAreReadAgain }
+{}
+
+/// Bytes that are read as a record of the location database are its one spelling.
+pub fn read_loc_records_are_spelled()
+    ensures { ReadLocRecordsAreSpelled }
+{}
+
+/// One more record of it, that can be taken, stands for what the fold makes of it.
+pub fn one_more_loc_stands()
+    ensures { OneMoreLocStands }
+{}
+
+/// The fold of the record of its start raises the boot number; all else stays.
+pub fn loc_starts_are_kept()
+    ensures { LocStartsAreKept }
 {}

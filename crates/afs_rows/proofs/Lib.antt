@@ -1,2 +1,3 @@
 pub mod Worked
 pub mod Clients
+pub mod LocWorked

@@ -6,6 +6,7 @@ pub mod Callbacks
 pub mod ServerSteps
 pub mod Hosts
 pub mod ServerHosts
+pub mod LocRow
 pub mod Going
 pub mod ClientRow
 pub mod Runs
