@@ -130,3 +130,5 @@ pub mod Ends
 pub mod Worked
 pub mod KeptRuns
 pub mod Wrong
+pub mod Database
+pub mod DatabaseRuns

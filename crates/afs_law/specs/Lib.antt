@@ -10,3 +10,5 @@ pub mod Laws
 pub mod Parts
 pub mod ServerParts
 pub mod ClientParts
+pub mod Database
+pub mod DatabaseRuns
