@@ -117,14 +117,15 @@ server_given c i place luck m (Some fall) = voided c
 
 -- ---- the location database
 
--- the cell after this step of the location database, and the entry of that
+-- The location database stops, begins again, and its disk is set; nobody asks it anything yet. This is the cell after such a step of it,
+-- and the entry of that.
 abbrev pub loc_placed : Cell → HostStep LocState → Moved
 loc_placed c s = record {
   entry = record { actor = actors.Node Loc; lines = s.lines; sent = s.sent; volumes = [] };
   cell = record c { loc = s.host; sent = c.sent ++ s.sent };
 }
 
--- while it is down it gets no message, doesn't stop, and its disk isn't set
+-- while it is down it doesn't stop, and its disk isn't set
 abbrev pub loc_up : Cell → HostStep LocState → Option Fall → Moved
 loc_up c s None = loc_placed c s
 loc_up c s (Some fall) = voided c
@@ -147,7 +148,7 @@ is_away c n = not (has_client c.count n) || c.away n
 abbrev pub given_to : Cell → ℕ → Luck → Message → Node → Moved
 given_to c place luck m (Server i) = if_host c i (server_given c i place luck m (c.hosts i).down)
 given_to c place luck m (Client n) = cond (is_away c n) (voided c) (client_moves c n (client_row (Client n) (c.clients n) c.clock place (Whole m)))
-given_to c place luck m Loc = loc_up c (served loc_kind c.loc c.clock place luck m) c.loc.down
+given_to c place luck m Loc = voided c
 given_to c place luck m (Admin n) = voided c
 
 abbrev pub given_at : Cell → ℕ → Luck → Option Message → Moved
