@@ -814,7 +814,7 @@ brought_moves s = record {
   waited = λ c past n act h r. (let k = waits_carry s n (c.clients n) act past (now_at s c past n h) r in record { had = client_done s c past n _ h (waits_acts n (c.clients n) act r) k; told = k.told });
   fallen = λ c past n h. record { had = own_had s c past n _ h (falls_acts n (c.clients n)) (λ f e x. absurd cc); told = (tt, tt) };
   risen = λ c past n h. record { had = own_had s c past n _ h (rises_acts n (c.clients n)) (h.1 n); told = (tt, tt) };
-  loc = λ c past l ls h st. record { had = idle_had s c past (loc_becomes c l ls).entry h (loc_idle ls st); told = idle_told s (actors.Node Loc) past [] ls (loc_idle ls st) };
+  loc = λ c past l ls h st. record { had = idle_had s c past (loc_becomes c l ls).entry h (loc_idle ls st.lines); told = idle_told s (actors.Node Loc) past [] ls (loc_idle ls st.lines) };
   served = λ c past i place m armed h up at to. (let z = idle_works any_message i (c.hosts i).state _ _ (serves_works any_message (Server i) (c.hosts i).state c.clock place m (λ rest. tt)) in record { had = idle_had s c past (server_moves c i armed (server_row (Server i) (c.hosts i).state c.clock place (Whole m))).entry h z; told = idle_told s (actors.Node (Server i)) past [] _ z });
   cut = λ c past i place m t h up at to. record { had = idle_had s c past (server_falls c i (lines.Given place ∷ blow_line i t.stops ∷ []) (in_step m c.clock t)).entry h (blow_idle i t.stops); told = idle_told s (actors.Node (Server i)) past [] (lines.Given place ∷ blow_line i t.stops ∷ []) (blow_idle i t.stops) };
   stopped = λ c past i h up. record { had = idle_had s c past (server_falls c i (lines.Crash (Server i) ∷ []) at_rest).entry h refl; told = (tt, tt) };

@@ -253,7 +253,7 @@ ideal_moves s = record {
   waited = λ c past n act h r. acts_ideal s c past n _ _ (waits_acts n (c.clients n) act r).of;
   fallen = λ c past n h. (tt, tt);
   risen = λ c past n h. (tt, tt);
-  loc = λ c past l ls h st. all_blank s (actors.Node Loc) past [] ls (loc_blank ls st);
+  loc = λ c past l ls h st. all_blank s (actors.Node Loc) past [] ls (loc_blank ls st.lines);
   served = λ c past i place m armed h up at to. works_ideal s c past i _ _ h.0 (serves_works (IsPlaced c past i) (Server i) (c.hosts i).state c.clock place m (λ rest. ((place, at), inl (record { place = place; front' = refl; at = at; up = up }))));
   cut = λ c past i place m t h up at to. all_blank s (actors.Node (Server i)) past [] (lines.Given place ∷ blow_line i t.stops ∷ []) (blow_blank i place t.stops);
   stopped = λ c past i h up. (tt, tt);

@@ -553,7 +553,7 @@ ours_moves s = record {
   waited = λ c past n act h r. client_ours s c past n _ h.1 (λ z. waits_our n (c.clients n) act (h.1 z n));
   fallen = λ c past n h. client_ours s c past n (reborn (c.clients n)) h.1 (λ z. record { cache = tt; callee = λ act e. absurd cc });
   risen = λ c past n h. client_ours s c past n (c.clients n) h.1 (λ z. h.1 z n);
-  loc = λ c past l ls h st. h.1.0;
+  loc = λ c past l ls h st. h.1;
   served = λ c past i place m armed h up at to. h.1;
   cut = λ c past i place m t h up at to. h.1;
   stopped = λ c past i h up. h.1;
@@ -605,7 +605,7 @@ due_moves s = record {
   waited = λ c past n act h r. waits_due s c past n act (nat_lt (c.clients n).tries 2) h.0.0.0.0.0.1 (h.0.1 n) r refl;
   fallen = λ c past n h. (tt, tt);
   risen = λ c past n h. (tt, tt);
-  loc = λ c past l ls h st. idle_due s (actors.Node Loc) past [] ls (loc_idle ls st);
+  loc = λ c past l ls h st. idle_due s (actors.Node Loc) past [] ls (loc_idle ls st.lines);
   served = λ c past i place m armed h up at to. works_due s i past _ (idle_works any_message i (c.hosts i).state _ _ (serves_works any_message (Server i) (c.hosts i).state c.clock place m (λ rest. tt)));
   cut = λ c past i place m t h up at to. works_due s i past (lines.Given place ∷ blow_line i t.stops ∷ []) (blow_idle i t.stops);
   stopped = λ c past i h up. (tt, tt);

@@ -1,7 +1,7 @@
 -- What servers hear and answer, however many a cell has: what a server would run it never heard in that boot, and each of its
 -- replies to a client is that of the entry which ran the call.
 use Rattle.afs_law.proofs.Moving.{loc_armed_to, loc_restarted_to, loc_stopped_to, LocMoves}
-use Rattle.afs_law.proofs.LocLines.{all_of_loc, is_of_loc, told_gives}
+use Rattle.afs_law.proofs.LocLines.{all_of_loc, is_of_loc, told_gives, stop_step, fail_step}
 use Rattle.std.proofs.Math.Nat.{le_refl}
 use Rattle.afs_law.proofs.Booting.{standing_both, Boots, HasFront, blow_stops, disk_front, down_boots, notes_standing, rise_boots, serves_standing, started_lines, step_boots, still_boots, stop_boots, times_standing, wakes_standing, is_standing, is_server}
 use Rattle.afs_law.proofs.Passing.{to_come}
@@ -662,7 +662,7 @@ loc_stands (lines.Restart n boot) h = ap (λ (q : Node). not (is_server q)) (sam
 loc_stands l h = refl
 
 loc_hears : (c : Cell) (past : List Entry) → HearsIn c past → LocMoves (After past) c
-loc_hears c past H l ls st = still_hears c.clients c.hosts c.sent past (loc_becomes c l ls).entry H refl (told_gives ls (sent_of past) st) (all_of_loc is_standing loc_stands ls st)
+loc_hears c past H l ls st = still_hears c.clients c.hosts c.sent past (loc_becomes c l ls).entry H refl (told_gives ls (sent_of past) st.lines) (all_of_loc is_standing loc_stands ls st.lines)
 
 pub moved_hears : (c : Cell) (past : List Entry) (x : Input) → HearsIn c past → StandsIn c (lines_of past) → After past (moved c x)
 unfolding moved
@@ -677,9 +677,9 @@ moved_hears c past (stops zero) H S = loc_stopped_to (After past) c c.loc.down (
 moved_hears c past (stops (suc i)) H S = either_hears past (has_host c (suc i)) _ _ (stopped_hears c past (suc i) (c.hosts (suc i)).down H) (void_hears c past H)
 moved_hears c past (starts_again zero after out) H S = loc_restarted_to (After past) c after out c.loc.down (void_hears c past H) (loc_hears c past H)
 moved_hears c past (starts_again (suc i) after out) H S = either_hears past (has_host c (suc i)) _ _ (restarted_hears c past (suc i) after out (c.hosts (suc i)).down H refl (H.falls (suc i))) (void_hears c past H)
-moved_hears c past (sets_stop zero calls pick) H S = loc_armed_to (After past) c (lines.Stop Loc calls pick) _ c.loc.down refl (void_hears c past H) (loc_hears c past H)
+moved_hears c past (sets_stop zero calls pick) H S = loc_armed_to (After past) c (lines.Stop Loc calls pick) _ c.loc.down (stop_step calls pick) (void_hears c past H) (loc_hears c past H)
 moved_hears c past (sets_stop (suc i) calls pick) H S = either_hears past (has_host c (suc i)) _ _ (set_hears c past (suc i) (lines.Stop (Server (suc i)) calls pick) _ (c.hosts (suc i)).down (λ sent. refl) refl H) (void_hears c past H)
-moved_hears c past (sets_fail zero call) H S = loc_armed_to (After past) c (lines.Fail Loc call) _ c.loc.down refl (void_hears c past H) (loc_hears c past H)
+moved_hears c past (sets_fail zero call) H S = loc_armed_to (After past) c (lines.Fail Loc call) _ c.loc.down (fail_step call) (void_hears c past H) (loc_hears c past H)
 moved_hears c past (sets_fail (suc i) call) H S = either_hears past (has_host c (suc i)) _ _ (set_hears c past (suc i) (lines.Fail (Server (suc i)) call) _ (c.hosts (suc i)).down (λ sent. refl) refl H) (void_hears c past H)
 moved_hears c past (server_waits i n) H S = either_hears past (has_host c i) _ _ (timed_hears c past i n (c.hosts i).down H refl) (void_hears c past H)
 moved_hears c past (wakes i) H S = either_hears past (has_host c i) _ _ (woken_hears c past i (c.hosts i).down H refl) (void_hears c past H)

@@ -571,7 +571,7 @@ kept_moves s = record {
   waited = λ c past n act h r. client_kept s c past n _ h.1 (waits_acts n (c.clients n) act r) (waits_keep n (c.clients n) act past (h.1 n).0);
   fallen = λ c past n h. client_kept s c past n _ h.1 (falls_acts n (c.clients n)) (record { apart = tt; each = λ f e found. absurd cc });
   risen = λ c past n h. client_kept s c past n _ h.1 (rises_acts n (c.clients n)) (record { apart = (h.1 n).0; each = λ f e found. same_entries n (c.clients n).cache past (lines.Restart (Client n) (c.clients n).epoch ∷ []) (record { fetched = λ g. refl; spares = λ q g o x. x }) f e found });
-  loc = λ c past l ls h st. idle_kept s c past (loc_becomes c l ls).entry h.1 (loc_idle ls st);
+  loc = λ c past l ls h st. idle_kept s c past (loc_becomes c l ls).entry h.1 (loc_idle ls st.lines);
   served = λ c past i place m armed h up at to. idle_kept s c past (server_moves c i armed (server_row (Server i) (c.hosts i).state c.clock place (Whole m))).entry h.1 (idle_works any_message i (c.hosts i).state _ _ (serves_works any_message (Server i) (c.hosts i).state c.clock place m (λ rest. tt)));
   cut = λ c past i place m t h up at to. idle_kept s c past (server_falls c i (lines.Given place ∷ blow_line i t.stops ∷ []) (in_step m c.clock t)).entry h.1 (blow_idle i t.stops);
   stopped = λ c past i h up. idle_kept s c past (server_falls c i (lines.Crash (Server i) ∷ []) at_rest).entry h.1 refl;

@@ -40,6 +40,12 @@ is_of_loc (lines.Recovered v) = true
 is_of_loc (lines.Located v server) = true
 is_of_loc l = false
 
+-- a line of a step or of a restart of it: its disk isn't set in that
+abbrev pub is_told : Line → Bool
+is_told (lines.Stop n calls pick) = false
+is_told (lines.Fail n call) = false
+is_told l = is_of_loc l
+
 loc_node : (n : Node) → same_node n Loc ≡ true → n ≡ Loc
 loc_node n h = same_node-true n Loc h
 
@@ -53,52 +59,77 @@ told_gives [] sent h = refl
 told_gives (lines.Given place ∷ ls) sent h = absurd cc
 told_gives (l ∷ ls) sent h = told_gives ls sent (both (is_of_loc l) (all_lines is_of_loc ls) h).1
 
-both_told : (a b : List Line) → all_lines is_of_loc a ≡ true → all_lines is_of_loc b ≡ true → all_lines is_of_loc (a ++ b) ≡ true
+told_of : (l : Line) → is_told l ≡ true → is_of_loc l ≡ true
+told_of (lines.Stop n calls pick) h = absurd cc
+told_of (lines.Fail n call) h = absurd cc
+told_of l h = h
+
+told_are : (ls : List Line) → all_lines is_told ls ≡ true → all_lines is_of_loc ls ≡ true
+told_are [] h = refl
+told_are (l ∷ ls) h = let q = both (is_told l) (all_lines is_told ls) h in rw (told_of l q.0, told_are ls q.1) refl
+
+-- ---- a step of it
+
+-- what it tells in a step: lines of its own, each in its place
+pub record IsLocStep (ls : List Line) : Type 0 where
+  pub lines : all_lines is_of_loc ls ≡ true
+  pub places : (s : Script) (past : List Entry) → EachLine (IsInPlace s) (actors.Node Loc) past [] ls
+
+pub stop_step : (calls pick : ℕ) → IsLocStep (lines.Stop Loc calls pick ∷ [])
+stop_step calls pick = record { lines = refl; places = λ s past. ((refl, (refl, refl)), tt) }
+
+pub fail_step : (call : ℕ) → IsLocStep (lines.Fail Loc call ∷ [])
+fail_step call = record { lines = refl; places = λ s past. ((refl, (refl, refl)), tt) }
+
+both_told : (a b : List Line) → all_lines is_told a ≡ true → all_lines is_told b ≡ true → all_lines is_told (a ++ b) ≡ true
 both_told [] b h k = k
-both_told (l ∷ a) b h k = let q = both (is_of_loc l) (all_lines is_of_loc a) h in rw (q.0, both_told a b q.1 k) refl
+both_told (l ∷ a) b h k = let q = both (is_told l) (all_lines is_told a) h in rw (q.0, both_told a b q.1 k) refl
 
 -- such a line stands in an entry of it
-told_place : (s : Script) (l : Line) (past : List Entry) (own next : List Line) → is_of_loc l ≡ true → IsInPlace s (actors.Node Loc) l past own next
+told_place : (s : Script) (l : Line) (past : List Entry) (own next : List Line) → is_told l ≡ true → IsInPlace s (actors.Node Loc) l past own next
 told_place s (lines.Crash n) past own next h = ap actors.Node (sym (loc_node n h))
 told_place s (lines.Fault n) past own next h = subst (λ (q : Node). IsInPlace s (actors.Node Loc) (lines.Fault q) past own next) (sym (loc_node n h)) refl
 told_place s (lines.Restart n boot) past own next h = subst (λ (q : Node). IsInPlace s (actors.Node Loc) (lines.Restart q boot) past own next) (sym (loc_node n h)) (refl, tt)
 told_place s (lines.Full n) past own next h = subst (λ (q : Node). IsInPlace s (actors.Node Loc) (lines.Full q) past own next) (sym (loc_node n h)) refl
-told_place s (lines.Stop n calls pick) past own next h = subst (λ (q : Node). IsInPlace s (actors.Node Loc) (lines.Stop q calls pick) past own next) (sym (loc_node n h)) refl
-told_place s (lines.Fail n call) past own next h = subst (λ (q : Node). IsInPlace s (actors.Node Loc) (lines.Fail q call) past own next) (sym (loc_node n h)) refl
 told_place s (lines.Locked v stamp operation) past own next h = refl
 told_place s (lines.Unlocked v) past own next h = refl
 told_place s (lines.Recovered v) past own next h = refl
 told_place s (lines.Located v server) past own next h = refl
 told_place s l past own next h = absurd cc
 
-pub told_places : (s : Script) (ls : List Line) (past : List Entry) (own : List Line) → all_lines is_of_loc ls ≡ true → EachLine (IsInPlace s) (actors.Node Loc) past own ls
+told_places : (s : Script) (ls : List Line) (past : List Entry) (own : List Line) → all_lines is_told ls ≡ true → EachLine (IsInPlace s) (actors.Node Loc) past own ls
 told_places s [] past own h = tt
-told_places s (l ∷ ls) past own h = let q = both (is_of_loc l) (all_lines is_of_loc ls) h in (told_place s l past own ls q.0, told_places s ls past (l ∷ own) q.1)
+told_places s (l ∷ ls) past own h = let q = both (is_told l) (all_lines is_told ls) h in (told_place s l past own ls q.0, told_places s ls past (l ∷ own) q.1)
+
+pub told_step : (ls : List Line) → all_lines is_told ls ≡ true → IsLocStep ls
+told_step ls h = record { lines = told_are ls h; places = λ s past. told_places s ls past [] h }
 
 -- ---- what a record tells
 
-if_told : (t : Bool) (a b : List Line) → all_lines is_of_loc a ≡ true → all_lines is_of_loc b ≡ true → all_lines is_of_loc (cond t a b) ≡ true
+if_told : (t : Bool) (a b : List Line) → all_lines is_told a ≡ true → all_lines is_told b ≡ true → all_lines is_told (cond t a b) ≡ true
 if_told true a b h k = h
 if_told false a b h k = k
 
-located_told : (v : ℕ) (before after : Option ℕ) → all_lines is_of_loc (located_by v before after) ≡ true
+located_told : (v : ℕ) (before after : Option ℕ) → all_lines is_told (located_by v before after) ≡ true
 located_told v before None = refl
 located_told v before (Some i) = if_told (same_site before (Some i)) [] (lines.Located v (Server i) ∷ []) refl refl
 
-locks_told : (v : ℕ) (before after : Option Lock) → all_lines is_of_loc (lock_told v before after) ≡ true
+locks_told : (v : ℕ) (before after : Option Lock) → all_lines is_told (lock_told v before after) ≡ true
 locks_told v None (Some l) = refl
 locks_told v (Some k) (Some l) = if_told (nat_eq k.stamp l.stamp) [] (lines.Locked v l.stamp l.operation ∷ []) refl refl
 locks_told v (Some k) None = if_told k.forced (lines.Recovered v ∷ lines.Unlocked v ∷ []) (lines.Unlocked v ∷ []) refl refl
 locks_told v None None = refl
 
-deeds_told : (d : Deed) (t : Table Listed) → all_lines is_of_loc (deed_told d t) ≡ true
-deeds_told (sets l) t = both_told (lock_told l.entry.read_write (lock_before (get l.entry.read_write t)) l.lock) (located_by l.entry.read_write (site_before (get l.entry.read_write t)) (site_of l.entry)) (locks_told _ _ _) (located_told _ _ _)
+deeds_told : (d : Deed) (t : Table Listed) → all_lines is_told (deed_told d t) ≡ true
+deeds_told (sets l) t =
+    both_told (lock_told l.entry.read_write (lock_before (get l.entry.read_write t)) l.lock) (located_by l.entry.read_write (site_before (get l.entry.read_write t)) (site_of l.entry))
+    (locks_told l.entry.read_write (lock_before (get l.entry.read_write t)) l.lock) (located_told l.entry.read_write (site_before (get l.entry.read_write t)) (site_of l.entry))
 deeds_told (removes e) t = refl
 deeds_told leaves t = refl
 
 -- ---- what a restart tells before its own line
 
-before_told : (s : LocState) (d : LocDecision) (ls : List Line) → all_lines is_of_loc ls ≡ true → all_lines is_of_loc ((loc_begun_after s d).before ls) ≡ true
+before_told : (s : LocState) (d : LocDecision) (ls : List Line) → all_lines is_told ls ≡ true → all_lines is_told ((loc_begun_after s d).before ls) ≡ true
 before_told s drops ls h = h
 before_told s (tells_boot head) ls h = h
 before_told s (repeats reply) ls h = h
@@ -106,7 +137,7 @@ before_told s (refuses head code) ls h = h
 before_told s (shows head reply) ls h = h
 before_told s (saves head c) ls h = both_told (deed_told c.deed s.lasting.entries) ls (deeds_told c.deed s.lasting.entries) h
 
-pub begun_told : (s : LocState) (after : Bool) (fall : Fall) (ls : List Line) → all_lines is_of_loc ls ≡ true → all_lines is_of_loc ((begun_from loc_kind s after fall).before ls) ≡ true
+pub begun_told : (s : LocState) (after : Bool) (fall : Fall) (ls : List Line) → all_lines is_told ls ≡ true → all_lines is_told ((begun_from loc_kind s after fall).before ls) ≡ true
 begun_told s after at_rest ls h = h
 begun_told s false (in_step m clock b) ls h = h
 begun_told s true (in_step m clock b) ls h = before_told s (loc_decides s (Whole m)) ls h

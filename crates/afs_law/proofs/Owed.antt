@@ -887,7 +887,7 @@ break_moves s = record {
   waited = λ c past n act B r. speaks_steps s c past n (timeout_row (Client n) (c.clients n) act) B (waits_acts n (c.clients n) act r) (waits_speaks (Client n) (c.clients n) act);
   fallen = λ c past n B. let k = client_steps s c past n (record { state = reborn (c.clients n); lines = lines.Crash (Client n) ∷ []; sent = [] }) B (falls_acts n (c.clients n)) (falls_all c past n) in record { backed = record { count = k.backed.count; fair = k.backed.fair; all = k.backed.all }; rules = k.rules; replies = k.replies };
   risen = λ c past n B. let k = speaks_steps s c past n (record { state = c.clients n; lines = lines.Restart (Client n) (c.clients n).epoch ∷ []; sent = [] }) B (rises_acts n (c.clients n)) (record { calls = tt; seats' = refl }) in record { backed = record { count = k.backed.count; fair = k.backed.fair; all = k.backed.all }; rules = k.rules; replies = k.replies };
-  loc = λ c past l ls B st. record { backed = record { count = B.backed.count; fair = B.backed.fair; all = still_all s c past (loc_becomes c l ls).entry c.clock (λ i. loc_plain i ls st) (le_refl _) B.backed }; rules = free_rules s (actors.Node Loc) past [] ls (all_of_loc is_free loc_free ls st); replies = tt };
+  loc = λ c past l ls B st. record { backed = record { count = B.backed.count; fair = B.backed.fair; all = still_all s c past (loc_becomes c l ls).entry c.clock (λ i. loc_plain i ls st.lines) (le_refl _) B.backed }; rules = free_rules s (actors.Node Loc) past [] ls (all_of_loc is_free loc_free ls st.lines); replies = tt };
   served = λ c past i place m armed B up at to. server_steps s c past i armed (server_row (Server i) (c.hosts i).state c.clock place (Whole m)) B (serves_works (KnownIn c B.held.0.0.0.keys.callees) (Server i) (c.hosts i).state c.clock place m (λ rest. each_at (KnownBy c B.held.0.0.0.keys.callees) c.sent place m at B.held.0.0.0.keys.calls)) (served_step s c past i place m B up at to) (served_rules s c past i place m B up at to);
   cut = λ c past i place m t B up at to. falls_steps s c past i (lines.Given place ∷ blow_line i t.stops ∷ []) (in_step m c.clock t) B (blow_from i place t.stops) (blow_free i place t.stops) (blow_oweless i place t.stops) (blow_still i place t.stops) (blow_stopped i place t.stops);
   stopped = λ c past i B up. falls_steps s c past i (lines.Crash (Server i) ∷ []) at_rest B (rw (own_from i) refl) refl refl refl (λ o. inl refl);

@@ -1,5 +1,4 @@
 -- Each line of a run stands where it may, however many servers a cell has.
-use Rattle.afs_law.proofs.LocLines.{told_places}
 use Rattle.afs_breaks.specs.declared.types.OwedBreak.{OwedBreak}
 use Rattle.afs_history.specs.declared.lines.Line.{Line}
 use Rattle.afs_history.specs.declared.lines.Line.TheVariants as lines
@@ -258,7 +257,7 @@ placed_moves s = record {
   waited = λ c past n act h r. (waits_acts n (c.clients n) act r).each s past (h.0.1.table n) (h.0.1.acts n);
   fallen = λ c past n h. (falls_acts n (c.clients n)).each s past (h.0.1.table n) (h.0.1.acts n);
   risen = λ c past n h. (rises_acts n (c.clients n)).each s past (h.0.1.table n) (h.0.1.acts n);
-  loc = λ c past l ls h st. told_places s ls past [] st;
+  loc = λ c past l ls h st. st.places s past;
   served = λ c past i place m armed h up at to. serves_each s i past (c.hosts i).state c.clock place m;
   cut = λ c past i place m t h up at to. blow_each s i place past t.stops;
   stopped = λ c past i h up. (refl, tt);

@@ -1012,7 +1012,8 @@ IsBegun s c past own = (own ≡ []) × (running s c (lines_of past) ≡ None)
 -- only line. An act begins first in its entry, while none runs. An entry is given one message at most, and that first; a version stands under its
 -- change; an act runs where a client reads or answers, and what is read from the cache it needs next; a timeout stands in an entry that is given no
 -- message and in which its node begins no act; and a server that begins again owes each client of the script a break on all. A crash is of any
--- node, a fault of a server alone, for clients have no disk
+-- node, a fault of a server or of the location database, for clients have no disk; and what that locks, unlocks and tells of places stands in its
+-- entries
 abbrev pub IsInPlace : Script → Actor → Line → List Entry → List Line → List Line → Type 0
 IsInPlace s who (lines.Begin c act) past own next = IsOfClient who c × IsBegun s c past own
 IsInPlace s who (lines.Given place) past own next = own ≡ []
